@@ -92,7 +92,8 @@ module _ (a b : Colour) (x y : ℕ) (e : before (colour_part a) x ≡ before (co
 
 -- the attributes of cells of one number
 module _ (a b : Cell) (e : attributes_of a ≡ attributes_of b) where
-  same_attributes : (a.rendition.is_bold ≡ b.rendition.is_bold) × (a.rendition.is_underlined ≡ b.rendition.is_underlined)
+  same_attributes : (a.rendition.is_bold ≡ b.rendition.is_bold)
+      × (a.rendition.is_underlined ≡ b.rendition.is_underlined)
       × (a.rendition.is_blinking ≡ b.rendition.is_blinking) × (a.rendition.is_reversed ≡ b.rendition.is_reversed)
   unfolding attributes_of
   same_attributes =
@@ -118,10 +119,12 @@ module _ (a b : Cell) (e : colours_of a ≡ colours_of b) where
       let shape = after_colour p.back q.back _ _ back in (
         first_colour p.fore q.fore _ _ e,
         first_colour p.back q.back _ _ back,
-        same_shape a.shape b.shape (first (shape_part a.shape) (shape_part b.shape) _ _ (shape_few a.shape) (shape_few b.shape) shape),
+        same_shape a.shape b.shape
+            (first (shape_part a.shape) (shape_part b.shape) _ _ (shape_few a.shape) (shape_few b.shape) shape),
       )
 
-pub same_unprotected : (a b : Cell) → a.character ≡ b.character → a.marks ≡ b.marks → attributes_of a ≡ attributes_of b → colours_of a ≡ colours_of b →
+pub same_unprotected : (a b : Cell) → a.character ≡ b.character → a.marks ≡ b.marks → attributes_of a ≡ attributes_of b
+    → colours_of a ≡ colours_of b →
     unprotected a ≡ unprotected b
 same_unprotected a b character marks attributes colours =
     let s = same_attributes a b attributes in
@@ -135,7 +138,8 @@ attributes_few c =
     omega (arith, bit_few r.is_bold, bit_few r.is_underlined, bit_few r.is_blinking, bit_few r.is_reversed)
 
 -- cells of one look have both
-pub same_look : (a b : Cell) → look_of a ≡ look_of b → (attributes_of a ≡ attributes_of b) × (colours_of a ≡ colours_of b)
+pub same_look : (a b : Cell) → look_of a ≡ look_of b → (attributes_of a ≡ attributes_of b)
+    × (colours_of a ≡ colours_of b)
 unfolding look_of
 same_look a b e =
     let few = attributes_few a in

@@ -1,24 +1,35 @@
 -- New cells in place of as many old ones.
-use Rattle.std.proofs.Common.{◌≡◌, ℕ, zero, suc, ◌+◌, ◌-◌, ◌<◌, ◌≤◌, min, Bool, true, false, ◌&&◌, cond, List, [], ◌∷◌, ◌++◌, length, take, drop, set, replicate, refl, sym, ap, ◌∙◌, ◌⊎◌, inl, inr, subst, arith, ⊎_elim, eq-eqb, length-take, get_or}
+use Rattle.std.proofs.Common.{◌≡◌, ℕ, zero, suc, ◌+◌, ◌-◌, ◌<◌, ◌≤◌, min, Bool, true, false, ◌&&◌, cond, List, [], ◌∷◌}
+use Rattle.std.proofs.Common.{◌++◌, length, take, drop, set, replicate, refl, sym, ap, ◌∙◌, ◌⊎◌, inl, inr, subst, arith}
+use Rattle.std.proofs.Common.{⊎_elim, eq-eqb, length-take, get_or}
 use Rattle.std.proofs.lemmas.List.FromFn.{length-map-range_with_len, get_or-map-range_with_len}
-use Rattle.std.proofs.lemmas.List.{ext_get_or, get_or-take, get_or-replicate, length-set, get_or-set_same, get_or-set_other, length-replicate, take_at, length-map, get_or-map}
+use Rattle.std.proofs.lemmas.List.{ext_get_or, get_or-take, get_or-replicate, length-set, get_or-set_same}
+use Rattle.std.proofs.lemmas.List.{get_or-set_other, length-replicate, take_at, length-map, get_or-map}
 use Rattle.std.proofs.lemmas.Bool.{cases_lt, cases_eq}
 use Rattle.cells.specs.declared.cell.Cell.{Cell}
 use Rattle.cells.specs.declared.cell.Rendition.{Rendition}
 use Rattle.cells.specs.declared.cell.Shape.{Shape}
 use Rattle.cells.specs.declared.cell.Shape.TheVariants.{Narrow, Left, Right}
-use Rattle.cells.specs.Line.{blank, cell_at, is_left, is_right, IsPaired, Source, Fresh, Old, taken, are_halves, kept, settled, source_before, source_after, cells_from, cut_of, spliced, fresh_at, right_follows, narrow_cell, narrow_cells}
+use Rattle.cells.specs.Line.{blank, cell_at, is_left, is_right, IsPaired, Source, Fresh, Old, taken, are_halves, kept}
+use Rattle.cells.specs.Line.{settled, source_before, source_after, cells_from, cut_of, spliced, fresh_at, right_follows}
+use Rattle.cells.specs.Line.{narrow_cell, narrow_cells}
 use Rattle.cells.specs.Put.{IsPut, AreNarrow}
 use Rattle.cells.specs.Resizing.{line_resized}
-use Rattle.cells.proofs.Settling.{cell_at_past, true≢false, settled_at, cells_from-is, after_inside, after_last, length-cut_of, length-cells_from, cell_at-cells_from, IsPaired-cells_from, and_false}
+use Rattle.cells.proofs.Settling.{cell_at_past, true≢false, settled_at, cells_from-is, after_inside, after_last}
+use Rattle.cells.proofs.Settling.{length-cut_of, length-cells_from, cell_at-cells_from, IsPaired-cells_from, and_false}
 use Rattle.cells.proofs.Pages.{cells_from-old}
 use Rattle.cells.proofs.Erasing.{cells_from-same}
-use Rattle.cells.proofs.Splicing.{plain_spliced, plain_from, cell_at-plain_from, length-plain_from, at_front, at_fresh, at_rest, cells_from-spliced, cut_thrice, length-cut_thrice, IsPaired-blanks, narrow_pairs, wide_pairs}
+use Rattle.cells.proofs.Splicing.{plain_spliced, plain_from, cell_at-plain_from, length-plain_from, at_front, at_fresh}
+use Rattle.cells.proofs.Splicing.{at_rest, cells_from-spliced, cut_thrice, length-cut_thrice, IsPaired-blanks}
+use Rattle.cells.proofs.Splicing.{narrow_pairs, wide_pairs}
 
 -- where nothing is torn, the other cells stay
-pub put_plain : (at : ℕ) (fresh cells line : List Cell) → at + length fresh ≤ length cells → IsPaired cells → IsPaired fresh → is_right (cell_at cells at).shape ≡ false
-    → is_right (cell_at cells (at + length fresh)).shape ≡ false → length line ≡ length cells → ((k : ℕ) → k < at → cell_at line k ≡ cell_at cells k)
-    → ((k : ℕ) → at ≤ k → k < at + length fresh → cell_at line k ≡ cell_at fresh (k - at)) → ((k : ℕ) → at + length fresh ≤ k → k < length cells → cell_at line k ≡ cell_at cells k)
+pub put_plain : (at : ℕ) (fresh cells line : List Cell) → at + length fresh ≤ length cells → IsPaired cells
+    → IsPaired fresh → is_right (cell_at cells at).shape ≡ false
+    → is_right (cell_at cells (at + length fresh)).shape ≡ false → length line ≡ length cells
+    → ((k : ℕ) → k < at → cell_at line k ≡ cell_at cells k)
+    → ((k : ℕ) → at ≤ k → k < at + length fresh → cell_at line k ≡ cell_at fresh (k - at))
+    → ((k : ℕ) → at + length fresh ≤ k → k < length cells → cell_at line k ≡ cell_at cells k)
     → line ≡ cells_from (spliced at fresh (at + length fresh) (length cells)) cells
 put_plain at fresh cells line room paired pairs whole_at whole_rest same front new back =
     let rest : ℕ = at + length fresh in
@@ -29,17 +40,26 @@ put_plain at fresh cells line room paired pairs whole_at whole_rest same front n
     ext_get_or blank line (plain_from source cells) (same ∙ sym (length-plain_from source cells)) (λ k h.
     let within : k < length cells = rw same at h in
     ⊎_elim
-    (λ (before : k < at). front k before ∙ sym (cell_at-plain_from source cells k within ∙ ap (taken cells) (at_front at fresh rest (length cells) k before)))
+    (λ (before : k < at). front k before
+    ∙ sym
+    (cell_at-plain_from source cells k within ∙ ap (taken cells) (at_front at fresh rest (length cells) k before)))
     (λ (past : at ≤ k). ⊎_elim
-    (λ (inside : k < at + length fresh). new k past inside ∙ sym (cell_at-plain_from source cells k within ∙ ap (taken cells) (at_fresh at fresh rest (length cells) k past inside)))
+    (λ (inside : k < at + length fresh). new k past inside
+    ∙ sym
+    (cell_at-plain_from source cells k within
+    ∙ ap (taken cells) (at_fresh at fresh rest (length cells) k past inside)))
     (λ (behind : at + length fresh ≤ k). let e : k + rest - (at + length fresh) ≡ k = omega arith in
-    back k behind within ∙ sym (cell_at-plain_from source cells k within ∙ ap (taken cells) (at_rest at fresh rest (length cells) k behind (omega arith)) ∙ ap (cell_at cells) e))
+    back k behind within
+    ∙ sym
+    (cell_at-plain_from source cells k within
+    ∙ ap (taken cells) (at_rest at fresh rest (length cells) k behind (omega arith)) ∙ ap (cell_at cells) e))
     (cases_lt k (at + length fresh)))
     (cases_lt k at))
     ∙ plain_spliced at fresh rest cells (omega arith) (omega arith) room paired pairs whole_at whole_rest whole_end
 
 -- a cell of width 1 over another one
-pub put_narrow_plain : (at : ℕ) (cell : Cell) (cells : List Cell) → at + 1 ≤ length cells → IsPaired cells → cell.shape ≡ Narrow → (cell_at cells at).shape ≡ Narrow
+pub put_narrow_plain : (at : ℕ) (cell : Cell) (cells : List Cell) → at + 1 ≤ length cells → IsPaired cells
+    → cell.shape ≡ Narrow → (cell_at cells at).shape ≡ Narrow
     → set cells at cell ≡ cells_from (spliced at (cell ∷ []) (at + 1) (length cells)) cells
 put_narrow_plain at cell cells room paired new old =
     put_plain at (cell ∷ []) cells (set cells at cell) room paired (narrow_pairs cell new) (ap is_right old)
@@ -47,11 +67,13 @@ put_narrow_plain at cell cells room paired new old =
     (length-set cells at cell)
     (λ k h. get_or-set_other cells at k cell blank (omega arith))
     (λ k h g. let e : k ≡ at = omega arith in let z : k - at ≡ 0 = omega arith in
-    ap (cell_at (set cells at cell)) e ∙ get_or-set_same cells at cell blank (omega arith) ∙ sym (ap (cell_at (cell ∷ [])) z))
+    ap (cell_at (set cells at cell)) e ∙ get_or-set_same cells at cell blank (omega arith)
+    ∙ sym (ap (cell_at (cell ∷ [])) z))
     (λ k h g. get_or-set_other cells at k cell blank (omega arith))
 
 -- both halves over cells of which none is torn
-pub put_wide_plain : (at : ℕ) (l r : Cell) (cells : List Cell) → at + 2 ≤ length cells → IsPaired cells → l.shape ≡ Left → r.shape ≡ Right
+pub put_wide_plain : (at : ℕ) (l r : Cell) (cells : List Cell) → at + 2 ≤ length cells → IsPaired cells → l.shape ≡ Left
+    → r.shape ≡ Right
     → is_right (cell_at cells at).shape ≡ false → is_left (cell_at cells (at + 1)).shape ≡ false
     → set (set cells at l) (at + 1) r ≡ cells_from (spliced at (l ∷ r ∷ []) (at + 2) (length cells)) cells
 put_wide_plain at l r cells room paired hl hr before after =
@@ -59,56 +81,74 @@ put_wide_plain at l r cells room paired hl hr before after =
     put_plain at (l ∷ r ∷ []) cells (set (set cells at l) (at + 1) r) room paired (wide_pairs l r hl hr) before
     (let e : at + 2 ≡ suc (at + 1) = omega arith in rw e (sym (paired.next (at + 1)) ∙ after))
     (length-set (set cells at l) (at + 1) r ∙ n)
-    (λ k h. get_or-set_other (set cells at l) (at + 1) k r blank (omega arith) ∙ get_or-set_other cells at k l blank (omega arith))
+    (λ k h. get_or-set_other (set cells at l) (at + 1) k r blank (omega arith)
+    ∙ get_or-set_other cells at k l blank (omega arith))
     (λ k h g. ⊎_elim
     (λ (e : k ≡ at). let z : k - at ≡ 0 = omega arith in
-    ap (cell_at (set (set cells at l) (at + 1) r)) e ∙ get_or-set_other (set cells at l) (at + 1) at r blank (omega arith) ∙ get_or-set_same cells at l blank (omega arith)
+    ap (cell_at (set (set cells at l) (at + 1) r)) e
+    ∙ get_or-set_other (set cells at l) (at + 1) at r blank (omega arith)
+    ∙ get_or-set_same cells at l blank (omega arith)
     ∙ sym (ap (cell_at (l ∷ r ∷ [])) z))
     (λ (ne : k ≡ at → ⊥). let e : k ≡ at + 1 = omega arith in let z : k - at ≡ 1 = omega arith in
-    ap (cell_at (set (set cells at l) (at + 1) r)) e ∙ get_or-set_same (set cells at l) (at + 1) r blank (omega arith) ∙ sym (ap (cell_at (l ∷ r ∷ [])) z))
+    ap (cell_at (set (set cells at l) (at + 1) r)) e ∙ get_or-set_same (set cells at l) (at + 1) r blank (omega arith)
+    ∙ sym (ap (cell_at (l ∷ r ∷ [])) z))
     (cases_eq k at))
-    (λ k h g. get_or-set_other (set cells at l) (at + 1) k r blank (omega arith) ∙ get_or-set_other cells at k l blank (omega arith))
+    (λ k h g. get_or-set_other (set cells at l) (at + 1) k r blank (omega arith)
+    ∙ get_or-set_other cells at k l blank (omega arith))
 
 -- no new cells change nothing
-pub put_none : (at : ℕ) (fresh cells : List Cell) → length fresh ≡ 0 → IsPaired cells → cells ≡ cells_from (spliced at fresh (at + length fresh) (length cells)) cells
-put_none at fresh cells none paired = sym (cells_from-same (spliced at fresh (at + length fresh) (length cells)) Old cells (λ k within. ⊎_elim
+pub put_none : (at : ℕ) (fresh cells : List Cell) → length fresh ≡ 0 → IsPaired cells
+    → cells ≡ cells_from (spliced at fresh (at + length fresh) (length cells)) cells
+put_none at fresh cells none paired = sym
+    (cells_from-same (spliced at fresh (at + length fresh) (length cells)) Old cells (λ k within. ⊎_elim
     (λ (front : k < at). at_front at fresh (at + length fresh) (length cells) k front)
     (λ (past : at ≤ k). let e : k + (at + length fresh) - (at + length fresh) ≡ k = omega arith in
     at_rest at fresh (at + length fresh) (length cells) k (omega arith) (omega arith) ∙ ap Old e)
     (cases_lt k at))
     ∙ cells_from-old cells paired)
 
-pub IsPaired-shapes : (a b : List Cell) → ((column : ℕ) → (cell_at a column).shape ≡ (cell_at b column).shape) → IsPaired a → IsPaired b
+pub IsPaired-shapes : (a b : List Cell) → ((column : ℕ) → (cell_at a column).shape ≡ (cell_at b column).shape)
+    → IsPaired a → IsPaired b
 IsPaired-shapes a b same paired = record {
   first = sym (ap is_right (same 0)) ∙ paired.first;
   next = λ column. sym (ap is_left (same column)) ∙ paired.next column ∙ ap is_right (same (suc column));
 }
 
 -- the cells of a line, after an edit of them all
-pub IsPaired-stored : (source : ℕ → Source) (new old items : List Cell) (len : ℕ) → length new ≡ len → new ≡ cells_from source old → old ≡ items → IsPaired items
+pub IsPaired-stored : (source : ℕ → Source) (new old items : List Cell) (len : ℕ) → length new ≡ len
+    → new ≡ cells_from source old → old ≡ items → IsPaired items
     → IsPaired (take len (new ++ drop (length new) items))
 IsPaired-stored source new old items len n is same paired =
-    rw (take_at new (drop (length new) items) len n) (subst IsPaired (sym is) (IsPaired-cells_from source old (subst IsPaired (sym same) paired)))
+    rw (take_at new (drop (length new) items) len n)
+    (subst IsPaired (sym is) (IsPaired-cells_from source old (subst IsPaired (sym same) paired)))
 
 -- new cells of any kind: each column of theirs
 module _ (at : ℕ) (fresh cells : List Cell) (room : at + length fresh ≤ length cells) where
   abbrev source : ℕ → Source
   source column = spliced at fresh (at + length fresh) (length cells) column
 
-  after_new : (j : ℕ) → j < length fresh → are_halves (Fresh (cell_at fresh j)) (source_after source (length cells) (at + j)) ≡ is_left (cell_at fresh j).shape && is_right (cell_at fresh (suc j)).shape
+  after_new : (j : ℕ) → j < length fresh
+      → are_halves (Fresh (cell_at fresh j)) (source_after source (length cells) (at + j)) ≡ is_left
+      (cell_at fresh j).shape && is_right (cell_at fresh (suc j)).shape
   after_new j h = ⊎_elim
-      (λ (next : suc j < length fresh). let e : suc (at + j) - at ≡ suc j = omega arith in let w : suc (at + j) < length cells = omega arith in
+      (λ (next : suc j < length fresh). let e : suc (at + j) - at ≡ suc j = omega arith in let w : suc (at + j) < length
+      cells = omega arith in
       ap (are_halves (Fresh (cell_at fresh j))) (after_inside source (length cells) (at + j) w
-      ∙ at_fresh at fresh (at + length fresh) (length cells) (suc (at + j)) (omega arith) (omega arith) ∙ ap (λ i. Fresh (cell_at fresh i)) e))
+      ∙ at_fresh at fresh (at + length fresh) (length cells) (suc (at + j)) (omega arith) (omega arith)
+      ∙ ap (λ i. Fresh (cell_at fresh i)) e))
       (λ (last : length fresh ≤ suc j).
       ap (are_halves (Fresh (cell_at fresh j))) refl
       ∙ ⊎_elim
       (λ (inside : suc (at + j) < length cells).
-      ap (are_halves (Fresh (cell_at fresh j))) (after_inside source (length cells) (at + j) inside ∙ at_rest at fresh (at + length fresh) (length cells) (suc (at + j)) (omega arith) (omega arith)))
+      ap (are_halves (Fresh (cell_at fresh j)))
+      (after_inside source (length cells) (at + j) inside
+      ∙ at_rest at fresh (at + length fresh) (length cells) (suc (at + j)) (omega arith) (omega arith)))
       (λ outside. let e : suc (at + j) ≡ length cells = omega arith in
       ap (are_halves (Fresh (cell_at fresh j))) (after_last source (length cells) (at + j) e) ∙ and_false _)
       (cases_lt (suc (at + j)) (length cells))
-      ∙ sym (ap (λ (x : Cell). is_left (cell_at fresh j).shape && is_right x.shape) (cell_at_past fresh (suc j) last) ∙ and_false _))
+      ∙ sym
+      (ap (λ (x : Cell). is_left (cell_at fresh j).shape && is_right x.shape) (cell_at_past fresh (suc j) last)
+      ∙ and_false _))
       (cases_lt (suc j) (length fresh))
 
   old_and_new : (k : ℕ) (x : Cell) → k < at → are_halves (source k) (Fresh x) ≡ false
@@ -118,19 +158,25 @@ module _ (at : ℕ) (fresh cells : List Cell) (room : at + length fresh ≤ leng
   before_first zero e x = refl
   before_first (suc k) e x = old_and_new k x (omega arith)
 
-  before_new : (j : ℕ) → j < length fresh → are_halves (source_before source (at + j)) (Fresh (cell_at fresh j)) ≡ right_follows fresh j
+  before_new : (j : ℕ) → j < length fresh
+      → are_halves (source_before source (at + j)) (Fresh (cell_at fresh j)) ≡ right_follows fresh j
   before_new zero h = before_first (at + 0) (omega arith) (cell_at fresh 0)
   before_new (suc i) h = let e : at + suc i ≡ suc (at + i) = omega arith in let z : at + i - at ≡ i = omega arith in
       ap (λ n. are_halves (source_before source n) (Fresh (cell_at fresh (suc i)))) e
-      ∙ ap (λ s. are_halves s (Fresh (cell_at fresh (suc i)))) (at_fresh at fresh (at + length fresh) (length cells) (at + i) (omega arith) (omega arith) ∙ ap (λ n. Fresh (cell_at fresh n)) z)
+      ∙ ap (λ s. are_halves s (Fresh (cell_at fresh (suc i))))
+      (at_fresh at fresh (at + length fresh) (length cells) (at + i) (omega arith) (omega arith)
+      ∙ ap (λ n. Fresh (cell_at fresh n)) z)
 
   pub settled_new : (j : ℕ) → j < length fresh → settled_at source cells (at + j) ≡ fresh_at fresh j
   unfolding settled_at
   settled_new j h = let z : at + j - at ≡ j = omega arith in
-      let here : source (at + j) ≡ Fresh (cell_at fresh j) = at_fresh at fresh (at + length fresh) (length cells) (at + j) (omega arith) (omega arith) ∙ ap (λ n. Fresh (cell_at fresh n)) z in
+      let here : source (at + j) ≡ Fresh (cell_at fresh j) = at_fresh at fresh (at + length fresh) (length cells)
+      (at + j) (omega arith) (omega arith) ∙ ap (λ n. Fresh (cell_at fresh n)) z in
       ap (λ s. settled cells (source_before source (at + j)) s (source_after source (length cells) (at + j))) here
-      ∙ ap (λ q. kept (cell_at fresh j).shape (cell_at fresh j) q (are_halves (source_before source (at + j)) (Fresh (cell_at fresh j)))) (after_new j h)
-      ∙ ap (λ q. kept (cell_at fresh j).shape (cell_at fresh j) (is_left (cell_at fresh j).shape && is_right (cell_at fresh (suc j)).shape) q) (before_new j h)
+      ∙ ap (λ q. kept (cell_at fresh j).shape (cell_at fresh j) q
+      (are_halves (source_before source (at + j)) (Fresh (cell_at fresh j)))) (after_new j h)
+      ∙ ap (λ q. kept (cell_at fresh j).shape (cell_at fresh j)
+      (is_left (cell_at fresh j).shape && is_right (cell_at fresh (suc j)).shape) q) (before_new j h)
 
   abbrev blanks : List Cell
   blanks = replicate (length fresh) blank
@@ -148,55 +194,73 @@ module _ (at : ℕ) (fresh cells : List Cell) (room : at + length fresh ≤ leng
   kept_place : (k : ℕ) → IsOutside k → k < length cells → source k ≡ Old k
   kept_place k h within = ⊎_elim
       (λ front. at_front at fresh (at + length fresh) (length cells) k front)
-      (λ behind. let e : k + (at + length fresh) - (at + length fresh) ≡ k = omega arith in at_rest at fresh (at + length fresh) (length cells) k behind (omega arith) ∙ ap Old e)
+      (λ behind. let e : k + (at + length fresh) - (at + length fresh) ≡ k = omega arith in at_rest at fresh
+      (at + length fresh) (length cells) k behind (omega arith) ∙ ap Old e)
       h
 
   kept_place_blank : (k : ℕ) → IsOutside k → k < length cells → blank_source k ≡ Old k
   kept_place_blank k h within = let n = n_blanks in ⊎_elim
       (λ front. at_front at blanks (at + length fresh) (length cells) k front)
-      (λ behind. let e : k + (at + length fresh) - (at + length blanks) ≡ k = omega arith in at_rest at blanks (at + length fresh) (length cells) k (omega arith) (omega arith) ∙ ap Old e)
+      (λ behind. let e : k + (at + length fresh) - (at + length blanks) ≡ k = omega arith in at_rest at blanks
+      (at + length fresh) (length cells) k (omega arith) (omega arith) ∙ ap Old e)
       h
 
   same_before : (j c : ℕ) → j < length cells → are_halves (source j) (Old c) ≡ are_halves (blank_source j) (Old c)
   same_before j c within = let n = n_blanks in ⊎_elim
-      (λ (front : j < at). ap (λ s. are_halves s (Old c)) (kept_place j (inl front) within ∙ sym (kept_place_blank j (inl front) within)))
+      (λ (front : j < at). ap (λ s. are_halves s (Old c))
+      (kept_place j (inl front) within ∙ sym (kept_place_blank j (inl front) within)))
       (λ (past : at ≤ j). ⊎_elim
       (λ (new : j < at + length fresh).
       ap (λ s. are_halves s (Old c)) (at_fresh at fresh (at + length fresh) (length cells) j past new)
-      ∙ sym (ap (λ s. are_halves s (Old c)) (at_fresh at blanks (at + length fresh) (length cells) j past (omega arith))))
-      (λ (behind : at + length fresh ≤ j). ap (λ s. are_halves s (Old c)) (kept_place j (inr behind) within ∙ sym (kept_place_blank j (inr behind) within)))
+      ∙ sym
+      (ap (λ s. are_halves s (Old c)) (at_fresh at blanks (at + length fresh) (length cells) j past (omega arith))))
+      (λ (behind : at + length fresh ≤ j). ap (λ s. are_halves s (Old c))
+      (kept_place j (inr behind) within ∙ sym (kept_place_blank j (inr behind) within)))
       (cases_lt j (at + length fresh)))
       (cases_lt j at)
 
   same_after : (j c : ℕ) → j < length cells → are_halves (Old c) (source j) ≡ are_halves (Old c) (blank_source j)
   same_after j c within = let n = n_blanks in ⊎_elim
-      (λ (front : j < at). ap (are_halves (Old c)) (kept_place j (inl front) within ∙ sym (kept_place_blank j (inl front) within)))
+      (λ (front : j < at). ap (are_halves (Old c))
+      (kept_place j (inl front) within ∙ sym (kept_place_blank j (inl front) within)))
       (λ (past : at ≤ j). ⊎_elim
       (λ (new : j < at + length fresh).
       ap (are_halves (Old c)) (at_fresh at fresh (at + length fresh) (length cells) j past new)
       ∙ sym (ap (are_halves (Old c)) (at_fresh at blanks (at + length fresh) (length cells) j past (omega arith))))
-      (λ (behind : at + length fresh ≤ j). ap (are_halves (Old c)) (kept_place j (inr behind) within ∙ sym (kept_place_blank j (inr behind) within)))
+      (λ (behind : at + length fresh ≤ j). ap (are_halves (Old c))
+      (kept_place j (inr behind) within ∙ sym (kept_place_blank j (inr behind) within)))
       (cases_lt j (at + length fresh)))
       (cases_lt j at)
 
-  sources_before : (k c : ℕ) → k < length cells → are_halves (source_before source k) (Old c) ≡ are_halves (source_before blank_source k) (Old c)
+  sources_before : (k c : ℕ) → k < length cells
+      → are_halves (source_before source k) (Old c) ≡ are_halves (source_before blank_source k) (Old c)
   sources_before zero c within = refl
   sources_before (suc j) c within = same_before j c (omega arith)
 
-  sources_after : (k c : ℕ) → k < length cells → are_halves (Old c) (source_after source (length cells) k) ≡ are_halves (Old c) (source_after blank_source (length cells) k)
+  sources_after : (k c : ℕ) → k < length cells
+      → are_halves (Old c) (source_after source (length cells) k) ≡ are_halves (Old c)
+      (source_after blank_source (length cells) k)
   sources_after k c within = ⊎_elim
-      (λ (inside : suc k < length cells). ap (are_halves (Old c)) (after_inside source (length cells) k inside) ∙ same_after (suc k) c inside ∙ sym (ap (are_halves (Old c)) (after_inside blank_source (length cells) k inside)))
+      (λ (inside : suc k < length cells). ap (are_halves (Old c)) (after_inside source (length cells) k inside)
+      ∙ same_after (suc k) c inside
+      ∙ sym (ap (are_halves (Old c)) (after_inside blank_source (length cells) k inside)))
       (λ outside. let e : suc k ≡ length cells = omega arith in
-      ap (are_halves (Old c)) (after_last source (length cells) k e) ∙ sym (ap (are_halves (Old c)) (after_last blank_source (length cells) k e)))
+      ap (are_halves (Old c)) (after_last source (length cells) k e)
+      ∙ sym (ap (are_halves (Old c)) (after_last blank_source (length cells) k e)))
       (cases_lt (suc k) (length cells))
 
-  settled_outside : (k : ℕ) → IsOutside k → k < length cells → settled_at source cells k ≡ settled_at blank_source cells k
+  settled_outside : (k : ℕ) → IsOutside k → k < length cells
+      → settled_at source cells k ≡ settled_at blank_source cells k
   unfolding settled_at
   settled_outside k h within =
       ap (λ s. settled cells (source_before source k) s (source_after source (length cells) k)) (kept_place k h within)
-      ∙ ap (λ q. kept (cell_at cells k).shape (cell_at cells k) q (are_halves (source_before source k) (Old k))) (sources_after k k within)
-      ∙ ap (λ q. kept (cell_at cells k).shape (cell_at cells k) (are_halves (Old k) (source_after blank_source (length cells) k)) q) (sources_before k k within)
-      ∙ sym (ap (λ s. settled cells (source_before blank_source k) s (source_after blank_source (length cells) k)) (kept_place_blank k h within))
+      ∙ ap (λ q. kept (cell_at cells k).shape (cell_at cells k) q (are_halves (source_before source k) (Old k)))
+      (sources_after k k within)
+      ∙ ap (λ q. kept (cell_at cells k).shape (cell_at cells k)
+      (are_halves (Old k) (source_after blank_source (length cells) k)) q) (sources_before k k within)
+      ∙ sym
+      (ap (λ s. settled cells (source_before blank_source k) s (source_after blank_source (length cells) k))
+      (kept_place_blank k h within))
 
   -- the line with both boundaries of the new cells cut
   abbrev cut_twice : List Cell
@@ -205,28 +269,37 @@ module _ (at : ℕ) (fresh cells : List Cell) (room : at + length fresh ≤ leng
   module _ (some : 0 < length fresh) (paired : IsPaired cells) where
     thrice : cut_thrice at (length blanks) (at + length fresh) cells ≡ cut_twice
     thrice = let n = n_blanks in
-        let end : at + length fresh + min (length cells - (at + length fresh)) (length cells - (at + length blanks)) ≡ length cells = omega arith in
-        let two : length cut_twice ≡ length cells = length-cut_of (at + length fresh) (cut_of at cells) ∙ length-cut_of at cells in
-        let none : is_right (cell_at cut_twice (length cells)).shape ≡ false = ap (λ (x : Cell). is_right x.shape) (cell_at_past cut_twice (length cells) (omega (arith, two))) in
+        let end : at + length fresh + min (length cells - (at + length fresh)) (length cells - (at + length blanks)) ≡
+        length cells = omega arith in
+        let two : length cut_twice ≡ length cells = length-cut_of (at + length fresh) (cut_of at cells)
+        ∙ length-cut_of at cells in
+        let none : is_right (cell_at cut_twice (length cells)).shape ≡ false = ap (λ (x : Cell). is_right x.shape)
+        (cell_at_past cut_twice (length cells) (omega (arith, two))) in
         ap (λ m. cut_of m cut_twice) end ∙ rw none refl
 
     pub outside_is : (k : ℕ) → IsOutside k → k < length cells → settled_at source cells k ≡ cell_at cut_twice k
     outside_is k h within = let n = n_blanks in
         settled_outside k h within
         ∙ sym (cell_at-cells_from blank_source cells k within)
-        ∙ ap (λ x. cell_at x k) (cells_from-spliced at blanks (at + length fresh) cells (omega arith) room (omega arith) (omega arith) paired (IsPaired-blanks (length fresh)))
-        ∙ cell_at-plain_from blank_source (cut_thrice at (length blanks) (at + length fresh) cells) k (rw (length-cut_thrice at (length blanks) (at + length fresh) cells) within)
+        ∙ ap (λ x. cell_at x k)
+        (cells_from-spliced at blanks (at + length fresh) cells (omega arith) room (omega arith) (omega arith)
+        paired (IsPaired-blanks (length fresh)))
+        ∙ cell_at-plain_from blank_source (cut_thrice at (length blanks) (at + length fresh) cells) k
+        (rw (length-cut_thrice at (length blanks) (at + length fresh) cells) within)
         ∙ ap (taken (cut_thrice at (length blanks) (at + length fresh) cells)) (kept_place_blank k h within)
         ∙ ap (λ x. cell_at x k) thrice
 
     -- a line with the right cells is the one that the new cells were put into
-    pub put_is : (line : List Cell) → length line ≡ length cells → ((k : ℕ) → IsOutside k → cell_at line k ≡ cell_at cut_twice k) → ((j : ℕ) → j < length fresh → cell_at line (at + j) ≡ fresh_at fresh j)
+    pub put_is : (line : List Cell) → length line ≡ length cells
+        → ((k : ℕ) → IsOutside k → cell_at line k ≡ cell_at cut_twice k)
+        → ((j : ℕ) → j < length fresh → cell_at line (at + j) ≡ fresh_at fresh j)
         → line ≡ cells_from source cells
     put_is line same outside new = cells_from-is source cells line same (λ k within. ⊎_elim
         (λ (front : k < at). outside k (inl front) ∙ sym (outside_is k (inl front) within))
         (λ (past : at ≤ k). ⊎_elim
         (λ (h : k < at + length fresh). let e : at + (k - at) ≡ k = omega arith in
-        ap (cell_at line) (sym e) ∙ new (k - at) (omega arith) ∙ sym (settled_new (k - at) (omega arith)) ∙ ap (settled_at source cells) e)
+        ap (cell_at line) (sym e) ∙ new (k - at) (omega arith) ∙ sym (settled_new (k - at) (omega arith))
+        ∙ ap (settled_at source cells) e)
         (λ (behind : at + length fresh ≤ k). outside k (inr behind) ∙ sym (outside_is k (inr behind) within))
         (cases_lt k (at + length fresh)))
         (cases_lt k at))
@@ -236,36 +309,47 @@ pub record IsPutSoFar (at : ℕ) (fresh old : List Cell) (count : ℕ) (line : L
   pub outside : (k : ℕ) → (k < at) ⊎ (at + count ≤ k) → cell_at line k ≡ cell_at old k
   pub new : (j : ℕ) → j < count → cell_at line (at + j) ≡ fresh_at fresh j
 
-pub put_next : (at : ℕ) (fresh old : List Cell) (count : ℕ) (line : List Cell) → IsPutSoFar at fresh old count line → at + count < length line
+pub put_next : (at : ℕ) (fresh old : List Cell) (count : ℕ) (line : List Cell) → IsPutSoFar at fresh old count line
+    → at + count < length line
     → IsPutSoFar at fresh old (count + 1) (set line (at + count) (fresh_at fresh count))
 put_next at fresh old count line so_far inside = record {
-  outside = λ k h. get_or-set_other line (at + count) k (fresh_at fresh count) blank (omega arith) ∙ so_far.outside k (⊎_elim (λ a. inl a) (λ b. inr (omega arith)) h);
+  outside = λ k h. get_or-set_other line (at + count) k (fresh_at fresh count) blank (omega arith)
+      ∙ so_far.outside k (⊎_elim (λ a. inl a) (λ b. inr (omega arith)) h);
   new = λ j h. ⊎_elim
       (λ (e : j ≡ count). ap (λ i. cell_at (set line (at + count) (fresh_at fresh count)) (at + i)) e
       ∙ get_or-set_same line (at + count) (fresh_at fresh count) blank inside ∙ sym (ap (fresh_at fresh) e))
-      (λ (ne : j ≡ count → ⊥). get_or-set_other line (at + count) (at + j) (fresh_at fresh count) blank (omega arith) ∙ so_far.new j (omega arith))
+      (λ (ne : j ≡ count → ⊥). get_or-set_other line (at + count) (at + j) (fresh_at fresh count) blank (omega arith)
+      ∙ so_far.new j (omega arith))
       (cases_eq j count);
 }
 
 -- cells of width 1 need nothing beside them
 whole_narrow : (fresh : List Cell) (j : ℕ) → (cell_at fresh j).shape ≡ Narrow → fresh_at fresh j ≡ cell_at fresh j
-whole_narrow fresh j narrow = ap (λ s. kept s (cell_at fresh j) (is_left (cell_at fresh j).shape && is_right (cell_at fresh (suc j)).shape) (right_follows fresh j)) narrow
+whole_narrow fresh j narrow = ap
+    (λ s. kept s (cell_at fresh j) (is_left (cell_at fresh j).shape && is_right (cell_at fresh (suc j)).shape)
+    (right_follows fresh j)) narrow
 
-pub put_narrow_is : (at : ℕ) (fresh cells line : List Cell) → at + length fresh ≤ length cells → 0 < length fresh → IsPaired cells → length (cut_of (at + length fresh) (cut_of at cells)) ≡ length cells
-    → IsPut at fresh (cut_of (at + length fresh) (cut_of at cells)) line → AreNarrow fresh → line ≡ cells_from (spliced at fresh (at + length fresh) (length cells)) cells
+pub put_narrow_is : (at : ℕ) (fresh cells line : List Cell) → at + length fresh ≤ length cells → 0 < length fresh
+    → IsPaired cells → length (cut_of (at + length fresh) (cut_of at cells)) ≡ length cells
+    → IsPut at fresh (cut_of (at + length fresh) (cut_of at cells)) line → AreNarrow fresh
+    → line ≡ cells_from (spliced at fresh (at + length fresh) (length cells)) cells
 put_narrow_is at fresh cells line room some paired same is narrow =
     put_is at fresh cells room some paired line (is.width ∙ same)
     (λ k h. ⊎_elim (λ a. is.front k a) (λ b. is.rest k b) h)
     (λ j h. is.placed j h ∙ sym (whole_narrow fresh j (narrow j (omega arith) h)))
 
 -- a cell that keeps its shape
-pub IsPaired-set : (cells : List Cell) (column : ℕ) (cell : Cell) → cell.shape ≡ (cell_at cells column).shape → IsPaired cells → IsPaired (set cells column cell)
+pub IsPaired-set : (cells : List Cell) (column : ℕ) (cell : Cell) → cell.shape ≡ (cell_at cells column).shape
+    → IsPaired cells → IsPaired (set cells column cell)
 IsPaired-set cells column cell same paired = IsPaired-shapes cells (set cells column cell) (λ k. ⊎_elim
     (λ (e : k ≡ column). ⊎_elim
     (λ (inside : column < length cells). ap (λ i. (cell_at cells i).shape) e ∙ sym same
-    ∙ sym (ap (λ i. (cell_at (set cells column cell) i).shape) e ∙ ap (λ (x : Cell). x.shape) (get_or-set_same cells column cell blank inside)))
+    ∙ sym
+    (ap (λ i. (cell_at (set cells column cell) i).shape) e
+    ∙ ap (λ (x : Cell). x.shape) (get_or-set_same cells column cell blank inside)))
     (λ (past : length cells ≤ column). let p : length cells ≤ k = omega arith in
-    ap (λ (x : Cell). x.shape) (cell_at_past cells k p ∙ sym (cell_at_past (set cells column cell) k (rw (length-set cells column cell) p))))
+    ap (λ (x : Cell). x.shape)
+    (cell_at_past cells k p ∙ sym (cell_at_past (set cells column cell) k (rw (length-set cells column cell) p))))
     (cases_lt column (length cells)))
     (λ (ne : k ≡ column → ⊥). sym (ap (λ (x : Cell). x.shape) (get_or-set_other cells column k cell blank ne)))
     (cases_eq k column)) paired
@@ -273,67 +357,97 @@ IsPaired-set cells column cell same paired = IsPaired-shapes cells (set cells co
 pub length-line_resized : (width : ℕ) (cells : List Cell) → length (line_resized width cells) ≡ width
 length-line_resized width cells = length-map-range_with_len _ 0 width
 
-pub cell_at-line_resized : (width : ℕ) (cells : List Cell) (k : ℕ) → k < width → cell_at (line_resized width cells) k ≡ settled cells (source_before Old k) (Old k) (source_after Old width k)
+pub cell_at-line_resized : (width : ℕ) (cells : List Cell) (k : ℕ) → k < width
+    → cell_at (line_resized width cells) k ≡ settled cells (source_before Old k) (Old k) (source_after Old width k)
 cell_at-line_resized width cells k h = get_or-map-range_with_len _ 0 width k k blank h (omega arith)
 
 -- what is kept depends only on the side that a half has
-kept_same : (s : Shape) (cell : Cell) (p q p' q' : Bool) → (is_left s ≡ true → p ≡ p') → (is_right s ≡ true → q ≡ q') → kept s cell p q ≡ kept s cell p' q'
+kept_same : (s : Shape) (cell : Cell) (p q p' q' : Bool) → (is_left s ≡ true → p ≡ p') → (is_right s ≡ true → q ≡ q')
+    → kept s cell p q ≡ kept s cell p' q'
 kept_same Narrow cell p q p' q' l r = refl
 kept_same Left cell p q p' q' l r = ap (λ b. cond b cell blank) (l refl)
 kept_same Right cell p q p' q' l r = ap (λ b. cond b cell blank) (r refl)
 
-settled_blank : (source : ℕ → Source) (line : List Cell) (k : ℕ) → source k ≡ Old k → cell_at line k ≡ blank → settled_at source line k ≡ blank
+settled_blank : (source : ℕ → Source) (line : List Cell) (k : ℕ) → source k ≡ Old k → cell_at line k ≡ blank
+    → settled_at source line k ≡ blank
 unfolding settled_at
 settled_blank source line k here b =
     ap (λ s. settled line (source_before source k) s (source_after source (length line) k)) here
-    ∙ ap (λ (x : Cell). kept x.shape x (are_halves (Old k) (source_after source (length line) k)) (are_halves (source_before source k) (Old k))) b
+    ∙ ap (λ (x : Cell). kept x.shape x (are_halves (Old k) (source_after source (length line) k))
+    (are_halves (source_before source k) (Old k))) b
 
-resized_blank : (width : ℕ) (cells : List Cell) (k : ℕ) → cell_at cells k ≡ blank → settled cells (source_before Old k) (Old k) (source_after Old width k) ≡ blank
-resized_blank width cells k b = ap (λ (x : Cell). kept x.shape x (are_halves (Old k) (source_after Old width k)) (are_halves (source_before Old k) (Old k))) b
+resized_blank : (width : ℕ) (cells : List Cell) (k : ℕ) → cell_at cells k ≡ blank
+    → settled cells (source_before Old k) (Old k) (source_after Old width k) ≡ blank
+resized_blank width cells k b = ap
+    (λ (x : Cell). kept x.shape x (are_halves (Old k) (source_after Old width k))
+    (are_halves (source_before Old k) (Old k))) b
 
-module _ (width : ℕ) (cells fresh : List Cell) (paired : IsPaired cells) (first : fresh ≡ take (min width (length cells)) cells) where
+module _ (width : ℕ) (cells fresh : List Cell) (paired : IsPaired cells)
+    (first : fresh ≡ take (min width (length cells)) cells) where
   n_fresh : length fresh ≡ min width (length cells)
   n_fresh = ap length first ∙ simp length-take (omega arith)
 
   same_cell : (k : ℕ) → k < length fresh → cell_at fresh k ≡ cell_at cells k
-  same_cell k h = let n = n_fresh in ap (λ x. cell_at x k) first ∙ get_or-take (min width (length cells)) cells k blank (omega arith)
+  same_cell k h = let n = n_fresh in ap (λ x. cell_at x k) first
+      ∙ get_or-take (min width (length cells)) cells k blank (omega arith)
 
-  left_stays : (k : ℕ) → k < length fresh → is_left (cell_at cells k).shape ≡ true → is_left (cell_at fresh k).shape && is_right (cell_at fresh (suc k)).shape ≡ are_halves (Old k) (source_after Old width k)
+  left_stays : (k : ℕ) → k < length fresh → is_left (cell_at cells k).shape ≡ true
+      → is_left (cell_at fresh k).shape && is_right (cell_at fresh (suc k)).shape ≡ are_halves (Old k)
+      (source_after Old width k)
   left_stays k h left = let n = n_fresh in ⊎_elim
       (λ (inside : suc k < width).
-      let next : suc k < length cells = ⊎_elim (λ x. x) (λ past. absurd (true≢false _ (sym (paired.next k) ∙ left) (ap (λ (x : Cell). is_right x.shape) (cell_at_past cells (suc k) past)))) (cases_lt (suc k) (length cells)) in
-      rw (same_cell k h, same_cell (suc k) (omega arith), ← (paired.next k), left, after_inside Old width k inside, eq-eqb (suc k) (suc k) refl) refl)
+      let next : suc k < length cells = ⊎_elim (λ x. x)
+      (λ past. absurd
+      (true≢false _ (sym (paired.next k) ∙ left)
+      (ap (λ (x : Cell). is_right x.shape) (cell_at_past cells (suc k) past)))) (cases_lt (suc k) (length cells)) in
+      rw (
+        same_cell k h,
+        same_cell (suc k) (omega arith),
+        ← (paired.next k),
+        left,
+        after_inside Old width k inside,
+        eq-eqb (suc k) (suc k) refl,
+      ) refl)
       (λ outside. let e : suc k ≡ width = omega arith in
-      ap (λ (x : Cell). is_left (cell_at fresh k).shape && is_right x.shape) (cell_at_past fresh (suc k) (omega arith)) ∙ and_false _ ∙ sym (ap (are_halves (Old k)) (after_last Old width k e)))
+      ap (λ (x : Cell). is_left (cell_at fresh k).shape && is_right x.shape) (cell_at_past fresh (suc k) (omega arith))
+      ∙ and_false _ ∙ sym (ap (are_halves (Old k)) (after_last Old width k e)))
       (cases_lt (suc k) width)
 
-  right_stays : (k : ℕ) → k < length fresh → is_right (cell_at cells k).shape ≡ true → right_follows fresh k ≡ are_halves (source_before Old k) (Old k)
+  right_stays : (k : ℕ) → k < length fresh → is_right (cell_at cells k).shape ≡ true
+      → right_follows fresh k ≡ are_halves (source_before Old k) (Old k)
   right_stays zero h right = absurd (true≢false _ right paired.first)
   right_stays (suc k) h right =
       rw (same_cell k (omega arith), same_cell (suc k) h, paired.next k, right, eq-eqb (suc k) (suc k) refl) refl
 
   fresh_is : (k : ℕ) → k < length fresh → fresh_at fresh k ≡ cell_at (line_resized width cells) k
   fresh_is k h = let n = n_fresh in
-      ap (λ (x : Cell). kept x.shape x (is_left (cell_at fresh k).shape && is_right (cell_at fresh (suc k)).shape) (right_follows fresh k)) (same_cell k h)
+      ap (λ (x : Cell). kept x.shape x (is_left (cell_at fresh k).shape && is_right (cell_at fresh (suc k)).shape)
+      (right_follows fresh k)) (same_cell k h)
       ∙ kept_same (cell_at cells k).shape (cell_at cells k) _ _ _ _ (left_stays k h) (right_stays k h)
       ∙ sym (cell_at-line_resized width cells k (omega arith))
 
-  pub resized_is : (line : List Cell) → line ≡ replicate width blank → cells_from (spliced 0 fresh (0 + length fresh) (length line)) line ≡ line_resized width cells
+  pub resized_is : (line : List Cell) → line ≡ replicate width blank
+      → cells_from (spliced 0 fresh (0 + length fresh) (length line)) line ≡ line_resized width cells
   resized_is line blank_line =
       let n = n_fresh in
       let w : length line ≡ width = ap length blank_line ∙ length-replicate width blank in
       let room : 0 + length fresh ≤ length line = omega arith in
       let source : ℕ → Source = spliced 0 fresh (0 + length fresh) (length line) in
       let a : length (cells_from source line) ≡ length line = length-cells_from source line in
-      ext_get_or blank (cells_from source line) (line_resized width cells) (a ∙ w ∙ sym (length-line_resized width cells)) (λ k h.
+      ext_get_or blank (cells_from source line) (line_resized width cells)
+      (a ∙ w ∙ sym (length-line_resized width cells)) (λ k h.
       let within : k < length line = rw a at h in
       cell_at-cells_from source line k within ∙ ⊎_elim
       (λ (new : k < length fresh). let e : 0 + k ≡ k = omega arith in
       ap (settled_at source line) (sym e) ∙ settled_new 0 fresh line room k new ∙ fresh_is k new)
       (λ (past : length fresh ≤ k). let e : k + (0 + length fresh) - (0 + length fresh) ≡ k = omega arith in
-      let here : source k ≡ Old k = at_rest 0 fresh (0 + length fresh) (length line) k (omega arith) (omega arith) ∙ ap Old e in
-      settled_blank source line k here (ap (λ x. cell_at x k) blank_line ∙ get_or-replicate width k blank blank (omega arith))
-      ∙ sym (cell_at-line_resized width cells k (omega arith) ∙ resized_blank width cells k (cell_at_past cells k (omega arith))))
+      let here : source k ≡ Old k = at_rest 0 fresh (0 + length fresh) (length line) k (omega arith) (omega arith)
+      ∙ ap Old e in
+      settled_blank source line k here
+      (ap (λ x. cell_at x k) blank_line ∙ get_or-replicate width k blank blank (omega arith))
+      ∙ sym
+      (cell_at-line_resized width cells k (omega arith)
+      ∙ resized_blank width cells k (cell_at_past cells k (omega arith))))
       (cases_lt k (length fresh)))
 
 -- a run of characters of width 1
@@ -341,15 +455,22 @@ module _ (codes : List ℕ) (rendition : Rendition) (is_protected : Bool) where
   pub length-narrow_cells : length (narrow_cells codes rendition is_protected) ≡ length codes
   length-narrow_cells = length-map codes (λ code. narrow_cell code rendition is_protected)
 
-  pub narrow_at : (j : ℕ) → j < length codes → fresh_at (narrow_cells codes rendition is_protected) j ≡ narrow_cell (get_or codes j 0) rendition is_protected
+  pub narrow_at : (j : ℕ) → j < length codes
+      → fresh_at (narrow_cells codes rendition is_protected) j ≡ narrow_cell (get_or codes j 0) rendition is_protected
   narrow_at j h =
-      let is : cell_at (narrow_cells codes rendition is_protected) j ≡ narrow_cell (get_or codes j 0) rendition is_protected =
+      let is : cell_at (narrow_cells codes rendition is_protected) j ≡ narrow_cell (get_or codes j 0) rendition
+      is_protected =
       get_or-map (λ code. narrow_cell code rendition is_protected) codes j 0 blank h in
-      ap (λ (x : Cell). kept x.shape x (is_left x.shape && is_right (cell_at (narrow_cells codes rendition is_protected) (suc j)).shape) (right_follows (narrow_cells codes rendition is_protected) j)) is
+      ap (λ (x : Cell). kept x.shape x
+      (is_left x.shape && is_right (cell_at (narrow_cells codes rendition is_protected) (suc j)).shape)
+      (right_follows (narrow_cells codes rendition is_protected) j)) is
 
-  pub run_is : (at : ℕ) (cells line : List Cell) → at + length codes ≤ length cells → 0 < length codes → IsPaired cells → length line ≡ length cells
-      → IsPutSoFar at (narrow_cells codes rendition is_protected) (cut_of (at + length codes) (cut_of at cells)) (length codes) line
-      → line ≡ cells_from (spliced at (narrow_cells codes rendition is_protected) (at + length codes) (length cells)) cells
+  pub run_is : (at : ℕ) (cells line : List Cell) → at + length codes ≤ length cells → 0 < length codes → IsPaired cells
+      → length line ≡ length cells
+      → IsPutSoFar at (narrow_cells codes rendition is_protected) (cut_of (at + length codes) (cut_of at cells))
+      (length codes) line
+      → line ≡ cells_from (spliced at (narrow_cells codes rendition is_protected) (at + length codes) (length cells))
+      cells
   run_is at cells line room some paired same so_far =
       let fresh : List Cell = narrow_cells codes rendition is_protected in
       let n : length fresh ≡ length codes = length-narrow_cells in

@@ -1,13 +1,17 @@
 -- A splice, once its boundaries are cut, moves plain cells.
-use Rattle.std.proofs.Common.{◌≡◌, ℕ, zero, suc, ◌+◌, ◌-◌, ◌<◌, ◌≤◌, min, true, false, List, [], ◌∷◌, length, map, set, replicate, refl, sym, ap, ◌∙◌, ◌⊎◌, inl, inr, subst, arith, ⊎_elim, eq-eqb}
+use Rattle.std.proofs.Common.{◌≡◌, ℕ, zero, suc, ◌+◌, ◌-◌, ◌<◌, ◌≤◌, min, true, false, List, [], ◌∷◌, length, map, set}
+use Rattle.std.proofs.Common.{replicate, refl, sym, ap, ◌∙◌, ◌⊎◌, inl, inr, subst, arith, ⊎_elim, eq-eqb}
 use Rattle.std.specs.List.{range_with_len}
 use Rattle.std.proofs.lemmas.List.FromFn.{length-map-range_with_len, get_or-map-range_with_len}
-use Rattle.std.proofs.lemmas.List.{ext_get_or, length-set, get_or-set_same, get_or-set_other, length-replicate, get_or-replicate, get_or_past}
+use Rattle.std.proofs.lemmas.List.{ext_get_or, length-set, get_or-set_same, get_or-set_other, length-replicate}
+use Rattle.std.proofs.lemmas.List.{get_or-replicate, get_or_past}
 use Rattle.std.proofs.lemmas.Bool.{cases_lt, cases_eq, lt-ltb, le-ltb}
 use Rattle.cells.specs.declared.cell.Cell.{Cell}
 use Rattle.cells.specs.declared.cell.Shape.TheVariants.{Narrow, Left, Right}
-use Rattle.cells.specs.Line.{blank, cell_at, is_left, is_right, IsPaired, Source, Fresh, Old, taken, are_halves, source_before, source_after, cells_from, cut_of, spliced}
-use Rattle.cells.proofs.Settling.{cell_at_past, true≢false, settled_at, cells_from-is, cells_from-cut, Tears, kept_is, after_inside, length-cut_of, length-cells_from}
+use Rattle.cells.specs.Line.{blank, cell_at, is_left, is_right, IsPaired, Source, Fresh, Old, taken, are_halves}
+use Rattle.cells.specs.Line.{source_before, source_after, cells_from, cut_of, spliced}
+use Rattle.cells.proofs.Settling.{cell_at_past, true≢false, settled_at, cells_from-is, cells_from-cut, Tears, kept_is}
+use Rattle.cells.proofs.Settling.{after_inside, length-cut_of, length-cells_from}
 use Rattle.cells.proofs.Moves.{moved_line, length-moved_line, moved_front, moved_blank, moved_rest, moved_end}
 use Rattle.cells.proofs.Cutting.{IsPaired-cut_of, right-cut_of_same, right-cut_of_other}
 
@@ -15,8 +19,10 @@ use Rattle.cells.proofs.Cutting.{IsPaired-cut_of, right-cut_of_same, right-cut_o
 abbrev pub plain_from : (ℕ → Source) → List Cell → List Cell
 plain_from source cells = map (λ column. taken cells (source column)) (range_with_len 0 (length cells))
 
-pub cell_at-plain_from : (source : ℕ → Source) (cells : List Cell) (column : ℕ) → column < length cells → cell_at (plain_from source cells) column ≡ taken cells (source column)
-cell_at-plain_from source cells column h = get_or-map-range_with_len _ 0 (length cells) column column blank h (omega arith)
+pub cell_at-plain_from : (source : ℕ → Source) (cells : List Cell) (column : ℕ) → column < length cells
+    → cell_at (plain_from source cells) column ≡ taken cells (source column)
+cell_at-plain_from source cells column h = get_or-map-range_with_len _ 0 (length cells) column column blank h
+    (omega arith)
 
 pub length-plain_from : (source : ℕ → Source) (cells : List Cell) → length (plain_from source cells) ≡ length cells
 length-plain_from source cells = length-map-range_with_len _ 0 (length cells)
@@ -25,14 +31,21 @@ module _ (at : ℕ) (fresh : List Cell) (rest width : ℕ) where
   pub at_front : (column : ℕ) → column < at → spliced at fresh rest width column ≡ Old column
   at_front column h = rw (lt-ltb column at h) refl
 
-  pub at_fresh : (column : ℕ) → at ≤ column → column < at + length fresh → spliced at fresh rest width column ≡ Fresh (cell_at fresh (column - at))
+  pub at_fresh : (column : ℕ) → at ≤ column → column < at + length fresh
+      → spliced at fresh rest width column ≡ Fresh (cell_at fresh (column - at))
   at_fresh column h k = rw (le-ltb column at h, lt-ltb column (at + length fresh) k) refl
 
-  pub at_rest : (column : ℕ) → at + length fresh ≤ column → column + rest < at + length fresh + width → spliced at fresh rest width column ≡ Old (column + rest - (at + length fresh))
-  at_rest column h k = let past : at ≤ column = omega arith in rw (le-ltb column at past, le-ltb column (at + length fresh) h, lt-ltb (column + rest) (at + length fresh + width) k) refl
+  pub at_rest : (column : ℕ) → at + length fresh ≤ column → column + rest < at + length fresh + width
+      → spliced at fresh rest width column ≡ Old (column + rest - (at + length fresh))
+  at_rest column h k = let past : at ≤ column = omega arith in rw
+      (le-ltb column at past, le-ltb column (at + length fresh) h, lt-ltb (column + rest) (at + length fresh + width) k)
+      refl
 
-  pub at_end : (column : ℕ) → at + length fresh ≤ column → at + length fresh + width ≤ column + rest → spliced at fresh rest width column ≡ Fresh blank
-  at_end column h k = let past : at ≤ column = omega arith in rw (le-ltb column at past, le-ltb column (at + length fresh) h, le-ltb (column + rest) (at + length fresh + width) k) refl
+  pub at_end : (column : ℕ) → at + length fresh ≤ column → at + length fresh + width ≤ column + rest
+      → spliced at fresh rest width column ≡ Fresh blank
+  at_end column h k = let past : at ≤ column = omega arith in rw
+      (le-ltb column at past, le-ltb column (at + length fresh) h, le-ltb (column + rest) (at + length fresh + width) k)
+      refl
 
 fresh_not_old : (a : Source) (x : Cell) (c : ℕ) → a ≡ Fresh x → a ≡ Old c → ⊥
 fresh_not_old a x c h k = cc
@@ -46,7 +59,10 @@ unfolding old_column
 same_column a c d h k = ap (λ x. old_column x 0) (sym h ∙ k)
 
 -- which columns keep an old cell, and which one
-old_at : (at : ℕ) (fresh : List Cell) (rest width column c : ℕ) → spliced at fresh rest width column ≡ Old c → ((column < at) × (column ≡ c)) ⊎ ((at + length fresh ≤ column) × (column + rest < at + length fresh + width) × (c ≡ column + rest - (at + length fresh)))
+old_at : (at : ℕ) (fresh : List Cell) (rest width column c : ℕ) → spliced at fresh rest width column ≡ Old c
+    → ((column < at) × (column ≡ c)) ⊎
+    ((at + length fresh ≤ column) × (column + rest < at + length fresh + width)
+    × (c ≡ column + rest - (at + length fresh)))
 old_at at fresh rest width column c h = ⊎_elim
     (λ front. inl (front, same_column _ _ _ (at_front at fresh rest width column front) h))
     (λ past. ⊎_elim
@@ -60,53 +76,91 @@ old_at at fresh rest width column c h = ⊎_elim
 
 -- a boundary that the splice tears
 abbrev pub IsEdge : ℕ → ℕ → ℕ → ℕ → ℕ → Type 0
-IsEdge at count rest width edge = (edge ≡ at) ⊎ ((edge ≡ rest) ⊎ (edge ≡ rest + min (width - rest) (width - (at + count))))
+IsEdge at count rest width edge = (edge ≡ at) ⊎
+    ((edge ≡ rest) ⊎ (edge ≡ rest + min (width - rest) (width - (at + count))))
 
-no_edge : (at count rest width edge column : ℕ) → at ≤ rest → rest ≤ width → at + count ≤ width → at < rest + count → IsEdge at count rest width edge → suc column < width
-    → ((column < at) × (column ≡ edge - 1)) ⊎ ((at + count ≤ column) × (column + rest < at + count + width) × (edge - 1 ≡ column + rest - (at + count)))
-    → ((suc column < at) × (suc column ≡ edge)) ⊎ ((at + count ≤ suc column) × (suc column + rest < at + count + width) × (edge ≡ suc column + rest - (at + count))) → ⊥
+no_edge : (at count rest width edge column : ℕ) → at ≤ rest → rest ≤ width → at + count ≤ width → at < rest + count
+    → IsEdge at count rest width edge → suc column < width
+    → ((column < at) × (column ≡ edge - 1)) ⊎
+    ((at + count ≤ column) × (column + rest < at + count + width) × (edge - 1 ≡ column + rest - (at + count)))
+    → ((suc column < at) × (suc column ≡ edge)) ⊎
+    ((at + count ≤ suc column) × (suc column + rest < at + count + width)
+    × (edge ≡ suc column + rest - (at + count))) → ⊥
 no_edge at count rest width edge column order inside room changes which h before after = omega arith
 
-pub tears_spliced : (at : ℕ) (fresh : List Cell) (rest width edge : ℕ) → at ≤ rest → rest ≤ width → at + length fresh ≤ width → at < rest + length fresh → IsEdge at (length fresh) rest width edge → Tears (spliced at fresh rest width) width edge
+pub tears_spliced : (at : ℕ) (fresh : List Cell) (rest width edge : ℕ) → at ≤ rest → rest ≤ width
+    → at + length fresh ≤ width → at < rest + length fresh → IsEdge at (length fresh) rest width edge
+    → Tears (spliced at fresh rest width) width edge
 tears_spliced at fresh rest width edge order inside room changes which = record {
   apart = λ column h before after.
-      no_edge at (length fresh) rest width edge column order inside room changes which h (old_at at fresh rest width column (edge - 1) before) (old_at at fresh rest width (suc column) edge after);
+      no_edge at (length fresh) rest width edge column order inside room changes which h
+      (old_at at fresh rest width column (edge - 1) before) (old_at at fresh rest width (suc column) edge after);
 }
 
-module _ (at : ℕ) (fresh : List Cell) (rest : ℕ) (cells : List Cell) (order : at ≤ rest) (inside : rest ≤ length cells) (room : at + length fresh ≤ length cells)
+module _ (at : ℕ) (fresh : List Cell) (rest : ℕ) (cells : List Cell) (order : at ≤ rest) (inside : rest ≤ length cells)
+    (room : at + length fresh ≤ length cells)
     (paired : IsPaired cells) (pairs : IsPaired fresh)
     (whole_at : is_right (cell_at cells at).shape ≡ false) (whole_rest : is_right (cell_at cells rest).shape ≡ false)
-    (whole_end : is_right (cell_at cells (rest + min (length cells - rest) (length cells - (at + length fresh)))).shape ≡ false) where
+    (whole_end : is_right (cell_at cells (rest + min (length cells - rest) (length cells - (at + length fresh)))).shape
+    ≡ false) where
   abbrev here : ℕ → Source
   here column = spliced at fresh rest (length cells) column
 
-  left_along : (column : ℕ) → column < length cells → is_left (taken cells (here column)).shape ≡ true → are_halves (here column) (source_after here (length cells) column) ≡ true
+  left_along : (column : ℕ) → column < length cells → is_left (taken cells (here column)).shape ≡ true
+      → are_halves (here column) (source_after here (length cells) column) ≡ true
   left_along column within left = ⊎_elim
       (λ (front : column < at).
-      let left' : is_left (cell_at cells column).shape ≡ true = rw (at_front at fresh rest (length cells) column front) at left in ⊎_elim
+      let left' : is_left (cell_at cells column).shape ≡ true = rw (at_front at fresh rest (length cells) column front)
+      at left in ⊎_elim
       (λ (next : suc column < at). let h : suc column < length cells = omega arith in
-      rw (after_inside here (length cells) column h, at_front at fresh rest (length cells) column front, at_front at fresh rest (length cells) (suc column) next) (eq-eqb (suc column) (suc column) refl))
-      (λ last. let e : suc column ≡ at = omega arith in absurd (true≢false _ (sym (paired.next column) ∙ left') (rw e whole_at)))
+      rw (
+        after_inside here (length cells) column h,
+        at_front at fresh rest (length cells) column front,
+        at_front at
+            fresh rest (length cells) (suc column) next,
+      ) (eq-eqb (suc column) (suc column) refl))
+      (λ last. let e : suc column ≡ at = omega arith in absurd
+      (true≢false _ (sym (paired.next column) ∙ left') (rw e whole_at)))
       (cases_lt (suc column) at))
       (λ (past : at ≤ column). ⊎_elim
       (λ (new : column < at + length fresh).
-      let left' : is_left (cell_at fresh (column - at)).shape ≡ true = rw (at_fresh at fresh rest (length cells) column past new) at left in ⊎_elim
-      (λ (next : suc column < at + length fresh). let h : suc column < length cells = omega arith in let past' : at ≤ suc column = omega arith in
+      let left' : is_left (cell_at fresh (column - at)).shape ≡ true = rw
+      (at_fresh at fresh rest (length cells) column past new) at left in ⊎_elim
+      (λ (next : suc column < at + length fresh). let h : suc column < length cells = omega arith in let past' : at ≤
+      suc column = omega arith in
       let e : suc column - at ≡ suc (column - at) = omega arith in
-      rw (after_inside here (length cells) column h, at_fresh at fresh rest (length cells) column past new, at_fresh at fresh rest (length cells) (suc column) past' next, e, ← (pairs.next (column - at)), left') refl)
-      (λ last. absurd (true≢false _ (sym (pairs.next (column - at)) ∙ left') (ap (λ (x : Cell). is_right x.shape) (cell_at_past fresh (suc (column - at)) (omega arith)))))
+      rw (
+        after_inside here (length cells) column h,
+        at_fresh at fresh rest (length cells) column past new,
+        at_fresh at
+            fresh rest (length cells) (suc column) past' next,
+        e,
+        ← (pairs.next (column - at)),
+        left',
+      ) refl)
+      (λ last. absurd
+      (true≢false _ (sym (pairs.next (column - at)) ∙ left')
+      (ap (λ (x : Cell). is_right x.shape) (cell_at_past fresh (suc (column - at)) (omega arith)))))
       (cases_lt (suc column) (at + length fresh)))
       (λ (behind : at + length fresh ≤ column). ⊎_elim
       (λ (old : column + rest < at + length fresh + length cells).
-      let left' : is_left (cell_at cells (column + rest - (at + length fresh))).shape ≡ true = rw (at_rest at fresh rest (length cells) column behind old) at left in
-      let next : (column : ℕ) → is_left (cell_at cells column).shape ≡ is_right (cell_at cells (suc column)).shape = paired.next in
+      let left' : is_left (cell_at cells (column + rest - (at + length fresh))).shape ≡ true = rw
+      (at_rest at fresh rest (length cells) column behind old) at left in
+      let next : (column : ℕ)
+      → is_left (cell_at cells column).shape ≡ is_right (cell_at cells (suc column)).shape = paired.next in
       ⊎_elim
       (λ (h : (suc column < length cells) × (suc column + rest < at + length fresh + length cells)).
       let h0 : suc column < length cells = h.0 in
       let b : at + length fresh ≤ suc column = omega arith in
-      rw (after_inside here (length cells) column h0, at_rest at fresh rest (length cells) column behind old, at_rest at fresh rest (length cells) (suc column) b h.1)
+      rw (
+        after_inside here (length cells) column h0,
+        at_rest at fresh rest (length cells) column behind old,
+        at_rest at
+            fresh rest (length cells) (suc column) b h.1,
+      )
       (eq-eqb _ _ (omega arith)))
-      (λ (e : suc (column + rest - (at + length fresh)) ≡ rest + min (length cells - rest) (length cells - (at + length fresh))).
+      (λ (e : suc (column + rest - (at + length fresh)) ≡ rest + min (length cells - rest)
+      (length cells - (at + length fresh))).
       absurd (true≢false _ (sym (next (column + rest - (at + length fresh))) ∙ left') (rw e whole_end)))
       (split column within behind old))
       (λ end. absurd (true≢false _ left (rw (at_end at fresh rest (length cells) column behind end) refl)))
@@ -114,41 +168,62 @@ module _ (at : ℕ) (fresh : List Cell) (rest : ℕ) (cells : List Cell) (order 
       (cases_lt column (at + length fresh)))
       (cases_lt column at)
     where
-      split : (column : ℕ) → column < length cells → at + length fresh ≤ column → column + rest < at + length fresh + length cells
-          → ((suc column < length cells) × (suc column + rest < at + length fresh + length cells)) ⊎ (suc (column + rest - (at + length fresh)) ≡ rest + min (length cells - rest) (length cells - (at + length fresh)))
+      split : (column : ℕ) → column < length cells → at + length fresh ≤ column
+          → column + rest < at + length fresh + length cells
+          → ((suc column < length cells) × (suc column + rest < at + length fresh + length cells)) ⊎
+          (suc (column + rest - (at + length fresh)) ≡ rest + min (length cells - rest)
+          (length cells - (at + length fresh)))
       split column within behind old = ⊎_elim
-          (λ a. ⊎_elim (λ b. inl (a, b)) (λ b. inr (omega arith)) (cases_lt (suc column + rest) (at + length fresh + length cells)))
+          (λ a. ⊎_elim (λ b. inl (a, b)) (λ b. inr (omega arith))
+          (cases_lt (suc column + rest) (at + length fresh + length cells)))
           (λ a. inr (omega arith))
           (cases_lt (suc column) (length cells))
 
-  right_along : (column : ℕ) → column < length cells → is_right (taken cells (here column)).shape ≡ true → are_halves (source_before here column) (here column) ≡ true
+  right_along : (column : ℕ) → column < length cells → is_right (taken cells (here column)).shape ≡ true
+      → are_halves (source_before here column) (here column) ≡ true
   right_along zero within right = ⊎_elim
-      (λ (front : 0 < at). absurd (true≢false _ right (rw (at_front at fresh rest (length cells) 0 front) paired.first)))
+      (λ (front : 0 < at). absurd
+      (true≢false _ right (rw (at_front at fresh rest (length cells) 0 front) paired.first)))
       (λ (past : at ≤ 0). let e : at ≡ 0 = omega arith in ⊎_elim
-      (λ (new : 0 < at + length fresh). let e2 : 0 - at ≡ 0 = omega arith in absurd (true≢false _ right (rw (at_fresh at fresh rest (length cells) 0 past new, e2) pairs.first)))
+      (λ (new : 0 < at + length fresh). let e2 : 0 - at ≡ 0 = omega arith in absurd
+      (true≢false _ right (rw (at_fresh at fresh rest (length cells) 0 past new, e2) pairs.first)))
       (λ (behind : at + length fresh ≤ 0). ⊎_elim
-      (λ (old : 0 + rest < at + length fresh + length cells). let e2 : 0 + rest - (at + length fresh) ≡ rest = omega arith in absurd (true≢false _ right (rw (at_rest at fresh rest (length cells) 0 behind old, e2) whole_rest)))
+      (λ (old : 0 + rest < at + length fresh + length cells). let e2 : 0 + rest - (at + length fresh) ≡ rest = omega
+      arith in absurd (true≢false _ right (rw (at_rest at fresh rest (length cells) 0 behind old, e2) whole_rest)))
       (λ end. absurd (true≢false _ right (rw (at_end at fresh rest (length cells) 0 behind end) refl)))
       (cases_lt (0 + rest) (at + length fresh + length cells)))
       (cases_lt 0 (at + length fresh)))
       (cases_lt 0 at)
   right_along (suc column) within right = ⊎_elim
       (λ (front : suc column < at). let f : column < at = omega arith in
-      rw (at_front at fresh rest (length cells) column f, at_front at fresh rest (length cells) (suc column) front) (eq-eqb (suc column) (suc column) refl))
+      rw (at_front at fresh rest (length cells) column f, at_front at fresh rest (length cells) (suc column) front)
+      (eq-eqb (suc column) (suc column) refl))
       (λ (past : at ≤ suc column). ⊎_elim
       (λ (new : suc column < at + length fresh).
-      let right' : is_right (cell_at fresh (suc column - at)).shape ≡ true = rw (at_fresh at fresh rest (length cells) (suc column) past new) at right in ⊎_elim
-      (λ (first : column < at). let e : suc column - at ≡ 0 = omega arith in absurd (true≢false _ right' (rw e pairs.first)))
-      (λ (p : at ≤ column). let n : column < at + length fresh = omega arith in let e : suc column - at ≡ suc (column - at) = omega arith in
+      let right' : is_right (cell_at fresh (suc column - at)).shape ≡ true = rw
+      (at_fresh at fresh rest (length cells) (suc column) past new) at right in ⊎_elim
+      (λ (first : column < at). let e : suc column - at ≡ 0 = omega arith in absurd
+      (true≢false _ right' (rw e pairs.first)))
+      (λ (p : at ≤ column). let n : column < at + length fresh = omega arith in let e : suc column - at ≡ suc
+      (column - at) = omega arith in
       let r : is_right (cell_at fresh (suc (column - at))).shape ≡ true = rw e at right' in
-      rw (at_fresh at fresh rest (length cells) column p n, at_fresh at fresh rest (length cells) (suc column) past new, e, pairs.next (column - at), r) refl)
+      rw (
+        at_fresh at fresh rest (length cells) column p n,
+        at_fresh at fresh rest (length cells) (suc column) past new,
+        e,
+        pairs.next (column - at),
+        r,
+      ) refl)
       (cases_lt column at))
       (λ (behind : at + length fresh ≤ suc column). ⊎_elim
       (λ (old : suc column + rest < at + length fresh + length cells).
-      let right' : is_right (cell_at cells (suc column + rest - (at + length fresh))).shape ≡ true = rw (at_rest at fresh rest (length cells) (suc column) behind old) at right in ⊎_elim
-      (λ (first : column < at + length fresh). let e : suc column + rest - (at + length fresh) ≡ rest = omega arith in absurd (true≢false _ right' (rw e whole_rest)))
+      let right' : is_right (cell_at cells (suc column + rest - (at + length fresh))).shape ≡ true = rw
+      (at_rest at fresh rest (length cells) (suc column) behind old) at right in ⊎_elim
+      (λ (first : column < at + length fresh). let e : suc column + rest - (at + length fresh) ≡ rest = omega arith in
+      absurd (true≢false _ right' (rw e whole_rest)))
       (λ (b : at + length fresh ≤ column). let o : column + rest < at + length fresh + length cells = omega arith in
-      rw (at_rest at fresh rest (length cells) column b o, at_rest at fresh rest (length cells) (suc column) behind old) (eq-eqb _ _ (omega arith)))
+      rw (at_rest at fresh rest (length cells) column b o, at_rest at fresh rest (length cells) (suc column) behind old)
+      (eq-eqb _ _ (omega arith)))
       (cases_lt column (at + length fresh)))
       (λ end. absurd (true≢false _ right (rw (at_end at fresh rest (length cells) (suc column) behind end) refl)))
       (cases_lt (suc column + rest) (at + length fresh + length cells)))
@@ -158,18 +233,25 @@ module _ (at : ℕ) (fresh : List Cell) (rest : ℕ) (cells : List Cell) (order 
   pub plain_spliced : plain_from here cells ≡ cells_from here cells
   unfolding settled_at
   plain_spliced = cells_from-is here cells (plain_from here cells) (length-plain_from here cells) (λ column within.
-      cell_at-plain_from here cells column within ∙ sym (kept_is (taken cells (here column)).shape (taken cells (here column)) _ _ (left_along column within) (right_along column within)))
+      cell_at-plain_from here cells column within
+      ∙ sym
+      (kept_is (taken cells (here column)).shape (taken cells (here column)) _ _ (left_along column within)
+      (right_along column within)))
 
 -- the line with the three boundaries of a splice cut
 abbrev pub cut_thrice : ℕ → ℕ → ℕ → List Cell → List Cell
-cut_thrice at count rest cells = cut_of (rest + min (length cells - rest) (length cells - (at + count))) (cut_of rest (cut_of at cells))
+cut_thrice at count rest cells = cut_of (rest + min (length cells - rest) (length cells - (at + count)))
+    (cut_of rest (cut_of at cells))
 
 pub length-cut_thrice : (at count rest : ℕ) (cells : List Cell) → length (cut_thrice at count rest cells) ≡ length cells
-length-cut_thrice at count rest cells = length-cut_of _ (cut_of rest (cut_of at cells)) ∙ length-cut_of rest (cut_of at cells) ∙ length-cut_of at cells
+length-cut_thrice at count rest cells = length-cut_of _ (cut_of rest (cut_of at cells))
+    ∙ length-cut_of rest (cut_of at cells) ∙ length-cut_of at cells
 
 -- a splice is a move of plain cells, once its boundaries are cut
-pub cells_from-spliced : (at : ℕ) (fresh : List Cell) (rest : ℕ) (cells : List Cell) → at ≤ rest → rest ≤ length cells → at + length fresh ≤ length cells → at < rest + length fresh → IsPaired cells → IsPaired fresh
-    → cells_from (spliced at fresh rest (length cells)) cells ≡ plain_from (spliced at fresh rest (length cells)) (cut_thrice at (length fresh) rest cells)
+pub cells_from-spliced : (at : ℕ) (fresh : List Cell) (rest : ℕ) (cells : List Cell) → at ≤ rest → rest ≤ length cells
+    → at + length fresh ≤ length cells → at < rest + length fresh → IsPaired cells → IsPaired fresh
+    → cells_from (spliced at fresh rest (length cells)) cells ≡ plain_from (spliced at fresh rest (length cells))
+    (cut_thrice at (length fresh) rest cells)
 cells_from-spliced at fresh rest cells order inside room changes paired pairs =
     let end : ℕ = rest + min (length cells - rest) (length cells - (at + length fresh)) in
     let source : ℕ → Source = spliced at fresh rest (length cells) in
@@ -182,20 +264,30 @@ cells_from-spliced at fresh rest cells order inside room changes paired pairs =
     let length1 : length one ≡ length cells = length-cut_of at cells in
     let length2 : length two ≡ length cells = length-cut_of rest one ∙ length1 in
     let length3 : length three ≡ length cells = length-cut_of end two ∙ length2 in
-    let tears : (edge : ℕ) → IsEdge at (length fresh) rest (length cells) edge → Tears source (length cells) edge = λ edge which. tears_spliced at fresh rest (length cells) edge order inside room changes which in
-    let whole_at : is_right (cell_at three at).shape ≡ false = right-cut_of_other end two paired2 at (right-cut_of_other rest one paired1 at (right-cut_of_same at cells paired)) in
-    let whole_rest : is_right (cell_at three rest).shape ≡ false = right-cut_of_other end two paired2 rest (right-cut_of_same rest one paired1) in
+    let tears : (edge : ℕ) → IsEdge at (length fresh) rest (length cells) edge
+    → Tears source (length cells) edge = λ edge which. tears_spliced at fresh rest (length cells) edge order inside
+    room changes which in
+    let whole_at : is_right (cell_at three at).shape ≡ false = right-cut_of_other end two paired2 at
+    (right-cut_of_other rest one paired1 at (right-cut_of_same at cells paired)) in
+    let whole_rest : is_right (cell_at three rest).shape ≡ false = right-cut_of_other end two paired2 rest
+    (right-cut_of_same rest one paired1) in
     let whole_end : is_right (cell_at three end).shape ≡ false = right-cut_of_same end two paired2 in
     sym (cells_from-cut source cells at paired (tears at (inl refl)))
-    ∙ sym (cells_from-cut source one rest paired1 (subst (λ n. Tears source n rest) (sym length1) (tears rest (inr (inl refl)))))
-    ∙ sym (cells_from-cut source two end paired2 (subst (λ n. Tears source n end) (sym length2) (tears end (inr (inr refl)))))
+    ∙ sym
+    (cells_from-cut source one rest paired1
+    (subst (λ n. Tears source n rest) (sym length1) (tears rest (inr (inl refl)))))
+    ∙ sym
+    (cells_from-cut source two end paired2
+    (subst (λ n. Tears source n end) (sym length2) (tears end (inr (inr refl)))))
     ∙ sym (subst (λ n. plain_from (spliced at fresh rest n) three ≡ cells_from (spliced at fresh rest n) three) length3
-    (plain_spliced at fresh rest three order (rw length3 inside) (rw length3 room) paired3 pairs whole_at whole_rest (rw length3 whole_end)))
+    (plain_spliced at fresh rest three order (rw length3 inside) (rw length3 room) paired3 pairs whole_at whole_rest
+    (rw length3 whole_end)))
 
 pub IsPaired-blanks : (count : ℕ) → IsPaired (replicate count blank)
 IsPaired-blanks count = record {
   first = ap (λ (x : Cell). is_right x.shape) (all_blank count 0);
-  next = λ column. ap (λ (x : Cell). is_left x.shape) (all_blank count column) ∙ sym (ap (λ (x : Cell). is_right x.shape) (all_blank count (suc column)));
+  next = λ column. ap (λ (x : Cell). is_left x.shape) (all_blank count column)
+      ∙ sym (ap (λ (x : Cell). is_right x.shape) (all_blank count (suc column)));
 }
   where
     all_blank : (count column : ℕ) → cell_at (replicate count blank) column ≡ blank
@@ -205,8 +297,11 @@ IsPaired-blanks count = record {
         (cases_lt column count)
 
 -- what the slice calls of a splice leave is the line from its sources
-pub moved_line-is : (at count rest : ℕ) (cells : List Cell) → at ≤ rest → rest ≤ length cells → at + count ≤ length cells → at < rest + count → IsPaired cells
-    → moved_line blank (cut_thrice at count rest cells) at (at + count) rest (min (length cells - rest) (length cells - (at + count))) ≡ cells_from (spliced at (replicate count blank) rest (length cells)) cells
+pub moved_line-is : (at count rest : ℕ) (cells : List Cell) → at ≤ rest → rest ≤ length cells
+    → at + count ≤ length cells → at < rest + count → IsPaired cells
+    → moved_line blank (cut_thrice at count rest cells) at (at + count) rest
+    (min (length cells - rest) (length cells - (at + count))) ≡ cells_from
+    (spliced at (replicate count blank) rest (length cells)) cells
 moved_line-is at count rest cells order inside room changes paired =
     let fresh : List Cell = replicate count blank in
     let n : length fresh ≡ count = length-replicate count blank in
@@ -218,30 +313,41 @@ moved_line-is at count rest cells order inside room changes paired =
     let room' : at + count + moved ≤ length three = omega arith in
     let inside' : rest + moved ≤ length three = omega arith in
     let line : List Cell = moved_line blank three at (at + count) rest moved in
-    let same_length : length line ≡ length three = length-moved_line blank three at (at + count) rest moved order' room' inside' in
+    let same_length : length line ≡ length three = length-moved_line blank three at (at + count) rest moved order' room'
+    inside' in
     let each : (k : ℕ) → k < length three → cell_at line k ≡ taken three (source k) = λ k within. ⊎_elim
-    (λ (front : k < at). moved_front blank three at (at + count) rest moved order' room' inside' k blank front ∙ sym (ap (taken three) (at_front at fresh rest (length cells) k front)))
+    (λ (front : k < at). moved_front blank three at (at + count) rest moved order' room' inside' k blank front
+    ∙ sym (ap (taken three) (at_front at fresh rest (length cells) k front)))
     (λ (past : at ≤ k). ⊎_elim
-    (λ (new : k < at + count). let new' : k < at + length fresh = omega arith in let small : k - at < count = omega arith in
+    (λ (new : k < at + count). let new' : k < at + length fresh = omega arith in let small : k - at < count = omega
+    arith in
     moved_blank blank three at (at + count) rest moved order' room' inside' k blank past new
-    ∙ sym (ap (taken three) (at_fresh at fresh rest (length cells) k past new') ∙ get_or-replicate count (k - at) blank blank small))
+    ∙ sym
+    (ap (taken three) (at_fresh at fresh rest (length cells) k past new')
+    ∙ get_or-replicate count (k - at) blank blank small))
     (λ (behind : at + count ≤ k). let behind' : at + length fresh ≤ k = omega arith in ⊎_elim
     (λ (old : k < at + count + moved). let old' : k + rest < at + length fresh + length cells = omega arith in
     moved_rest blank three at (at + count) rest moved order' room' inside' k blank behind old
-    ∙ sym (ap (taken three) (at_rest at fresh rest (length cells) k behind' old') ∙ ap (λ w. cell_at three (k + rest - (at + w))) n))
+    ∙ sym
+    (ap (taken three) (at_rest at fresh rest (length cells) k behind' old')
+    ∙ ap (λ w. cell_at three (k + rest - (at + w))) n))
     (λ (end : at + count + moved ≤ k). let end' : at + length fresh + length cells ≤ k + rest = omega arith in
     moved_end blank three at (at + count) rest moved order' room' inside' k blank end within
     ∙ sym (ap (taken three) (at_end at fresh rest (length cells) k behind' end')))
     (cases_lt k (at + count + moved)))
     (cases_lt k (at + count)))
     (cases_lt k at) in
-    let plain : line ≡ plain_from source three = ext_get_or blank line (plain_from source three) (same_length ∙ sym (length-plain_from source three))
-    (λ k h. let h' : k < length three = rw same_length at h in each k h' ∙ sym (cell_at-plain_from source three k h')) in
+    let plain : line ≡ plain_from source three = ext_get_or blank line (plain_from source three)
+    (same_length ∙ sym (length-plain_from source three))
+    (λ k h. let h' : k < length three = rw same_length at h in each k h' ∙ sym (cell_at-plain_from source three k h'))
+    in
     plain ∙ ap (λ w. plain_from source (cut_thrice at w rest cells)) (sym n)
-    ∙ sym (cells_from-spliced at fresh rest cells order inside (rw n room) (rw n changes) paired (IsPaired-blanks count))
+    ∙ sym
+    (cells_from-spliced at fresh rest cells order inside (rw n room) (rw n changes) paired (IsPaired-blanks count))
 
 -- what is new, over a splice of as many blanks
-module _ (at : ℕ) (fresh : List Cell) (rest : ℕ) (cells : List Cell) (order : at ≤ rest) (inside : rest ≤ length cells) (room : at + length fresh ≤ length cells)
+module _ (at : ℕ) (fresh : List Cell) (rest : ℕ) (cells : List Cell) (order : at ≤ rest) (inside : rest ≤ length cells)
+    (room : at + length fresh ≤ length cells)
     (changes : at < rest + length fresh) (paired : IsPaired cells) (pairs : IsPaired fresh) where
   abbrev over_fresh : List Cell
   over_fresh = cells_from (spliced at fresh rest (length cells)) cells
@@ -252,36 +358,60 @@ module _ (at : ℕ) (fresh : List Cell) (rest : ℕ) (cells : List Cell) (order 
   n : length (replicate (length fresh) blank) ≡ length fresh
   n = length-replicate (length fresh) blank
 
-  plain_over : (k : ℕ) → k < length cells → cell_at over_fresh k ≡ taken (cut_thrice at (length fresh) rest cells) (spliced at fresh rest (length cells) k)
+  plain_over : (k : ℕ) → k < length cells
+      → cell_at over_fresh k ≡ taken (cut_thrice at (length fresh) rest cells) (spliced at fresh rest (length cells) k)
   plain_over k h = ap (λ x. cell_at x k) (cells_from-spliced at fresh rest cells order inside room changes paired pairs)
-      ∙ cell_at-plain_from (spliced at fresh rest (length cells)) (cut_thrice at (length fresh) rest cells) k (rw (length-cut_thrice at (length fresh) rest cells) h)
+      ∙ cell_at-plain_from (spliced at fresh rest (length cells)) (cut_thrice at (length fresh) rest cells) k
+      (rw (length-cut_thrice at (length fresh) rest cells) h)
 
-  plain_blanks : (k : ℕ) → k < length cells → cell_at over_blanks k ≡ taken (cut_thrice at (length fresh) rest cells) (spliced at (replicate (length fresh) blank) rest (length cells) k)
-  plain_blanks k h = ap (λ x. cell_at x k) (cells_from-spliced at (replicate (length fresh) blank) rest cells order inside (rw n room) (rw n changes) paired (IsPaired-blanks (length fresh)))
-      ∙ ap (λ w. cell_at (plain_from (spliced at (replicate (length fresh) blank) rest (length cells)) (cut_thrice at w rest cells)) k) n
-      ∙ cell_at-plain_from (spliced at (replicate (length fresh) blank) rest (length cells)) (cut_thrice at (length fresh) rest cells) k (rw (length-cut_thrice at (length fresh) rest cells) h)
+  plain_blanks : (k : ℕ) → k < length cells
+      → cell_at over_blanks k ≡ taken (cut_thrice at (length fresh) rest cells)
+      (spliced at (replicate (length fresh) blank) rest (length cells) k)
+  plain_blanks k h = ap (λ x. cell_at x k)
+      (cells_from-spliced at (replicate (length fresh) blank) rest cells order inside (rw n room) (rw n changes) paired
+      (IsPaired-blanks (length fresh)))
+      ∙ ap (λ w. cell_at
+      (plain_from (spliced at (replicate (length fresh) blank) rest (length cells)) (cut_thrice at w rest cells)) k)
+      n
+      ∙ cell_at-plain_from (spliced at (replicate (length fresh) blank) rest (length cells))
+      (cut_thrice at (length fresh) rest cells) k (rw (length-cut_thrice at (length fresh) rest cells) h)
 
   pub fresh_within : (k : ℕ) → at ≤ k → k < at + length fresh → cell_at over_fresh k ≡ cell_at fresh (k - at)
-  fresh_within k h g = plain_over k (omega arith) ∙ ap (taken (cut_thrice at (length fresh) rest cells)) (at_fresh at fresh rest (length cells) k h g)
+  fresh_within k h g = plain_over k (omega arith)
+      ∙ ap (taken (cut_thrice at (length fresh) rest cells)) (at_fresh at fresh rest (length cells) k h g)
 
   pub fresh_front : (k : ℕ) → k < at → cell_at over_fresh k ≡ cell_at over_blanks k
   fresh_front k h = let i : k < length cells = omega arith in
-      plain_over k i ∙ ap (taken (cut_thrice at (length fresh) rest cells)) (at_front at fresh rest (length cells) k h ∙ sym (at_front at (replicate (length fresh) blank) rest (length cells) k h)) ∙ sym (plain_blanks k i)
+      plain_over k i
+      ∙ ap (taken (cut_thrice at (length fresh) rest cells))
+      (at_front at fresh rest (length cells) k h
+      ∙ sym (at_front at (replicate (length fresh) blank) rest (length cells) k h)) ∙ sym (plain_blanks k i)
 
-  same_behind : (k : ℕ) → at + length fresh ≤ k → spliced at fresh rest (length cells) k ≡ spliced at (replicate (length fresh) blank) rest (length cells) k
-  same_behind k h = let l : length (replicate (length fresh) blank) ≡ length fresh = n in let h' : at + length (replicate (length fresh) blank) ≤ k = omega arith in ⊎_elim
+  same_behind : (k : ℕ) → at + length fresh ≤ k
+      → spliced at fresh rest (length cells) k ≡ spliced at (replicate (length fresh) blank) rest (length cells) k
+  same_behind k h = let l : length (replicate (length fresh) blank) ≡ length fresh = n in let h' : at + length
+      (replicate (length fresh) blank) ≤ k = omega arith in ⊎_elim
       (λ (old : k + rest < at + length fresh + length cells). at_rest at fresh rest (length cells) k h old
-      ∙ ap (λ w. Old (k + rest - (at + w))) (sym n) ∙ sym (at_rest at (replicate (length fresh) blank) rest (length cells) k h' (omega arith)))
-      (λ end. at_end at fresh rest (length cells) k h end ∙ sym (at_end at (replicate (length fresh) blank) rest (length cells) k h' (omega arith)))
+      ∙ ap (λ w. Old (k + rest - (at + w))) (sym n)
+      ∙ sym (at_rest at (replicate (length fresh) blank) rest (length cells) k h' (omega arith)))
+      (λ end. at_end at fresh rest (length cells) k h end
+      ∙ sym (at_end at (replicate (length fresh) blank) rest (length cells) k h' (omega arith)))
       (cases_lt (k + rest) (at + length fresh + length cells))
 
   pub fresh_behind : (k : ℕ) → at + length fresh ≤ k → k < length cells → cell_at over_fresh k ≡ cell_at over_blanks k
-  fresh_behind k h i = plain_over k i ∙ ap (taken (cut_thrice at (length fresh) rest cells)) (same_behind k h) ∙ sym (plain_blanks k i)
+  fresh_behind k h i = plain_over k i ∙ ap (taken (cut_thrice at (length fresh) rest cells)) (same_behind k h)
+      ∙ sym (plain_blanks k i)
 
 pub narrow_pairs : (cell : Cell) → cell.shape ≡ Narrow → IsPaired (cell ∷ [])
-narrow_pairs cell h = record { first = ap is_right h; next = λ column. elim column as (λ c. is_left (cell_at (cell ∷ []) c).shape ≡ is_right (cell_at (cell ∷ []) (suc c)).shape) [ zero ↦ ap is_left h | suc c ↦ refl ] }
+narrow_pairs cell h = record {
+  first = ap is_right h;
+  next = λ column. elim column as
+      (λ c. is_left (cell_at (cell ∷ []) c).shape ≡ is_right (cell_at (cell ∷ []) (suc c)).shape)
+      [ zero ↦ ap is_left h | suc c ↦ refl ];
+}
 
-wide_next : (l r : Cell) → l.shape ≡ Left → r.shape ≡ Right → (column : ℕ) → is_left (cell_at (l ∷ r ∷ []) column).shape ≡ is_right (cell_at (l ∷ r ∷ []) (suc column)).shape
+wide_next : (l r : Cell) → l.shape ≡ Left → r.shape ≡ Right → (column : ℕ)
+    → is_left (cell_at (l ∷ r ∷ []) column).shape ≡ is_right (cell_at (l ∷ r ∷ []) (suc column)).shape
 wide_next l r hl hr zero = ap is_left hl ∙ sym (ap is_right hr)
 wide_next l r hl hr (suc zero) = ap is_left hr
 wide_next l r hl hr (suc (suc c)) = refl
@@ -290,20 +420,25 @@ pub wide_pairs : (l r : Cell) → l.shape ≡ Left → r.shape ≡ Right → IsP
 wide_pairs l r hl hr = record { first = ap is_right hl; next = wide_next l r hl hr }
 
 -- one new cell
-pub put_one : (at : ℕ) (cell : Cell) (rest : ℕ) (cells : List Cell) → at ≤ rest → rest ≤ length cells → at + 1 ≤ length cells → IsPaired cells → cell.shape ≡ Narrow
-    → set (cells_from (spliced at (replicate 1 blank) rest (length cells)) cells) at cell ≡ cells_from (spliced at (cell ∷ []) rest (length cells)) cells
+pub put_one : (at : ℕ) (cell : Cell) (rest : ℕ) (cells : List Cell) → at ≤ rest → rest ≤ length cells
+    → at + 1 ≤ length cells → IsPaired cells → cell.shape ≡ Narrow
+    → set (cells_from (spliced at (replicate 1 blank) rest (length cells)) cells) at cell ≡ cells_from
+    (spliced at (cell ∷ []) rest (length cells)) cells
 put_one at cell rest cells order inside room paired shape =
     let changes : at < rest + 1 = omega arith in
     let pairs : IsPaired (cell ∷ []) = narrow_pairs cell shape in
     let over : List Cell = cells_from (spliced at (replicate 1 blank) rest (length cells)) cells in
     let a : length over ≡ length cells = length-cells_from (spliced at (replicate 1 blank) rest (length cells)) cells in
-    let b : length (cells_from (spliced at (cell ∷ []) rest (length cells)) cells) ≡ length cells = length-cells_from (spliced at (cell ∷ []) rest (length cells)) cells in
+    let b : length (cells_from (spliced at (cell ∷ []) rest (length cells)) cells) ≡ length cells = length-cells_from
+    (spliced at (cell ∷ []) rest (length cells)) cells in
     ext_get_or blank _ _ (length-set _ at cell ∙ a ∙ sym b) (λ k within.
     let i : k < length cells = rw (length-set over at cell, a) at within in
     ⊎_elim
     (λ (e : k ≡ at). let z : k - at ≡ 0 = omega arith in let at' : at < length cells = omega arith in
     ap (λ x. cell_at (set over at cell) x) e ∙ get_or-set_same over at cell blank (rw a at')
-    ∙ sym (fresh_within at (cell ∷ []) rest cells order inside room changes paired pairs k (omega arith) (omega arith) ∙ ap (λ x. cell_at (cell ∷ []) x) z))
+    ∙ sym
+    (fresh_within at (cell ∷ []) rest cells order inside room changes paired pairs k (omega arith) (omega arith)
+    ∙ ap (λ x. cell_at (cell ∷ []) x) z))
     (λ (ne : k ≡ at → ⊥). get_or-set_other over at k cell blank ne ∙ ⊎_elim
     (λ front. sym (fresh_front at (cell ∷ []) rest cells order inside room changes paired pairs k front))
     (λ past. sym (fresh_behind at (cell ∷ []) rest cells order inside room changes paired pairs k (omega arith) i))
@@ -311,25 +446,33 @@ put_one at cell rest cells order inside room paired shape =
     (cases_eq k at))
 
 -- two halves
-pub put_two : (at : ℕ) (l r : Cell) (rest : ℕ) (cells : List Cell) → at ≤ rest → rest ≤ length cells → at + 2 ≤ length cells → IsPaired cells → l.shape ≡ Left → r.shape ≡ Right
-    → set (set (cells_from (spliced at (replicate 2 blank) rest (length cells)) cells) at l) (at + 1) r ≡ cells_from (spliced at (l ∷ r ∷ []) rest (length cells)) cells
+pub put_two : (at : ℕ) (l r : Cell) (rest : ℕ) (cells : List Cell) → at ≤ rest → rest ≤ length cells
+    → at + 2 ≤ length cells → IsPaired cells → l.shape ≡ Left → r.shape ≡ Right
+    → set (set (cells_from (spliced at (replicate 2 blank) rest (length cells)) cells) at l) (at + 1) r ≡ cells_from
+    (spliced at (l ∷ r ∷ []) rest (length cells)) cells
 put_two at l r rest cells order inside room paired hl hr =
     let changes : at < rest + 2 = omega arith in
     let pairs : IsPaired (l ∷ r ∷ []) = wide_pairs l r hl hr in
     let over : List Cell = cells_from (spliced at (replicate 2 blank) rest (length cells)) cells in
     let a : length over ≡ length cells = length-cells_from (spliced at (replicate 2 blank) rest (length cells)) cells in
     let a2 : length (set over at l) ≡ length cells = length-set over at l ∙ a in
-    let b : length (cells_from (spliced at (l ∷ r ∷ []) rest (length cells)) cells) ≡ length cells = length-cells_from (spliced at (l ∷ r ∷ []) rest (length cells)) cells in
+    let b : length (cells_from (spliced at (l ∷ r ∷ []) rest (length cells)) cells) ≡ length cells = length-cells_from
+    (spliced at (l ∷ r ∷ []) rest (length cells)) cells in
     ext_get_or blank _ _ (length-set _ (at + 1) r ∙ a2 ∙ sym b) (λ k within.
     let i : k < length cells = rw (length-set (set over at l) (at + 1) r, a2) at within in
     ⊎_elim
     (λ (e : k ≡ at + 1). let z : k - at ≡ 1 = omega arith in let at' : at + 1 < length cells = omega arith in
-    ap (λ x. cell_at (set (set over at l) (at + 1) r) x) e ∙ get_or-set_same (set over at l) (at + 1) r blank (rw a2 at')
-    ∙ sym (fresh_within at (l ∷ r ∷ []) rest cells order inside room changes paired pairs k (omega arith) (omega arith) ∙ ap (λ x. cell_at (l ∷ r ∷ []) x) z))
+    ap (λ x. cell_at (set (set over at l) (at + 1) r) x) e
+    ∙ get_or-set_same (set over at l) (at + 1) r blank (rw a2 at')
+    ∙ sym
+    (fresh_within at (l ∷ r ∷ []) rest cells order inside room changes paired pairs k (omega arith) (omega arith)
+    ∙ ap (λ x. cell_at (l ∷ r ∷ []) x) z))
     (λ (ne : k ≡ at + 1 → ⊥). get_or-set_other (set over at l) (at + 1) k r blank ne ∙ ⊎_elim
     (λ (e : k ≡ at). let z : k - at ≡ 0 = omega arith in let at' : at < length cells = omega arith in
     ap (λ x. cell_at (set over at l) x) e ∙ get_or-set_same over at l blank (rw a at')
-    ∙ sym (fresh_within at (l ∷ r ∷ []) rest cells order inside room changes paired pairs k (omega arith) (omega arith) ∙ ap (λ x. cell_at (l ∷ r ∷ []) x) z))
+    ∙ sym
+    (fresh_within at (l ∷ r ∷ []) rest cells order inside room changes paired pairs k (omega arith) (omega arith)
+    ∙ ap (λ x. cell_at (l ∷ r ∷ []) x) z))
     (λ (ne2 : k ≡ at → ⊥). get_or-set_other over at k l blank ne2 ∙ ⊎_elim
     (λ front. sym (fresh_front at (l ∷ r ∷ []) rest cells order inside room changes paired pairs k front))
     (λ past. sym (fresh_behind at (l ∷ r ∷ []) rest cells order inside room changes paired pairs k (omega arith) i))

@@ -1,28 +1,41 @@
 -- What stays blank behind the columns that are used.
-use Rattle.std.proofs.Common.{◌≡◌, ℕ, ◌+◌, ◌-◌, ◌<◌, ◌≤◌, max, Bool, true, false, ◌&&◌, cond, leb, ltb, not, suc, List, ◌++◌, length, take, drop, set, replicate, refl, sym, ap, ◌∙◌, subst, arith, ⊎_elim}
-use Rattle.std.proofs.lemmas.List.{ext_get_or, take_at, length-replicate, get_or-replicate, length-set, get_or-set_other, length-append, length-drop, get_or-drop, get_or_append_left, get_or-append_right}
+use Rattle.std.proofs.Common.{◌≡◌, ℕ, ◌+◌, ◌-◌, ◌<◌, ◌≤◌, max, Bool, true, false, ◌&&◌, cond, leb, ltb, not, suc, List}
+use Rattle.std.proofs.Common.{◌++◌, length, take, drop, set, replicate, refl, sym, ap, ◌∙◌, subst, arith, ⊎_elim}
+use Rattle.std.proofs.lemmas.List.{ext_get_or, take_at, length-replicate, get_or-replicate, length-set}
+use Rattle.std.proofs.lemmas.List.{get_or-set_other, length-append, length-drop, get_or-drop, get_or_append_left}
+use Rattle.std.proofs.lemmas.List.{get_or-append_right}
 use Rattle.std.proofs.lemmas.Bool.{cases_lt}
 use Rattle.cells.specs.declared.cell.Cell.{Cell}
 use Rattle.cells.specs.declared.cell.Shape.TheVariants.{Narrow}
-use Rattle.cells.specs.Line.{blank, cell_at, is_left, is_right, IsBlankFrom, IsUsed, Source, Fresh, Old, taken, are_halves, kept, settled, source_before, source_after, cells_from, spliced, unprotected_erased}
+use Rattle.cells.specs.Line.{blank, cell_at, is_left, is_right, IsBlankFrom, IsUsed, Source, Fresh, Old, taken}
+use Rattle.cells.specs.Line.{are_halves, kept, settled, source_before, source_after, cells_from, spliced}
+use Rattle.cells.specs.Line.{unprotected_erased}
 use Rattle.cells.proofs.Settling.{settled_at, cell_at_past, cell_at-cells_from, length-cells_from, IsPaired-cells_from}
 use Rattle.cells.proofs.Splicing.{at_rest, at_end}
 use Rattle.cells.proofs.Putting.{IsPaired-set}
 
 -- a source that gives a blank
-pub settled_blank : (cells : List Cell) (before here after : Source) → taken cells here ≡ blank → settled cells before here after ≡ blank
-settled_blank cells before here after e = ap (λ (x : Cell). kept x.shape x (are_halves here after) (are_halves before here)) e
+pub settled_blank : (cells : List Cell) (before here after : Source) → taken cells here ≡ blank
+    → settled cells before here after ≡ blank
+settled_blank cells before here after e = ap
+    (λ (x : Cell). kept x.shape x (are_halves here after) (are_halves before here)) e
 
-pub IsBlankFrom-cells_from : (source : ℕ → Source) (used : ℕ) (cells : List Cell) → ((k : ℕ) → used ≤ k → k < length cells → taken cells (source k) ≡ blank) → IsBlankFrom used (cells_from source cells)
+pub IsBlankFrom-cells_from : (source : ℕ → Source) (used : ℕ) (cells : List Cell)
+    → ((k : ℕ) → used ≤ k → k < length cells → taken cells (source k) ≡ blank)
+    → IsBlankFrom used (cells_from source cells)
 unfolding settled_at
 IsBlankFrom-cells_from source used cells each k h = ⊎_elim
-    (λ (inside : k < length cells). cell_at-cells_from source cells k inside ∙ settled_blank cells (source_before source k) (source k) (source_after source (length cells) k) (each k h inside))
+    (λ (inside : k < length cells). cell_at-cells_from source cells k inside
+    ∙ settled_blank cells (source_before source k) (source k) (source_after source (length cells) k)
+    (each k h inside))
     (λ (past : length cells ≤ k). cell_at_past (cells_from source cells) k (rw (length-cells_from source cells) past))
     (cases_lt k (length cells))
 
 -- what an edit wrote back
-pub IsUsed-stored : (source : ℕ → Source) (used next : ℕ) (new old items : List Cell) (len : ℕ) → length new ≡ len → new ≡ cells_from source old → old ≡ items → IsUsed used items
-    → next ≤ length items → ((k : ℕ) → next ≤ k → k < length items → taken items (source k) ≡ blank) → IsUsed next (take len (new ++ drop (length new) items))
+pub IsUsed-stored : (source : ℕ → Source) (used next : ℕ) (new old items : List Cell) (len : ℕ) → length new ≡ len
+    → new ≡ cells_from source old → old ≡ items → IsUsed used items
+    → next ≤ length items → ((k : ℕ) → next ≤ k → k < length items → taken items (source k) ≡ blank)
+    → IsUsed next (take len (new ++ drop (length new) items))
 IsUsed-stored source used next new old items len n is same used_is inside each =
     let made : new ≡ cells_from source items = is ∙ ap (cells_from source) same in
     rw (take_at new (drop (length new) items) len n) (subst (IsUsed next) (sym made) (record {
@@ -32,15 +45,20 @@ IsUsed-stored source used next new old items len n is same used_is inside each =
     }))
 
 -- behind new cells, and the old ones that follow them
-pub spliced_behind : (at : ℕ) (fresh cells : List Cell) (rest used k : ℕ) → IsBlankFrom used cells → used - rest + (at + length fresh) ≤ k
+pub spliced_behind : (at : ℕ) (fresh cells : List Cell) (rest used k : ℕ) → IsBlankFrom used cells
+    → used - rest + (at + length fresh) ≤ k
     → taken cells (spliced at fresh rest (length cells) k) ≡ blank
 spliced_behind at fresh cells rest used k blanks past = ⊎_elim
-    (λ (inside : k + rest < at + length fresh + length cells). ap (taken cells) (at_rest at fresh rest (length cells) k (omega arith) inside) ∙ blanks (k + rest - (at + length fresh)) (omega arith))
-    (λ (end : at + length fresh + length cells ≤ k + rest). ap (taken cells) (at_end at fresh rest (length cells) k (omega arith) end))
+    (λ (inside : k + rest < at + length fresh + length cells). ap (taken cells)
+    (at_rest at fresh rest (length cells) k (omega arith) inside)
+    ∙ blanks (k + rest - (at + length fresh)) (omega arith))
+    (λ (end : at + length fresh + length cells ≤ k + rest). ap (taken cells)
+    (at_end at fresh rest (length cells) k (omega arith) end))
     (cases_lt (k + rest) (at + length fresh + length cells))
 
 -- what is erased is blank
-pub erased_behind : (cells : List Cell) (from end used k : ℕ) → IsBlankFrom used cells → used ≤ k → taken cells (unprotected_erased cells from end k) ≡ blank
+pub erased_behind : (cells : List Cell) (from end used k : ℕ) → IsBlankFrom used cells → used ≤ k
+    → taken cells (unprotected_erased cells from end k) ≡ blank
 erased_behind cells from end used k blanks past = go (leb from k && ltb k end && not (cell_at cells k).is_protected)
   where
     go : (b : Bool) → taken cells (cond b (Fresh blank) (Old k)) ≡ blank
@@ -48,7 +66,8 @@ erased_behind cells from end used k blanks past = go (leb from k && ltb k end &&
     go false = blanks k past
 
 -- one cell of its shape in place of another
-pub IsUsed-set : (cells : List Cell) (used column : ℕ) (cell : Cell) → column < length cells → cell.shape ≡ (cell_at cells column).shape → IsUsed used cells
+pub IsUsed-set : (cells : List Cell) (used column : ℕ) (cell : Cell) → column < length cells
+    → cell.shape ≡ (cell_at cells column).shape → IsUsed used cells
     → IsUsed (max used (column + 1)) (set cells column cell)
 IsUsed-set cells used column cell inside same used_is = record {
   paired = IsPaired-set cells column cell same used_is.paired;
@@ -70,17 +89,23 @@ IsUsed-filled count cell narrow = record {
     shape : (k : ℕ) → (cell_at (replicate count cell) k).shape ≡ Narrow
     shape k = ⊎_elim
         (λ (h : k < count). ap (λ (x : Cell). x.shape) (get_or-replicate count k cell blank h) ∙ narrow)
-        (λ (h : count ≤ k). ap (λ (x : Cell). x.shape) (cell_at_past (replicate count cell) k (rw (length-replicate count cell) h)))
+        (λ (h : count ≤ k). ap (λ (x : Cell). x.shape)
+        (cell_at_past (replicate count cell) k (rw (length-replicate count cell) h)))
         (cases_lt k count)
 
 -- blanks in the used columns make a blank line
-pub cleared_is : (used : ℕ) (cells : List Cell) → used ≤ length cells → IsBlankFrom used cells → replicate used blank ++ drop used cells ≡ replicate (length cells) blank
+pub cleared_is : (used : ℕ) (cells : List Cell) → used ≤ length cells → IsBlankFrom used cells
+    → replicate used blank ++ drop used cells ≡ replicate (length cells) blank
 cleared_is used cells inside blanks =
-    let n : length (replicate used blank ++ drop used cells) ≡ length cells = rw (length-append (replicate used blank) (drop used cells), length-replicate used blank, length-drop used cells) (omega arith) in
-    ext_get_or blank (replicate used blank ++ drop used cells) (replicate (length cells) blank) (n ∙ sym (length-replicate (length cells) blank)) (λ k h.
+    let n : length (replicate used blank ++ drop used cells) ≡ length cells = rw
+    (length-append (replicate used blank) (drop used cells), length-replicate used blank, length-drop used cells)
+    (omega arith) in
+    ext_get_or blank (replicate used blank ++ drop used cells) (replicate (length cells) blank)
+    (n ∙ sym (length-replicate (length cells) blank)) (λ k h.
     let within : k < length cells = rw n at h in
     ⊎_elim
-    (λ (front : k < used). get_or_append_left (replicate used blank) (drop used cells) blank k (rw (length-replicate used blank) front) ∙ get_or-replicate used k blank blank front)
+    (λ (front : k < used). get_or_append_left (replicate used blank) (drop used cells) blank k
+    (rw (length-replicate used blank) front) ∙ get_or-replicate used k blank blank front)
     (λ (back : used ≤ k). let e : used + (k - used) ≡ k = omega arith in
     get_or-append_right (replicate used blank) (drop used cells) used k blank (length-replicate used blank) back
     ∙ get_or-drop used cells (k - used) blank ∙ ap (cell_at cells) e ∙ blanks k back)

@@ -1,12 +1,14 @@
 -- A run of characters of width 2 is the first one and then the others.
-use Rattle.std.proofs.Common.{◌≡◌, ℕ, zero, suc, ◌+◌, ◌*◌, ◌<◌, ◌≤◌, Bool, false, List, [], ◌∷◌, length, set, refl, sym, ap, ◌∙◌, ◌⊎◌, inl, inr, subst, arith, ⊎_elim}
+use Rattle.std.proofs.Common.{◌≡◌, ℕ, zero, suc, ◌+◌, ◌*◌, ◌<◌, ◌≤◌, Bool, false, List, [], ◌∷◌, length, set, refl, sym}
+use Rattle.std.proofs.Common.{ap, ◌∙◌, ◌⊎◌, inl, inr, subst, arith, ⊎_elim}
 use Rattle.std.proofs.lemmas.List.{get_or-set_same, set-set}
 use Rattle.std.proofs.lemmas.Bool.{cases_lt, cases_eq}
 use Rattle.cells.specs.declared.cell.Cell.{Cell}
 use Rattle.cells.specs.declared.cell.Rendition.{Rendition}
 use Rattle.cells.specs.Line.{cell_at, is_right, IsPaired, cells_from, cut_of, spliced, fresh_at}
 use Rattle.cells.specs.Page.{line_at, IsPage, page_from, edited}
-use Rattle.cells.proofs.Settling.{cell_at_past, length-cut_of, length-cells_from, cell_at-cells_from, IsPaired-cells_from}
+use Rattle.cells.proofs.Settling.{cell_at_past, length-cut_of, length-cells_from, cell_at-cells_from}
+use Rattle.cells.proofs.Settling.{IsPaired-cells_from}
 use Rattle.cells.proofs.Cutting.{IsPaired-cut_of, right-cut_of_same}
 use Rattle.cells.proofs.Pages.{page_from-edited, IsPage-page_from}
 use Rattle.cells.proofs.Putting.{outside_is, settled_new}
@@ -16,16 +18,21 @@ use Rattle.cells.proofs.Wides.{wides, length-wides, fresh-later, wides_are}
 module _ (rendition : Rendition) (is_protected : Bool) where
   -- a line with a run in place of as many cells
   abbrev pub with_wides : ℕ → List ℕ → List Cell → List Cell
-  with_wides at codes cells = cells_from (spliced at (wides rendition is_protected codes) (at + 2 * length codes) (length cells)) cells
+  with_wides at codes cells = cells_from
+      (spliced at (wides rendition is_protected codes) (at + 2 * length codes) (length cells)) cells
 
   length-with_wides : (at : ℕ) (codes : List ℕ) (cells : List Cell) → length (with_wides at codes cells) ≡ length cells
-  length-with_wides at codes cells = length-cells_from (spliced at (wides rendition is_protected codes) (at + 2 * length codes) (length cells)) cells
+  length-with_wides at codes cells = length-cells_from
+      (spliced at (wides rendition is_protected codes) (at + 2 * length codes) (length cells)) cells
 
-  IsPaired-with_wides : (at : ℕ) (codes : List ℕ) (cells : List Cell) → IsPaired cells → IsPaired (with_wides at codes cells)
-  IsPaired-with_wides at codes cells paired = IsPaired-cells_from (spliced at (wides rendition is_protected codes) (at + 2 * length codes) (length cells)) cells paired
+  IsPaired-with_wides : (at : ℕ) (codes : List ℕ) (cells : List Cell) → IsPaired cells
+      → IsPaired (with_wides at codes cells)
+  IsPaired-with_wides at codes cells paired = IsPaired-cells_from
+      (spliced at (wides rendition is_protected codes) (at + 2 * length codes) (length cells)) cells paired
 
   module _ (at : ℕ) (codes : List ℕ) (cells : List Cell) (room : at + 2 * length codes ≤ length cells) where
-    wides_inside : (j : ℕ) → j < 2 * length codes → cell_at (with_wides at codes cells) (at + j) ≡ fresh_at (wides rendition is_protected codes) j
+    wides_inside : (j : ℕ) → j < 2 * length codes
+        → cell_at (with_wides at codes cells) (at + j) ≡ fresh_at (wides rendition is_protected codes) j
     wides_inside j h =
         let fresh : List Cell = wides rendition is_protected codes in
         let n : length fresh ≡ 2 * length codes = length-wides rendition is_protected codes in
@@ -33,17 +40,20 @@ module _ (rendition : Rendition) (is_protected : Bool) where
         ∙ cell_at-cells_from (spliced at fresh (at + length fresh) (length cells)) cells (at + j) (omega arith)
         ∙ settled_new at fresh cells (rw n room) j (rw n h)
 
-    wides_outside : 0 < length codes → IsPaired cells → (k : ℕ) → (k < at) ⊎ (at + 2 * length codes ≤ k) → k < length cells
+    wides_outside : 0 < length codes → IsPaired cells → (k : ℕ) → (k < at) ⊎ (at + 2 * length codes ≤ k)
+        → k < length cells
         → cell_at (with_wides at codes cells) k ≡ cell_at (cut_of (at + 2 * length codes) (cut_of at cells)) k
     wides_outside some paired k h within =
         let fresh : List Cell = wides rendition is_protected codes in
         let n : length fresh ≡ 2 * length codes = length-wides rendition is_protected codes in
         sym (ap (λ m. cell_at (cells_from (spliced at fresh (at + m) (length cells)) cells) k) n)
         ∙ cell_at-cells_from (spliced at fresh (at + length fresh) (length cells)) cells k within
-        ∙ outside_is at fresh cells (rw n room) (rw n (omega arith)) paired k (subst (λ m. (k < at) ⊎ (at + m ≤ k)) (sym n) h) within
+        ∙ outside_is at fresh cells (rw n room) (rw n (omega arith)) paired k
+        (subst (λ m. (k < at) ⊎ (at + m ≤ k)) (sym n) h) within
         ∙ ap (λ m. cell_at (cut_of (at + m) (cut_of at cells)) k) n
 
-  module _ (at code : ℕ) (codes : List ℕ) (cells : List Cell) (some : 0 < length codes) (room : at + 2 * suc (length codes) ≤ length cells) (paired : IsPaired cells) where
+  module _ (at code : ℕ) (codes : List ℕ) (cells : List Cell) (some : 0 < length codes)
+      (room : at + 2 * suc (length codes) ≤ length cells) (paired : IsPaired cells) where
     abbrev one : List Cell
     one = with_wides at (code ∷ []) cells
 
@@ -63,7 +73,8 @@ module _ (rendition : Rendition) (is_protected : Bool) where
     paired_one : IsPaired one
     paired_one = IsPaired-with_wides at (code ∷ []) cells paired
 
-    one_outside : (k : ℕ) → (k < at) ⊎ (at + 2 ≤ k) → k < length cells → cell_at one k ≡ cell_at (cut_of (at + 2) front) k
+    one_outside : (k : ℕ) → (k < at) ⊎ (at + 2 ≤ k) → k < length cells
+        → cell_at one k ≡ cell_at (cut_of (at + 2) front) k
     one_outside k h within = wides_outside at (code ∷ []) cells (omega arith) (omega arith) paired k h within
 
     -- the first cell was cut already
@@ -74,7 +85,8 @@ module _ (rendition : Rendition) (is_protected : Bool) where
     uncut_one : cut_of (at + 2) one ≡ one
     uncut_one = rw whole refl
 
-    both_outside : (k : ℕ) → (k < at + 2) ⊎ (at + 2 + 2 * length codes ≤ k) → k < length cells → cell_at both k ≡ cell_at (cut_of (at + 2 + 2 * length codes) one) k
+    both_outside : (k : ℕ) → (k < at + 2) ⊎ (at + 2 + 2 * length codes ≤ k) → k < length cells
+        → cell_at both k ≡ cell_at (cut_of (at + 2 + 2 * length codes) one) k
     both_outside k h within =
         let n : length one ≡ length cells = length_one in
         wides_outside (at + 2) codes one (omega arith) some paired_one k h (rw n within)
@@ -97,9 +109,11 @@ module _ (rendition : Rendition) (is_protected : Bool) where
 
     -- behind it
     one_behind : (k : ℕ) → at + 2 + 2 * length codes ≤ k → k < length cells → cell_at one k ≡ cell_at front k
-    one_behind k h within = one_outside k (inr (omega arith)) within ∙ cut_elsewhere (at + 2) front k (omega arith) (omega arith)
+    one_behind k h within = one_outside k (inr (omega arith)) within
+        ∙ cut_elsewhere (at + 2) front k (omega arith) (omega arith)
 
-    behind_is : (k : ℕ) → at + 2 * suc (length codes) ≤ k → k < length cells → cell_at both k ≡ cell_at (cut_of (at + 2 * suc (length codes)) front) k
+    behind_is : (k : ℕ) → at + 2 * suc (length codes) ≤ k → k < length cells
+        → cell_at both k ≡ cell_at (cut_of (at + 2 * suc (length codes)) front) k
     behind_is k h within =
         let n : length one ≡ length cells = length_one in
         let m : length front ≡ length cells = length_front in
@@ -115,13 +129,16 @@ module _ (rendition : Rendition) (is_protected : Bool) where
         ∙ sym (cut_elsewhere (at + 2 * suc (length codes)) front k ne (omega arith)))
         (cases_eq k (at + 2 * suc (length codes)))
 
-    outside_both : (k : ℕ) → (k < at) ⊎ (at + 2 * suc (length codes) ≤ k) → cell_at both k ≡ cell_at (cut_of (at + 2 * suc (length codes)) front) k
+    outside_both : (k : ℕ) → (k < at) ⊎ (at + 2 * suc (length codes) ≤ k)
+        → cell_at both k ≡ cell_at (cut_of (at + 2 * suc (length codes)) front) k
     outside_both k h =
         let n : length both ≡ length cells = length_both in
-        let m : length (cut_of (at + 2 * suc (length codes)) front) ≡ length cells = length-cut_of (at + 2 * suc (length codes)) front ∙ length_front in
+        let m : length (cut_of (at + 2 * suc (length codes)) front) ≡ length cells = length-cut_of
+        (at + 2 * suc (length codes)) front ∙ length_front in
         ⊎_elim
         (λ (within : k < length cells). ⊎_elim (λ a. before_is k a) (λ b. behind_is k b within) h)
-        (λ (past : length cells ≤ k). cell_at_past both k (rw n past) ∙ sym (cell_at_past (cut_of (at + 2 * suc (length codes)) front) k (rw m past)))
+        (λ (past : length cells ≤ k). cell_at_past both k (rw n past)
+        ∙ sym (cell_at_past (cut_of (at + 2 * suc (length codes)) front) k (rw m past)))
         (cases_lt k (length cells))
 
     first_columns : (j : ℕ) → j < 2 → cell_at both (at + j) ≡ fresh_at (wides rendition is_protected (code ∷ [])) j
@@ -130,7 +147,8 @@ module _ (rendition : Rendition) (is_protected : Bool) where
         ∙ cut_elsewhere (at + 2 + 2 * length codes) one (at + j) (omega arith) (omega arith)
         ∙ wides_inside at (code ∷ []) cells (omega arith) j (omega arith)
 
-    inside_both : (j : ℕ) → j < 2 * suc (length codes) → cell_at both (at + j) ≡ fresh_at (wides rendition is_protected (code ∷ codes)) j
+    inside_both : (j : ℕ) → j < 2 * suc (length codes)
+        → cell_at both (at + j) ≡ fresh_at (wides rendition is_protected (code ∷ codes)) j
     inside_both zero h = first_columns 0 (omega arith)
     inside_both (suc zero) h = first_columns 1 (omega arith)
     inside_both (suc (suc j)) h =
@@ -146,23 +164,32 @@ module _ (rendition : Rendition) (is_protected : Bool) where
 
   -- the same in a page
   abbrev pub page_wides : ℕ → ℕ → ℕ → List ℕ → List (List Cell) → List (List Cell)
-  page_wides width line at codes page = page_from (edited line (spliced at (wides rendition is_protected codes) (at + 2 * length codes) width)) page
+  page_wides width line at codes page = page_from
+      (edited line (spliced at (wides rendition is_protected codes) (at + 2 * length codes) width)) page
 
-  page_wides-set : (rows width line at : ℕ) (codes : List ℕ) (page : List (List Cell)) → IsPage rows width page → line < rows
+  page_wides-set : (rows width line at : ℕ) (codes : List ℕ) (page : List (List Cell)) → IsPage rows width page
+      → line < rows
       → page_wides width line at codes page ≡ set page line (with_wides at codes (line_at page line))
   page_wides-set rows width line at codes page is_page inside =
       page_from-edited line _ rows width page is_page inside
-      ∙ ap (λ w. set page line (cells_from (spliced at (wides rendition is_protected codes) (at + 2 * length codes) w) (line_at page line))) (sym (is_page.width line inside))
+      ∙ ap (λ w. set page line
+      (cells_from (spliced at (wides rendition is_protected codes) (at + 2 * length codes) w) (line_at page line)))
+      (sym (is_page.width line inside))
 
-  pub page_wides_more : (rows width line at code : ℕ) (codes : List ℕ) (page : List (List Cell)) → IsPage rows width page → line < rows → 0 < length codes → at + 2 * suc (length codes) ≤ width
-      → page_wides width line (at + 2) codes (page_wides width line at (code ∷ []) page) ≡ page_wides width line at (code ∷ codes) page
+  pub page_wides_more : (rows width line at code : ℕ) (codes : List ℕ) (page : List (List Cell))
+      → IsPage rows width page → line < rows → 0 < length codes → at + 2 * suc (length codes) ≤ width
+      → page_wides width line (at + 2) codes (page_wides width line at (code ∷ []) page) ≡ page_wides width line at
+      (code ∷ codes) page
   page_wides_more rows width line at code codes page is_page inside some room =
       let first : List (List Cell) = page_wides width line at (code ∷ []) page in
       let w : length (line_at page line) ≡ width = is_page.width line inside in
-      let is_first : first ≡ set page line (with_wides at (code ∷ []) (line_at page line)) = page_wides-set rows width line at (code ∷ []) page is_page inside in
+      let is_first : first ≡ set page line (with_wides at (code ∷ []) (line_at page line)) = page_wides-set rows width
+      line at (code ∷ []) page is_page inside in
       let there : line_at first line ≡ with_wides at (code ∷ []) (line_at page line) =
       ap (λ x. line_at x line) is_first ∙ get_or-set_same page line _ [] (rw is_page.height inside) in
-      page_wides-set rows width line (at + 2) codes first (IsPage-page_from (edited line (spliced at (wides rendition is_protected (code ∷ [])) (at + 2) width)) rows width page is_page) inside
+      page_wides-set rows width line (at + 2) codes first
+      (IsPage-page_from (edited line (spliced at (wides rendition is_protected (code ∷ [])) (at + 2) width)) rows
+      width page is_page) inside
       ∙ ap (λ x. set first line (with_wides (at + 2) codes x)) there
       ∙ ap (λ x. set x line (with_wides (at + 2) codes (with_wides at (code ∷ []) (line_at page line)))) is_first
       ∙ set-set page line _ _

@@ -1,5 +1,6 @@
 -- What is written as UTF-8 reads back.
-use Rattle.std.proofs.Common.{◌≡◌, ◌+◌, ◌/◌, ◌%◌, ◌<◌, ◌≤◌, ℕ, true, false, List, [], ◌∷◌, map, Option, ◌⊎◌, refl, ap, ◌∙◌, arith, inl, inr, ⊎_elim}
+use Rattle.std.proofs.Common.{◌≡◌, ◌+◌, ◌/◌, ◌%◌, ◌<◌, ◌≤◌, ℕ, true, false, List, [], ◌∷◌, map, Option, ◌⊎◌, refl, ap}
+use Rattle.std.proofs.Common.{◌∙◌, arith, inl, inr, ⊎_elim}
 use Rattle.std.specs.Prelude.{nat_lt}
 use Rattle.std.specs.Char.{encode_utf8}
 use Rattle.std.proofs.lemmas.Bool.{cases_lt}
@@ -7,7 +8,8 @@ use Rattle.std.proofs.lemmas.Bool.Decides.{nat_tests}
 use lib.Utf8.{scalar, scalar_cases}
 use Rattle.charsets.specs.declared.unit.Coding.TheVariants.{Utf8}
 use Rattle.charsets.specs.declared.unit.Unit.TheVariants.{Code}
-use Rattle.charsets.specs.Utf8.{Piece, whole, is_lead, follows, continues, code_of_2, code_of_3, code_of_4, piece, cut, codes, with_front}
+use Rattle.charsets.specs.Utf8.{Piece, whole, is_lead, follows, continues, code_of_2, code_of_3, code_of_4, piece, cut}
+use Rattle.charsets.specs.Utf8.{codes, with_front}
 use Rattle.charsets.specs.Units.{units}
 use Rattle.charsets.proofs.Cuts.{cut_by, cut-step}
 
@@ -30,7 +32,8 @@ two_bytes c low high =
     let value : code_of_2 a b ≡ c = omega arith in
     by_piece a (b ∷ []) (whole c 1) (rw (t1, t2, t3, t4) (ap (λ k. whole k 1) value))
 
-three_bytes : (c : ℕ) → 0x800 ≤ c → c < 0x10000 → (c < 0xD800) ⊎ (0xE000 ≤ c) → codes ((224 + c / 4096) ∷ (128 + (c / 64) % 64) ∷ (128 + c % 64) ∷ []) ≡ (c ∷ [], [])
+three_bytes : (c : ℕ) → 0x800 ≤ c → c < 0x10000 → (c < 0xD800) ⊎ (0xE000 ≤ c)
+    → codes ((224 + c / 4096) ∷ (128 + (c / 64) % 64) ∷ (128 + c % 64) ∷ []) ≡ (c ∷ [], [])
 unfolding piece cut
 three_bytes c low high apart =
     let a = 224 + c / 4096 in
@@ -45,7 +48,8 @@ three_bytes c low high apart =
     let value : code_of_3 a b d ≡ c = omega arith in
     by_piece a (b ∷ d ∷ []) (whole c 2) (rw (t1, t2, t3, t4, t5, t6) (ap (λ k. whole k 2) value))
 
-four_bytes : (c : ℕ) → 0x10000 ≤ c → c < 0x110000 → codes ((240 + c / 262144) ∷ (128 + (c / 4096) % 64) ∷ (128 + (c / 64) % 64) ∷ (128 + c % 64) ∷ []) ≡ (c ∷ [], [])
+four_bytes : (c : ℕ) → 0x10000 ≤ c → c < 0x110000
+    → codes ((240 + c / 262144) ∷ (128 + (c / 4096) % 64) ∷ (128 + (c / 64) % 64) ∷ (128 + c % 64) ∷ []) ≡ (c ∷ [], [])
 unfolding piece cut
 four_bytes c low high =
     let a = 240 + c / 262144 in
@@ -72,7 +76,9 @@ codes-encode c s =
     (λ h. let t : nat_lt c 128 ≡ false = grind (arith, nat_tests) in
     ⊎_elim (λ k. let t2 : nat_lt c 2048 ≡ true = grind (arith, nat_tests) in rw (t, t2) (two_bytes c h k))
     (λ k. let t2 : nat_lt c 2048 ≡ false = grind (arith, nat_tests) in
-    ⊎_elim (λ l. let t3 : nat_lt c 65536 ≡ true = grind (arith, nat_tests) in rw (t, t2, t3) (three_bytes c k l (⊎_elim (λ x. inl x) (λ x. inr x.0) (scalar_cases c s))))
+    ⊎_elim
+    (λ l. let t3 : nat_lt c 65536 ≡ true = grind (arith, nat_tests) in rw (t, t2, t3)
+    (three_bytes c k l (⊎_elim (λ x. inl x) (λ x. inr x.0) (scalar_cases c s))))
     (λ l. let t3 : nat_lt c 65536 ≡ false = grind (arith, nat_tests) in rw (t, t2, t3) (four_bytes c l (below c s)))
     (cases_lt c 65536))
     (cases_lt c 2048))

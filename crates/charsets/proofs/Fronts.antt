@@ -8,18 +8,22 @@ use Rattle.charsets.specs.Utf8.{whole, is_lead, follows, continues, code_of_2, c
 use Rattle.charsets.specs.Units.{units}
 use Rattle.charsets.proofs.Encoded.{by_piece}
 
-pub units-two : (a b : ℕ) → is_lead a ≡ true → a < 0xE0 → follows a b ≡ true → units Utf8 (a ∷ b ∷ []) ≡ (Code (code_of_2 a b) ∷ [], [])
+pub units-two : (a b : ℕ) → is_lead a ≡ true → a < 0xE0 → follows a b ≡ true
+    → units Utf8 (a ∷ b ∷ []) ≡ (Code (code_of_2 a b) ∷ [], [])
 unfolding piece cut
 units-two a b lead short second =
     let t1 : nat_lt a 0x80 ≡ false = grind (arith, nat_tests) in
     let t4 : nat_lt a 0xE0 ≡ true = grind (arith, nat_tests) in
-    ap (λ (p : List ℕ × List ℕ). (map (λ c. Code c) p.0, p.1)) (by_piece a (b ∷ []) (whole (code_of_2 a b) 1) (rw (t1, lead, second, t4) refl))
+    ap (λ (p : List ℕ × List ℕ). (map (λ c. Code c) p.0, p.1))
+    (by_piece a (b ∷ []) (whole (code_of_2 a b) 1) (rw (t1, lead, second, t4) refl))
 
-pub units-three : (a b c : ℕ) → 0xE0 ≤ a → a < 0xF0 → follows a b ≡ true → continues c ≡ true → units Utf8 (a ∷ b ∷ c ∷ []) ≡ (Code (code_of_3 a b c) ∷ [], [])
+pub units-three : (a b c : ℕ) → 0xE0 ≤ a → a < 0xF0 → follows a b ≡ true → continues c ≡ true
+    → units Utf8 (a ∷ b ∷ c ∷ []) ≡ (Code (code_of_3 a b c) ∷ [], [])
 unfolding piece cut
 units-three a b c long short second third =
     let t1 : nat_lt a 0x80 ≡ false = grind (arith, nat_tests) in
     let t2 : is_lead a ≡ true = grind (arith, nat_tests) in
     let t4 : nat_lt a 0xE0 ≡ false = grind (arith, nat_tests) in
     let t6 : nat_lt a 0xF0 ≡ true = grind (arith, nat_tests) in
-    ap (λ (p : List ℕ × List ℕ). (map (λ c. Code c) p.0, p.1)) (by_piece a (b ∷ c ∷ []) (whole (code_of_3 a b c) 2) (rw (t1, t2, second, t4, third, t6) refl))
+    ap (λ (p : List ℕ × List ℕ). (map (λ c. Code c) p.0, p.1))
+    (by_piece a (b ∷ c ∷ []) (whole (code_of_3 a b c) 2) (rw (t1, t2, second, t4, third, t6) refl))

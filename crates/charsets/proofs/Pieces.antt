@@ -17,22 +17,30 @@ use Rattle.charsets.proofs.Tables.{both}
 
 -- pieces behind what was read before them
 behind_front : (coding : Coding) (pieces : List (List ℕ)) (front : List ℕ) → units coding (front ++ concat pieces)
-    ≡ ((units coding front).0 ++ (units_of_pieces coding (units coding front).1 pieces).0, (units_of_pieces coding (units coding front).1 pieces).1)
+    ≡ (
+      (units coding front).0 ++ (units_of_pieces coding (units coding front).1 pieces).0,
+      (units_of_pieces coding (units coding front).1 pieces).1,
+    )
 behind_front coding [] front =
-    ap (units coding) (append-nil front) ∙ ap (λ us. (us, (units coding front).1)) (sym (append-nil (units coding front).0))
+    ap (units coding) (append-nil front)
+    ∙ ap (λ us. (us, (units coding front).1)) (sym (append-nil (units coding front).0))
 behind_front coding (piece ∷ pieces) front =
     let given = (units coding front).0 in
     let here = units coding ((units coding front).1 ++ piece) in
     let later = units_of_pieces coding here.1 pieces in
     ap (units coding) (sym (append_assoc front piece (concat pieces)))
     ∙ behind_front coding pieces (front ++ piece)
-    ∙ ap (λ (x : List Unit × List ℕ). (x.0 ++ (units_of_pieces coding x.1 pieces).0, (units_of_pieces coding x.1 pieces).1)) (units-go_on coding front piece)
+    ∙ ap (λ (x : List Unit × List ℕ).
+    (x.0 ++ (units_of_pieces coding x.1 pieces).0, (units_of_pieces coding x.1 pieces).1))
+    (units-go_on coding front piece)
     ∙ ap (λ us. (us, later.1)) (append_assoc given here.0 later.0)
 
-pub units_of_pieces-whole : (coding : Coding) (pieces : List (List ℕ)) → units_of_pieces coding [] pieces ≡ units coding (concat pieces)
+pub units_of_pieces-whole : (coding : Coding) (pieces : List (List ℕ))
+    → units_of_pieces coding [] pieces ≡ units coding (concat pieces)
 units_of_pieces-whole coding pieces =
     sym (behind_front coding pieces []
-    ∙ ap (λ (x : List Unit × List ℕ). (x.0 ++ (units_of_pieces coding x.1 pieces).0, (units_of_pieces coding x.1 pieces).1)) (units-none coding))
+    ∙ ap (λ (x : List Unit × List ℕ).
+    (x.0 ++ (units_of_pieces coding x.1 pieces).0, (units_of_pieces coding x.1 pieces).1)) (units-none coding))
 
 codes-plain : (bytes : List ℕ) → list_all is_plain bytes ≡ true → codes bytes ≡ (bytes, [])
 unfolding cut
@@ -50,6 +58,7 @@ bytes-plain (b ∷ bytes) h =
     let t : nat_lt b 0xA0 ≡ true = grind (arith, nat_tests) in
     rw t (ap (λ us. Code b ∷ us) (bytes-plain bytes p.1))
 
-pub units-plain : (coding : Coding) (bytes : List ℕ) → list_all is_plain bytes ≡ true → units coding bytes ≡ (map (λ b. Code b) bytes, [])
+pub units-plain : (coding : Coding) (bytes : List ℕ) → list_all is_plain bytes ≡ true
+    → units coding bytes ≡ (map (λ b. Code b) bytes, [])
 units-plain Utf8 bytes h = ap (λ (x : List ℕ × List ℕ). (map (λ c. Code c) x.0, x.1)) (codes-plain bytes h)
 units-plain Ecma35 bytes h = ap (λ us. (us, [])) (bytes-plain bytes h)

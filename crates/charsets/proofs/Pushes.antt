@@ -18,7 +18,8 @@ in_utf8 bytes rest new given b e h =
     ap (λ (p : List ℕ × List ℕ). (coded p.0, p.1)) (codes-push bytes rest new given b h e)
     ∙ ap (λ us. (us, new)) (map-append (λ c. Code c) (codes bytes).0 given)
 
-pub units-push : (old : Decoding) (coding : Coding) (rest new given : List ℕ) (b : ℕ) → coding ≡ Utf8 → record { coding = coding; rest = rest } ≡ old
+pub units-push : (old : Decoding) (coding : Coding) (rest new given : List ℕ) (b : ℕ) → coding ≡ Utf8
+    → record { coding = coding; rest = rest } ≡ old
     → codes (rest ++ b ∷ []) ≡ (given, new) → (bytes : List ℕ) → StandsFor old bytes
     → units old.coding (bytes ++ b ∷ []) ≡ ((units old.coding bytes).0 ++ coded given, new)
 units-push old coding rest new given b is same e bytes h =

@@ -1,5 +1,6 @@
 -- The units of bytes are units that a parser reads.
-use Rattle.std.proofs.Common.{◌≡◌, ◌<◌, ◌≤◌, ℕ, zero, suc, Bool, true, false, cond, List, [], ◌∷◌, ◌++◌, map, Option, Some, None, refl, arith}
+use Rattle.std.proofs.Common.{◌≡◌, ◌<◌, ◌≤◌, ℕ, zero, suc, Bool, true, false, cond, List, [], ◌∷◌, ◌++◌, map, Option}
+use Rattle.std.proofs.Common.{Some, None, refl, arith}
 use Rattle.std.specs.Prelude.{nat_lt, ◌==◌}
 use Rattle.std.specs.Char.{IsScalar}
 use Rattle.std.specs.List.{AllByRecursion}
@@ -8,7 +9,8 @@ use Rattle.std.proofs.Math.Utf8.{scalar, low_scalar}
 use Rattle.charsets.specs.declared.unit.Coding.{Coding}
 use Rattle.charsets.specs.declared.unit.Coding.TheVariants.{Utf8, Ecma35}
 use Rattle.charsets.specs.declared.unit.Unit.TheVariants.{Code, High}
-use Rattle.charsets.specs.Utf8.{Piece, broken_by, is_lead, follows, continues, code_of_2, code_of_3, code_of_4, piece, piece_of_2, piece_of_3, piece_of_4, cut, codes}
+use Rattle.charsets.specs.Utf8.{Piece, broken_by, is_lead, follows, continues, code_of_2, code_of_3, code_of_4, piece}
+use Rattle.charsets.specs.Utf8.{piece_of_2, piece_of_3, piece_of_4, cut, codes}
 use Rattle.charsets.specs.Units.{units, unit_of_byte, IsUnit}
 use Rattle.charsets.proofs.Cuts.{cut_by, cut-step}
 
@@ -18,10 +20,12 @@ high_scalar c low high = grind (arith, nat_tests)
 scalar_2 : (a b : ℕ) → is_lead a ≡ true → nat_lt a 0xE0 ≡ true → follows a b ≡ true → scalar (code_of_2 a b) ≡ true
 scalar_2 a b l s f = grind (arith, nat_tests)
 
-scalar_3 : (a b c : ℕ) → nat_lt a 0xE0 ≡ false → nat_lt a 0xF0 ≡ true → follows a b ≡ true → continues c ≡ true → scalar (code_of_3 a b c) ≡ true
+scalar_3 : (a b c : ℕ) → nat_lt a 0xE0 ≡ false → nat_lt a 0xF0 ≡ true → follows a b ≡ true → continues c ≡ true
+    → scalar (code_of_3 a b c) ≡ true
 scalar_3 a b c l s f t = grind (arith, nat_tests)
 
-scalar_4 : (a b c d : ℕ) → is_lead a ≡ true → nat_lt a 0xF0 ≡ false → follows a b ≡ true → continues c ≡ true → continues d ≡ true → scalar (code_of_4 a b c d) ≡ true
+scalar_4 : (a b c d : ℕ) → is_lead a ≡ true → nat_lt a 0xF0 ≡ false → follows a b ≡ true → continues c ≡ true
+    → continues d ≡ true → scalar (code_of_4 a b c d) ≡ true
 scalar_4 a b c d l s f t u = grind (arith, nat_tests)
 
 -- a piece gives codes of characters
@@ -40,25 +44,32 @@ gives_broken b more = by (b == 0x18)
     by true = tt
     by false = (refl, tt)
 
-gives_4 : (a b c : ℕ) (bytes : List ℕ) → is_lead a ≡ true → nat_lt a 0xF0 ≡ false → follows a b ≡ true → continues c ≡ true → Gives (piece_of_4 a b c bytes)
+gives_4 : (a b c : ℕ) (bytes : List ℕ) → is_lead a ≡ true → nat_lt a 0xF0 ≡ false → follows a b ≡ true
+    → continues c ≡ true → Gives (piece_of_4 a b c bytes)
 gives_4 a b c [] l s f t = tt
-gives_4 a b c (d ∷ bytes) l s f t = gives_if (continues d) _ _ (λ u. (scalar_4 a b c d l s f t u, tt)) (λ u. gives_broken d 2)
+gives_4 a b c (d ∷ bytes) l s f t = gives_if (continues d) _ _ (λ u. (scalar_4 a b c d l s f t u, tt))
+    (λ u. gives_broken d 2)
 
-gives_3 : (a b : ℕ) (bytes : List ℕ) → is_lead a ≡ true → nat_lt a 0xE0 ≡ false → follows a b ≡ true → Gives (piece_of_3 a b bytes)
+gives_3 : (a b : ℕ) (bytes : List ℕ) → is_lead a ≡ true → nat_lt a 0xE0 ≡ false → follows a b ≡ true
+    → Gives (piece_of_3 a b bytes)
 gives_3 a b [] l s f = tt
 gives_3 a b (c ∷ bytes) l s f = gives_if (continues c) _ _
-    (λ t. gives_if (nat_lt a 0xF0) _ _ (λ u. (scalar_3 a b c s u f t, tt)) (λ u. gives_4 a b c bytes l u f t)) (λ t. gives_broken c 1)
+    (λ t. gives_if (nat_lt a 0xF0) _ _ (λ u. (scalar_3 a b c s u f t, tt)) (λ u. gives_4 a b c bytes l u f t))
+    (λ t. gives_broken c 1)
 
 gives_2 : (a : ℕ) (bytes : List ℕ) → is_lead a ≡ true → Gives (piece_of_2 a bytes)
 gives_2 a [] l = tt
 gives_2 a (b ∷ bytes) l = gives_if (follows a b) _ _
-    (λ f. gives_if (nat_lt a 0xE0) _ _ (λ s. (scalar_2 a b l s f, tt)) (λ s. gives_3 a b bytes l s f)) (λ f. gives_broken b 0)
+    (λ f. gives_if (nat_lt a 0xE0) _ _ (λ s. (scalar_2 a b l s f, tt)) (λ s. gives_3 a b bytes l s f))
+    (λ f. gives_broken b 0)
 
 gives : (a : ℕ) (bytes : List ℕ) → Gives (piece a bytes)
 unfolding piece
-gives a bytes = gives_if (nat_lt a 0x80) _ _ (λ h. (low_scalar a (grind (arith, nat_tests)), tt)) (λ h. gives_if (is_lead a) _ _ (λ l. gives_2 a bytes l) (λ l. (refl, tt)))
+gives a bytes = gives_if (nat_lt a 0x80) _ _ (λ h. (low_scalar a (grind (arith, nat_tests)), tt))
+    (λ h. gives_if (is_lead a) _ _ (λ l. gives_2 a bytes l) (λ l. (refl, tt)))
 
-all-append : (xs ys : List ℕ) → AllByRecursion IsScalar xs → AllByRecursion IsScalar ys → AllByRecursion IsScalar (xs ++ ys)
+all-append : (xs ys : List ℕ) → AllByRecursion IsScalar xs → AllByRecursion IsScalar ys
+    → AllByRecursion IsScalar (xs ++ ys)
 all-append [] ys h k = k
 all-append (x ∷ xs) ys h k = (h.0, all-append xs ys h.1 k)
 
@@ -69,7 +80,8 @@ scalars-cut (suc skip) [] = tt
 scalars-cut (suc skip) (a ∷ bytes) = scalars-cut skip bytes
 scalars-cut zero (a ∷ bytes) = rw (cut-step a bytes) (by (λ k. scalars-cut k bytes) (piece a bytes) (gives a bytes))
   where
-    by : ((k : ℕ) → AllByRecursion IsScalar (cut k bytes).0) → (p : Option Piece) → Gives p → AllByRecursion IsScalar (cut_by p a bytes).0
+    by : ((k : ℕ) → AllByRecursion IsScalar (cut k bytes).0) → (p : Option Piece) → Gives p
+        → AllByRecursion IsScalar (cut_by p a bytes).0
     by again None h = tt
     by again (Some p) h = all-append p.gives (cut p.more bytes).0 h (again p.more)
 

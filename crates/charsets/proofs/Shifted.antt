@@ -7,7 +7,8 @@ use Rattle.charsets.specs.declared.unit.Unit.TheVariants.{Code}
 use Rattle.charsets.specs.Sets.{character_at}
 use Rattle.charsets.specs.Shifts.{set_at, is_graphic, is_position, mapped, spent}
 
-pub mapped-ascii : (s : Shifts) (c : ℕ) → set_at s s.gl ≡ Ascii → s.single ≡ None → is_graphic (Code c) ≡ true → mapped s (Code c) ≡ Some c
+pub mapped-ascii : (s : Shifts) (c : ℕ) → set_at s s.gl ≡ Ascii → s.single ≡ None → is_graphic (Code c) ≡ true
+    → mapped s (Code c) ≡ Some c
 unfolding mapped character_at
 mapped-ascii s c a n g =
     let e : character_at (set_at s (unwrap_or s.single s.gl)) c ≡ c =

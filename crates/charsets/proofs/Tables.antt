@@ -1,5 +1,6 @@
 -- A table and its rule.
-use Rattle.std.proofs.Common.{◌≡◌, ◌<◌, ◌+◌, ◌-◌, ℕ, zero, suc, Bool, true, false, ◌&&◌, List, [], ◌∷◌, length, slice_index, refl, ap, ◌∙◌, arith}
+use Rattle.std.proofs.Common.{◌≡◌, ◌<◌, ◌+◌, ◌-◌, ℕ, zero, suc, Bool, true, false, ◌&&◌, List, [], ◌∷◌, length}
+use Rattle.std.proofs.Common.{slice_index, refl, ap, ◌∙◌, arith}
 use Rattle.std.specs.Prelude.{◌==◌}
 use Rattle.std.proofs.lemmas.Bool.{eqb-true}
 use Rattle.charsets.specs.Sets.{supplement}
@@ -13,11 +14,15 @@ pub both : (a b : Bool) → (a && b) ≡ true → (a ≡ true) × (b ≡ true)
 both true b h = (refl, h)
 both false b h = absurd (cc)
 
-pub index-agrees : (rule : ℕ → ℕ) (u k : ℕ) (xs : List ℕ) → agrees rule u xs ≡ true → k < length xs → slice_index xs k ≡ rule (u + k)
+pub index-agrees : (rule : ℕ → ℕ) (u k : ℕ) (xs : List ℕ) → agrees rule u xs ≡ true → k < length xs
+    → slice_index xs k ≡ rule (u + k)
 index-agrees rule u k [] h i = absurd (omega arith)
 index-agrees rule u zero (x ∷ xs) h i = eqb-true x (rule u) (both _ _ h).0 ∙ ap rule (omega arith)
-index-agrees rule u (suc k) (x ∷ xs) h i = index-agrees rule (u + 1) k xs (both (x == rule u) _ h).1 (omega arith) ∙ ap rule (omega arith)
+index-agrees rule u (suc k) (x ∷ xs) h i = index-agrees rule (u + 1) k xs (both (x == rule u) _ h).1 (omega arith)
+    ∙ ap rule (omega arith)
 
 -- a table of the supplemental set
-pub index-supplement : (xs : List ℕ) (p : ℕ) → agrees supplement 0x21 xs ≡ true → 0x20 < p → p < 0x21 + length xs → slice_index xs (p - 0x21) ≡ supplement p
-index-supplement xs p h low high = index-agrees supplement 0x21 (p - 0x21) xs h (omega arith) ∙ ap supplement (omega arith)
+pub index-supplement : (xs : List ℕ) (p : ℕ) → agrees supplement 0x21 xs ≡ true → 0x20 < p → p < 0x21 + length xs
+    → slice_index xs (p - 0x21) ≡ supplement p
+index-supplement xs p h low high = index-agrees supplement 0x21 (p - 0x21) xs h (omega arith)
+    ∙ ap supplement (omega arith)

@@ -1,15 +1,18 @@
 -- Digits that come one by one.
-use Rattle.std.proofs.Common.{◌≡◌, refl, ℕ, zero, suc, ◌-◌, ◌<◌, ◌≤◌, List, [], ◌∷◌, length, take, set, get_or, ap, ◌∙◌, arith}
+use Rattle.std.proofs.Common.{◌≡◌, refl, ℕ, zero, suc, ◌-◌, ◌<◌, ◌≤◌, List, [], ◌∷◌, length, take, set, get_or, ap, ◌∙◌}
+use Rattle.std.proofs.Common.{arith}
 use Rattle.control_parser.specs.Text.{last_value, with_last, longer, digit_added}
 
 -- the last of the first n + 1 values changes
-pub digit_packed : (n d y : ℕ) (xs : List ℕ) → n < length xs → y ≡ longer (get_or xs n 0) d → take (suc n) (set xs n y) ≡ digit_added (take (suc n) xs) d
+pub digit_packed : (n d y : ℕ) (xs : List ℕ) → n < length xs → y ≡ longer (get_or xs n 0) d
+    → take (suc n) (set xs n y) ≡ digit_added (take (suc n) xs) d
 digit_packed n d y [] h e = absurd (omega arith)
 digit_packed zero d y (x ∷ xs) h e = ap (λ v. v ∷ []) e
 digit_packed (suc n) d y (x ∷ []) h e = absurd (omega arith)
 digit_packed (suc n) d y (x ∷ z ∷ xs) h e = ap (λ l. x ∷ l) (digit_packed n d y (z ∷ xs) (omega arith) e)
 
-pub digit_added-packed : (count d y : ℕ) (xs now : List ℕ) → 0 < count → count ≤ length xs → take count xs ≡ now → y ≡ longer (get_or xs (count - 1) 0) d
+pub digit_added-packed : (count d y : ℕ) (xs now : List ℕ) → 0 < count → count ≤ length xs → take count xs ≡ now
+    → y ≡ longer (get_or xs (count - 1) 0) d
     → take count (set xs (count - 1) y) ≡ digit_added now d
 digit_added-packed zero d y xs now p q h e = absurd (omega arith)
 digit_added-packed (suc n) d y xs now p q h e =
@@ -24,7 +27,8 @@ last_front zero (x ∷ xs) h = refl
 last_front (suc n) (x ∷ []) h = absurd (omega arith)
 last_front (suc n) (x ∷ z ∷ xs) h = last_front n (z ∷ xs) (omega arith)
 
-pub last-front : (count : ℕ) (xs now : List ℕ) → 0 < count → count ≤ length xs → take count xs ≡ now → get_or xs (count - 1) 0 ≡ last_value now
+pub last-front : (count : ℕ) (xs now : List ℕ) → 0 < count → count ≤ length xs → take count xs ≡ now
+    → get_or xs (count - 1) 0 ≡ last_value now
 last-front zero xs now p q h = absurd (omega arith)
 last-front (suc n) xs now p q h =
     let less : suc n - 1 ≡ n = omega arith in
@@ -36,13 +40,15 @@ with_front zero y (x ∷ xs) h = refl
 with_front (suc n) y (x ∷ []) h = absurd (omega arith)
 with_front (suc n) y (x ∷ z ∷ xs) h = ap (λ l. x ∷ l) (with_front n y (z ∷ xs) (omega arith))
 
-pub with_last-front : (count y : ℕ) (xs now : List ℕ) → 0 < count → count ≤ length xs → take count xs ≡ now → take count (set xs (count - 1) y) ≡ with_last now y
+pub with_last-front : (count y : ℕ) (xs now : List ℕ) → 0 < count → count ≤ length xs → take count xs ≡ now
+    → take count (set xs (count - 1) y) ≡ with_last now y
 with_last-front zero y xs now p q h = absurd (omega arith)
 with_last-front (suc n) y xs now p q h =
     let less : suc n - 1 ≡ n = omega arith in
     ap (λ k. take (suc n) (set xs k y)) less ∙ with_front n y xs (omega arith) ∙ ap (λ l. with_last l y) h
 
-pub digit-last : (values : List ℕ) (value d : ℕ) → digit_added (with_last values value) d ≡ with_last values (longer value d)
+pub digit-last : (values : List ℕ) (value d : ℕ)
+    → digit_added (with_last values value) d ≡ with_last values (longer value d)
 digit-last [] value d = refl
 digit-last (n ∷ []) value d = refl
 digit-last (n ∷ m ∷ []) value d = refl

@@ -1,5 +1,6 @@
 -- Units in pieces, and plain ones.
-use Rattle.std.proofs.Common.{◌≡◌, ◌↔◌, ℕ, Bool, true, false, cond, List, [], ◌∷◌, ◌++◌, length, map, Option, Some, None, refl, sym, ap, ◌∙◌, arith, append_assoc}
+use Rattle.std.proofs.Common.{◌≡◌, ◌↔◌, ℕ, Bool, true, false, cond, List, [], ◌∷◌, ◌++◌, length, map, Option, Some}
+use Rattle.std.proofs.Common.{None, refl, sym, ap, ◌∙◌, arith, append_assoc}
 use Rattle.std.specs.Prelude.{nat_le}
 use Rattle.std.specs.List.{flat_map, list_all}
 use Rattle.std.proofs.lemmas.Bool.Decides.{nat_tests}
@@ -12,7 +13,8 @@ use Rattle.control_parser.specs.declared.func.Func.TheVariants.{Print}
 use Rattle.control_parser.specs.declared.state.State.{State}
 use Rattle.control_parser.specs.declared.state.State.TheVariants as state
 use Rattle.control_parser.specs.declared.state.SequenceText.{SequenceText}
-use Rattle.control_parser.specs.Grammar.{Rest, nothing, escape, control, string, osc, is_graphic, with_front, functions, functions_behind}
+use Rattle.control_parser.specs.Grammar.{Rest, nothing, escape, control, string, osc, is_graphic, with_front, functions}
+use Rattle.control_parser.specs.Grammar.{functions_behind}
 use Rattle.control_parser.specs.Kept.{kept, kept_text, parts, opening, functions_of_pieces, StandsFor}
 use Rattle.control_parser.proofs.Machine.{machine, functions_behind-machine}
 use Rattle.control_parser.proofs.Openings.{functions-go_on}
@@ -24,8 +26,10 @@ functions-none = refl
 
 -- pieces behind what was read before them
 behind_front : (pieces : List (List Unit)) (us : List Unit)
-    → functions (us ++ flat_map (λ piece. piece) pieces) ≡ with_front (functions us).0 (functions_of_pieces (functions us).1 pieces)
-behind_front [] us = ap functions (append-nil us) ∙ ap (λ fs. (fs, (functions us).1)) (sym (append-nil (functions us).0))
+    → functions (us ++ flat_map (λ piece. piece) pieces) ≡ with_front (functions us).0
+    (functions_of_pieces (functions us).1 pieces)
+behind_front [] us = ap functions (append-nil us)
+    ∙ ap (λ fs. (fs, (functions us).1)) (sym (append-nil (functions us).0))
 behind_front (piece ∷ pieces) us =
     let given = (functions us).0 in
     let here = functions (opening (functions us).1 ++ piece) in
@@ -35,12 +39,14 @@ behind_front (piece ∷ pieces) us =
     ∙ ap (λ (x : List Func × Rest). with_front x.0 (functions_of_pieces x.1 pieces)) (functions-go_on us piece)
     ∙ ap (λ fs. (fs, later.1)) (append_assoc given here.0 later.0)
 
-pub functions_of_pieces-whole : (pieces : List (List Unit)) → functions_of_pieces nothing pieces ≡ functions (flat_map (λ piece. piece) pieces)
+pub functions_of_pieces-whole : (pieces : List (List Unit))
+    → functions_of_pieces nothing pieces ≡ functions (flat_map (λ piece. piece) pieces)
 functions_of_pieces-whole pieces =
     sym (behind_front pieces []
     ∙ ap (λ (x : List Func × Rest). with_front x.0 (functions_of_pieces x.1 pieces)) functions-none)
 
-machine-graphic : (codes : List ℕ) → list_all is_graphic codes ≡ true → machine nothing (map (λ c. Code c) codes) ≡ (map (λ c. Print c) codes, nothing)
+machine-graphic : (codes : List ℕ) → list_all is_graphic codes ≡ true
+    → machine nothing (map (λ c. Code c) codes) ≡ (map (λ c. Print c) codes, nothing)
 unfolding machine
 machine-graphic [] h = refl
 machine-graphic (c ∷ codes) h =
@@ -48,7 +54,8 @@ machine-graphic (c ∷ codes) h =
     ap (λ (x : List Func × Rest). with_front x.0 (machine x.1 (map (λ c. Code c) codes))) (print_reads c p.0)
     ∙ ap (with_front (Print c ∷ [])) (machine-graphic codes p.1)
 
-pub functions-graphic : (codes : List ℕ) → list_all is_graphic codes ≡ true → functions (map (λ c. Code c) codes) ≡ (map (λ c. Print c) codes, nothing)
+pub functions-graphic : (codes : List ℕ) → list_all is_graphic codes ≡ true
+    → functions (map (λ c. Code c) codes) ≡ (map (λ c. Print c) codes, nothing)
 functions-graphic codes h = functions_behind-machine 0 (map (λ c. Code c) codes) ∙ machine-graphic codes h
 
 plain_graphic : (codes : List ℕ) → list_all is_plain codes ≡ true → list_all is_graphic codes ≡ true
@@ -58,7 +65,8 @@ plain_graphic (c ∷ codes) h =
     let low : is_plain c ≡ true = p.0 in
     all_more is_graphic c codes (grind (arith, nat_tests)) (plain_graphic codes p.1)
 
-pub functions-plain : (codes : List ℕ) → list_all is_plain codes ≡ true → functions (map (λ c. Code c) codes) ≡ (map (λ c. Print c) codes, nothing)
+pub functions-plain : (codes : List ℕ) → list_all is_plain codes ≡ true
+    → functions (map (λ c. Code c) codes) ≡ (map (λ c. Print c) codes, nothing)
 functions-plain codes h = functions-graphic codes (plain_graphic codes h)
 
 -- nothing else is kept as nothing
@@ -78,6 +86,7 @@ kept-ground (control t) h = by (parts t) h
 kept-ground string h = absurd (cc)
 kept-ground osc h = absurd (cc)
 
-pub idle-whole : (old : State) (units : List Unit) → StandsFor old units → (old ≡ state.Ground) ↔ ((functions units).1 ≡ nothing)
+pub idle-whole : (old : State) (units : List Unit) → StandsFor old units
+    → (old ≡ state.Ground) ↔ ((functions units).1 ≡ nothing)
 unfolding kept
 idle-whole old units h = (λ e. kept-ground (functions units).1 (sym h ∙ e), λ e. h ∙ ap kept e)

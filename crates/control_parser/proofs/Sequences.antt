@@ -1,5 +1,6 @@
 -- A control sequence that stands whole.
-use Rattle.std.proofs.Common.{◌≡◌, ℕ, zero, suc, ◌+◌, ◌-◌, ◌<◌, ◌≤◌, Bool, true, false, cond, arith, List, [], ◌∷◌, ◌++◌, length, take, get_or, Some, refl, sym, ap, ◌∙◌, subst, lt-ltb}
+use Rattle.std.proofs.Common.{◌≡◌, ℕ, zero, suc, ◌+◌, ◌-◌, ◌<◌, ◌≤◌, Bool, true, false, cond, arith, List, [], ◌∷◌}
+use Rattle.std.proofs.Common.{◌++◌, length, take, get_or, Some, refl, sym, ap, ◌∙◌, subst, lt-ltb}
 use Rattle.std.specs.List.{list_all}
 use Rattle.std.proofs.lemmas.List.{take_more}
 use Rattle.charsets.specs.declared.unit.Coding.TheVariants.{Utf8}
@@ -9,7 +10,8 @@ use Rattle.control_parser.specs.Grammar.{is_sequence_text, nothing}
 use Rattle.control_parser.specs.Steps.{text_grown, no_text, valued, TakesDigits}
 use Rattle.control_parser.specs.Kept.{parts}
 use Rattle.control_parser.specs.Spelling.{ReadsAs}
-use Rattle.control_parser.specs.Text.{fields, is_intermediate, is_digit, longer, value_of, last_value, with_last, digit_added}
+use Rattle.control_parser.specs.Text.{fields, is_intermediate, is_digit, longer, value_of, last_value, with_last}
+use Rattle.control_parser.specs.Text.{digit_added}
 use Rattle.std.specs.Prelude.{◌==◌}
 use Rattle.std.proofs.lemmas.Bool.Decides.{nat_tests}
 use Rattle.control_parser.proofs.Digits.{digit-last, last-stays}
@@ -23,7 +25,8 @@ unfolding parts fields
 no-text = refl
 
 -- the text with one more byte
-pub text-more : (bytes : List ℕ) (at : ℕ) (text next : SequenceText) → at < length bytes → parts (take at bytes) ≡ Some text
+pub text-more : (bytes : List ℕ) (at : ℕ) (text next : SequenceText) → at < length bytes
+    → parts (take at bytes) ≡ Some text
     → text_grown text (get_or bytes at 0) ≡ Some next → parts (take (at + 1) bytes) ≡ Some next
 text-more bytes at text next l h g =
     ap parts (take_more bytes at 0 l) ∙ parts-push (take at bytes) (get_or bytes at 0)
@@ -33,30 +36,41 @@ pub inside-more : (bytes : List ℕ) (at : ℕ) → at < length bytes → list_a
     → is_sequence_text (get_or bytes at 0) ≡ true → list_all is_sequence_text (take (at + 1) bytes) ≡ true
 inside-more bytes at l h g =
     ap (list_all is_sequence_text) (take_more bytes at 0 l)
-    ∙ all-append is_sequence_text (take at bytes) (get_or bytes at 0 ∷ []) h (all_more is_sequence_text (get_or bytes at 0) [] g refl)
+    ∙ all-append is_sequence_text (take at bytes) (get_or bytes at 0 ∷ []) h
+    (all_more is_sequence_text (get_or bytes at 0) [] g refl)
 
 -- the text and a final
-whole-text : (text : List ℕ) (t : SequenceText) (last : ℕ) → list_all is_sequence_text text ≡ true → parts text ≡ Some t → 0x3F < last → last < 0x7F
+whole-text : (text : List ℕ) (t : SequenceText) (last : ℕ) → list_all is_sequence_text text ≡ true → parts text ≡ Some t
+    → 0x3F < last → last < 0x7F
     → ReadsAs Utf8 (0x1B ∷ 0x5B ∷ (text ++ last ∷ [])) (Csi t.mark t.params t.intermediates last ∷ [])
 unfolding machine
 whole-text text t last h p above below =
-    reads_low (0x1B ∷ 0x5B ∷ (text ++ last ∷ [])) (Csi t.mark t.params t.intermediates last ∷ []) (last_low text last h below)
+    reads_low (0x1B ∷ 0x5B ∷ (text ++ last ∷ [])) (Csi t.mark t.params t.intermediates last ∷ [])
+    (last_low text last h below)
     (control_run [] text last h above below ∙ ap (λ l. (l, nothing)) (control_of-parts text last (Some t) p))
 
-pub sequence-whole : (bytes : List ℕ) (at : ℕ) (t : SequenceText) → at < length bytes → list_all is_sequence_text (take at bytes) ≡ true → parts (take at bytes) ≡ Some t
+pub sequence-whole : (bytes : List ℕ) (at : ℕ) (t : SequenceText) → at < length bytes
+    → list_all is_sequence_text (take at bytes) ≡ true → parts (take at bytes) ≡ Some t
     → 0x3F < get_or bytes at 0 → get_or bytes at 0 < 0x7F
     → ReadsAs Utf8 (0x1B ∷ 0x5B ∷ take (at + 1) bytes) (Csi t.mark t.params t.intermediates (get_or bytes at 0) ∷ [])
 sequence-whole bytes at t l h p above below =
-    subst (λ (v : List ℕ). ReadsAs Utf8 (0x1B ∷ 0x5B ∷ v) (Csi t.mark t.params t.intermediates (get_or bytes at 0) ∷ [])) (sym (take_more bytes at 0 l))
+    subst
+    (λ (v : List ℕ). ReadsAs Utf8 (0x1B ∷ 0x5B ∷ v) (Csi t.mark t.params t.intermediates (get_or bytes at 0) ∷ []))
+    (sym (take_more bytes at 0 l))
     (whole-text (take at bytes) t (get_or bytes at 0) h p above below)
 
 -- the text with one digit more, which isn't written down yet
-pub digit-grown : (t : SequenceText) (value c : ℕ) → TakesDigits t → is_digit c ≡ true → text_grown (valued t value) c ≡ Some (valued (record t { begun = true }) (longer value (c - 0x30)))
+pub digit-grown : (t : SequenceText) (value c : ℕ) → TakesDigits t → is_digit c ≡ true
+    → text_grown (valued t value) c ≡ Some (valued (record t { begun = true }) (longer value (c - 0x30)))
 digit-grown t value c takes d =
     let a : is_intermediate c ≡ false = grind (arith, nat_tests) in
     let e : (length t.intermediates == 0) ≡ true = ap (λ (v : List ℕ). length v == 0) takes.inside in
     rw (a, e, d)
-    (ap (λ (b : Bool). Some (record t { begun = true; params = cond b (with_last t.params value) (digit_added (with_last t.params value) (c - 0x30)) })) takes.few
+    (ap (λ (b : Bool). Some
+    (record t {
+      begun = true;
+      params = cond b (with_last t.params value) (digit_added (with_last t.params value) (c - 0x30));
+    })) takes.few
     ∙ ap (λ (v : List ℕ). Some (record t { begun = true; params = v })) (digit-last t.params value (c - 0x30)))
 
 -- the text whose last parameter is written down
@@ -72,24 +86,30 @@ pub record IsRead (bytes : List ℕ) (at : ℕ) (t : SequenceText) (value : ℕ)
   pub text : parts (take at bytes) ≡ Some (valued t value)
   pub digits : takes_digits ≡ true → TakesDigits t
 
-pub digit-read : (bytes : List ℕ) (at : ℕ) (t : SequenceText) (value next : ℕ) (takes : Bool) → at < length bytes → IsRead bytes at t value takes → takes ≡ true
-    → is_digit (get_or bytes at 0) ≡ true → next ≡ longer value (get_or bytes at 0 - 0x30) → IsRead bytes (at + 1) (record t { begun = true }) next takes
+pub digit-read : (bytes : List ℕ) (at : ℕ) (t : SequenceText) (value next : ℕ) (takes : Bool) → at < length bytes
+    → IsRead bytes at t value takes → takes ≡ true
+    → is_digit (get_or bytes at 0) ≡ true → next ≡ longer value (get_or bytes at 0 - 0x30)
+    → IsRead bytes (at + 1) (record t { begun = true }) next takes
 digit-read bytes at t value next takes l r on d n =
     let c : ℕ = get_or bytes at 0 in
     let is : is_sequence_text c ≡ true = grind (arith, nat_tests) in
     let k = r.digits on in
     record {
       inside = inside-more bytes at l r.inside is;
-      text = text-more bytes at (valued t value) _ l r.text (digit-grown t value c k d) ∙ ap (λ (v : ℕ). Some (valued (record t { begun = true }) v)) (sym n);
+      text = text-more bytes at (valued t value) _ l r.text (digit-grown t value c k d)
+          ∙ ap (λ (v : ℕ). Some (valued (record t { begun = true }) v)) (sym n);
       digits = λ y. record { few = k.few; inside = k.inside };
     }
 
-pub other-read : (bytes : List ℕ) (at : ℕ) (t whole grown-text : SequenceText) (value next : ℕ) (takes takes' : Bool) → at < length bytes → IsRead bytes at t value takes
-    → is_sequence_text (get_or bytes at 0) ≡ true → whole ≡ valued t value → text_grown whole (get_or bytes at 0) ≡ Some grown-text → next ≡ last_value grown-text.params
+pub other-read : (bytes : List ℕ) (at : ℕ) (t whole grown-text : SequenceText) (value next : ℕ) (takes takes' : Bool)
+    → at < length bytes → IsRead bytes at t value takes
+    → is_sequence_text (get_or bytes at 0) ≡ true → whole ≡ valued t value
+    → text_grown whole (get_or bytes at 0) ≡ Some grown-text → next ≡ last_value grown-text.params
     → (takes' ≡ true → TakesDigits grown-text) → IsRead bytes (at + 1) grown-text next takes'
 other-read bytes at t whole grown-text value next takes takes' l r is w g n y = record {
   inside = inside-more bytes at l r.inside is;
-  text = text-more bytes at (valued t value) grown-text l r.text (ap (λ (v : SequenceText). text_grown v (get_or bytes at 0)) (sym w) ∙ g)
+  text = text-more bytes at (valued t value) grown-text l r.text
+      (ap (λ (v : SequenceText). text_grown v (get_or bytes at 0)) (sym w) ∙ g)
       ∙ sym (valued-stays grown-text) ∙ ap (λ (v : ℕ). Some (valued grown-text v)) (sym n);
   digits = y;
 }
@@ -110,15 +130,18 @@ pub record IsNumerals (bytes : List ℕ) (at : ℕ) (t : SequenceText) (value : 
   pub begun : Bool
   pub read : IsRead bytes at (record t { begun = begun }) value true
 
-pub number-read : (bytes : List ℕ) (at : ℕ) (t : SequenceText) (value next : ℕ) → at < length bytes → IsNumerals bytes at t value
-    → is_digit (get_or bytes at 0) ≡ true → next ≡ longer value (get_or bytes at 0 - 0x30) → IsNumerals bytes (at + 1) t next
+pub number-read : (bytes : List ℕ) (at : ℕ) (t : SequenceText) (value next : ℕ) → at < length bytes
+    → IsNumerals bytes at t value
+    → is_digit (get_or bytes at 0) ≡ true → next ≡ longer value (get_or bytes at 0 - 0x30)
+    → IsNumerals bytes (at + 1) t next
 number-read bytes at t value next l r d n = record {
   begun = true;
   read = digit-read bytes at (record t { begun = r.begun }) value next true l r.read refl d n;
 }
 
 -- so many digits more: `rest` has the bytes from there on
-pub value-read : (bytes rest : List ℕ) (at count : ℕ) (t : SequenceText) → at + count ≤ length bytes → ((k : ℕ) → k < count → get_or rest k 0 ≡ get_or bytes (at + k) 0) → IsNumerals bytes at t 0
+pub value-read : (bytes rest : List ℕ) (at count : ℕ) (t : SequenceText) → at + count ≤ length bytes
+    → ((k : ℕ) → k < count → get_or rest k 0 ≡ get_or bytes (at + k) 0) → IsNumerals bytes at t 0
     → ((k : ℕ) → k < count → is_digit (get_or rest k 0) ≡ true) → IsNumerals bytes (at + count) t (value_of rest count)
 value-read bytes rest at zero t room same r digits = subst (λ n. IsNumerals bytes n t 0) (omega arith) r
 value-read bytes rest at (suc count) t room same r digits =
@@ -129,19 +152,23 @@ value-read bytes rest at (suc count) t room same r digits =
     (ap is_digit (sym here) ∙ digits count (omega arith))
     (ap (λ d. longer (value_of rest count) (d - 0x30)) here))
 
-next-grown : (t : SequenceText) → TakesDigits t → length t.params < 16 → text_grown t 0x3B ≡ Some (record t { begun = true; params = t.params ++ 0 ∷ [] })
+next-grown : (t : SequenceText) → TakesDigits t → length t.params < 16
+    → text_grown t 0x3B ≡ Some (record t { begun = true; params = t.params ++ 0 ∷ [] })
 next-grown t takes few =
     let e : (length t.intermediates == 0) ≡ true = ap (λ (v : List ℕ). length v == 0) takes.inside in
     rw (e, lt-ltb (length t.params) 16 few) refl
 
-pub next-read : (bytes : List ℕ) (at : ℕ) (t : SequenceText) (value : ℕ) (params : List ℕ) → at < length bytes → IsNumerals bytes at t value
-    → get_or bytes at 0 ≡ 0x3B → params ≡ with_last t.params value → length params < 16 → IsNumerals bytes (at + 1) (record t { params = params ++ 0 ∷ [] }) 0
+pub next-read : (bytes : List ℕ) (at : ℕ) (t : SequenceText) (value : ℕ) (params : List ℕ) → at < length bytes
+    → IsNumerals bytes at t value
+    → get_or bytes at 0 ≡ 0x3B → params ≡ with_last t.params value → length params < 16
+    → IsNumerals bytes (at + 1) (record t { params = params ++ 0 ∷ [] }) 0
 next-read bytes at t value params l r c p few =
     let k = r.read.digits refl in
     let whole : SequenceText = record t { begun = r.begun; params = params } in
     record {
       begun = true;
-      read = other-read bytes at (record t { begun = r.begun }) whole (record whole { begun = true; params = params ++ 0 ∷ [] }) value 0 true true l r.read (rw c refl)
+      read = other-read bytes at (record t { begun = r.begun }) whole
+          (record whole { begun = true; params = params ++ 0 ∷ [] }) value 0 true true l r.read (rw c refl)
           (ap (λ (v : List ℕ). record t { begun = r.begun; params = v }) p)
           (ap (text_grown whole) c ∙ next-grown whole (record { few = k.few; inside = k.inside }) few)
           (sym (last_pushed params)) (λ y. record { few = k.few; inside = k.inside });

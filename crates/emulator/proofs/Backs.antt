@@ -1,8 +1,10 @@
 -- A page that is moved back, line by line.
-use Rattle.std.proofs.Common.{◌≡◌, ℕ, ◌+◌, ◌-◌, ◌<◌, ◌≤◌, min, List, [], ◌++◌, length, take, reverse, get_or, sym, ap, ◌∙◌, subst, arith, ⊎_elim, length-append, Bor, Option, None, Some}
+use Rattle.std.proofs.Common.{◌≡◌, ℕ, ◌+◌, ◌-◌, ◌<◌, ◌≤◌, min, List, [], ◌++◌, length, take, reverse, get_or, sym, ap}
+use Rattle.std.proofs.Common.{◌∙◌, subst, arith, ⊎_elim, length-append, Bor, Option, None, Some}
 use Rattle.std.specs.Prelude.{option_copied, slice_get, unwrap_or}
 use Rattle.std.proofs.lemmas.Option.{slice_get-get_or}
-use Rattle.std.proofs.lemmas.List.{length-take-le, get_or-take, get_or_append_left, get_or-append_right, get_or-reverse, get_or_past, take_all, take_min, length-reverse}
+use Rattle.std.proofs.lemmas.List.{length-take-le, get_or-take, get_or_append_left, get_or-append_right, get_or-reverse}
+use Rattle.std.proofs.lemmas.List.{get_or_past, take_all, take_min, length-reverse}
 use Rattle.std.proofs.lemmas.Bool.{cases_lt}
 use Rattle.cells.specs.declared.cell.Cell.{Cell}
 use Rattle.cells.specs.Line.{IsPaired}
@@ -20,7 +22,8 @@ length-above back x h = length-reverse (take back x.kept) ∙ length-take-le bac
 
 pub length-moved : (back : ℕ) (x : Screen) → length (moved_back back x) ≡ length x.page
 length-moved back x =
-    let n : length (above back x ++ x.page) ≡ length (above back x) + length x.page = length-append (above back x) x.page in
+    let n : length (above back x ++ x.page) ≡ length (above back x) + length x.page = length-append (above back x)
+    x.page in
     length-take-le (length x.page) (above back x ++ x.page) (omega arith)
 
 -- a line above the page's
@@ -43,21 +46,25 @@ moved-below back line x h l k =
     ∙ get_or-append_right (above back x) x.page back line [] (length-above back x h) l
 
 -- a kept line that was found
-pub kept-line : (found : Option (Bor (List Cell))) (lent default : Bor (List Cell)) (lines : Page) (n : ℕ) → n < length lines → option_copied found ≡ slice_get lines n
+pub kept-line : (found : Option (Bor (List Cell))) (lent default : Bor (List Cell)) (lines : Page) (n : ℕ)
+    → n < length lines → option_copied found ≡ slice_get lines n
     → lent ≡ unwrap_or found default → lent.now ≡ line_at lines n
 kept-line None lent default lines n l e u = let s = slice_get-get_or lines n [] l in absurd (cc)
 kept-line (Some line) lent default lines n l e u = let s = slice_get-get_or lines n [] l in cc
 
 -- it is a page of the screen's size
-pub moved-sized : (back : ℕ) (x : Screen) → IsSound x → back ≤ length x.kept → IsPage x.state.rows x.state.columns (moved_back back x)
+pub moved-sized : (back : ℕ) (x : Screen) → IsSound x → back ≤ length x.kept
+    → IsPage x.state.rows x.state.columns (moved_back back x)
 moved-sized back x s h =
     let n : length x.page ≡ x.state.rows = s.sized.height in
     record {
       height = length-moved back x ∙ n;
       width = λ line l.
           ⊎_elim
-          (λ (a : line < back). ap length (moved-above back line x h a (omega arith)) ∙ s.kept.width (back - 1 - line) (omega arith))
-          (λ (b : back ≤ line). ap length (moved-below back line x h b (omega arith)) ∙ s.sized.width (line - back) (omega arith))
+          (λ (a : line < back). ap length (moved-above back line x h a (omega arith))
+          ∙ s.kept.width (back - 1 - line) (omega arith))
+          (λ (b : back ≤ line). ap length (moved-below back line x h b (omega arith))
+          ∙ s.sized.width (line - back) (omega arith))
           (cases_lt line back);
       paired = λ line.
           ⊎_elim

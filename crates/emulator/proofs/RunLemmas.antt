@@ -1,5 +1,6 @@
 -- A run of plain bytes that is printed at once.
-use Rattle.std.proofs.Common.{◌≡◌, ℕ, suc, ◌+◌, ◌-◌, Bool, true, false, List, [], ◌∷◌, ◌++◌, length, take, drop, map, refl, sym, ap, ◌∙◌, subst, append-nil, arith, if◌then◌else◌}
+use Rattle.std.proofs.Common.{◌≡◌, ℕ, suc, ◌+◌, ◌-◌, Bool, true, false, List, [], ◌∷◌, ◌++◌, length, take, drop, map}
+use Rattle.std.proofs.Common.{refl, sym, ap, ◌∙◌, subst, append-nil, arith, if◌then◌else◌}
 use Rattle.std.proofs.lemmas.List.{take_all, length-drop}
 use Rattle.std.specs.List.{list_all, prefix_len}
 use Rattle.std.proofs.Math.Seq.{take-add}
@@ -25,7 +26,8 @@ pub prefix-plain : (p : ℕ → Bool) (xs : List ℕ) → list_all p (take (pref
 prefix-plain p [] = refl
 prefix-plain p (x ∷ xs) = by (p x) refl (prefix-plain p xs)
   where
-    by : (b : Bool) → p x ≡ b → list_all p (take (prefix_len p xs) xs) ≡ true → list_all p (take (if b then 1 + prefix_len p xs else 0) (x ∷ xs)) ≡ true
+    by : (b : Bool) → p x ≡ b → list_all p (take (prefix_len p xs) xs) ≡ true
+        → list_all p (take (if b then 1 + prefix_len p xs else 0) (x ∷ xs)) ≡ true
     by true e h =
         let next : 1 + prefix_len p xs ≡ suc (prefix_len p xs) = omega arith in
         subst (λ n. list_all p (take n (x ∷ xs)) ≡ true) (sym next) (rw e h)
@@ -36,7 +38,8 @@ pub effects-are : (x : Screen) (fs : List Func) → effects x fs ≡ readings.ef
 effects-are x [] = refl
 effects-are x (f ∷ later) = effects-are (effect x f) later
 
-pub prints-coding : (x : Screen) (bytes : List ℕ) → (readings.effects x (map (λ b. Print b) bytes)).state.coding ≡ x.state.coding
+pub prints-coding : (x : Screen) (bytes : List ℕ)
+    → (readings.effects x (map (λ b. Print b) bytes)).state.coding ≡ x.state.coding
 prints-coding x [] = refl
 prints-coding x (b ∷ bytes) = prints-coding (effect x (Print b)) bytes ∙ effect-coding x (Print b) refl
 
@@ -48,12 +51,15 @@ ready-is e t h rest idle =
     ap (λ (r : List ℕ). record { screen = t.screen; rest = r; unended = t.unended }) none
     ∙ ap (λ (u : Rest). record { screen = t.screen; rest = []; unended = u }) ended
 
-run-read : (t : Terminal) (bytes : List ℕ) → t ≡ ready t.screen → list_all is_plain bytes ≡ true → reads t bytes ≡ printed_read t.screen bytes
+run-read : (t : Terminal) (bytes : List ℕ) → t ≡ ready t.screen → list_all is_plain bytes ≡ true
+    → reads t bytes ≡ printed_read t.screen bytes
 run-read t bytes e plain = ap (λ (u : Terminal). reads u bytes) e ∙ reads-plain t.screen bytes plain
 
 -- a run
-pub run-has-read : (old new : Parts) (t : Terminal) (bytes before : List ℕ) → StandsFor old t → old.decoding.rest ≡ [] → IsIdle old.parsing → list_all is_plain bytes ≡ true
-    → new.screen ≡ effects old.screen (map (λ b. Print b) bytes) → new.decoding ≡ old.decoding → new.parsing ≡ old.parsing → HasRead t bytes before new before
+pub run-has-read : (old new : Parts) (t : Terminal) (bytes before : List ℕ) → StandsFor old t → old.decoding.rest ≡ []
+    → IsIdle old.parsing → list_all is_plain bytes ≡ true
+    → new.screen ≡ effects old.screen (map (λ b. Print b) bytes) → new.decoding ≡ old.decoding
+    → new.parsing ≡ old.parsing → HasRead t bytes before new before
 run-has-read old new t bytes before h rest idle plain s d p =
     let e : t ≡ ready t.screen = ready-is old t h rest idle in
     let r : reads t bytes ≡ printed_read t.screen bytes = run-read t bytes e plain in
@@ -62,10 +68,12 @@ run-has-read old new t bytes before h rest idle plain s d p =
       stands = subst (λ (v : Read). StandsFor new v.terminal) (sym r)
           (record {
             terminal = subst (λ (v : Read). IsTerminal v.terminal) r (IsTerminal-reads t bytes h.terminal);
-            screen = s ∙ ap (λ (y : Screen). effects y (map (λ b. Print b) bytes)) h.screen ∙ effects-are t.screen (map (λ b. Print b) bytes);
+            screen = s ∙ ap (λ (y : Screen). effects y (map (λ b. Print b) bytes)) h.screen
+                ∙ effects-are t.screen (map (λ b. Print b) bytes);
             decoding =
                 d ∙ h.decoding
-                ∙ ap (λ (u : List ℕ). record { coding = t.screen.state.coding; rest = u }) (ap (λ (u : Terminal). u.rest) e)
+                ∙ ap (λ (u : List ℕ). record { coding = t.screen.state.coding; rest = u })
+                (ap (λ (u : Terminal). u.rest) e)
                 ∙ ap (λ c. record { coding = c; rest = [] }) (sym (prints-coding t.screen bytes));
             parsing = p ∙ h.parsing ∙ ap (λ (u : Terminal). kept u.unended) e;
           });
@@ -73,10 +81,13 @@ run-has-read old new t bytes before h rest idle plain s d p =
     }
 
 -- some of the rest of the bytes behind those before
-pub has-read-on : (t : Terminal) (bytes : List ℕ) (i n : ℕ) (before answered next : List ℕ) (e e' : Parts) → HasRead t (take i bytes) before e answered
-    → HasRead (reads t (take i bytes)).terminal (take n (take (length bytes - i) (drop i bytes))) answered e' next → HasRead t (take (i + n) bytes) before e' next
+pub has-read-on : (t : Terminal) (bytes : List ℕ) (i n : ℕ) (before answered next : List ℕ) (e e' : Parts)
+    → HasRead t (take i bytes) before e answered
+    → HasRead (reads t (take i bytes)).terminal (take n (take (length bytes - i) (drop i bytes))) answered e' next
+    → HasRead t (take (i + n) bytes) before e' next
 has-read-on t bytes i n before answered next e e' h k =
-    let rest : take (length bytes - i) (drop i bytes) ≡ drop i bytes = take_all (length bytes - i) (drop i bytes) (omega (arith, length-drop i bytes)) in
+    let rest : take (length bytes - i) (drop i bytes) ≡ drop i bytes = take_all (length bytes - i) (drop i bytes)
+    (omega (arith, length-drop i bytes)) in
     subst (λ (v : List ℕ). HasRead t v before e' next) (sym (take-add i n bytes))
     (has-read-both t (take i bytes) (take n (drop i bytes)) before answered next e e' h
     (subst (λ (v : List ℕ). HasRead (reads t (take i bytes)).terminal (take n v) answered e' next) rest k))

@@ -1,5 +1,6 @@
 -- What stands whole in a list of bytes, and is taken at once.
-use Rattle.std.proofs.Common.{◌≡◌, ℕ, suc, ◌+◌, ◌-◌, ◌<◌, ◌≤◌, List, [], ◌∷◌, ◌++◌, length, take, drop, get_or, refl, sym, ap, ◌∙◌, subst, append-nil, true, arith}
+use Rattle.std.proofs.Common.{◌≡◌, ℕ, suc, ◌+◌, ◌-◌, ◌<◌, ◌≤◌, List, [], ◌∷◌, ◌++◌, length, take, drop, get_or, refl}
+use Rattle.std.proofs.Common.{sym, ap, ◌∙◌, subst, append-nil, true, arith}
 use Rattle.std.proofs.lemmas.List.{take_all, length-drop}
 use Rattle.charsets.specs.declared.unit.Coding.{Coding}
 use Rattle.charsets.specs.declared.unit.Coding.TheVariants.{Utf8}
@@ -35,22 +36,26 @@ stays-one c x f h k = record { coding = λ before after e. stays-at before after
     stays-at (g ∷ g' ∷ more) after e = absurd (cc)
 
 -- bytes that are read as one function
-reads-whole : (x : Screen) (bytes : List ℕ) (f : Func) → x.state.coding ≡ Utf8 → KeepsCoding x f → ReadsAs Utf8 bytes (f ∷ [])
+reads-whole : (x : Screen) (bytes : List ℕ) (f : Func) → x.state.coding ≡ Utf8 → KeepsCoding x f
+    → ReadsAs Utf8 bytes (f ∷ [])
     → reads (ready x) bytes ≡ outcome x (f ∷ []) [] nothing
 reads-whole x bytes f h k w =
     let given : functions (units Utf8 bytes).0 ≡ (f ∷ [], nothing) = w.1 in
     let stays : Stays Utf8 x (functions (units Utf8 bytes).0).0 = rw given (stays-one Utf8 x f h k) in
     reads-is bytes x Utf8 [] nothing (begun Utf8) nothing-opened stays ∙ rw (given, w.0) refl
 
-pub whole-has-read : (old new : Parts) (t : Terminal) (bytes before answered : List ℕ) (f : Func) → IsBetween old → old.decoding.coding ≡ Utf8
+pub whole-has-read : (old new : Parts) (t : Terminal) (bytes before answered : List ℕ) (f : Func) → IsBetween old
+    → old.decoding.coding ≡ Utf8
     → KeepsCoding old.screen f → ReadsAs Utf8 bytes (f ∷ [])
-    → new.screen ≡ effect old.screen f → new.decoding ≡ old.decoding → new.parsing ≡ old.parsing → answered ≡ before ++ report old.screen f
+    → new.screen ≡ effect old.screen f → new.decoding ≡ old.decoding → new.parsing ≡ old.parsing
+    → answered ≡ before ++ report old.screen f
     → StandsFor old t → HasRead t bytes before new answered
 whole-has-read old new t bytes before answered f b utf8 kept_coding w s d p a h =
     let keeps : KeepsCoding t.screen f = subst (λ (x : Screen). KeepsCoding x f) h.screen kept_coding in
     let e : t ≡ ready t.screen = ready-is old t h b.whole b.idle in
     let coding : t.screen.state.coding ≡ Utf8 = sym (ap (λ (v : Decoding). v.coding) h.decoding) ∙ utf8 in
-    let r : reads t bytes ≡ outcome t.screen (f ∷ []) [] nothing = ap (λ (u : Terminal). reads u bytes) e ∙ reads-whole t.screen bytes f coding keeps w in
+    let r : reads t bytes ≡ outcome t.screen (f ∷ []) [] nothing = ap (λ (u : Terminal). reads u bytes) e
+    ∙ reads-whole t.screen bytes f coding keeps w in
     record {
       stands = subst (λ (v : Read). StandsFor new v.terminal) (sym r)
           (record {
@@ -58,7 +63,8 @@ whole-has-read old new t bytes before answered f b utf8 kept_coding w s d p a h 
             screen = s ∙ ap (λ (y : Screen). effect y f) h.screen;
             decoding =
                 d ∙ h.decoding
-                ∙ ap (λ (u : List ℕ). record { coding = t.screen.state.coding; rest = u }) (ap (λ (u : Terminal). u.rest) e)
+                ∙ ap (λ (u : List ℕ). record { coding = t.screen.state.coding; rest = u })
+                (ap (λ (u : Terminal). u.rest) e)
                 ∙ ap (λ (c : Coding). record { coding = c; rest = [] }) (sym keeps);
             parsing = p ∙ h.parsing ∙ ap (λ (u : Terminal). kept u.unended) e;
           });
@@ -69,15 +75,19 @@ whole-has-read old new t bytes before answered f b utf8 kept_coding w s d p a h 
     }
 
 -- the same, where it is answered by nothing
-pub quiet-has-read : (old new : Parts) (t : Terminal) (bytes before : List ℕ) (f : Func) → IsBetween old → old.decoding.coding ≡ Utf8
+pub quiet-has-read : (old new : Parts) (t : Terminal) (bytes before : List ℕ) (f : Func) → IsBetween old
+    → old.decoding.coding ≡ Utf8
     → KeepsCoding old.screen f → ReadsAs Utf8 bytes (f ∷ [])
-    → new.screen ≡ effect old.screen f → new.decoding ≡ old.decoding → new.parsing ≡ old.parsing → report old.screen f ≡ []
+    → new.screen ≡ effect old.screen f → new.decoding ≡ old.decoding → new.parsing ≡ old.parsing
+    → report old.screen f ≡ []
     → StandsFor old t → HasRead t bytes before new before
 quiet-has-read old new t bytes before f b utf8 keeps w s d p a h =
-    whole-has-read old new t bytes before before f b utf8 keeps w s d p (sym (ap (λ (v : List ℕ). before ++ v) a ∙ append-nil before)) h
+    whole-has-read old new t bytes before before f b utf8 keeps w s d p
+    (sym (ap (λ (v : List ℕ). before ++ v) a ∙ append-nil before)) h
 
 -- a character
-pub character-reads : (bytes : List ℕ) (c : ℕ) → units Utf8 bytes ≡ (codes.Code c ∷ [], []) → is_graphic c ≡ true → ReadsAs Utf8 bytes (Print c ∷ [])
+pub character-reads : (bytes : List ℕ) (c : ℕ) → units Utf8 bytes ≡ (codes.Code c ∷ [], []) → is_graphic c ≡ true
+    → ReadsAs Utf8 bytes (Print c ∷ [])
 character-reads bytes c u g = (ap (λ v. v.1) u, ap (λ v. functions v.0) u ∙ functions-graphic (c ∷ []) (rw g refl))
 
 -- nothing
@@ -96,12 +106,14 @@ pub front-one : (bytes : List ℕ) (a : ℕ) → 0 < length bytes → get_or byt
 front-one [] a l e = absurd (omega arith)
 front-one (b ∷ bytes) a l e = ap (λ v. v ∷ []) e
 
-pub front-two : (bytes : List ℕ) (a b : ℕ) → 1 < length bytes → take 1 bytes ≡ a ∷ [] → get_or bytes 1 0 ≡ b → take 2 bytes ≡ a ∷ b ∷ []
+pub front-two : (bytes : List ℕ) (a b : ℕ) → 1 < length bytes → take 1 bytes ≡ a ∷ [] → get_or bytes 1 0 ≡ b
+    → take 2 bytes ≡ a ∷ b ∷ []
 front-two [] a b l h e = absurd (omega arith)
 front-two (x ∷ []) a b l h e = absurd (omega arith)
 front-two (x ∷ y ∷ bytes) a b l h e = let p : x ≡ a = cc in let q : y ≡ b = e in cc
 
-pub front-more : (bytes : List ℕ) (a b n : ℕ) → take 2 bytes ≡ a ∷ b ∷ [] → take (n + 2) bytes ≡ a ∷ b ∷ take n (drop 2 bytes)
+pub front-more : (bytes : List ℕ) (a b n : ℕ) → take 2 bytes ≡ a ∷ b ∷ []
+    → take (n + 2) bytes ≡ a ∷ b ∷ take n (drop 2 bytes)
 front-more [] a b n h = absurd (cc)
 front-more (x ∷ []) a b n h = absurd (cc)
 front-more (x ∷ y ∷ bytes) a b n h =

@@ -36,7 +36,8 @@ two-goes_on : functions (opening (control []) ++ codes.Code 0x32 ∷ []) ≡ ([]
 unfolding functions_behind grammar.piece grammar.text grammar.controls begun_by
 two-goes_on = refl
 
-erasure-ends : functions (opening (control (0x32 ∷ [])) ++ codes.Code 0x4A ∷ []) ≡ (Csi None (2 ∷ []) [] 0x4A ∷ [], nothing)
+erasure-ends : functions (opening (control (0x32 ∷ [])) ++ codes.Code 0x4A ∷ []) ≡
+    (Csi None (2 ∷ []) [] 0x4A ∷ [], nothing)
 unfolding functions_behind grammar.piece grammar.text grammar.controls begun_by fields
 erasure-ends = refl
 
@@ -44,7 +45,8 @@ home-ends : functions (opening (control []) ++ codes.Code 0x48 ∷ []) ≡ (Csi 
 unfolding functions_behind grammar.piece grammar.text grammar.controls begun_by fields
 home-ends = refl
 
-reset-reads : (x : Screen) → reads (ready x) reset_bytes ≡ joined (done x (Esc [] 0x63)) (nothing_read (ready (effect x (Esc [] 0x63))))
+reset-reads : (x : Screen)
+    → reads (ready x) reset_bytes ≡ joined (done x (Esc [] 0x63)) (nothing_read (ready (effect x (Esc [] 0x63))))
 unfolding reads
 reset-reads x =
     silent x nothing (escape []) 0x1B (0x63 ∷ []) (omega arith) escape-opens
@@ -58,7 +60,9 @@ final_of : Coding → ℕ
 final_of Utf8 = 0x47
 final_of Ecma35 = 0x40
 
-coding-reads : (c : Coding) (x : Screen) → reads (ready x) (coding_bytes c) ≡ joined (done x (Esc (0x25 ∷ []) (final_of c))) (nothing_read (ready (effect x (Esc (0x25 ∷ []) (final_of c)))))
+coding-reads : (c : Coding) (x : Screen)
+    → reads (ready x) (coding_bytes c) ≡ joined (done x (Esc (0x25 ∷ []) (final_of c)))
+    (nothing_read (ready (effect x (Esc (0x25 ∷ []) (final_of c)))))
 unfolding reads final_of
 coding-reads Utf8 x =
     silent x nothing (escape []) 0x1B (0x25 ∷ 0x47 ∷ []) (omega arith) escape-opens
@@ -78,17 +82,23 @@ pub coding-quiet : (t : Terminal) (c : Coding) → (writes t (Encoding c)).repor
 coding-quiet t c = ap (λ (r : Read). r.reports) (coding-reads c t.screen) ∙ rw (coding-report c t.screen) refl
 
 clear-reads : (x : Screen) → reads (ready x) clear_bytes
-    ≡ joined (done x (Csi None (2 ∷ []) [] 0x4A)) (joined (done (effect x (Csi None (2 ∷ []) [] 0x4A)) (Csi None (0 ∷ []) [] 0x48)) (nothing_read (ready (effect (effect x (Csi None (2 ∷ []) [] 0x4A)) (Csi None (0 ∷ []) [] 0x48)))))
+    ≡ joined (done x (Csi None (2 ∷ []) [] 0x4A))
+    (joined (done (effect x (Csi None (2 ∷ []) [] 0x4A)) (Csi None (0 ∷ []) [] 0x48))
+    (nothing_read (ready (effect (effect x (Csi None (2 ∷ []) [] 0x4A)) (Csi None (0 ∷ []) [] 0x48)))))
 unfolding reads
 clear-reads x =
     silent x nothing (escape []) 0x1B (0x5B ∷ 0x32 ∷ 0x4A ∷ 0x1B ∷ 0x5B ∷ 0x48 ∷ []) (omega arith) escape-opens
     ∙ silent x (escape []) (control []) 0x5B (0x32 ∷ 0x4A ∷ 0x1B ∷ 0x5B ∷ 0x48 ∷ []) (omega arith) bracket-opens
     ∙ silent x (control []) (control (0x32 ∷ [])) 0x32 (0x4A ∷ 0x1B ∷ 0x5B ∷ 0x48 ∷ []) (omega arith) two-goes_on
-    ∙ ending x (control (0x32 ∷ [])) (Csi None (2 ∷ []) [] 0x4A) 0x4A (0x1B ∷ 0x5B ∷ 0x48 ∷ []) (omega arith) erasure-ends
+    ∙ ending x (control (0x32 ∷ [])) (Csi None (2 ∷ []) [] 0x4A) 0x4A (0x1B ∷ 0x5B ∷ 0x48 ∷ []) (omega arith)
+    erasure-ends
     ∙ ap (joined (done x (Csi None (2 ∷ []) [] 0x4A)))
-    (silent (effect x (Csi None (2 ∷ []) [] 0x4A)) nothing (escape []) 0x1B (0x5B ∷ 0x48 ∷ []) (omega arith) escape-opens
-    ∙ silent (effect x (Csi None (2 ∷ []) [] 0x4A)) (escape []) (control []) 0x5B (0x48 ∷ []) (omega arith) bracket-opens
-    ∙ ending (effect x (Csi None (2 ∷ []) [] 0x4A)) (control []) (Csi None (0 ∷ []) [] 0x48) 0x48 [] (omega arith) home-ends)
+    (silent (effect x (Csi None (2 ∷ []) [] 0x4A)) nothing (escape []) 0x1B (0x5B ∷ 0x48 ∷ []) (omega arith)
+    escape-opens
+    ∙ silent (effect x (Csi None (2 ∷ []) [] 0x4A)) (escape []) (control []) 0x5B (0x48 ∷ []) (omega arith)
+    bracket-opens
+    ∙ ending (effect x (Csi None (2 ∷ []) [] 0x4A)) (control []) (Csi None (0 ∷ []) [] 0x48) 0x48 [] (omega arith)
+    home-ends)
 
 pub clear-quiet : (t : Terminal) → (writes t Clear).reports ≡ []
 unfolding plain_sequence

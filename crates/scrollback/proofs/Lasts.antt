@@ -1,5 +1,6 @@
 -- The last ones of a list.
-use Rattle.std.proofs.Common.{◌≡◌, ℕ, ◌+◌, ◌-◌, ◌<◌, ◌≤◌, min, List, [], ◌∷◌, ◌++◌, length, get_or, drop, refl, sym, ap, ◌∙◌, arith, ⊎_elim, length-append, length-drop, get_or-drop, Some}
+use Rattle.std.proofs.Common.{◌≡◌, ℕ, ◌+◌, ◌-◌, ◌<◌, ◌≤◌, min, List, [], ◌∷◌, ◌++◌, length, get_or, drop, refl, sym, ap}
+use Rattle.std.proofs.Common.{◌∙◌, arith, ⊎_elim, length-append, length-drop, get_or-drop, Some}
 use Rattle.std.specs.Prelude.{slice_get, unwrap_or}
 use Rattle.std.proofs.lemmas.List.{drop-append-le, drop-drop, get_or_append_left, get_or-append_right}
 use Rattle.std.proofs.lemmas.Bool.{cases_lt}
@@ -23,11 +24,13 @@ module _ {X : Type 0} where
   n_drop n xs x = length-drop n (xs ++ x ∷ []) ∙ ap (λ k. k - n) (n_one xs x)
 
   -- the last of a list and one more item, from the last of the list
-  pub keep_twice : (keep : ℕ) (xs : List X) (x : X) → keep_last keep (keep_last keep xs ++ x ∷ []) ≡ keep_last keep (xs ++ x ∷ [])
+  pub keep_twice : (keep : ℕ) (xs : List X) (x : X)
+      → keep_last keep (keep_last keep xs ++ x ∷ []) ≡ keep_last keep (xs ++ x ∷ [])
   keep_twice keep xs x =
       let zs : List X = xs ++ x ∷ [] in
       let n : length zs ≡ length xs + 1 = n_one xs x in
-      let m : length (drop (length xs - keep) zs) ≡ length xs + 1 - (length xs - keep) = n_drop (length xs - keep) xs x in
+      let m : length (drop (length xs - keep) zs) ≡ length xs + 1 - (length xs - keep) = n_drop (length xs - keep) xs x
+      in
       ap (keep_last keep) (last_and_one keep xs x)
       ∙ drop-drop (length (drop (length xs - keep) zs) - keep) (length xs - keep) zs
       ∙ ap (λ k. drop k zs) (omega arith)
@@ -38,7 +41,8 @@ module _ {X : Type 0} where
   keep_next keep count items x full some room =
       let zs : List X = items ++ x ∷ [] in
       let n : length zs ≡ length items + 1 = n_one items x in
-      let m : length (drop (length items - count) zs) ≡ length items + 1 - (length items - count) = n_drop (length items - count) items x in
+      let m : length (drop (length items - count) zs) ≡ length items + 1 - (length items - count) = n_drop
+      (length items - count) items x in
       let one : drop 1 items ++ x ∷ [] ≡ drop 1 zs = sym (drop-append-le 1 items (x ∷ []) (omega arith)) in
       let k : length (drop 1 zs) ≡ length items + 1 - 1 = n_drop 1 items x in
       ap (keep_last (min (count + 1) keep)) one
@@ -56,14 +60,19 @@ head_is [] x d h = cc
 head_is (y ∷ ys) x d h = ap (λ o. unwrap_or o d) h
 
 -- lines of one width, of which the first goes and another comes in behind
-pub widths_next : {X : Type 0} (items : List (List X)) (x : List X) (n : ℕ) → 0 < length items → length x ≡ n → ((k : ℕ) → k < length items → length (get_or items k []) ≡ n)
+pub widths_next : {X : Type 0} (items : List (List X)) (x : List X) (n : ℕ) → 0 < length items → length x ≡ n
+    → ((k : ℕ) → k < length items → length (get_or items k []) ≡ n)
     → (k : ℕ) → k < length items → length (get_or (drop 1 items ++ x ∷ []) k []) ≡ n
 widths_next items x n some new old k h =
     let m : length (drop 1 items) ≡ length items - 1 = length-drop 1 items in ⊎_elim
-    (λ (front : k < length (drop 1 items)). ap length (get_or_append_left (drop 1 items) (x ∷ []) [] k front ∙ get_or-drop 1 items k []) ∙ old (1 + k) (omega arith))
+    (λ (front : k < length (drop 1 items)). ap length
+    (get_or_append_left (drop 1 items) (x ∷ []) [] k front ∙ get_or-drop 1 items k []) ∙ old (1 + k) (omega arith))
     (λ (last : length (drop 1 items) ≤ k). let z : k - length (drop 1 items) ≡ 0 = omega arith in
-    ap length (get_or-append_right (drop 1 items) (x ∷ []) (length (drop 1 items)) k [] refl last ∙ ap (λ i. get_or (x ∷ []) i []) z) ∙ new)
+    ap length
+    (get_or-append_right (drop 1 items) (x ∷ []) (length (drop 1 items)) k [] refl last
+    ∙ ap (λ i. get_or (x ∷ []) i []) z) ∙ new)
     (cases_lt k (length (drop 1 items)))
 
-pub length_next : {X : Type 0} (items : List X) (x : X) → 0 < length items → length (drop 1 items ++ x ∷ []) ≡ length items
+pub length_next : {X : Type 0} (items : List X) (x : X) → 0 < length items
+    → length (drop 1 items ++ x ∷ []) ≡ length items
 length_next items x some = length-append (drop 1 items) (x ∷ []) ∙ ap (λ k. k + 1) (length-drop 1 items) ∙ omega arith

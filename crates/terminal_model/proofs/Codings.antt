@@ -11,16 +11,23 @@ use Rattle.charsets.specs.Shifts.{mapped, spent}
 use Rattle.control_parser.specs.declared.func.Func.{Func}
 use Rattle.control_parser.specs.declared.func.Func.TheVariants as funcs
 use Rattle.terminal_model.specs.declared.action.Action.{Action}
-use Rattle.terminal_model.specs.declared.action.Action.TheVariants.{Print, Designate, SetCoding, SetMargins, EraseInPage, EraseInLine, EraseUnprotectedInPage, EraseUnprotectedInLine, InsertLines, DeleteLines, SetMode}
+use Rattle.terminal_model.specs.declared.action.Action.TheVariants.{Print, Designate, SetCoding, SetMargins}
+use Rattle.terminal_model.specs.declared.action.Action.TheVariants.{EraseInPage, EraseInLine, EraseUnprotectedInPage}
+use Rattle.terminal_model.specs.declared.action.Action.TheVariants.{EraseUnprotectedInLine, InsertLines, DeleteLines}
+use Rattle.terminal_model.specs.declared.action.Action.TheVariants.{SetMode}
 use Rattle.terminal_model.specs.declared.action.Mode.{Mode}
 use Rattle.terminal_model.specs.declared.action.Mode.TheVariants as modes
 use Rattle.terminal_model.specs.declared.action.Part.{Part}
 use Rattle.terminal_model.specs.declared.state.State.{State}
 use Rattle.terminal_model.specs.declared.state.Position.{Position}
 use Rattle.terminal_model.specs.Screen.{Screen}
-use Rattle.terminal_model.specs.Functions.{actions_of, escape_action, intermediate_action, designation, control_action, sequence_actions, marked_sequence, between_sequence, plain_sequence, private_sequence, each, alone, rendered, mode_set, private_mode_set, part_of, protection, tab_cleared, status_reported}
+use Rattle.terminal_model.specs.Functions.{actions_of, escape_action, intermediate_action, designation, control_action}
+use Rattle.terminal_model.specs.Functions.{sequence_actions, marked_sequence, between_sequence, plain_sequence}
+use Rattle.terminal_model.specs.Functions.{private_sequence, each, alone, rendered, mode_set, private_mode_set, part_of}
+use Rattle.terminal_model.specs.Functions.{protection, tab_cleared, status_reported}
 use Rattle.terminal_model.specs.Motion.{margins_or_none, bottom_of}
-use Rattle.terminal_model.specs.Printing.{printed, printed_as, wrapped, wide_or_none, lacks_room, marked_at, columns_of, drawn}
+use Rattle.terminal_model.specs.Printing.{printed, printed_as, wrapped, wide_or_none, lacks_room, marked_at, columns_of}
+use Rattle.terminal_model.specs.Printing.{drawn}
 use Rattle.terminal_model.specs.Erasing.{lines_inserted, lines_deleted, is_in_margins}
 use Rattle.terminal_model.specs.Settings.{homed}
 use Rattle.terminal_model.specs.Table.{acted_from, acted, all_acted, effect}
@@ -49,7 +56,8 @@ printed_as-coding (suc zero) c x = wrapped-coding x.state.is_wrap_pending x
 printed_as-coding (suc (suc more)) c x =
     let w = wrapped x.state.is_wrap_pending x in
     let v = wrapped (lacks_room w.state && w.state.modes.wraps) w in
-    wide-coding (lacks_room v.state) c v ∙ wrapped-coding (lacks_room w.state && w.state.modes.wraps) w ∙ wrapped-coding x.state.is_wrap_pending x
+    wide-coding (lacks_room v.state) c v ∙ wrapped-coding (lacks_room w.state && w.state.modes.wraps) w
+    ∙ wrapped-coding x.state.is_wrap_pending x
 
 printed-coding : (c : Option ℕ) (x : Screen) → (printed c x).state.coding ≡ x.state.coding
 printed-coding None x = refl
@@ -96,10 +104,12 @@ both : (p q : Bool) → (p && q) ≡ true → (p ≡ true) × (q ≡ true)
 both true q h = (refl, h)
 both false q h = (h, absurd (cc))
 
-pub all_acted-coding : (x : Screen) (as' : List Action) → list_all is_ordinary as' ≡ true → (all_acted x as').state.coding ≡ x.state.coding
+pub all_acted-coding : (x : Screen) (as' : List Action) → list_all is_ordinary as' ≡ true
+    → (all_acted x as').state.coding ≡ x.state.coding
 all_acted-coding x [] h = refl
 all_acted-coding x (a ∷ later) h =
-    all_acted-coding (acted x a) later (both (is_ordinary a) (list_all is_ordinary later) h).1 ∙ acted-coding x a (both (is_ordinary a) (list_all is_ordinary later) h).0
+    all_acted-coding (acted x a) later (both (is_ordinary a) (list_all is_ordinary later) h).1
+    ∙ acted-coding x a (both (is_ordinary a) (list_all is_ordinary later) h).0
 
 -- the actions of functions
 
@@ -138,9 +148,11 @@ keep-append (a ∷ xs) ys h k =
     let p = both (is_ordinary a) (keep xs) h.all in
     record { all = rw p.0 (keep-append xs ys (record { all = p.1 }) k).all }
 
-each-keep : (meaning : ℕ → Option Action) → ((n : ℕ) → Keeps (meaning n)) → (values : List ℕ) → Keep (each meaning values)
+each-keep : (meaning : ℕ → Option Action) → ((n : ℕ) → Keeps (meaning n)) → (values : List ℕ)
+    → Keep (each meaning values)
 each-keep meaning h [] = record { all = refl }
-each-keep meaning h (v ∷ values) = keep-append (alone (meaning v)) (each meaning values) (alone-keeps (meaning v) (h v)) (each-keep meaning h values)
+each-keep meaning h (v ∷ values) = keep-append (alone (meaning v)) (each meaning values) (alone-keeps (meaning v) (h v))
+    (each-keep meaning h values)
 
 some : (a : Action) → is_ordinary a ≡ true → Keeps (Some a)
 some a h = record { one = h }
@@ -174,7 +186,8 @@ tab-keeps n = search (if_keeps, none_keeps, some) depth 60 fits 4000
 status-keeps : (n : ℕ) → Keeps (status_reported n)
 status-keeps n = search (if_keeps, none_keeps, some) depth 60 fits 4000
 
-part-keeps : (make : Part → Action) → ((p : Part) → is_ordinary (make p) ≡ true) → (p : Option Part) → Keeps (option_map make p)
+part-keeps : (make : Part → Action) → ((p : Part) → is_ordinary (make p) ≡ true) → (p : Option Part)
+    → Keeps (option_map make p)
 part-keeps make h None = none_keeps
 part-keeps make h (Some p) = some (make p) (h p)
 
@@ -191,10 +204,12 @@ erase-line : (n : ℕ) → Keep (alone (option_map EraseInLine (part_of n)))
 erase-line n = alone-keeps (option_map EraseInLine (part_of n)) (part-keeps EraseInLine (λ p. refl) (part_of n))
 
 unprotect-page : (n : ℕ) → Keep (alone (option_map EraseUnprotectedInPage (part_of n)))
-unprotect-page n = alone-keeps (option_map EraseUnprotectedInPage (part_of n)) (part-keeps EraseUnprotectedInPage (λ p. refl) (part_of n))
+unprotect-page n = alone-keeps (option_map EraseUnprotectedInPage (part_of n))
+    (part-keeps EraseUnprotectedInPage (λ p. refl) (part_of n))
 
 unprotect-line : (n : ℕ) → Keep (alone (option_map EraseUnprotectedInLine (part_of n)))
-unprotect-line n = alone-keeps (option_map EraseUnprotectedInLine (part_of n)) (part-keeps EraseUnprotectedInLine (λ p. refl) (part_of n))
+unprotect-line n = alone-keeps (option_map EraseUnprotectedInLine (part_of n))
+    (part-keeps EraseUnprotectedInLine (λ p. refl) (part_of n))
 
 tabs-keep : (n : ℕ) → Keep (alone (tab_cleared n))
 tabs-keep n = alone-keeps (tab_cleared n) (tab-keeps n)
@@ -216,11 +231,13 @@ each-rendered values = each-keep rendered rendered-keeps values
 
 plain-keep : (params : List ℕ) (last : ℕ) → Keep (plain_sequence params last)
 unfolding plain_sequence
-plain-keep params last = search (if_keep, lone, empty, erase-page, erase-line, tabs-keep, status-keep, each-mode, each-rendered) depth 90 fits 9000
+plain-keep params last = search
+    (if_keep, lone, empty, erase-page, erase-line, tabs-keep, status-keep, each-mode, each-rendered) depth 90 fits 9000
 
 private-keep : (params : List ℕ) (last : ℕ) → Keep (private_sequence params last)
 unfolding private_sequence
-private-keep params last = search (if_keep, lone, empty, unprotect-page, unprotect-line, each-private) depth 60 fits 4000
+private-keep params last = search (if_keep, lone, empty, unprotect-page, unprotect-line, each-private) depth 60 fits
+    4000
 
 marked-keep : (mark : Option ℕ) (params : List ℕ) (last : ℕ) → Keep (marked_sequence mark params last)
 marked-keep None params last = plain-keep params last
@@ -229,7 +246,8 @@ marked-keep (Some mark) params last = search (if_keep, lone, empty, private-keep
 between-keep : (params : List ℕ) (intermediate last : ℕ) → Keep (between_sequence params intermediate last)
 between-keep params intermediate last = search (if_keep, lone, empty, protect-keep) depth 30
 
-sequence-keep : (mark : Option ℕ) (params intermediates : List ℕ) (last : ℕ) → Keep (sequence_actions mark params intermediates last)
+sequence-keep : (mark : Option ℕ) (params intermediates : List ℕ) (last : ℕ)
+    → Keep (sequence_actions mark params intermediates last)
 sequence-keep mark params [] last = marked-keep mark params last
 sequence-keep None params (i ∷ []) last = between-keep params i last
 sequence-keep (Some mark) params (i ∷ []) last = empty
@@ -263,21 +281,29 @@ func-keep (funcs.Csi mark params intermediates last) h k = sequence-keep mark pa
 
 unit-coding : (x : Screen) (u : Unit) → (acted x (Print u)).state.coding ≡ x.state.coding
 unfolding acted_from
-unit-coding x u = printed-coding (mapped x.state.shifts u) (record x { state = record x.state { shifts = spent x.state.shifts u } })
+unit-coding x u = printed-coding (mapped x.state.shifts u)
+    (record x { state = record x.state { shifts = spent x.state.shifts u } })
 
 pub effect-coding : (x : Screen) (f : Func) → is_designating f ≡ false → (effect x f).state.coding ≡ x.state.coding
 effect-coding x (funcs.Print c) h = unit-coding x (units.Code c)
 effect-coding x (funcs.High b) h = unit-coding x (units.High b)
-effect-coding x (funcs.Control c) h = all_acted-coding x (actions_of (funcs.Control c)) (func-keep (funcs.Control c) h refl).all
-effect-coding x (funcs.Esc intermediates last) h = all_acted-coding x (actions_of (funcs.Esc intermediates last)) (func-keep (funcs.Esc intermediates last) h refl).all
+effect-coding x (funcs.Control c) h = all_acted-coding x (actions_of (funcs.Control c))
+    (func-keep (funcs.Control c) h refl).all
+effect-coding x (funcs.Esc intermediates last) h = all_acted-coding x (actions_of (funcs.Esc intermediates last))
+    (func-keep (funcs.Esc intermediates last) h refl).all
 effect-coding x (funcs.Csi mark params intermediates last) h =
-    all_acted-coding x (actions_of (funcs.Csi mark params intermediates last)) (func-keep (funcs.Csi mark params intermediates last) h refl).all
+    all_acted-coding x (actions_of (funcs.Csi mark params intermediates last))
+    (func-keep (funcs.Csi mark params intermediates last) h refl).all
 
-pub escape-coding : (x : Screen) (i last : ℕ) → (i == 0x25) ≡ false → (effect x (funcs.Esc (i ∷ []) last)).state.coding ≡ x.state.coding
-escape-coding x i last h = all_acted-coding x (alone (intermediate_action i last)) (alone-keeps (intermediate_action i last) (between-escape i last h)).all
+pub escape-coding : (x : Screen) (i last : ℕ) → (i == 0x25) ≡ false
+    → (effect x (funcs.Esc (i ∷ []) last)).state.coding ≡ x.state.coding
+escape-coding x i last h = all_acted-coding x (alone (intermediate_action i last))
+    (alone-keeps (intermediate_action i last) (between-escape i last h)).all
 
-pub other-coding : (x : Screen) (last : ℕ) → (last == 0x47) ≡ false → (last == 0x40) ≡ false → (effect x (funcs.Esc (0x25 ∷ []) last)).state.coding ≡ x.state.coding
-other-coding x last h k = all_acted-coding x (alone (intermediate_action 0x25 last)) (alone-keeps (intermediate_action 0x25 last) (coding-escape last h k)).all
+pub other-coding : (x : Screen) (last : ℕ) → (last == 0x47) ≡ false → (last == 0x40) ≡ false
+    → (effect x (funcs.Esc (0x25 ∷ []) last)).state.coding ≡ x.state.coding
+other-coding x last h k = all_acted-coding x (alone (intermediate_action 0x25 last))
+    (alone-keeps (intermediate_action 0x25 last) (coding-escape last h k)).all
 
 pub utf8-coding : (x : Screen) → (effect x (funcs.Esc (0x25 ∷ []) 0x47)).state.coding ≡ Utf8
 unfolding acted_from

@@ -1,5 +1,6 @@
 -- What is drawn of a character of the sets is a glyph.
-use Rattle.std.proofs.Common.{◌≡◌, ℕ, zero, suc, ◌+◌, ◌-◌, ◌<◌, ◌≤◌, Bool, true, false, ◌&&◌, cond, List, [], ◌∷◌, length, slice_index, Option, Some, None, refl, sym, ap, ◌∙◌, subst, arith}
+use Rattle.std.proofs.Common.{◌≡◌, ℕ, zero, suc, ◌+◌, ◌-◌, ◌<◌, ◌≤◌, Bool, true, false, ◌&&◌, cond, List, [], ◌∷◌}
+use Rattle.std.proofs.Common.{length, slice_index, Option, Some, None, refl, sym, ap, ◌∙◌, subst, arith}
 use Rattle.std.specs.Prelude.{IfSome, nat_lt, ◌==◌, unwrap_or}
 use Rattle.std.specs.List.{list_all, list_any}
 use Rattle.std.proofs.lemmas.Bool.Decides.{nat_tests}
@@ -67,12 +68,14 @@ supplement_given u low high =
 character_given : (set : CharacterSet) (u : ℕ) → 0x20 < u → u < 0x7F → IsGivenCode (character_at set u)
 unfolding character_at
 character_given Ascii u low high = low_given u (omega arith) high
-character_given UnitedKingdom u low high = given_if (u == 0x23) _ _ (high_given 0xA3 (omega arith) (omega arith)) (low_given u (omega arith) high)
+character_given UnitedKingdom u low high = given_if (u == 0x23) _ _ (high_given 0xA3 (omega arith) (omega arith))
+    (low_given u (omega arith) high)
 character_given SpecialGraphics u low high = graphics_given (nat_lt u 0x5F) refl
   where
     graphics_given : (b : Bool) → nat_lt u 0x5F ≡ b → IsGivenCode (cond b u (slice_index graphics (u - 0x5F)))
     graphics_given true e = low_given u (omega arith) high
-    graphics_given false e = let past : 0x5F ≤ u = grind (arith, nat_tests) in all_given graphics (u - 0x5F) refl (omega arith)
+    graphics_given false e = let past : 0x5F ≤ u = grind (arith, nat_tests) in all_given graphics (u - 0x5F) refl
+        (omega arith)
 character_given Supplemental u low high = supplement_given u low high
 
 -- a unit that can be given: a byte above A0 always has a character of the sets
@@ -84,7 +87,9 @@ pub mapped_given : (s : Shifts) (u : Unit) → IsGivenUnit u → IfSome (mapped 
 unfolding mapped
 mapped_given s (Code c) h = code_given (is_position c) (is_graphic_unit (Code c)) refl
   where
-    code_given : (p g : Bool) → is_position c ≡ p → IfSome (cond p (Some (character_at (set_at s (unwrap_or s.single s.gl)) c)) (cond g (Some c) None)) (λ d. IsGiven (Print d))
+    code_given : (p g : Bool) → is_position c ≡ p
+        → IfSome (cond p (Some (character_at (set_at s (unwrap_or s.single s.gl)) c)) (cond g (Some c) None))
+        (λ d. IsGiven (Print d))
     code_given true g e =
         let low : 0x20 < c = grind (arith, nat_tests) in
         let high : c < 0x7F = grind (arith, nat_tests) in
@@ -93,7 +98,9 @@ mapped_given s (Code c) h = code_given (is_position c) (is_graphic_unit (Code c)
     code_given false false e = tt
 mapped_given s (High b) h = high_mapped (nat_lt 0xA0 b && nat_lt b 0xFF) refl
   where
-    high_mapped : (p : Bool) → (nat_lt 0xA0 b && nat_lt b 0xFF) ≡ p → IfSome (cond p (Some (character_at (set_at s (unwrap_or s.single s.gr)) (b - 0x80))) None) (λ d. IsGiven (Print d))
+    high_mapped : (p : Bool) → (nat_lt 0xA0 b && nat_lt b 0xFF) ≡ p
+        → IfSome (cond p (Some (character_at (set_at s (unwrap_or s.single s.gr)) (b - 0x80))) None)
+        (λ d. IsGiven (Print d))
     high_mapped true e =
         let low : 0x20 < b - 0x80 = grind (arith, nat_tests) in
         let high : b - 0x80 < 0x7F = grind (arith, nat_tests) in
@@ -114,14 +121,17 @@ replacement : IsGlyph 1 0xFFFD
 replacement = record { given = (refl, refl); columns_are = replacement_columns; stays = replacement_drawn }
 
 -- a width of 3 takes one column, as U+FFFD does
-drawn_glyph_of : (w : Option ℕ) (c : ℕ) → char_width false c ≡ w → IsGiven (Print c) → IsGlyph (glyph_columns w) (drawn_as w c)
+drawn_glyph_of : (w : Option ℕ) (c : ℕ) → char_width false c ≡ w → IsGiven (Print c)
+    → IsGlyph (glyph_columns w) (drawn_as w c)
 unfolding columns_of drawn
 drawn_glyph_of None c e g = record { given = g; columns_are = ap glyph_columns e; stays = ap (λ o. drawn_as o c) e }
 drawn_glyph_of (Some w) c e g = by (w == 3) refl
   where
     by : (b : Bool) → (w == 3) ≡ b → IsGlyph (glyph_columns (Some w)) (cond b 0xFFFD c)
-    by true t = let three : w ≡ 3 = grind (arith, nat_tests) in subst (λ (n : ℕ). IsGlyph (glyph_columns (Some n)) 0xFFFD) (sym three) replacement
-    by false t = record { given = g; columns_are = ap glyph_columns e; stays = ap (λ o. drawn_as o c) e ∙ ap (λ b. cond b 0xFFFD c) t }
+    by true t = let three : w ≡ 3 = grind (arith, nat_tests) in subst
+        (λ (n : ℕ). IsGlyph (glyph_columns (Some n)) 0xFFFD) (sym three) replacement
+    by false t = record
+        { given = g; columns_are = ap glyph_columns e; stays = ap (λ o. drawn_as o c) e ∙ ap (λ b. cond b 0xFFFD c) t }
 
 pub drawn_glyph : (c : ℕ) → IsGiven (Print c) → IsGlyph (columns_of c) (drawn c)
 unfolding columns_of drawn

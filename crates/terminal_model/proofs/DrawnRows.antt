@@ -21,29 +21,54 @@ use Rattle.terminal_model.specs.Drawing.{IsDiscreet, IsListed, PrintsOf, StandsA
 use Rattle.terminal_model.specs.Rows.{fresh_reads, csi, kanji, wide_page, printed_beside}
 
 -- the character is one, and so is its place
-stands : (page : Page) (x : Screen) (u c : ℕ) (p : Position) → mapped x.state.shifts (Code u) ≡ Some c → place_by (columns_of c) (record { before = x; func = Print u }) ≡ Some p
+stands : (page : Page) (x : Screen) (u c : ℕ) (p : Position) → mapped x.state.shifts (Code u) ≡ Some c
+    → place_by (columns_of c) (record { before = x; func = Print u }) ≡ Some p
     → PrintsOf page (record { before = x; func = Print u }) → StandsAt (columns_of c) page p c
 stands page x u c p maps takes is =
     let same : is.character ≡ c = cc (is.prints.0, maps) in
-    let place : place_by (columns_of c) (record { before = x; func = Print u }) ≡ Some is.place = subst (λ d. place_by (columns_of d) (record { before = x; func = Print u }) ≡ Some is.place) same is.prints.1 in
+    let place : place_by (columns_of c) (record { before = x; func = Print u }) ≡ Some is.place = subst
+    (λ d. place_by (columns_of d) (record { before = x; func = Print u }) ≡ Some is.place) same is.prints.1 in
     let there : is.place ≡ p = cc (place, takes) in
-    subst (λ q. StandsAt (columns_of c) page q c) there (subst (λ d. StandsAt (columns_of d) page is.place d) same is.stands)
+    subst (λ q. StandsAt (columns_of c) page q c) there
+    (subst (λ d. StandsAt (columns_of d) page is.place d) same is.stands)
 
 pub in_place : AllByRecursion (IsDiscreet wide_page) (fresh_reads 2 5 0 (kanji ++ codes "x")).acts
-unfolding unicode_width cut piece mapped character_at supplement fields controls text begun_by function_piece functions_behind plain_sequence private_sequence columns_of drawn acted_from act act_all read_unit read_units read_byte reads
+unfolding unicode_width cut piece mapped character_at supplement fields controls text begun_by function_piece
+    functions_behind plain_sequence private_sequence columns_of drawn acted_from act act_all read_unit read_units
+    read_byte reads
 in_place = (
-  record { character = 0x6F22; place = record { line = 0; column = 0 }; prints = (refl, refl); stands = (record { shape_is = refl; character_is = refl }, record { shape_is = refl; character_is = refl }) },
-  (record { character = 0x78; place = record { line = 0; column = 2 }; prints = (refl, refl); stands = record { shape_is = refl; character_is = refl } }, tt),
+  record {
+    character = 0x6F22;
+    place = record { line = 0; column = 0 };
+    prints = (refl, refl);
+    stands =
+        (record { shape_is = refl; character_is = refl }, record { shape_is = refl; character_is = refl });
+  },
+  (
+    record {
+      character = 0x78;
+      place = record { line = 0; column = 2 };
+      prints = (refl, refl);
+      stands = record
+          { shape_is = refl; character_is = refl };
+    },
+    tt,
+  ),
 )
 
 pub same_page : (fresh_reads 2 5 0 printed_beside).terminal.screen.page ≡ wide_page
-unfolding unicode_width cut piece mapped character_at supplement fields controls text begun_by function_piece functions_behind plain_sequence private_sequence columns_of drawn acted_from act act_all read_unit read_units read_byte reads
+unfolding unicode_width cut piece mapped character_at supplement fields controls text begun_by function_piece
+    functions_behind plain_sequence private_sequence columns_of drawn acted_from act act_all read_unit read_units
+    read_byte reads
 same_page = refl
 
 pub out_of_place : AllByRecursion (IsDiscreet wide_page) (fresh_reads 2 5 0 printed_beside).acts → ⊥
-unfolding unicode_width cut piece mapped character_at supplement fields controls text begun_by function_piece functions_behind plain_sequence private_sequence columns_of drawn acted_from act act_all read_unit read_units read_byte reads
+unfolding unicode_width cut piece mapped character_at supplement fields controls text begun_by function_piece
+    functions_behind plain_sequence private_sequence columns_of drawn acted_from act act_all read_unit read_units
+    read_byte reads
 out_of_place all =
-    let there = stands wide_page (fresh_reads 2 5 0 (csi (codes "1;2H"))).terminal.screen 0x6F22 0x6F22 (record { line = 0; column = 1 }) refl refl all.1.0 in
+    let there = stands wide_page (fresh_reads 2 5 0 (csi (codes "1;2H"))).terminal.screen 0x6F22 0x6F22
+    (record { line = 0; column = 1 }) refl refl all.1.0 in
     let half : Right ≡ Left = there.0.shape_is in
     absurd (cc half)
 

@@ -1,5 +1,7 @@
 -- What the functions that frames are made of do to a screen.
-use Rattle.std.proofs.Common.{◌≡◌, ℕ, ◌+◌, ◌-◌, ◌<◌, ◌≤◌, min, max, Bool, true, false, ◌&&◌, cond, eqb, List, [], ◌∷◌, ◌++◌, length, replicate, Option, Some, None, refl, sym, ap, ◌∙◌, subst, arith, append_assoc}
+use Rattle.std.proofs.Common.{◌≡◌, ℕ, ◌+◌, ◌-◌, ◌<◌, ◌≤◌, min, max, Bool, true, false, ◌&&◌, cond, eqb, List, [], ◌∷◌}
+use Rattle.std.proofs.Common.{◌++◌, length, replicate, Option, Some, None, refl, sym, ap, ◌∙◌, subst, arith}
+use Rattle.std.proofs.Common.{append_assoc}
 use Rattle.std.specs.Prelude.{option_to_list}
 use Rattle.std.proofs.lemmas.List.{length-replicate}
 use Rattle.std.proofs.lemmas.Bool.{ne_eqb}
@@ -20,94 +22,132 @@ use Rattle.terminal_model.specs.declared.state.Position.{Position}
 use Rattle.terminal_model.specs.Screen.{Screen, IsSound, with_state, with_page}
 use Rattle.terminal_model.specs.Functions.{each, plain_sequence, private_sequence, rendered, private_mode_set}
 use Rattle.terminal_model.specs.Motion.{unpending, unjoined, moved_to, line_named}
-use Rattle.terminal_model.specs.Printing.{printed, printed_as, placed, placed_narrow, placed_wide, wrapped, wide_printed, wide_or_none, lacks_room, marked_at, advanced, columns_of, drawn}
+use Rattle.terminal_model.specs.Printing.{printed, printed_as, placed, placed_narrow, placed_wide, wrapped}
+use Rattle.terminal_model.specs.Printing.{wide_printed, wide_or_none, lacks_room, marked_at, advanced, columns_of}
+use Rattle.terminal_model.specs.Printing.{drawn}
 use Rattle.terminal_model.specs.Erasing.{line_erased}
 use Rattle.terminal_model.specs.Settings.{homed, rendition_with, modes_with}
 use Rattle.terminal_model.specs.Table.{acted_from, acted, all_acted, effect}
-use Rattle.terminal_model.specs.Places.{place, IsPlain, narrow_at, wide_at, PutsOver, PutsMark, mode_final, keypad_final}
+use Rattle.terminal_model.specs.Places.{place, IsPlain, narrow_at, wide_at, PutsOver, PutsMark, mode_final}
+use Rattle.terminal_model.specs.Places.{keypad_final}
 use Rattle.terminal_model.proofs.Places.{over-at, marked-at}
 
 -- a graphic code stands for itself
-prints : (x : Screen) (c : ℕ) → IsPlain x → is_graphic (Code c) ≡ true → effect x (Print c) ≡ printed_as (columns_of c) (drawn c) x
+prints : (x : Screen) (c : ℕ) → IsPlain x → is_graphic (Code c) ≡ true
+    → effect x (Print c) ≡ printed_as (columns_of c) (drawn c) x
 unfolding acted_from
 prints x c h g =
-    ap (λ m. printed m (with_state x (record x.state { shifts = spent x.state.shifts (Code c) }))) (mapped-ascii x.state.shifts c h.ascii h.none_shifted g)
-    ∙ ap (λ s. printed (Some c) (with_state x (record x.state { shifts = s }))) (spent-none x.state.shifts c h.none_shifted)
+    ap (λ m. printed m (with_state x (record x.state { shifts = spent x.state.shifts (Code c) })))
+    (mapped-ascii x.state.shifts c h.ascii h.none_shifted g)
+    ∙ ap (λ s. printed (Some c) (with_state x (record x.state { shifts = s })))
+    (spent-none x.state.shifts c h.none_shifted)
 
-prints-narrow : (x : Screen) (c : ℕ) → IsPlain x → is_graphic (Code c) ≡ true → columns_of c ≡ 1 → effect x (Print c) ≡ placed_narrow (drawn c) x
-prints-narrow x c h g w = prints x c h g ∙ ap (λ n. printed_as n (drawn c) x) w ∙ ap (λ b. placed_narrow (drawn c) (wrapped b x)) h.none_pending
+prints-narrow : (x : Screen) (c : ℕ) → IsPlain x → is_graphic (Code c) ≡ true → columns_of c ≡ 1
+    → effect x (Print c) ≡ placed_narrow (drawn c) x
+prints-narrow x c h g w = prints x c h g ∙ ap (λ n. printed_as n (drawn c) x) w
+    ∙ ap (λ b. placed_narrow (drawn c) (wrapped b x)) h.none_pending
 
-prints-wide : (x : Screen) (c : ℕ) → IsPlain x → is_graphic (Code c) ≡ true → columns_of c ≡ 2 → x.state.column + 2 ≤ x.state.columns → effect x (Print c) ≡ placed_wide (drawn c) x
+prints-wide : (x : Screen) (c : ℕ) → IsPlain x → is_graphic (Code c) ≡ true → columns_of c ≡ 2
+    → x.state.column + 2 ≤ x.state.columns → effect x (Print c) ≡ placed_wide (drawn c) x
 prints-wide x c h g w room =
-    let has : eqb (x.state.column + 1) x.state.columns ≡ false = ne_eqb (x.state.column + 1) x.state.columns (omega arith) in
-    prints x c h g ∙ ap (λ n. printed_as n (drawn c) x) w ∙ ap (λ b. wide_printed (drawn c) (wrapped b x)) h.none_pending
+    let has : eqb (x.state.column + 1) x.state.columns ≡ false = ne_eqb (x.state.column + 1) x.state.columns
+    (omega arith) in
+    prints x c h g ∙ ap (λ n. printed_as n (drawn c) x) w
+    ∙ ap (λ b. wide_printed (drawn c) (wrapped b x)) h.none_pending
     ∙ ap (λ b. let v = wrapped (b && x.state.modes.wraps) x in wide_or_none (lacks_room v.state) (drawn c) v) has
     ∙ ap (λ b. wide_or_none b (drawn c) x) has
 
-prints-mark : (x : Screen) (c : ℕ) → IsPlain x → is_graphic (Code c) ≡ true → columns_of c ≡ 0 → effect x (Print c) ≡ marked_at x.state.joining (drawn c) x
+prints-mark : (x : Screen) (c : ℕ) → IsPlain x → is_graphic (Code c) ≡ true → columns_of c ≡ 0
+    → effect x (Print c) ≡ marked_at x.state.joining (drawn c) x
 prints-mark x c h g w = prints x c h g ∙ ap (λ n. printed_as n (drawn c) x) w
 
 -- new cells at the cursor, with IRM reset
-placed-over : (fresh : List Cell) (x : Screen) → IsSound x → x.state.modes.inserts ≡ false → IsPaired fresh → 0 < length fresh → x.state.column + length fresh ≤ x.state.columns
+placed-over : (fresh : List Cell) (x : Screen) → IsSound x → x.state.modes.inserts ≡ false → IsPaired fresh
+    → 0 < length fresh → x.state.column + length fresh ≤ x.state.columns
     → PutsOver x fresh (advanced x.state (length fresh)) (placed fresh x)
 placed-over fresh x h i pairs some room = record {
-  page = λ line column. over-at x.state.rows x.state.columns x.state.line x.state.column (cond x.state.modes.inserts x.state.column (x.state.column + length fresh)) fresh x.page
+  page = λ line column. over-at x.state.rows x.state.columns x.state.line x.state.column
+      (cond x.state.modes.inserts x.state.column (x.state.column + length fresh)) fresh x.page
       h.sized h.cursor.0 pairs some room (rw i refl) line column;
   rest = refl;
 }
 
-pub narrow-over : (x : Screen) (c : ℕ) → IsPlain x → is_graphic (Code c) ≡ true → columns_of c ≡ 1 → PutsOver x (narrow_at x (drawn c)) (advanced x.state 1) (effect x (Print c))
+pub narrow-over : (x : Screen) (c : ℕ) → IsPlain x → is_graphic (Code c) ≡ true → columns_of c ≡ 1
+    → PutsOver x (narrow_at x (drawn c)) (advanced x.state 1) (effect x (Print c))
 narrow-over x c h g w =
     let put : PutsOver x (narrow_at x (drawn c)) (advanced x.state 1) (placed_narrow (drawn c) x) =
-    placed-over (narrow_at x (drawn c)) x h.sound h.none_moved (narrow_pairs (narrow_cell (drawn c) x.state.rendition x.state.is_protecting) refl) (omega arith) (omega (arith, h.sound.cursor.1)) in
+    placed-over (narrow_at x (drawn c)) x h.sound h.none_moved
+    (narrow_pairs (narrow_cell (drawn c) x.state.rendition x.state.is_protecting) refl) (omega arith)
+    (omega (arith, h.sound.cursor.1)) in
     subst (PutsOver x (narrow_at x (drawn c)) (advanced x.state 1)) (sym (prints-narrow x c h g w)) put
 
-pub wide-over : (x : Screen) (c : ℕ) → IsPlain x → is_graphic (Code c) ≡ true → columns_of c ≡ 2 → x.state.column + 2 ≤ x.state.columns → PutsOver x (wide_at x (drawn c)) (advanced x.state 2) (effect x (Print c))
+pub wide-over : (x : Screen) (c : ℕ) → IsPlain x → is_graphic (Code c) ≡ true → columns_of c ≡ 2
+    → x.state.column + 2 ≤ x.state.columns → PutsOver x (wide_at x (drawn c)) (advanced x.state 2) (effect x (Print c))
 wide-over x c h g w room =
     let put : PutsOver x (wide_at x (drawn c)) (advanced x.state 2) (placed_wide (drawn c) x) =
-    placed-over (wide_at x (drawn c)) x h.sound h.none_moved (wide_pairs (left_cell (drawn c) x.state.rendition x.state.is_protecting) (right_cell (drawn c) x.state.rendition x.state.is_protecting) refl refl) (omega arith) room in
+    placed-over (wide_at x (drawn c)) x h.sound h.none_moved
+    (wide_pairs (left_cell (drawn c) x.state.rendition x.state.is_protecting)
+    (right_cell (drawn c) x.state.rendition x.state.is_protecting) refl refl) (omega arith) room in
     subst (PutsOver x (wide_at x (drawn c)) (advanced x.state 2)) (sym (prints-wide x c h g w room)) put
 
-pub mark-joins : (x : Screen) (c : ℕ) (p : Position) → IsPlain x → is_graphic (Code c) ≡ true → columns_of c ≡ 0 → x.state.joining ≡ Some p → p.line < x.state.rows → p.column < x.state.columns → PutsMark x p (drawn c) (effect x (Print c))
+pub mark-joins : (x : Screen) (c : ℕ) (p : Position) → IsPlain x → is_graphic (Code c) ≡ true → columns_of c ≡ 0
+    → x.state.joining ≡ Some p → p.line < x.state.rows → p.column < x.state.columns
+    → PutsMark x p (drawn c) (effect x (Print c))
 mark-joins x c p h g w j l k =
     let put : PutsMark x p (drawn c) (marked_at (Some p) (drawn c) x) = record {
-      page = λ line column. marked-at x.state.rows x.state.columns p.line p.column (drawn c) x.page h.sound.sized l k line column;
+      page = λ line column. marked-at x.state.rows x.state.columns p.line p.column (drawn c) x.page h.sound.sized l k
+          line column;
       rest = refl;
     } in
     subst (PutsMark x p (drawn c)) (sym (prints-mark x c h g w ∙ ap (λ q. marked_at q (drawn c) x) j)) put
 
 -- blanks at the cursor
 erased-over : (x : Screen) (count : ℕ) → IsSound x → 0 < count → x.state.column + count ≤ x.state.columns
-    → PutsOver x (replicate count blank) (unpending x.state) (with_page x (unpending x.state) (line_erased x.state x.state.column (x.state.column + count) x.page))
+    → PutsOver x (replicate count blank) (unpending x.state)
+    (with_page x (unpending x.state) (line_erased x.state x.state.column (x.state.column + count) x.page))
 erased-over x count h some room =
     let n : length (replicate count blank) ≡ count = length-replicate count blank in
     let same : x.state.column + count - x.state.column ≡ count = omega arith in
     record {
       page = λ line column.
-          ap (λ k. place (page_from (edited x.state.line (spliced x.state.column (replicate k blank) (x.state.column + count) x.state.columns)) x.page) line column) same
-          ∙ over-at x.state.rows x.state.columns x.state.line x.state.column (x.state.column + count) (replicate count blank) x.page
+          ap (λ k. place
+          (page_from
+          (edited x.state.line
+          (spliced x.state.column (replicate k blank) (x.state.column + count) x.state.columns)) x.page) line
+          column) same
+          ∙ over-at x.state.rows x.state.columns x.state.line x.state.column (x.state.column + count)
+          (replicate count blank) x.page
           h.sized h.cursor.0 (IsPaired-blanks count) (rw n some) (rw n room) (rw n refl) line column;
       rest = refl;
     }
 
 -- ECH
-pub cells-erased : (x : Screen) (n : ℕ) → IsSound x → 0 < n → x.state.column + n ≤ x.state.columns → PutsOver x (replicate n blank) (unpending x.state) (effect x (Csi None (n ∷ []) [] 0x58))
+pub cells-erased : (x : Screen) (n : ℕ) → IsSound x → 0 < n → x.state.column + n ≤ x.state.columns
+    → PutsOver x (replicate n blank) (unpending x.state) (effect x (Csi None (n ∷ []) [] 0x58))
 unfolding acted_from plain_sequence
 cells-erased x n h some room =
     let count : max 1 n ≡ n = omega arith in
     let end : min (x.state.column + max 1 n) x.state.columns ≡ x.state.column + n = omega arith in
-    subst (λ (e : ℕ). PutsOver x (replicate n blank) (unpending x.state) (with_page x (unpending x.state) (line_erased x.state x.state.column e x.page))) (sym end) (erased-over x n h some room)
+    subst
+    (λ (e : ℕ). PutsOver x (replicate n blank) (unpending x.state)
+    (with_page x (unpending x.state) (line_erased x.state x.state.column e x.page))) (sym end)
+    (erased-over x n h some room)
 
 -- EL
-pub line-erased : (x : Screen) → IsSound x → PutsOver x (replicate (x.state.columns - x.state.column) blank) (unpending x.state) (effect x (Csi None (0 ∷ []) [] 0x4B))
+pub line-erased : (x : Screen) → IsSound x
+    → PutsOver x (replicate (x.state.columns - x.state.column) blank) (unpending x.state)
+    (effect x (Csi None (0 ∷ []) [] 0x4B))
 unfolding acted_from plain_sequence
 line-erased x h =
     let end : x.state.column + (x.state.columns - x.state.column) ≡ x.state.columns = omega (arith, h.cursor.1) in
-    subst (λ (e : ℕ). PutsOver x (replicate (x.state.columns - x.state.column) blank) (unpending x.state) (with_page x (unpending x.state) (line_erased x.state x.state.column e x.page))) end
+    subst
+    (λ (e : ℕ). PutsOver x (replicate (x.state.columns - x.state.column) blank) (unpending x.state)
+    (with_page x (unpending x.state) (line_erased x.state x.state.column e x.page))) end
     (erased-over x (x.state.columns - x.state.column) h (omega (arith, h.cursor.1)) (omega (arith, h.cursor.1)))
 
 -- CUP, to a place of the page, with ?6 reset
-pub cursor-moved : (x : Screen) (line column : ℕ) → x.state.modes.counts_from_margin ≡ false → line < x.state.rows → column < x.state.columns
+pub cursor-moved : (x : Screen) (line column : ℕ) → x.state.modes.counts_from_margin ≡ false → line < x.state.rows
+    → column < x.state.columns
     → effect x (Csi None ((line + 1) ∷ (column + 1) ∷ []) [] 0x48) ≡ with_state x (moved_to x.state line column)
 unfolding acted_from plain_sequence
 cursor-moved x line column m l c =
@@ -117,7 +157,9 @@ cursor-moved x line column m l c =
     let e : min column (x.state.columns - 1) ≡ column = omega arith in
     ap (λ k. with_state x (moved_to x.state (line_named x.state k) (min (column + 1 - 1) (x.state.columns - 1)))) a
     ∙ ap (λ k. with_state x (moved_to x.state (line_named x.state line) (min k (x.state.columns - 1)))) b
-    ∙ ap (λ k. with_state x (moved_to x.state (cond k (min (x.state.top + line) x.state.bottom) (min line (x.state.rows - 1))) (min column (x.state.columns - 1)))) m
+    ∙ ap (λ k. with_state x
+    (moved_to x.state (cond k (min (x.state.top + line) x.state.bottom) (min line (x.state.rows - 1)))
+    (min column (x.state.columns - 1)))) m
     ∙ ap (λ k. with_state x (moved_to x.state k (min column (x.state.columns - 1)))) d
     ∙ ap (λ k. with_state x (moved_to x.state line k)) e
 
@@ -126,26 +168,35 @@ pub all_acted-append : (x : Screen) (a b : List Action) → all_acted x (a ++ b)
 all_acted-append x [] b = refl
 all_acted-append x (f ∷ a) b = all_acted-append (acted x f) a b
 
-pub each-append : (meaning : ℕ → Option Action) (a b : List ℕ) → each meaning (a ++ b) ≡ each meaning a ++ each meaning b
+pub each-append : (meaning : ℕ → Option Action) (a b : List ℕ)
+    → each meaning (a ++ b) ≡ each meaning a ++ each meaning b
 each-append meaning [] b = refl
-each-append meaning (n ∷ a) b = ap (λ v. option_to_list (meaning n) ++ v) (each-append meaning a b) ∙ sym (append_assoc (option_to_list (meaning n)) (each meaning a) (each meaning b))
+each-append meaning (n ∷ a) b = ap (λ v. option_to_list (meaning n) ++ v) (each-append meaning a b)
+    ∙ sym (append_assoc (option_to_list (meaning n)) (each meaning a) (each meaning b))
 
-pub rendered-in-turn : (x : Screen) (a b : List ℕ) → effect x (Csi None (a ++ b) [] 0x6D) ≡ effect (effect x (Csi None a [] 0x6D)) (Csi None b [] 0x6D)
+pub rendered-in-turn : (x : Screen) (a b : List ℕ)
+    → effect x (Csi None (a ++ b) [] 0x6D) ≡ effect (effect x (Csi None a [] 0x6D)) (Csi None b [] 0x6D)
 unfolding plain_sequence
-rendered-in-turn x a b = ap (all_acted x) (each-append rendered a b) ∙ all_acted-append x (each rendered a) (each rendered b)
+rendered-in-turn x a b = ap (all_acted x) (each-append rendered a b)
+    ∙ all_acted-append x (each rendered a) (each rendered b)
 
 -- one value of SGR, of DECSM or DECRM, and the keypad
-pub rendered-one : (x : Screen) (n : ℕ) (a : Attribute) → rendered n ≡ Some (Render a) → effect x (Csi None (n ∷ []) [] 0x6D) ≡ with_state x (unjoined (record x.state { rendition = rendition_with x.state.rendition a }))
+pub rendered-one : (x : Screen) (n : ℕ) (a : Attribute) → rendered n ≡ Some (Render a)
+    → effect x (Csi None (n ∷ []) [] 0x6D) ≡ with_state x
+    (unjoined (record x.state { rendition = rendition_with x.state.rendition a }))
 unfolding acted_from plain_sequence
 rendered-one x n a h = ap (λ m. all_acted x (option_to_list m ++ [])) h
 
 pub mode-set : (x : Screen) (on : Bool) (n : ℕ) (m : Mode) → private_mode_set on n ≡ Some (SetMode m on)
-    → effect x (Csi (Some 0x3F) (n ∷ []) [] (mode_final on)) ≡ with_state x (homed m (record x.state { modes = modes_with x.state.modes m on }))
+    → effect x (Csi (Some 0x3F) (n ∷ []) [] (mode_final on)) ≡ with_state x
+    (homed m (record x.state { modes = modes_with x.state.modes m on }))
 unfolding acted_from private_sequence
 mode-set x true n m h = ap (λ v. all_acted x (option_to_list v ++ [])) h
 mode-set x false n m h = ap (λ v. all_acted x (option_to_list v ++ [])) h
 
-pub keypad-set : (x : Screen) (on : Bool) → effect x (Esc [] (keypad_final on)) ≡ with_state x (unpending (record x.state { modes = record x.state.modes { has_application_keypad = on } }))
+pub keypad-set : (x : Screen) (on : Bool)
+    → effect x (Esc [] (keypad_final on)) ≡ with_state x
+    (unpending (record x.state { modes = record x.state.modes { has_application_keypad = on } }))
 unfolding acted_from
 keypad-set x true = refl
 keypad-set x false = refl
@@ -166,7 +217,8 @@ pub line-quiet : (x : Screen) → report x (Csi None (0 ∷ []) [] 0x4B) ≡ []
 unfolding plain_sequence
 line-quiet x = refl
 
-pub mode-quiet : (x : Screen) (on : Bool) (n : ℕ) (m : Mode) → private_mode_set on n ≡ Some (SetMode m on) → report x (Csi (Some 0x3F) (n ∷ []) [] (mode_final on)) ≡ []
+pub mode-quiet : (x : Screen) (on : Bool) (n : ℕ) (m : Mode) → private_mode_set on n ≡ Some (SetMode m on)
+    → report x (Csi (Some 0x3F) (n ∷ []) [] (mode_final on)) ≡ []
 unfolding private_sequence
 mode-quiet x true n m h = ap (λ v. all_answered x (option_to_list v ++ [])) h
 mode-quiet x false n m h = ap (λ v. all_answered x (option_to_list v ++ [])) h

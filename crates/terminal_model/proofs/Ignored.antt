@@ -15,6 +15,8 @@ effect-none x f h = ap (all_acted x) h
 pub report-none : (x : Screen) (f : Func) → actions_of f ≡ [] → report x f ≡ []
 report-none x f h = ap (all_answered x) h
 
-pub margins-none : (x : Screen) (top : ℕ) (bottom : Option ℕ) → nat_lt top (bottom_of x.state.rows bottom) ≡ false → acted x (SetMargins top bottom) ≡ x
+pub margins-none : (x : Screen) (top : ℕ) (bottom : Option ℕ) → nat_lt top (bottom_of x.state.rows bottom) ≡ false
+    → acted x (SetMargins top bottom) ≡ x
 unfolding acted_from
-margins-none x top bottom h = ap (λ b. record x { state = margins_or_none b top (bottom_of x.state.rows bottom) x.state }) h
+margins-none x top bottom h = ap
+    (λ b. record x { state = margins_or_none b top (bottom_of x.state.rows bottom) x.state }) h

@@ -1,13 +1,16 @@
 -- What stands at a place where new cells were put over a line.
-use Rattle.std.proofs.Common.{◌≡◌, ℕ, zero, suc, ◌+◌, ◌-◌, ◌<◌, ◌≤◌, Bool, true, false, ◌&&◌, eqb, ltb, leb, List, [], length, set, replicate, refl, sym, ap, ◌∙◌, arith, ⊎_elim, eq-eqb}
+use Rattle.std.proofs.Common.{◌≡◌, ℕ, zero, suc, ◌+◌, ◌-◌, ◌<◌, ◌≤◌, Bool, true, false, ◌&&◌, eqb, ltb, leb, List, []}
+use Rattle.std.proofs.Common.{length, set, replicate, refl, sym, ap, ◌∙◌, arith, ⊎_elim, eq-eqb}
 use Rattle.std.specs.Prelude.{if◌then◌else◌, ◌==◌}
 use Rattle.std.proofs.lemmas.List.{get_or_past, get_or-set_same, get_or-set_other, length-replicate, get_or-replicate}
 use Rattle.std.proofs.lemmas.Bool.{cases_lt, cases_eq, cases_Bool, ne_eqb}
 use Rattle.std.proofs.lemmas.Bool.Decides.{nat_tests}
 use Rattle.cells.specs.declared.cell.Cell.{Cell}
-use Rattle.cells.specs.Line.{blank, cell_at, is_left, is_right, marked, IsPaired, Source, Fresh, Old, are_halves, kept, settled, source_before, source_after, cells_from, spliced}
+use Rattle.cells.specs.Line.{blank, cell_at, is_left, is_right, marked, IsPaired, Source, Fresh, Old, are_halves, kept}
+use Rattle.cells.specs.Line.{settled, source_before, source_after, cells_from, spliced}
 use Rattle.cells.specs.Page.{line_at, IsPage, page_from, page_marked, edited}
-use Rattle.cells.proofs.Settling.{cell_at_past, true≢false, settled_at, after_inside, length-cells_from, cell_at-cells_from, kept_is, left_only, right_only}
+use Rattle.cells.proofs.Settling.{cell_at_past, true≢false, settled_at, after_inside, length-cells_from}
+use Rattle.cells.proofs.Settling.{cell_at-cells_from, kept_is, left_only, right_only}
 use Rattle.cells.proofs.Splicing.{at_front, at_fresh, at_rest}
 use Rattle.cells.proofs.Pages.{page_from-edited}
 use Rattle.terminal_model.specs.Screen.{Page, blank_page}
@@ -19,7 +22,8 @@ and_true a b h k = rw h k
 same_number : (n : ℕ) → eqb n n ≡ true
 same_number n = eq-eqb n n refl
 
-module _ (fresh cells : List Cell) (at : ℕ) (paired : IsPaired cells) (pairs : IsPaired fresh) (some : 0 < length fresh) (room : at + length fresh ≤ length cells) where
+module _ (fresh cells : List Cell) (at : ℕ) (paired : IsPaired cells) (pairs : IsPaired fresh) (some : 0 < length fresh)
+    (room : at + length fresh ≤ length cells) where
   abbrev source : ℕ → Source
   source = spliced at fresh (at + length fresh) (length cells)
 
@@ -27,7 +31,8 @@ module _ (fresh cells : List Cell) (at : ℕ) (paired : IsPaired cells) (pairs :
   front k h = at_front at fresh (at + length fresh) (length cells) k h
 
   inside : (j k : ℕ) → k ≡ at + j → j < length fresh → source k ≡ Fresh (cell_at fresh j)
-  inside j k e h = at_fresh at fresh (at + length fresh) (length cells) k (omega arith) (omega arith) ∙ ap (λ i. Fresh (cell_at fresh i)) (omega arith)
+  inside j k e h = at_fresh at fresh (at + length fresh) (length cells) k (omega arith) (omega arith)
+      ∙ ap (λ i. Fresh (cell_at fresh i)) (omega arith)
 
   behind : (k : ℕ) → at + length fresh ≤ k → k < length cells → source k ≡ Old k
   behind k l h =
@@ -35,8 +40,10 @@ module _ (fresh cells : List Cell) (at : ℕ) (paired : IsPaired cells) (pairs :
       at_rest at fresh (at + length fresh) (length cells) k l (omega arith) ∙ ap Old e
 
   -- an old cell whose other half comes along
-  stays : (k : ℕ) → k < length cells → source k ≡ Old k → (is_left (cell_at cells k).shape ≡ true → source_after source (length cells) k ≡ Old (suc k))
-      → (is_right (cell_at cells k).shape ≡ true → (j : ℕ) → k ≡ suc j → source j ≡ Old j) → cell_at (cells_from source cells) k ≡ cell_at cells k
+  stays : (k : ℕ) → k < length cells → source k ≡ Old k
+      → (is_left (cell_at cells k).shape ≡ true → source_after source (length cells) k ≡ Old (suc k))
+      → (is_right (cell_at cells k).shape ≡ true → (j : ℕ) → k ≡ suc j → source j ≡ Old j)
+      → cell_at (cells_from source cells) k ≡ cell_at cells k
   unfolding settled_at
   stays zero h here left right =
       cell_at-cells_from source cells zero h
@@ -52,84 +59,109 @@ module _ (fresh cells : List Cell) (at : ℕ) (paired : IsPaired cells) (pairs :
       (λ r. ap (λ s. are_halves s (Old (suc j))) (right r j refl) ∙ same_number (suc j))
 
   -- a left half whose right half is covered
-  left_lost : (k : ℕ) (c : Cell) → k < length cells → source k ≡ Old k → is_left (cell_at cells k).shape ≡ true → source_after source (length cells) k ≡ Fresh c → cell_at (cells_from source cells) k ≡ blank
+  left_lost : (k : ℕ) (c : Cell) → k < length cells → source k ≡ Old k → is_left (cell_at cells k).shape ≡ true
+      → source_after source (length cells) k ≡ Fresh c → cell_at (cells_from source cells) k ≡ blank
   unfolding settled_at
   left_lost k c h here left after =
       cell_at-cells_from source cells k h
       ∙ ap (λ s. settled cells (source_before source k) s (source_after source (length cells) k)) here
       ∙ ap (λ s. settled cells (source_before source k) (Old k) s) after
-      ∙ ap (λ s. kept s (cell_at cells k) false (are_halves (source_before source k) (Old k))) (left_only (cell_at cells k).shape left)
+      ∙ ap (λ s. kept s (cell_at cells k) false (are_halves (source_before source k) (Old k)))
+      (left_only (cell_at cells k).shape left)
 
   -- a right half whose left half is covered
-  right_lost : (j : ℕ) (c : Cell) → suc j < length cells → source (suc j) ≡ Old (suc j) → is_right (cell_at cells (suc j)).shape ≡ true → source j ≡ Fresh c → cell_at (cells_from source cells) (suc j) ≡ blank
+  right_lost : (j : ℕ) (c : Cell) → suc j < length cells → source (suc j) ≡ Old (suc j)
+      → is_right (cell_at cells (suc j)).shape ≡ true → source j ≡ Fresh c
+      → cell_at (cells_from source cells) (suc j) ≡ blank
   unfolding settled_at
   right_lost j c h here right before =
       cell_at-cells_from source cells (suc j) h
       ∙ ap (λ s. settled cells (source j) s (source_after source (length cells) (suc j))) here
       ∙ ap (λ s. settled cells s (Old (suc j)) (source_after source (length cells) (suc j))) before
-      ∙ ap (λ s. kept s (cell_at cells (suc j)) (are_halves (Old (suc j)) (source_after source (length cells) (suc j))) false) (right_only (cell_at cells (suc j)).shape right)
+      ∙ ap (λ s. kept s (cell_at cells (suc j)) (are_halves (Old (suc j)) (source_after source (length cells) (suc j)))
+      false) (right_only (cell_at cells (suc j)).shape right)
 
   -- the other half of a new left half is new
-  new_left : (j k : ℕ) → k ≡ at + j → j < length fresh → is_left (cell_at fresh j).shape ≡ true → are_halves (Fresh (cell_at fresh j)) (source_after source (length cells) k) ≡ true
+  new_left : (j k : ℕ) → k ≡ at + j → j < length fresh → is_left (cell_at fresh j).shape ≡ true
+      → are_halves (Fresh (cell_at fresh j)) (source_after source (length cells) k) ≡ true
   new_left j k e h left =
       let next : is_right (cell_at fresh (suc j)).shape ≡ true = sym (pairs.next j) ∙ left in
-      let within : suc j < length fresh = ⊎_elim (λ x. x) (λ past. absurd (true≢false _ next (ap (λ (c : Cell). is_right c.shape) (cell_at_past fresh (suc j) past)))) (cases_lt (suc j) (length fresh)) in
-      ap (are_halves (Fresh (cell_at fresh j))) (after_inside source (length cells) k (omega arith) ∙ inside (suc j) (suc k) (omega arith) within)
+      let within : suc j < length fresh = ⊎_elim (λ x. x)
+      (λ past. absurd (true≢false _ next (ap (λ (c : Cell). is_right c.shape) (cell_at_past fresh (suc j) past))))
+      (cases_lt (suc j) (length fresh)) in
+      ap (are_halves (Fresh (cell_at fresh j)))
+      (after_inside source (length cells) k (omega arith) ∙ inside (suc j) (suc k) (omega arith) within)
       ∙ and_true _ _ left next
 
   new : (j k : ℕ) → k ≡ at + j → j < length fresh → cell_at (cells_from source cells) k ≡ cell_at fresh j
   unfolding settled_at
   new zero zero e h =
       cell_at-cells_from source cells zero (omega arith)
-      ∙ ap (λ s. settled cells (source_before source zero) s (source_after source (length cells) zero)) (inside zero zero e h)
-      ∙ kept_is (cell_at fresh zero).shape (cell_at fresh zero) _ _ (new_left zero zero e h) (λ r. absurd (true≢false _ r pairs.first))
+      ∙ ap (λ s. settled cells (source_before source zero) s (source_after source (length cells) zero))
+      (inside zero zero e h)
+      ∙ kept_is (cell_at fresh zero).shape (cell_at fresh zero) _ _ (new_left zero zero e h)
+      (λ r. absurd (true≢false _ r pairs.first))
   new zero (suc m) e h =
       cell_at-cells_from source cells (suc m) (omega arith)
       ∙ ap (λ s. settled cells (source m) s (source_after source (length cells) (suc m))) (inside zero (suc m) e h)
-      ∙ kept_is (cell_at fresh zero).shape (cell_at fresh zero) _ _ (new_left zero (suc m) e h) (λ r. absurd (true≢false _ r pairs.first))
+      ∙ kept_is (cell_at fresh zero).shape (cell_at fresh zero) _ _ (new_left zero (suc m) e h)
+      (λ r. absurd (true≢false _ r pairs.first))
   new (suc i) zero e h = absurd (omega arith)
   new (suc i) (suc m) e h =
       cell_at-cells_from source cells (suc m) (omega arith)
       ∙ ap (λ s. settled cells (source m) s (source_after source (length cells) (suc m))) (inside (suc i) (suc m) e h)
       ∙ kept_is (cell_at fresh (suc i)).shape (cell_at fresh (suc i)) _ _ (new_left (suc i) (suc m) e h)
-      (λ r. ap (λ s. are_halves s (Fresh (cell_at fresh (suc i)))) (inside i m (omega arith) (omega arith)) ∙ and_true _ _ (pairs.next i ∙ r) r)
+      (λ r. ap (λ s. are_halves s (Fresh (cell_at fresh (suc i)))) (inside i m (omega arith) (omega arith))
+      ∙ and_true _ _ (pairs.next i ∙ r) r)
 
   -- before the new cells
-  before_new : (k : ℕ) → k < at → cell_at (cells_from source cells) k ≡ (if (k + 1 == at) && is_left (cell_at cells k).shape then blank else cell_at cells k)
+  before_new : (k : ℕ) → k < at
+      → cell_at (cells_from source cells) k ≡
+      (if (k + 1 == at) && is_left (cell_at cells k).shape then blank else cell_at cells k)
   before_new k h = ⊎_elim
       (λ (e : k + 1 ≡ at). ⊎_elim
       (λ (l : is_left (cell_at cells k).shape ≡ true).
-      left_lost k (cell_at fresh 0) (omega arith) (front k h) l (after_inside source (length cells) k (omega arith) ∙ inside 0 (suc k) (omega arith) some)
+      left_lost k (cell_at fresh 0) (omega arith) (front k h) l
+      (after_inside source (length cells) k (omega arith) ∙ inside 0 (suc k) (omega arith) some)
       ∙ sym (rw (eq-eqb (k + 1) at e, l) refl))
       (λ (l : is_left (cell_at cells k).shape ≡ false).
       stays k (omega arith) (front k h) (λ t. absurd (true≢false _ t l)) (λ r j w. front j (omega arith))
       ∙ sym (rw (eq-eqb (k + 1) at e, l) refl))
       (cases_Bool (is_left (cell_at cells k).shape)))
       (λ (ne : k + 1 ≡ at → ⊥).
-      stays k (omega arith) (front k h) (λ t. after_inside source (length cells) k (omega arith) ∙ front (suc k) (omega arith)) (λ r j w. front j (omega arith))
+      stays k (omega arith) (front k h)
+      (λ t. after_inside source (length cells) k (omega arith) ∙ front (suc k) (omega arith))
+      (λ r j w. front j (omega arith))
       ∙ sym (rw (ne_eqb (k + 1) at ne) refl))
       (cases_eq (k + 1) at)
 
   -- behind them
-  after_old : (k : ℕ) → at + length fresh ≤ k → k < length cells → is_left (cell_at cells k).shape ≡ true → source_after source (length cells) k ≡ Old (suc k)
+  after_old : (k : ℕ) → at + length fresh ≤ k → k < length cells → is_left (cell_at cells k).shape ≡ true
+      → source_after source (length cells) k ≡ Old (suc k)
   after_old k h w l =
       let next : is_right (cell_at cells (suc k)).shape ≡ true = sym (paired.next k) ∙ l in
-      let within : suc k < length cells = ⊎_elim (λ x. x) (λ past. absurd (true≢false _ next (ap (λ (c : Cell). is_right c.shape) (cell_at_past cells (suc k) past)))) (cases_lt (suc k) (length cells)) in
+      let within : suc k < length cells = ⊎_elim (λ x. x)
+      (λ past. absurd (true≢false _ next (ap (λ (c : Cell). is_right c.shape) (cell_at_past cells (suc k) past))))
+      (cases_lt (suc k) (length cells)) in
       after_inside source (length cells) k within ∙ behind (suc k) (omega arith) within
 
-  after_new : (k : ℕ) → at + length fresh ≤ k → k < length cells → cell_at (cells_from source cells) k ≡ (if (k == at + length fresh) && is_right (cell_at cells k).shape then blank else cell_at cells k)
+  after_new : (k : ℕ) → at + length fresh ≤ k → k < length cells
+      → cell_at (cells_from source cells) k ≡
+      (if (k == at + length fresh) && is_right (cell_at cells k).shape then blank else cell_at cells k)
   after_new zero h w = absurd (omega arith)
   after_new (suc j) h w = ⊎_elim
       (λ (e : suc j ≡ at + length fresh). ⊎_elim
       (λ (r : is_right (cell_at cells (suc j)).shape ≡ true).
-      right_lost j (cell_at fresh (length fresh - 1)) w (behind (suc j) h w) r (inside (length fresh - 1) j (omega arith) (omega arith))
+      right_lost j (cell_at fresh (length fresh - 1)) w (behind (suc j) h w) r
+      (inside (length fresh - 1) j (omega arith) (omega arith))
       ∙ sym (rw (eq-eqb (suc j) (at + length fresh) e, r) refl))
       (λ (r : is_right (cell_at cells (suc j)).shape ≡ false).
       stays (suc j) w (behind (suc j) h w) (after_old (suc j) h w) (λ t i u. absurd (true≢false _ t r))
       ∙ sym (rw (eq-eqb (suc j) (at + length fresh) e, r) refl))
       (cases_Bool (is_right (cell_at cells (suc j)).shape)))
       (λ (ne : suc j ≡ at + length fresh → ⊥).
-      stays (suc j) w (behind (suc j) h w) (after_old (suc j) h w) (λ t i u. let same : i ≡ j = omega arith in behind i (omega arith) (omega arith))
+      stays (suc j) w (behind (suc j) h w) (after_old (suc j) h w)
+      (λ t i u. let same : i ≡ j = omega arith in behind i (omega arith) (omega arith))
       ∙ sym (rw (ne_eqb (suc j) (at + length fresh) ne) refl))
       (cases_eq (suc j) (at + length fresh))
 
@@ -163,30 +195,41 @@ module _ (fresh cells : List Cell) (at : ℕ) (paired : IsPaired cells) (pairs :
       past false = refl
 
 -- a page of which one line is edited
-pub edited-at : (rows columns at : ℕ) (source : ℕ → Source) (page : Page) → IsPage rows columns page → at < rows → (line column : ℕ)
-    → place (page_from (edited at source) page) line column ≡ (if line == at then cell_at (cells_from source (line_at page at)) column else place page line column)
+pub edited-at : (rows columns at : ℕ) (source : ℕ → Source) (page : Page) → IsPage rows columns page → at < rows
+    → (line column : ℕ)
+    → place (page_from (edited at source) page) line column ≡
+    (if line == at then cell_at (cells_from source (line_at page at)) column else place page line column)
 edited-at rows columns at source page p h line column =
     ap (λ q. place q line column) (page_from-edited at source rows columns page p h)
     ∙ ⊎_elim
     (λ (e : line ≡ at). ap (λ l. cell_at (line_at (set page at (cells_from source (line_at page at))) l) column) e
     ∙ ap (λ l. cell_at l column) (get_or-set_same page at (cells_from source (line_at page at)) [] (rw p.height h))
     ∙ sym (rw (eq-eqb line at e) refl))
-    (λ (ne : line ≡ at → ⊥). ap (λ l. cell_at l column) (get_or-set_other page at line (cells_from source (line_at page at)) [] ne)
+    (λ (ne : line ≡ at → ⊥). ap (λ l. cell_at l column)
+    (get_or-set_other page at line (cells_from source (line_at page at)) [] ne)
     ∙ sym (rw (ne_eqb line at ne) refl))
     (cases_eq line at)
 
 -- new cells over a line of a page
-pub over-at : (rows columns at from rest : ℕ) (fresh : List Cell) (page : Page) → IsPage rows columns page → at < rows → IsPaired fresh → 0 < length fresh → from + length fresh ≤ columns → rest ≡ from + length fresh
-    → (line column : ℕ) → place (page_from (edited at (spliced from fresh rest columns)) page) line column ≡ (if line == at then overlaid_cell fresh from (line_at page at) column else place page line column)
+pub over-at : (rows columns at from rest : ℕ) (fresh : List Cell) (page : Page) → IsPage rows columns page → at < rows
+    → IsPaired fresh → 0 < length fresh → from + length fresh ≤ columns → rest ≡ from + length fresh
+    → (line column : ℕ)
+    → place (page_from (edited at (spliced from fresh rest columns)) page) line column ≡
+    (if line == at then overlaid_cell fresh from (line_at page at) column else place page line column)
 over-at rows columns at from rest fresh page p h pairs some room e line column =
     let wide : length (line_at page at) ≡ columns = p.width at h in
     edited-at rows columns at (spliced from fresh rest columns) page p h line column
-    ∙ ap (λ (n : ℕ). if line == at then cell_at (cells_from (spliced from fresh n columns) (line_at page at)) column else place page line column) e
-    ∙ ap (λ (n : ℕ). if line == at then cell_at (cells_from (spliced from fresh (from + length fresh) n) (line_at page at)) column else place page line column) (sym wide)
-    ∙ ap (λ (c : Cell). if line == at then c else place page line column) (over-is fresh (line_at page at) from (p.paired at) pairs some (rw wide room) column)
+    ∙ ap (λ (n : ℕ). if line == at then cell_at (cells_from (spliced from fresh n columns) (line_at page at)) column
+    else place page line column) e
+    ∙ ap (λ (n : ℕ). if line == at then cell_at
+    (cells_from (spliced from fresh (from + length fresh) n) (line_at page at)) column else place page line column)
+    (sym wide)
+    ∙ ap (λ (c : Cell). if line == at then c else place page line column)
+    (over-is fresh (line_at page at) from (p.paired at) pairs some (rw wide room) column)
 
 -- a mark
-pub marked-at : (rows columns at from mark : ℕ) (page : Page) → IsPage rows columns page → at < rows → from < columns → (line column : ℕ)
+pub marked-at : (rows columns at from mark : ℕ) (page : Page) → IsPage rows columns page → at < rows → from < columns
+    → (line column : ℕ)
     → place (page_marked at from mark page) line column ≡ with_mark at from mark page line column
 marked-at rows columns at from mark page p h w line column =
     let old : List Cell = line_at page at in
@@ -209,8 +252,10 @@ marked-at rows columns at from mark page p h w line column =
 -- a blank page
 pub blank-at : (rows columns line column : ℕ) → place (blank_page rows columns) line column ≡ blank
 blank-at rows columns line column = ⊎_elim
-    (λ (h : line < rows). ap (λ l. cell_at l column) (get_or-replicate rows line (replicate columns blank) [] h) ∙ blanks columns column)
-    (λ (h : rows ≤ line). ap (λ l. cell_at l column) (get_or_past (blank_page rows columns) line [] (rw (length-replicate rows (replicate columns blank)) h)))
+    (λ (h : line < rows). ap (λ l. cell_at l column) (get_or-replicate rows line (replicate columns blank) [] h)
+    ∙ blanks columns column)
+    (λ (h : rows ≤ line). ap (λ l. cell_at l column)
+    (get_or_past (blank_page rows columns) line [] (rw (length-replicate rows (replicate columns blank)) h)))
     (cases_lt line rows)
   where
     blanks : (n k : ℕ) → cell_at (replicate n blank) k ≡ blank

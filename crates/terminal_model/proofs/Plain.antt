@@ -33,9 +33,14 @@ both false q h = (h, absurd (cc))
 
 -- what plain bytes leave of a terminal between characters, sequences and strings; it answers nothing
 abbrev pub printed_read : Screen → List ℕ → Read
-printed_read x bytes = record { terminal = ready (effects x (map (λ b. Print b) bytes)); reports = []; acts = acts_of x (map (λ b. Print b) bytes) }
+printed_read x bytes = record {
+  terminal = ready (effects x (map (λ b. Print b) bytes));
+  reports = [];
+  acts = acts_of x (map (λ b. Print b) bytes);
+}
 
-pub reads-plain : (x : Screen) (bytes : List ℕ) → list_all is_plain bytes ≡ true → reads (ready x) bytes ≡ printed_read x bytes
+pub reads-plain : (x : Screen) (bytes : List ℕ) → list_all is_plain bytes ≡ true
+    → reads (ready x) bytes ≡ printed_read x bytes
 unfolding reads
 reads-plain x [] h = refl
 reads-plain x (b ∷ bytes) h =

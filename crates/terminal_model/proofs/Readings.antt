@@ -8,7 +8,8 @@ use Rattle.control_parser.proofs.Openings.{functions-go_on, functions-opening}
 use Rattle.terminal_model.specs.Screen.{Screen}
 use Rattle.terminal_model.specs.Table.{effect}
 use Rattle.terminal_model.specs.Reports.{report}
-use Rattle.terminal_model.specs.Reading.{Terminal, Act, Read, joined, act, act_all, read_unit, read_units, read_byte, reads}
+use Rattle.terminal_model.specs.Reading.{Terminal, Act, Read, joined, act, act_all, read_unit, read_units, read_byte}
+use Rattle.terminal_model.specs.Reading.{reads}
 use Rattle.terminal_model.specs.Writing.{Writing, Output, writes, writes_all}
 
 joined_assoc : (r s u : Read) → joined (joined r s) u ≡ joined r (joined s u)
@@ -20,22 +21,29 @@ unfolding reads
 reads-append t [] b = refl
 reads-append t (x ∷ a) b =
     ap (joined (read_byte t x)) (reads-append (read_byte t x).terminal a b)
-    ∙ sym (joined_assoc (read_byte t x) (reads (read_byte t x).terminal a) (reads (reads (read_byte t x).terminal a).terminal b))
+    ∙ sym
+    (joined_assoc (read_byte t x) (reads (read_byte t x).terminal a)
+    (reads (reads (read_byte t x).terminal a).terminal b))
 
 -- so it is with a window's writing
-pub writes_all-append : (t : Terminal) (a b : List Writing) → writes_all t (a ++ b) ≡ joined (writes_all t a) (writes_all (writes_all t a).terminal b)
+pub writes_all-append : (t : Terminal) (a b : List Writing)
+    → writes_all t (a ++ b) ≡ joined (writes_all t a) (writes_all (writes_all t a).terminal b)
 unfolding writes_all
 writes_all-append t [] b = refl
 writes_all-append t (w ∷ a) b =
     ap (joined (writes t w)) (writes_all-append (writes t w).terminal a b)
-    ∙ sym (joined_assoc (writes t w) (writes_all (writes t w).terminal a) (writes_all (writes_all (writes t w).terminal a).terminal b))
+    ∙ sym
+    (joined_assoc (writes t w) (writes_all (writes t w).terminal a)
+    (writes_all (writes_all (writes t w).terminal a).terminal b))
 
 -- output that comes in two pieces is one output
-pub writes_all-output : (t : Terminal) (a b : List ℕ) (later : List Writing) → writes_all t (Output a ∷ Output b ∷ later) ≡ writes_all t (Output (a ++ b) ∷ later)
+pub writes_all-output : (t : Terminal) (a b : List ℕ) (later : List Writing)
+    → writes_all t (Output a ∷ Output b ∷ later) ≡ writes_all t (Output (a ++ b) ∷ later)
 unfolding writes_all
 writes_all-output t a b later =
     rw (reads-append t a b)
-    (sym (joined_assoc (reads t a) (reads (reads t a).terminal b) (writes_all (reads (reads t a).terminal b).terminal later)))
+    (sym (joined_assoc (reads t a) (reads (reads t a).terminal b)
+    (writes_all (reads (reads t a).terminal b).terminal later)))
 
 -- functions that act on a screen, one after the other
 abbrev pub effects : Screen → List Func → Screen
@@ -52,31 +60,41 @@ acts_of x (f ∷ later) = record { before = x; func = f } ∷ acts_of (effect x 
 
 -- what they leave, with what has begun
 abbrev pub outcome : Screen → List Func → List ℕ → Rest → Read
-outcome x fs rest unended = record { terminal = record { screen = effects x fs; rest = rest; unended = unended }; reports = reports_of x fs; acts = acts_of x fs }
+outcome x fs rest unended = record {
+  terminal = record { screen = effects x fs; rest = rest; unended = unended };
+  reports = reports_of x fs;
+  acts =
+      acts_of x fs;
+}
 
 pub effects-append : (x : Screen) (a b : List Func) → effects x (a ++ b) ≡ effects (effects x a) b
 effects-append x [] b = refl
 effects-append x (f ∷ a) b = effects-append (effect x f) a b
 
-reports_of-append : (x : Screen) (a b : List Func) → reports_of x (a ++ b) ≡ reports_of x a ++ reports_of (effects x a) b
+reports_of-append : (x : Screen) (a b : List Func)
+    → reports_of x (a ++ b) ≡ reports_of x a ++ reports_of (effects x a) b
 reports_of-append x [] b = refl
-reports_of-append x (f ∷ a) b = ap (λ r. report x f ++ r) (reports_of-append (effect x f) a b) ∙ sym (append_assoc (report x f) (reports_of (effect x f) a) (reports_of (effects (effect x f) a) b))
+reports_of-append x (f ∷ a) b = ap (λ r. report x f ++ r) (reports_of-append (effect x f) a b)
+    ∙ sym (append_assoc (report x f) (reports_of (effect x f) a) (reports_of (effects (effect x f) a) b))
 
 acts_of-append : (x : Screen) (a b : List Func) → acts_of x (a ++ b) ≡ acts_of x a ++ acts_of (effects x a) b
 acts_of-append x [] b = refl
 acts_of-append x (f ∷ a) b = ap (λ r. record { before = x; func = f } ∷ r) (acts_of-append (effect x f) a b)
 
-pub outcome-append : (x : Screen) (a b : List Func) (r r' : List ℕ) (u u' : Rest) → outcome x (a ++ b) r' u' ≡ joined (outcome x a r u) (outcome (effects x a) b r' u')
+pub outcome-append : (x : Screen) (a b : List Func) (r r' : List ℕ) (u u' : Rest)
+    → outcome x (a ++ b) r' u' ≡ joined (outcome x a r u) (outcome (effects x a) b r' u')
 outcome-append x a b r r' u u' = rw (effects-append x a b, reports_of-append x a b, acts_of-append x a b) refl
 
-pub act_all-is : (x : Screen) (r : List ℕ) (u : Rest) (fs : List Func) → act_all (record { screen = x; rest = r; unended = u }) fs ≡ outcome x fs r u
+pub act_all-is : (x : Screen) (r : List ℕ) (u : Rest) (fs : List Func)
+    → act_all (record { screen = x; rest = r; unended = u }) fs ≡ outcome x fs r u
 unfolding act_all act
 act_all-is x r u [] = refl
 act_all-is x r u (f ∷ later) = rw (act_all-is (effect x f) r u later) refl
 
 -- units give their functions, one unit after the other
 pub read_units-is : (x : Screen) (r : List ℕ) (u : Rest) (us : List Unit) → functions (opening u) ≡ ([], u)
-    → read_units (record { screen = x; rest = r; unended = u }) us ≡ outcome x (functions (opening u ++ us)).0 r (functions (opening u ++ us)).1
+    → read_units (record { screen = x; rest = r; unended = u }) us ≡ outcome x (functions (opening u ++ us)).0 r
+    (functions (opening u ++ us)).1
 unfolding read_units read_unit
 read_units-is x r u [] h = rw (append-nil (opening u), h) refl
 read_units-is x r u (v ∷ vs) h =

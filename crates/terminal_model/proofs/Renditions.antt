@@ -1,5 +1,6 @@
 -- SGR: a rendition is made of any other, and nothing is answered.
-use Rattle.std.proofs.Common.{◌≡◌, ℕ, ◌<◌, Bool, true, false, ◌&&◌, List, [], ◌∷◌, ◌++◌, length, Option, Some, None, refl, ap, ◌∙◌, arith}
+use Rattle.std.proofs.Common.{◌≡◌, ℕ, ◌<◌, Bool, true, false, ◌&&◌, List, [], ◌∷◌, ◌++◌, length, Option, Some, None}
+use Rattle.std.proofs.Common.{refl, ap, ◌∙◌, arith}
 use Rattle.std.specs.Prelude.{if◌then◌else◌, option_to_list, is_some}
 use Rattle.std.specs.List.{list_all}
 use Rattle.cells.specs.declared.cell.Colour.{Colour}
@@ -23,8 +24,12 @@ abbrev with_rendition : Screen → Rendition → Screen
 with_rendition x r = with_state x (unjoined (record x.state { rendition = r }))
 
 -- without colours, and then those that come
-begun : (x : Screen) (b u k v : Bool) (later : List ℕ) → effect x (Csi None (0 ∷ (value_if b 1 ++ (value_if u 4 ++ (value_if k 5 ++ (value_if v 7 ++ later))))) [] 0x6D)
-    ≡ all_acted (with_rendition x (record { is_bold = b; is_underlined = u; is_blinking = k; is_reversed = v; fore = Default; back = Default })) (each rendered later)
+begun : (x : Screen) (b u k v : Bool) (later : List ℕ)
+    → effect x (Csi None (0 ∷ (value_if b 1 ++ (value_if u 4 ++ (value_if k 5 ++ (value_if v 7 ++ later))))) [] 0x6D)
+    ≡ all_acted
+    (with_rendition x
+    (record { is_bold = b; is_underlined = u; is_blinking = k; is_reversed = v; fore = Default; back = Default }))
+    (each rendered later)
 unfolding acted_from plain_sequence
 begun x true true true true later = refl
 begun x true true true false later = refl
@@ -43,7 +48,9 @@ begun x false false true false later = refl
 begun x false false false true later = refl
 begun x false false false false later = refl
 
-fore-set : (x : Screen) (r : Rendition) (c : Colour) → all_acted (with_rendition x (record r { fore = Default })) (each rendered (value_of_colour 30 c)) ≡ with_rendition x (record r { fore = c })
+fore-set : (x : Screen) (r : Rendition) (c : Colour)
+    → all_acted (with_rendition x (record r { fore = Default })) (each rendered (value_of_colour 30 c)) ≡ with_rendition
+    x (record r { fore = c })
 unfolding acted_from
 fore-set x r Default = refl
 fore-set x r Black = refl
@@ -55,7 +62,9 @@ fore-set x r Magenta = refl
 fore-set x r Cyan = refl
 fore-set x r White = refl
 
-back-set : (x : Screen) (r : Rendition) (c : Colour) → all_acted (with_rendition x (record r { back = Default })) (each rendered (value_of_colour 40 c)) ≡ with_rendition x (record r { back = c })
+back-set : (x : Screen) (r : Rendition) (c : Colour)
+    → all_acted (with_rendition x (record r { back = Default })) (each rendered (value_of_colour 40 c)) ≡ with_rendition
+    x (record r { back = c })
 unfolding acted_from
 back-set x r Default = refl
 back-set x r Black = refl
@@ -67,15 +76,19 @@ back-set x r Magenta = refl
 back-set x r Cyan = refl
 back-set x r White = refl
 
-colours-set : (x : Screen) (r : Rendition) → all_acted (with_rendition x (record r { fore = Default; back = Default })) (each rendered (colour_values r)) ≡ with_rendition x r
+colours-set : (x : Screen) (r : Rendition)
+    → all_acted (with_rendition x (record r { fore = Default; back = Default })) (each rendered (colour_values r)) ≡
+    with_rendition x r
 colours-set x r =
     let start : Screen = with_rendition x (record r { fore = Default; back = Default }) in
     ap (all_acted start) (each-append rendered (value_of_colour 30 r.fore) (value_of_colour 40 r.back))
     ∙ all_acted-append start (each rendered (value_of_colour 30 r.fore)) (each rendered (value_of_colour 40 r.back))
-    ∙ ap (λ y. all_acted y (each rendered (value_of_colour 40 r.back))) (fore-set x (record r { back = Default }) r.fore)
+    ∙ ap (λ y. all_acted y (each rendered (value_of_colour 40 r.back)))
+    (fore-set x (record r { back = Default }) r.fore)
     ∙ back-set x r r.back
 
-pub rendition-is : (x : Screen) (r : Rendition) → effect x (Csi None (rendition_values r) [] 0x6D) ≡ with_state x (unjoined (record x.state { rendition = r }))
+pub rendition-is : (x : Screen) (r : Rendition)
+    → effect x (Csi None (rendition_values r) [] 0x6D) ≡ with_state x (unjoined (record x.state { rendition = r }))
 rendition-is x r = begun x r.is_bold r.is_underlined r.is_blinking r.is_reversed (colour_values r) ∙ colours-set x r
 
 -- VALUES THAT ARE NAMED
@@ -129,9 +142,14 @@ and-left true q h = refl
 and-left false q h = h
 
 -- a list of values that begins with one that is named
-pub named-listed : (rows n : ℕ) (values : List ℕ) → list_all is_named (n ∷ values) ≡ true → IsListed rows (Csi None (n ∷ values) [] 0x6D)
+pub named-listed : (rows n : ℕ) (values : List ℕ) → list_all is_named (n ∷ values) ≡ true
+    → IsListed rows (Csi None (n ∷ values) [] 0x6D)
 unfolding plain_sequence
-named-listed rows n values h = record { acts = some (rendered n) (and-left (is_named n) (list_all is_named values) h); named = ap (λ b. b && true) h; in_order = refl }
+named-listed rows n values h = record {
+  acts = some (rendered n) (and-left (is_named n) (list_all is_named values) h);
+  named = ap (λ b. b && true) h;
+  in_order = refl;
+}
   where
     some : (o : Option Action) → is_some o ≡ true → 0 < length (option_to_list o ++ each rendered values)
     some None e = cc
@@ -142,7 +160,9 @@ values-listed rows r = named-listed rows 0 _ (values-named r)
 
 -- a value of SGR answers nothing
 record IsRendering (o : Option Action) : Type 0 where
-  pub quiet : (x : Screen) (later : List Action) → all_answered x (option_to_list o ++ later) ≡ all_answered (elim o as (λ w. Screen) [ None ↦ x | Some a ↦ acted x a ]) later
+  pub quiet : (x : Screen) (later : List Action)
+      → all_answered x (option_to_list o ++ later) ≡ all_answered
+      (elim o as (λ w. Screen) [ None ↦ x | Some a ↦ acted x a ]) later
 
 if_rendering : (b : Bool) (o p : Option Action) → IsRendering o → IsRendering p → IsRendering (if b then o else p)
 if_rendering true o p h k = h
@@ -159,7 +179,8 @@ rendered-rendering n = search (if_rendering, none_rendering, some_rendering) dep
 
 each-quiet : (x : Screen) (values : List ℕ) → all_answered x (each rendered values) ≡ []
 each-quiet x [] = refl
-each-quiet x (n ∷ values) = (rendered-rendering n).quiet x (each rendered values) ∙ each-quiet (elim (rendered n) as (λ w. Screen) [ None ↦ x | Some a ↦ acted x a ]) values
+each-quiet x (n ∷ values) = (rendered-rendering n).quiet x (each rendered values)
+    ∙ each-quiet (elim (rendered n) as (λ w. Screen) [ None ↦ x | Some a ↦ acted x a ]) values
 
 pub values-quiet : (x : Screen) (values : List ℕ) → report x (Csi None values [] 0x6D) ≡ []
 unfolding plain_sequence

@@ -1,5 +1,6 @@
 -- A function that is spelled is read as it alone.
-use Rattle.std.proofs.Common.{◌≡◌, ℕ, ◌<◌, true, ltb, ⊎_elim, List, [], ◌∷◌, ◌++◌, map, refl, sym, ap, ◌∙◌, subst, arith, append_assoc, append-nil}
+use Rattle.std.proofs.Common.{◌≡◌, ℕ, ◌<◌, true, ltb, ⊎_elim, List, [], ◌∷◌, ◌++◌, map, refl, sym, ap, ◌∙◌, subst}
+use Rattle.std.proofs.Common.{arith, append_assoc, append-nil}
 use Rattle.std.proofs.lemmas.Bool.{cases_eq, ne_eqb}
 use Rattle.std.proofs.lemmas.Bool.Decides.{nat_tests}
 use Rattle.charsets.specs.declared.unit.Unit.TheVariants as codes
@@ -11,7 +12,8 @@ use Rattle.charsets.proofs.Joins.{units-go_on, units-rest}
 use Rattle.charsets.proofs.Encoded.{one_byte}
 use Rattle.control_parser.specs.declared.func.Func.{Func}
 use Rattle.control_parser.specs.declared.func.Func.TheVariants.{Print, High, Control, Esc, Csi}
-use Rattle.control_parser.specs.Grammar.{Rest, nothing, escape, control, functions, functions_behind, begun_by, with_front}
+use Rattle.control_parser.specs.Grammar.{Rest, nothing, escape, control, functions, functions_behind, begun_by}
+use Rattle.control_parser.specs.Grammar.{with_front}
 use Rattle.control_parser.specs.Grammar as grammar
 use Rattle.control_parser.specs.Kept.{opening}
 use Rattle.control_parser.specs.Spelling.{IsGiven, coding_of, spelling, ReadsAs}
@@ -20,7 +22,8 @@ use Rattle.control_parser.proofs.Spelled.{spelled_reads}
 use Rattle.terminal_model.specs.Screen.{Screen}
 use Rattle.terminal_model.specs.Table.{effect}
 use Rattle.terminal_model.specs.Reports.{report}
-use Rattle.terminal_model.specs.Reading.{Terminal, ready, Read, joined, act, act_all, read_unit, read_units, rest_in, in_coding, read_byte, reads}
+use Rattle.terminal_model.specs.Reading.{Terminal, ready, Read, joined, act, act_all, read_unit, read_units, rest_in}
+use Rattle.terminal_model.specs.Reading.{in_coding, read_byte, reads}
 use Rattle.terminal_model.proofs.Readings.{effects, outcome, effects-append, outcome-append, read_units-is}
 use Rattle.terminal_model.proofs.Codings.{effect-coding, escape-coding, other-coding, utf8-coding}
 
@@ -34,9 +37,12 @@ rest-stays (b ∷ r) Utf8 = refl
 rest-stays (b ∷ r) Ecma35 = refl
 
 -- what bytes give in a coding that stays is what acts
-pub reads-is : (bs : List ℕ) (x : Screen) (c : Coding) (r : List ℕ) (u : Rest) → units c r ≡ ([], r) → functions (opening u) ≡ ([], u)
+pub reads-is : (bs : List ℕ) (x : Screen) (c : Coding) (r : List ℕ) (u : Rest) → units c r ≡ ([], r)
+    → functions (opening u) ≡ ([], u)
     → Stays c x (functions (opening u ++ (units c (r ++ bs)).0)).0
-    → reads (record { screen = x; rest = r; unended = u }) bs ≡ outcome x (functions (opening u ++ (units c (r ++ bs)).0)).0 (units c (r ++ bs)).1 (functions (opening u ++ (units c (r ++ bs)).0)).1
+    → reads (record { screen = x; rest = r; unended = u }) bs ≡ outcome x
+    (functions (opening u ++ (units c (r ++ bs)).0)).0 (units c (r ++ bs)).1
+    (functions (opening u ++ (units c (r ++ bs)).0)).1
 unfolding reads read_byte
 reads-is [] x c r u h k s = rw (append-nil r, h, append-nil (opening u), k) refl
 reads-is (b ∷ bs) x c r u h k s =
@@ -44,37 +50,45 @@ reads-is (b ∷ bs) x c r u h k s =
     let later = units c (here.1 ++ bs) in
     let first = functions (opening u ++ here.0) in
     let second = functions (opening first.1 ++ later.0) in
-    let us : units c (r ++ b ∷ bs) ≡ (here.0 ++ later.0, later.1) = ap (units c) (sym (append_assoc r (b ∷ []) bs)) ∙ units-go_on c (r ++ b ∷ []) bs in
+    let us : units c (r ++ b ∷ bs) ≡ (here.0 ++ later.0, later.1) = ap (units c) (sym (append_assoc r (b ∷ []) bs))
+    ∙ units-go_on c (r ++ b ∷ []) bs in
     let fs : functions (opening u ++ (units c (r ++ b ∷ bs)).0) ≡ with_front first.0 second =
-    ap (λ v. functions (opening u ++ v.0)) us ∙ ap functions (sym (append_assoc (opening u) here.0 later.0)) ∙ functions-go_on (opening u ++ here.0) later.0 in
+    ap (λ v. functions (opening u ++ v.0)) us ∙ ap functions (sym (append_assoc (opening u) here.0 later.0))
+    ∙ functions-go_on (opening u ++ here.0) later.0 in
     let mine : x.state.coding ≡ c = s.coding [] _ refl in
     let split : (functions (opening u ++ (units c (r ++ b ∷ bs)).0)).0 ≡ first.0 ++ second.0 = ap (λ v. v.0) fs in
     let after : (effects x first.0).state.coding ≡ c = s.coding first.0 second.0 split in
     let byte : read_byte (record { screen = x; rest = r; unended = u }) b ≡ outcome x first.0 here.1 first.1 =
-    ap (λ d. let given = units d (r ++ b ∷ []) in in_coding d (read_units (record { screen = x; rest = given.1; unended = u }) given.0)) mine
+    ap (λ d. let given = units d (r ++ b ∷ []) in in_coding d
+    (read_units (record { screen = x; rest = given.1; unended = u }) given.0)) mine
     ∙ ap (in_coding c) (read_units-is x here.1 u here.0 k)
     ∙ ap (λ d. outcome x first.0 (rest_in here.1 c d) first.1) after
     ∙ ap (λ v. outcome x first.0 v first.1) (rest-stays here.1 c) in
     let stays : Stays c (effects x first.0) second.0 = record {
       coding = λ before after e.
           ap (λ y. y.state.coding) (sym (effects-append x first.0 before))
-          ∙ s.coding (first.0 ++ before) after (ap (λ v. v.0) fs ∙ ap (λ v. first.0 ++ v) e ∙ sym (append_assoc first.0 before after));
+          ∙ s.coding (first.0 ++ before) after
+          (ap (λ v. v.0) fs ∙ ap (λ v. first.0 ++ v) e ∙ sym (append_assoc first.0 before after));
     } in
-    let rest = reads-is bs (effects x first.0) c here.1 first.1 (units-rest c (r ++ b ∷ [])) (functions-opening (opening u ++ here.0)) stays in
+    let rest = reads-is bs (effects x first.0) c here.1 first.1 (units-rest c (r ++ b ∷ []))
+    (functions-opening (opening u ++ here.0)) stays in
     ap (λ v. joined v (reads v.terminal bs)) byte
     ∙ ap (joined (outcome x first.0 here.1 first.1)) rest
     ∙ sym (outcome-append x first.0 second.0 here.1 later.1 first.1 second.1)
     ∙ ap (λ v. outcome x v.0 later.1 v.1) (sym fs)
-    ∙ ap (λ v. outcome x (functions (opening u ++ (units c (r ++ b ∷ bs)).0)).0 v.1 (functions (opening u ++ (units c (r ++ b ∷ bs)).0)).1) (sym us)
+    ∙ ap (λ v. outcome x (functions (opening u ++ (units c (r ++ b ∷ bs)).0)).0 v.1
+    (functions (opening u ++ (units c (r ++ b ∷ bs)).0)).1) (sym us)
 
 -- the same between characters and functions, where the bytes give one function and leave nothing begun
 abbrev pub done : Screen → Func → Read
 done x f = record { terminal = ready (effect x f); reports = report x f; acts = record { before = x; func = f } ∷ [] }
 
 abbrev pub ActsAlone : Screen → List ℕ → Func → Type 0
-ActsAlone x bytes f = reads (ready x) bytes ≡ record { terminal = ready (effect x f); reports = report x f; acts = record { before = x; func = f } ∷ [] }
+ActsAlone x bytes f = reads (ready x) bytes ≡ record
+    { terminal = ready (effect x f); reports = report x f; acts = record { before = x; func = f } ∷ [] }
 
-stays-one : (c : Coding) (x : Screen) (f : Func) → x.state.coding ≡ c → (effect x f).state.coding ≡ c → Stays c x (f ∷ [])
+stays-one : (c : Coding) (x : Screen) (f : Func) → x.state.coding ≡ c → (effect x f).state.coding ≡ c
+    → Stays c x (f ∷ [])
 stays-one c x f h k = record { coding = λ before after e. stays-at before after e }
   where
     stays-at : (before after : List Func) → f ∷ [] ≡ before ++ after → (effects x before).state.coding ≡ c
@@ -91,7 +105,8 @@ pub nothing-opened : functions (opening nothing) ≡ ([], nothing)
 unfolding functions_behind
 nothing-opened = refl
 
-one-acts : (c : Coding) (x : Screen) (bytes : List ℕ) (f : Func) → x.state.coding ≡ c → (effect x f).state.coding ≡ c → ReadsAs c bytes (f ∷ []) → ActsAlone x bytes f
+one-acts : (c : Coding) (x : Screen) (bytes : List ℕ) (f : Func) → x.state.coding ≡ c → (effect x f).state.coding ≡ c
+    → ReadsAs c bytes (f ∷ []) → ActsAlone x bytes f
 one-acts c x bytes f h k w =
     let given : functions (units c bytes).0 ≡ (f ∷ [], nothing) = w.1 in
     let stays : Stays c x (functions (units c bytes).0).0 = rw given (stays-one c x f h k) in
@@ -108,12 +123,14 @@ ascii-units Utf8 b h = ap (λ (v : List ℕ × List ℕ). (map (λ c. codes.Code
 ascii-units Ecma35 b h = let e : ltb b 0xA0 ≡ true = grind (arith, nat_tests) in rw e refl
 
 -- one that gives no function
-pub silent : (x : Screen) (u v : Rest) (b : ℕ) (bs : List ℕ) → b < 128 → functions (opening u ++ codes.Code b ∷ []) ≡ ([], v) → reads (at x u) (b ∷ bs) ≡ reads (at x v) bs
+pub silent : (x : Screen) (u v : Rest) (b : ℕ) (bs : List ℕ) → b < 128
+    → functions (opening u ++ codes.Code b ∷ []) ≡ ([], v) → reads (at x u) (b ∷ bs) ≡ reads (at x v) bs
 unfolding reads read_byte read_units read_unit act_all
 silent x u v b bs h e = rw (ascii-units x.state.coding b h, e) refl
 
 -- one that ends a function
-pub ending : (x : Screen) (u : Rest) (f : Func) (b : ℕ) (bs : List ℕ) → b < 128 → functions (opening u ++ codes.Code b ∷ []) ≡ (f ∷ [], nothing)
+pub ending : (x : Screen) (u : Rest) (f : Func) (b : ℕ) (bs : List ℕ) → b < 128
+    → functions (opening u ++ codes.Code b ∷ []) ≡ (f ∷ [], nothing)
     → reads (at x u) (b ∷ bs) ≡ joined (done x f) (reads (ready (effect x f)) bs)
 unfolding reads read_byte read_units read_unit act_all act
 ending x u f b bs h e = rw (ascii-units x.state.coding b h, e) (simp append-nil)
@@ -141,29 +158,46 @@ ecma-acts x =
 
 -- a spelled function is read as it, by a terminal between characters and functions that reads its coding
 pub spelled-acts : (x : Screen) (f : Func) → IsGiven f → x.state.coding ≡ coding_of f → ActsAlone x (spelling f) f
-spelled-acts x (Print c) g h = one-acts Utf8 x (spelling (Print c)) (Print c) h (effect-coding x (Print c) refl ∙ h) (spelled_reads (Print c) g)
-spelled-acts x (High b) g h = one-acts Ecma35 x (spelling (High b)) (High b) h (effect-coding x (High b) refl ∙ h) (spelled_reads (High b) g)
-spelled-acts x (Control c) g h = one-acts Utf8 x (spelling (Control c)) (Control c) h (effect-coding x (Control c) refl ∙ h) (spelled_reads (Control c) g)
+spelled-acts x (Print c) g h = one-acts Utf8 x (spelling (Print c)) (Print c) h (effect-coding x (Print c) refl ∙ h)
+    (spelled_reads (Print c) g)
+spelled-acts x (High b) g h = one-acts Ecma35 x (spelling (High b)) (High b) h (effect-coding x (High b) refl ∙ h)
+    (spelled_reads (High b) g)
+spelled-acts x (Control c) g h = one-acts Utf8 x (spelling (Control c)) (Control c) h
+    (effect-coding x (Control c) refl ∙ h) (spelled_reads (Control c) g)
 spelled-acts x (Csi mark params is last) g h =
-    one-acts Utf8 x (spelling (Csi mark params is last)) (Csi mark params is last) h (effect-coding x (Csi mark params is last) refl ∙ h) (spelled_reads (Csi mark params is last) g)
-spelled-acts x (Esc [] last) g h = one-acts Utf8 x (spelling (Esc [] last)) (Esc [] last) h (effect-coding x (Esc [] last) refl ∙ h) (spelled_reads (Esc [] last) g)
+    one-acts Utf8 x (spelling (Csi mark params is last)) (Csi mark params is last) h
+    (effect-coding x (Csi mark params is last) refl ∙ h) (spelled_reads (Csi mark params is last) g)
+spelled-acts x (Esc [] last) g h = one-acts Utf8 x (spelling (Esc [] last)) (Esc [] last) h
+    (effect-coding x (Esc [] last) refl ∙ h) (spelled_reads (Esc [] last) g)
 spelled-acts x (Esc (i ∷ j ∷ more) last) g h =
-    one-acts Utf8 x (spelling (Esc (i ∷ j ∷ more) last)) (Esc (i ∷ j ∷ more) last) h (effect-coding x (Esc (i ∷ j ∷ more) last) refl ∙ h) (spelled_reads (Esc (i ∷ j ∷ more) last) g)
+    one-acts Utf8 x (spelling (Esc (i ∷ j ∷ more) last)) (Esc (i ∷ j ∷ more) last) h
+    (effect-coding x (Esc (i ∷ j ∷ more) last) refl ∙ h) (spelled_reads (Esc (i ∷ j ∷ more) last) g)
 spelled-acts x (Esc (i ∷ []) last) g h =
     ⊎_elim
-    (λ (e : i ≡ 0x25). subst (λ (n : ℕ). IsGiven (Esc (n ∷ []) last) → ActsAlone x (spelling (Esc (n ∷ []) last)) (Esc (n ∷ []) last)) (sym e) (percent x last h) g)
-    (λ (d : i ≡ 0x25 → ⊥). one-acts Utf8 x (spelling (Esc (i ∷ []) last)) (Esc (i ∷ []) last) h (escape-coding x i last (ne_eqb i 0x25 d) ∙ h) (spelled_reads (Esc (i ∷ []) last) g))
+    (λ (e : i ≡ 0x25). subst
+    (λ (n : ℕ). IsGiven (Esc (n ∷ []) last) → ActsAlone x (spelling (Esc (n ∷ []) last)) (Esc (n ∷ []) last))
+    (sym e) (percent x last h) g)
+    (λ (d : i ≡ 0x25 → ⊥). one-acts Utf8 x (spelling (Esc (i ∷ []) last)) (Esc (i ∷ []) last) h
+    (escape-coding x i last (ne_eqb i 0x25 d) ∙ h) (spelled_reads (Esc (i ∷ []) last) g))
     (cases_eq i 0x25)
   where
-    percent : (y : Screen) (final : ℕ) → y.state.coding ≡ Utf8 → IsGiven (Esc (0x25 ∷ []) final) → ActsAlone y (spelling (Esc (0x25 ∷ []) final)) (Esc (0x25 ∷ []) final)
+    percent : (y : Screen) (final : ℕ) → y.state.coding ≡ Utf8 → IsGiven (Esc (0x25 ∷ []) final)
+        → ActsAlone y (spelling (Esc (0x25 ∷ []) final)) (Esc (0x25 ∷ []) final)
     percent y final k w =
         ⊎_elim
-        (λ (e : final ≡ 0x40). subst (λ (n : ℕ). ActsAlone y (spelling (Esc (0x25 ∷ []) n)) (Esc (0x25 ∷ []) n)) (sym e) (ecma-acts y))
+        (λ (e : final ≡ 0x40). subst (λ (n : ℕ). ActsAlone y (spelling (Esc (0x25 ∷ []) n)) (Esc (0x25 ∷ []) n)) (sym e)
+        (ecma-acts y))
         (λ (d : final ≡ 0x40 → ⊥). ⊎_elim
-        (λ (e : final ≡ 0x47). subst (λ (n : ℕ). IsGiven (Esc (0x25 ∷ []) n) → ActsAlone y (spelling (Esc (0x25 ∷ []) n)) (Esc (0x25 ∷ []) n)) (sym e) (λ v. utf8 y k v) w)
-        (λ (d' : final ≡ 0x47 → ⊥). one-acts Utf8 y (spelling (Esc (0x25 ∷ []) final)) (Esc (0x25 ∷ []) final) k (other-coding y final (ne_eqb final 0x47 d') (ne_eqb final 0x40 d) ∙ k) (spelled_reads (Esc (0x25 ∷ []) final) w))
+        (λ (e : final ≡ 0x47). subst
+        (λ (n : ℕ). IsGiven (Esc (0x25 ∷ []) n) → ActsAlone y (spelling (Esc (0x25 ∷ []) n)) (Esc (0x25 ∷ []) n))
+        (sym e) (λ v. utf8 y k v) w)
+        (λ (d' : final ≡ 0x47 → ⊥). one-acts Utf8 y (spelling (Esc (0x25 ∷ []) final)) (Esc (0x25 ∷ []) final) k
+        (other-coding y final (ne_eqb final 0x47 d') (ne_eqb final 0x40 d) ∙ k)
+        (spelled_reads (Esc (0x25 ∷ []) final) w))
         (cases_eq final 0x47))
         (cases_eq final 0x40)
       where
-        utf8 : (z : Screen) → z.state.coding ≡ Utf8 → IsGiven (Esc (0x25 ∷ []) 0x47) → ActsAlone z (spelling (Esc (0x25 ∷ []) 0x47)) (Esc (0x25 ∷ []) 0x47)
-        utf8 z m v = one-acts Utf8 z (spelling (Esc (0x25 ∷ []) 0x47)) (Esc (0x25 ∷ []) 0x47) m (utf8-coding z) (spelled_reads (Esc (0x25 ∷ []) 0x47) v)
+        utf8 : (z : Screen) → z.state.coding ≡ Utf8 → IsGiven (Esc (0x25 ∷ []) 0x47)
+            → ActsAlone z (spelling (Esc (0x25 ∷ []) 0x47)) (Esc (0x25 ∷ []) 0x47)
+        utf8 z m v = one-acts Utf8 z (spelling (Esc (0x25 ∷ []) 0x47)) (Esc (0x25 ∷ []) 0x47) m (utf8-coding z)
+            (spelled_reads (Esc (0x25 ∷ []) 0x47) v)

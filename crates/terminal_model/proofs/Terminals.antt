@@ -13,7 +13,8 @@ use Rattle.control_parser.specs.Kept.{opening}
 use Rattle.control_parser.proofs.Openings.{functions-opening}
 use Rattle.terminal_model.specs.Screen.{Screen, IsSound}
 use Rattle.terminal_model.specs.Sizing.{resized}
-use Rattle.terminal_model.specs.Reading.{Terminal, IsTerminal, ready, act, act_all, read_unit, read_units, rest_in, read_byte, reads}
+use Rattle.terminal_model.specs.Reading.{Terminal, IsTerminal, ready, act, act_all, read_unit, read_units, rest_in}
+use Rattle.terminal_model.specs.Reading.{read_byte, reads}
 use Rattle.terminal_model.specs.Writing.{Writing, Output, Size, Clear, Reset, Encoding, IsWriting, writes, writes_all}
 use Rattle.terminal_model.proofs.Sound.{IsSound-effect, IsSound-resized}
 use Rattle.terminal_model.proofs.Spellings.{begun, nothing-opened}
@@ -24,23 +25,28 @@ record Reads (t u : Terminal) : Type 0 where
   opened : functions (opening u.unended) ≡ ([], u.unended)
   same : u.rest ≡ t.rest
 
-all-acts : (t : Terminal) (fs : List Func) → IsSound t.screen → functions (opening t.unended) ≡ ([], t.unended) → Reads t (act_all t fs).terminal
+all-acts : (t : Terminal) (fs : List Func) → IsSound t.screen → functions (opening t.unended) ≡ ([], t.unended)
+    → Reads t (act_all t fs).terminal
 unfolding act_all act
 all-acts t [] h k = record { sound = h; opened = k; same = refl }
 all-acts t (f ∷ later) h k =
     let next = all-acts (act t f).terminal later (IsSound-effect t.screen f h) k in
     record { sound = next.sound; opened = next.opened; same = next.same }
 
-all-units : (t : Terminal) (us : List Unit) → IsSound t.screen → functions (opening t.unended) ≡ ([], t.unended) → Reads t (read_units t us).terminal
+all-units : (t : Terminal) (us : List Unit) → IsSound t.screen → functions (opening t.unended) ≡ ([], t.unended)
+    → Reads t (read_units t us).terminal
 unfolding read_units read_unit
 all-units t [] h k = record { sound = h; opened = k; same = refl }
 all-units t (u ∷ later) h k =
     let given = functions (opening t.unended ++ u ∷ []) in
-    let one : Reads (record t { unended = given.1 }) (read_unit t u).terminal = all-acts (record t { unended = given.1 }) given.0 h (functions-opening (opening t.unended ++ u ∷ [])) in
-    let next : Reads (read_unit t u).terminal (read_units (read_unit t u).terminal later).terminal = all-units (read_unit t u).terminal later one.sound one.opened in
+    let one : Reads (record t { unended = given.1 }) (read_unit t u).terminal = all-acts
+    (record t { unended = given.1 }) given.0 h (functions-opening (opening t.unended ++ u ∷ [])) in
+    let next : Reads (read_unit t u).terminal (read_units (read_unit t u).terminal later).terminal = all-units
+    (read_unit t u).terminal later one.sound one.opened in
     record { sound = next.sound; opened = next.opened; same = next.same ∙ one.same }
 
-rest-begun : (rest : List ℕ) (c d : Coding) → units c rest ≡ ([], rest) → units d (rest_in rest c d) ≡ ([], rest_in rest c d)
+rest-begun : (rest : List ℕ) (c d : Coding) → units c rest ≡ ([], rest)
+    → units d (rest_in rest c d) ≡ ([], rest_in rest c d)
 rest-begun [] c d h = begun d
 rest-begun (b ∷ rest) Utf8 Utf8 h = h
 rest-begun (b ∷ rest) Ecma35 Ecma35 h = h
@@ -52,11 +58,13 @@ unfolding read_byte
 IsTerminal-read_byte t b h =
     let c : Coding = t.screen.state.coding in
     let given = units c (t.rest ++ b ∷ []) in
-    let r : Reads (record t { rest = given.1 }) (read_units (record t { rest = given.1 }) given.0).terminal = all-units (record t { rest = given.1 }) given.0 h.sound h.opened in
+    let r : Reads (record t { rest = given.1 }) (read_units (record t { rest = given.1 }) given.0).terminal = all-units
+    (record t { rest = given.1 }) given.0 h.sound h.opened in
     let u : Terminal = (read_units (record t { rest = given.1 }) given.0).terminal in
     record {
       sound = r.sound;
-      begun = rest-begun u.rest c u.screen.state.coding (subst (λ (v : List ℕ). units c v ≡ ([], v)) (sym r.same) (units-rest c (t.rest ++ b ∷ [])));
+      begun = rest-begun u.rest c u.screen.state.coding
+          (subst (λ (v : List ℕ). units c v ≡ ([], v)) (sym r.same) (units-rest c (t.rest ++ b ∷ [])));
       opened = r.opened;
     }
 
@@ -68,9 +76,11 @@ IsTerminal-reads t (b ∷ later) h = IsTerminal-reads (read_byte t b).terminal l
 pub IsTerminal-ready : (x : Screen) → IsSound x → IsTerminal (ready x)
 IsTerminal-ready x h = record { sound = h; begun = begun x.state.coding; opened = nothing-opened }
 
-IsTerminal-resized : (rows columns : ℕ) (t : Terminal) → IsGridSize rows columns → IsTerminal t → IsTerminal (record t { screen = resized rows columns t.screen })
+IsTerminal-resized : (rows columns : ℕ) (t : Terminal) → IsGridSize rows columns → IsTerminal t
+    → IsTerminal (record t { screen = resized rows columns t.screen })
 unfolding resized
-IsTerminal-resized rows columns t g h = record { sound = IsSound-resized rows columns t.screen g h.sound; begun = h.begun; opened = h.opened }
+IsTerminal-resized rows columns t g h = record
+    { sound = IsSound-resized rows columns t.screen g h.sound; begun = h.begun; opened = h.opened }
 
 pub IsTerminal-writes : (t : Terminal) (w : Writing) → IsWriting w → IsTerminal t → IsTerminal (writes t w).terminal
 IsTerminal-writes t (Output bytes) g h = IsTerminal-reads t bytes h
@@ -79,7 +89,9 @@ IsTerminal-writes t Clear g h = IsTerminal-reads (ready t.screen) _ (IsTerminal-
 IsTerminal-writes t Reset g h = IsTerminal-reads (ready t.screen) _ (IsTerminal-ready t.screen h.sound)
 IsTerminal-writes t (Encoding coding) g h = IsTerminal-reads (ready t.screen) _ (IsTerminal-ready t.screen h.sound)
 
-pub IsTerminal-writes_all : (t : Terminal) (ws : List Writing) → AllByRecursion IsWriting ws → IsTerminal t → IsTerminal (writes_all t ws).terminal
+pub IsTerminal-writes_all : (t : Terminal) (ws : List Writing) → AllByRecursion IsWriting ws → IsTerminal t
+    → IsTerminal (writes_all t ws).terminal
 unfolding writes_all
 IsTerminal-writes_all t [] g h = h
-IsTerminal-writes_all t (w ∷ later) g h = IsTerminal-writes_all (writes t w).terminal later g.1 (IsTerminal-writes t w g.0 h)
+IsTerminal-writes_all t (w ∷ later) g h = IsTerminal-writes_all (writes t w).terminal later g.1
+    (IsTerminal-writes t w g.0 h)

@@ -22,11 +22,13 @@ acted_are : (x : Screen) (fs : List Func) → acted_functions (acts_of x fs) ≡
 acted_are x [] = refl
 acted_are x (f ∷ later) = ap (λ gs. f ∷ gs) (acted_are (effect x f) later)
 
-same_coding : (x : Screen) (fs : List Func) → AllByRecursion KeepsCoding (acts_of x fs) → (effects x fs).state.coding ≡ x.state.coding
+same_coding : (x : Screen) (fs : List Func) → AllByRecursion KeepsCoding (acts_of x fs)
+    → (effects x fs).state.coding ≡ x.state.coding
 same_coding x [] k = refl
 same_coding x (f ∷ later) k = same_coding (effect x f) later k.1 ∙ k.0
 
-front_keeps : (a b : List Act) → AllByRecursion KeepsCoding (a ++ b) → AllByRecursion KeepsCoding a × AllByRecursion KeepsCoding b
+front_keeps : (a b : List Act) → AllByRecursion KeepsCoding (a ++ b) → AllByRecursion KeepsCoding a
+    × AllByRecursion KeepsCoding b
 front_keeps [] b k = (tt, k)
 front_keeps (x ∷ a) b k = let l = front_keeps a b k.1 in ((k.0, l.0), l.1)
 
@@ -42,8 +44,10 @@ rest_stays rest c d same = ap (rest_in rest c) same ∙ by_case rest c
 record IsStep (t : Terminal) (b : ℕ) : Type 0 where
   functions_are : acted_functions (read_byte t b).acts ≡ (functions_of_bytes t (b ∷ [])).0
   unended_is : (read_byte t b).terminal.unended ≡ (functions_of_bytes t (b ∷ [])).1
-  rest_is : (read_byte t b).terminal.rest ≡ rest_in (units t.screen.state.coding (t.rest ++ b ∷ [])).1 t.screen.state.coding (read_byte t b).terminal.screen.state.coding
-  coding_is : AllByRecursion KeepsCoding (read_byte t b).acts → (read_byte t b).terminal.screen.state.coding ≡ t.screen.state.coding
+  rest_is : (read_byte t b).terminal.rest ≡ rest_in (units t.screen.state.coding (t.rest ++ b ∷ [])).1
+      t.screen.state.coding (read_byte t b).terminal.screen.state.coding
+  coding_is : AllByRecursion KeepsCoding (read_byte t b).acts
+      → (read_byte t b).terminal.screen.state.coding ≡ t.screen.state.coding
 
 step : (t : Terminal) (b : ℕ) → IsTerminal t → IsStep t b
 unfolding read_byte
@@ -57,30 +61,37 @@ step t b h =
       functions_are = ap (λ (r : Read). acted_functions r.acts) is ∙ acted_are t.screen fs;
       unended_is = ap (λ (r : Read). r.terminal.unended) is;
       rest_is = ap (λ rest. rest_in rest c read.terminal.screen.state.coding) (ap (λ (r : Read). r.terminal.rest) is);
-      coding_is = λ k. ap (λ (r : Read). r.terminal.screen.state.coding) is ∙ same_coding t.screen fs (subst (λ (r : Read). AllByRecursion KeepsCoding r.acts) is k);
+      coding_is = λ k. ap (λ (r : Read). r.terminal.screen.state.coding) is
+          ∙ same_coding t.screen fs (subst (λ (r : Read). AllByRecursion KeepsCoding r.acts) is k);
     }
 
 -- the functions of bytes behind others
-further : (t u : Terminal) (front later : List ℕ) → u.screen.state.coding ≡ t.screen.state.coding → u.rest ≡ (units t.screen.state.coding (t.rest ++ front)).1 → u.unended ≡ (functions_of_bytes t front).1
+further : (t u : Terminal) (front later : List ℕ) → u.screen.state.coding ≡ t.screen.state.coding
+    → u.rest ≡ (units t.screen.state.coding (t.rest ++ front)).1 → u.unended ≡ (functions_of_bytes t front).1
     → functions_of_bytes t (front ++ later) ≡ with_front (functions_of_bytes t front).0 (functions_of_bytes u later)
 further t u front later coding rest unended =
     let c : Coding = t.screen.state.coding in
     let first = units c (t.rest ++ front) in
     let behind : List Unit = (units c (first.1 ++ later)).0 in
-    let joins : (units c (t.rest ++ (front ++ later))).0 ≡ first.0 ++ behind = ap (λ bs. (units c bs).0) (sym (append_assoc t.rest front later)) ∙ ap (λ p. p.0) (units-go_on c (t.rest ++ front) later) in
-    let same : functions (opening (functions_of_bytes t front).1 ++ behind) ≡ functions_of_bytes u later = rw (coding, rest, unended) refl in
+    let joins : (units c (t.rest ++ (front ++ later))).0 ≡ first.0 ++ behind = ap (λ bs. (units c bs).0)
+    (sym (append_assoc t.rest front later)) ∙ ap (λ p. p.0) (units-go_on c (t.rest ++ front) later) in
+    let same : functions (opening (functions_of_bytes t front).1 ++ behind) ≡ functions_of_bytes u later = rw
+    (coding, rest, unended) refl in
     ap (λ us. functions (opening t.unended ++ us)) joins
     ∙ ap functions (sym (append_assoc (opening t.unended) first.0 behind))
     ∙ functions-go_on (opening t.unended ++ first.0) behind
     ∙ ap (with_front (functions_of_bytes t front).0) same
 
-further_rest : (t u : Terminal) (front later : List ℕ) → u.screen.state.coding ≡ t.screen.state.coding → u.rest ≡ (units t.screen.state.coding (t.rest ++ front)).1
+further_rest : (t u : Terminal) (front later : List ℕ) → u.screen.state.coding ≡ t.screen.state.coding
+    → u.rest ≡ (units t.screen.state.coding (t.rest ++ front)).1
     → (units t.screen.state.coding (t.rest ++ (front ++ later))).1 ≡ (units u.screen.state.coding (u.rest ++ later)).1
 further_rest t u front later coding rest =
     let c : Coding = t.screen.state.coding in
-    ap (λ bs. (units c bs).1) (sym (append_assoc t.rest front later)) ∙ ap (λ p. p.1) (units-go_on c (t.rest ++ front) later) ∙ rw (coding, rest) refl
+    ap (λ bs. (units c bs).1) (sym (append_assoc t.rest front later))
+    ∙ ap (λ p. p.1) (units-go_on c (t.rest ++ front) later) ∙ rw (coding, rest) refl
 
-pub whole : (t : Terminal) (bytes : List ℕ) → IsTerminal t → AllByRecursion KeepsCoding (reads t bytes).acts → IsWhole t bytes
+pub whole : (t : Terminal) (bytes : List ℕ) → IsTerminal t → AllByRecursion KeepsCoding (reads t bytes).acts
+    → IsWhole t bytes
 unfolding reads
 whole t [] h k = record {
   functions_are = rw (append-nil t.rest, h.begun, append-nil (opening t.unended), h.opened) refl;
@@ -95,33 +106,45 @@ whole t (b ∷ later) h k =
     let keeps = front_keeps r.acts s.acts k in
     let one = step t b h in
     let coding = one.coding_is keeps.0 in
-    let rest = one.rest_is ∙ rest_stays (units t.screen.state.coding (t.rest ++ b ∷ [])).1 t.screen.state.coding u.screen.state.coding coding in
+    let rest = one.rest_is
+    ∙ rest_stays (units t.screen.state.coding (t.rest ++ b ∷ [])).1 t.screen.state.coding u.screen.state.coding
+    coding in
     let next = whole u later (IsTerminal-read_byte t b h) keeps.1 in
     let all = further t u (b ∷ []) later coding rest one.unended_is in
     record {
-      functions_are = map-append (λ (a : Act). a.func) r.acts s.acts ∙ ap (λ fs. fs ++ acted_functions s.acts) one.functions_are ∙ ap (λ fs. (functions_of_bytes t (b ∷ [])).0 ++ fs) next.functions_are ∙ sym (ap (λ p. p.0) all);
+      functions_are = map-append (λ (a : Act). a.func) r.acts s.acts
+          ∙ ap (λ fs. fs ++ acted_functions s.acts) one.functions_are
+          ∙ ap (λ fs. (functions_of_bytes t (b ∷ [])).0 ++ fs) next.functions_are ∙ sym (ap (λ p. p.0) all);
       unended_is = next.unended_is ∙ sym (ap (λ p. p.1) all);
       rest_is = next.rest_is ∙ sym (further_rest t u (b ∷ []) later coding rest);
       coding_is = next.coding_is ∙ coding;
     }
 
 -- The same, where the last byte may change the coding.
-one_more : (t : Terminal) (b : ℕ) → reads t (b ∷ []) ≡ joined (read_byte t b) (record { terminal = (read_byte t b).terminal; reports = []; acts = [] })
+one_more : (t : Terminal) (b : ℕ)
+    → reads t (b ∷ []) ≡ joined (read_byte t b)
+    (record { terminal = (read_byte t b).terminal; reports = []; acts = [] })
 unfolding reads
 one_more t b = refl
 
-pub whole_piece : (t : Terminal) (bytes : List ℕ) (b : ℕ) → IsTerminal t → AllByRecursion KeepsCoding (reads t bytes).acts
-    → (acted_functions (reads t (bytes ++ b ∷ [])).acts ≡ (functions_of_bytes t (bytes ++ b ∷ [])).0) × ((reads t (bytes ++ b ∷ [])).terminal.unended ≡ (functions_of_bytes t (bytes ++ b ∷ [])).1)
+pub whole_piece : (t : Terminal) (bytes : List ℕ) (b : ℕ) → IsTerminal t
+    → AllByRecursion KeepsCoding (reads t bytes).acts
+    → (acted_functions (reads t (bytes ++ b ∷ [])).acts ≡ (functions_of_bytes t (bytes ++ b ∷ [])).0)
+    × ((reads t (bytes ++ b ∷ [])).terminal.unended ≡ (functions_of_bytes t (bytes ++ b ∷ [])).1)
 whole_piece t bytes b h k =
     let w = whole t bytes h k in
     let r : Read = reads t bytes in
     let u : Terminal = r.terminal in
     let one = step u b (IsTerminal-reads t bytes h) in
     let all = further t u bytes (b ∷ []) w.coding_is w.rest_is w.unended_is in
-    let is : reads t (bytes ++ b ∷ []) ≡ joined r (joined (read_byte u b) (record { terminal = (read_byte u b).terminal; reports = []; acts = [] })) = reads-append t bytes (b ∷ []) ∙ ap (joined r) (one_more u b) in (
-      ap (λ (z : Read). acted_functions z.acts) is ∙ map-append (λ (a : Act). a.func) r.acts ((read_byte u b).acts ++ [])
+    let is : reads t (bytes ++ b ∷ []) ≡ joined r
+    (joined (read_byte u b) (record { terminal = (read_byte u b).terminal; reports = []; acts = [] })) =
+    reads-append t bytes (b ∷ []) ∙ ap (joined r) (one_more u b) in (
+      ap (λ (z : Read). acted_functions z.acts) is
+          ∙ map-append (λ (a : Act). a.func) r.acts ((read_byte u b).acts ++ [])
           ∙ ap (λ acts. acted_functions r.acts ++ acted_functions acts) (append-nil (read_byte u b).acts)
-          ∙ ap (λ fs. fs ++ acted_functions (read_byte u b).acts) w.functions_are ∙ ap (λ fs. (functions_of_bytes t bytes).0 ++ fs) one.functions_are ∙ sym (ap (λ p. p.0) all),
+          ∙ ap (λ fs. fs ++ acted_functions (read_byte u b).acts) w.functions_are
+          ∙ ap (λ fs. (functions_of_bytes t bytes).0 ++ fs) one.functions_are ∙ sym (ap (λ p. p.0) all),
       ap (λ (z : Read). z.terminal.unended) is ∙ one.unended_is ∙ sym (ap (λ p. p.1) all),
     )
 
@@ -133,14 +156,19 @@ changed_rest (b ∷ rest) Ecma35 Ecma35 ne = absurd (ne refl)
 changed_rest (b ∷ rest) Utf8 Ecma35 ne = refl
 changed_rest (b ∷ rest) Ecma35 Utf8 ne = refl
 
-pub begins_anew : (t : Terminal) (bytes : List ℕ) (b : ℕ) → IsTerminal t → AllByRecursion KeepsCoding (reads t bytes).acts
-    → ((reads t (bytes ++ b ∷ [])).terminal.screen.state.coding ≡ t.screen.state.coding → ⊥) → (reads t (bytes ++ b ∷ [])).terminal.rest ≡ []
+pub begins_anew : (t : Terminal) (bytes : List ℕ) (b : ℕ) → IsTerminal t
+    → AllByRecursion KeepsCoding (reads t bytes).acts
+    → ((reads t (bytes ++ b ∷ [])).terminal.screen.state.coding ≡ t.screen.state.coding → ⊥)
+    → (reads t (bytes ++ b ∷ [])).terminal.rest ≡ []
 begins_anew t bytes b h k ne =
     let w = whole t bytes h k in
     let r : Read = reads t bytes in
     let u : Terminal = r.terminal in
     let one = step u b (IsTerminal-reads t bytes h) in
-    let is : reads t (bytes ++ b ∷ []) ≡ joined r (joined (read_byte u b) (record { terminal = (read_byte u b).terminal; reports = []; acts = [] })) = reads-append t bytes (b ∷ []) ∙ ap (joined r) (one_more u b) in
+    let is : reads t (bytes ++ b ∷ []) ≡ joined r
+    (joined (read_byte u b) (record { terminal = (read_byte u b).terminal; reports = []; acts = [] })) =
+    reads-append t bytes (b ∷ []) ∙ ap (joined r) (one_more u b) in
     ap (λ (z : Read). z.terminal.rest) is ∙ one.rest_is
-    ∙ changed_rest (units u.screen.state.coding (u.rest ++ b ∷ [])).1 u.screen.state.coding (read_byte u b).terminal.screen.state.coding
+    ∙ changed_rest (units u.screen.state.coding (u.rest ++ b ∷ [])).1 u.screen.state.coding
+    (read_byte u b).terminal.screen.state.coding
     (λ e. ne (ap (λ (z : Read). z.terminal.screen.state.coding) is ∙ e ∙ w.coding_is))

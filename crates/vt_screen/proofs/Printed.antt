@@ -10,10 +10,13 @@ use Rattle.vt_screen_rows.specs.Runs.{prints}
 use Rattle.vt_screen.specs.Effects.{effects}
 use Rattle.vt_screen.specs.Stored.{effects_places}
 
-pub effects-prints : (x : Screen) (codes : List ℕ) → all_acted x (prints codes) ≡ effects x (map (λ code. funcs.Print code) codes)
+pub effects-prints : (x : Screen) (codes : List ℕ)
+    → all_acted x (prints codes) ≡ effects x (map (λ code. funcs.Print code) codes)
 effects-prints x [] = refl
 effects-prints x (c ∷ codes) = effects-prints (acted x (Print (Code c))) codes
 
-pub places-prints : (x : Screen) (codes places : List ℕ) → all_acted_places x (prints codes) places ≡ effects_places x (map (λ code. funcs.Print code) codes) places
+pub places-prints : (x : Screen) (codes places : List ℕ)
+    → all_acted_places x (prints codes) places ≡ effects_places x (map (λ code. funcs.Print code) codes) places
 places-prints x [] places = refl
-places-prints x (c ∷ codes) places = places-prints (acted x (Print (Code c))) codes (acted_places x.state (Print (Code c)) places)
+places-prints x (c ∷ codes) places = places-prints (acted x (Print (Code c))) codes
+    (acted_places x.state (Print (Code c)) places)

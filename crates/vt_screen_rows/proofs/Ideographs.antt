@@ -1,5 +1,6 @@
 -- The characters U+3400 to U+9FFF take two columns each.
-use Rattle.std.proofs.Common.{◌≡◌, ℕ, ◌<◌, ◌≤◌, Bool, true, false, ◌&&◌, nat_le, ltb, Option, Some, List, [], ◌∷◌, refl, sym, ap, ◌∙◌, arith, inl, inr, eqb, cond, eqb-true, le-leb}
+use Rattle.std.proofs.Common.{◌≡◌, ℕ, ◌<◌, ◌≤◌, Bool, true, false, ◌&&◌, nat_le, ltb, Option, Some, List, [], ◌∷◌, refl}
+use Rattle.std.proofs.Common.{sym, ap, ◌∙◌, arith, inl, inr, eqb, cond, eqb-true, le-leb}
 use Rattle.std.proofs.lemmas.Bool.{and_parts, cases_lt, cond-true, cond-false, lt-leb}
 use Rattle.std.proofs.lemmas.Bool.Decides.{nat_tests}
 use Rattle.cells.specs.Glyph.{drawn_as, glyph_columns}
@@ -19,19 +20,22 @@ all_are low high v [] = false
 all_are low high v (s ∷ ss) =
     cond (nat_le s.0 low) (all_are low high v ss) (eqb s.1 v && cond (nat_le high s.0) true (all_are s.0 high v ss))
 
-all_are-true : (d low high v : ℕ) (ss : List (Step ℕ)) (c : ℕ) → all_are low high v ss ≡ true → low ≤ c → c < high → step_value d ss c ≡ v
+all_are-true : (d low high v : ℕ) (ss : List (Step ℕ)) (c : ℕ) → all_are low high v ss ≡ true → low ≤ c → c < high
+    → step_value d ss c ≡ v
 unfolding all_are
 all_are-true d low high v [] c h above below = absurd (cc)
 all_are-true d low high v (s ∷ ss) c h above below =
     elim (cases_lt low s.0) [
       | inl begun ↦
           let ends : nat_le s.0 low ≡ false = lt-leb s.0 low begun in
-          let parts = and_parts (eqb s.1 v) (cond (nat_le high s.0) true (all_are s.0 high v ss)) (sym (cond-false _ _ _ ends) ∙ h) in
+          let parts = and_parts (eqb s.1 v) (cond (nat_le high s.0) true (all_are s.0 high v ss))
+          (sym (cond-false _ _ _ ends) ∙ h) in
           elim (cases_lt c s.0) [
             | inl here ↦ step_value-here d s ss c here ∙ eqb-true s.1 v parts.0
             | inr later ↦
                 let goes : nat_le high s.0 ≡ false = lt-leb high s.0 (omega arith) in
-                step_value-later d s ss c later ∙ all_are-true d s.0 high v ss c (sym (cond-false _ _ _ goes) ∙ parts.1) later below
+                step_value-later d s ss c later
+                ∙ all_are-true d s.0 high v ss c (sym (cond-false _ _ _ goes) ∙ parts.1) later below
           ]
       | inr ended ↦
           step_value-later d s ss c (omega arith)

@@ -1,6 +1,8 @@
 -- The scrollback, whose newest line is the last one of a ring and the first one of a screen.
-use Rattle.std.proofs.Common.{◌≡◌, ℕ, ◌-◌, ◌<◌, ◌≤◌, List, [], ◌∷◌, ◌++◌, length, take, drop, map, reverse, refl, sym, ap, ◌∙◌, arith, ⊎_elim}
-use Rattle.std.proofs.lemmas.List.{map-append, take_all, take-append-le, take-append-drop, reverse-append, length-reverse, length-drop}
+use Rattle.std.proofs.Common.{◌≡◌, ℕ, ◌-◌, ◌<◌, ◌≤◌, List, [], ◌∷◌, ◌++◌, length, take, drop, map, reverse, refl, sym}
+use Rattle.std.proofs.Common.{ap, ◌∙◌, arith, ⊎_elim}
+use Rattle.std.proofs.lemmas.List.{map-append, take_all, take-append-le, take-append-drop, reverse-append}
+use Rattle.std.proofs.lemmas.List.{length-reverse, length-drop}
 use Rattle.std.proofs.Math.Seq.{take-length}
 use Rattle.std.proofs.lemmas.Bool.{cases_lt}
 use Rattle.circular_buffer.specs.Buffer.{keep_last}
@@ -13,14 +15,17 @@ reverse-keep_last {X} n xs =
     ⊎_elim
     (λ (h : n < length xs).
     let size : length (reverse (drop k xs)) ≡ n = length-reverse (drop k xs) ∙ length-drop k xs ∙ omega arith in
-    let whole : reverse xs ≡ reverse (drop k xs) ++ reverse (take k xs) = ap reverse (sym (take-append-drop k xs)) ∙ reverse-append (take k xs) (drop k xs) in
+    let whole : reverse xs ≡ reverse (drop k xs) ++ reverse (take k xs) = ap reverse (sym (take-append-drop k xs))
+    ∙ reverse-append (take k xs) (drop k xs) in
     sym (ap (take n) whole ∙ take-append-le n (reverse (drop k xs)) (reverse (take k xs)) (omega arith)
     ∙ ap (λ m. take m (reverse (drop k xs))) (sym size) ∙ take-length (reverse (drop k xs))))
-    (λ (h : length xs ≤ n). ap reverse (keep_all n xs h) ∙ sym (take_all n (reverse xs) (omega (arith, length-reverse xs))))
+    (λ (h : length xs ≤ n). ap reverse (keep_all n xs h)
+    ∙ sym (take_all n (reverse xs) (omega (arith, length-reverse xs))))
     (cases_lt n (length xs))
 
 -- one more line
-pub reverse-with_line : {X : Type 0} (n : ℕ) (xs : List X) (x : X) → reverse (keep_last n (xs ++ x ∷ [])) ≡ take n (x ∷ reverse xs)
+pub reverse-with_line : {X : Type 0} (n : ℕ) (xs : List X) (x : X)
+    → reverse (keep_last n (xs ++ x ∷ [])) ≡ take n (x ∷ reverse xs)
 reverse-with_line n xs x = reverse-keep_last n (xs ++ x ∷ []) ∙ ap (take n) (reverse-append xs (x ∷ []))
 
 pub reverse-map : {X Y : Type 0} (f : X → Y) (xs : List X) → reverse (map f xs) ≡ map f (reverse xs)

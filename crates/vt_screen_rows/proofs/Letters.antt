@@ -1,5 +1,6 @@
 -- The characters from U+00A0 on stand for themselves; to U+02FF they take one column each, but for the soft hyphen.
-use Rattle.std.proofs.Common.{◌≡◌, ℕ, zero, suc, ◌+◌, ◌<◌, ◌≤◌, Bool, true, false, ◌&&◌, ◌||◌, Option, Some, None, List, [], ◌∷◌, refl, sym, ap, ◌∙◌, arith, ⊎_elim, eqb, cond}
+use Rattle.std.proofs.Common.{◌≡◌, ℕ, zero, suc, ◌+◌, ◌<◌, ◌≤◌, Bool, true, false, ◌&&◌, ◌||◌, Option, Some, None, List}
+use Rattle.std.proofs.Common.{[], ◌∷◌, refl, sym, ap, ◌∙◌, arith, ⊎_elim, eqb, cond}
 use Rattle.std.proofs.lemmas.Bool.{cases_lt, ne_eqb, eqb-true}
 use Rattle.unicode_width.proofs.Computing.{unicode_width}
 use Rattle.unicode_width.specs.Width.{char_width}
@@ -47,7 +48,8 @@ narrow_from (suc n) start h c low high other =
     ⊎_elim (λ (less : start < c). narrow_from n (start + 1) k.1 c (omega arith) (omega arith) other)
     (λ (more : c ≤ start).
     let e : start ≡ c = omega arith in
-    let l : (eqb c 0xAD || is_one (char_width false c)) ≡ true = ap (λ (v : ℕ). eqb v 0xAD || is_one (char_width false v)) (sym e) ∙ k.0 in
+    let l : (eqb c 0xAD || is_one (char_width false c)) ≡ true = ap
+    (λ (v : ℕ). eqb v 0xAD || is_one (char_width false v)) (sym e) ∙ k.0 in
     one_is (char_width false c) (rw (ne_eqb c 0xAD other) at l))
     (cases_lt start c)
 
@@ -206,11 +208,15 @@ beyond_mapped s c low =
     rw (set, beyond_graphic c low) refl
 
 pub beyond_printed : (x : Screen) (c : ℕ) → 0xA0 ≤ c
-    → acted x (Print (Code c)) ≡ printed (Some c) (with_state x (record x.state { shifts = record x.state.shifts { single = None } }))
+    → acted x (Print (Code c)) ≡ printed (Some c)
+    (with_state x (record x.state { shifts = record x.state.shifts { single = None } }))
 unfolding acted_from
 beyond_printed x c low =
-    ap (λ (o : Option ℕ). printed o (with_state x (record x.state { shifts = spent x.state.shifts (Code c) }))) (beyond_mapped x.state.shifts c low)
-    ∙ ap (λ (b : Bool). printed (Some c) (with_state x (record x.state { shifts = cond b (record x.state.shifts { single = None }) x.state.shifts }))) (beyond_graphic c low)
+    ap (λ (o : Option ℕ). printed o (with_state x (record x.state { shifts = spent x.state.shifts (Code c) })))
+    (beyond_mapped x.state.shifts c low)
+    ∙ ap (λ (b : Bool). printed (Some c)
+    (with_state x (record x.state { shifts = cond b (record x.state.shifts { single = None }) x.state.shifts })))
+    (beyond_graphic c low)
 
 wrapped_still : (n : ℕ) (s : State) (shifts : Shifts) → is_wrapped n (record s { shifts = shifts }) ≡ is_wrapped n s
 wrapped_still zero s shifts = refl
@@ -218,7 +224,8 @@ wrapped_still (suc zero) s shifts = refl
 wrapped_still (suc (suc n)) s shifts = refl
 
 pub beyond_places : (s : State) (c : ℕ) (places : List ℕ) → 0xA0 ≤ c
-    → printed_places (Some c) (record s { shifts = record s.shifts { single = None } }) places ≡ acted_places s (Print (Code c)) places
+    → printed_places (Some c) (record s { shifts = record s.shifts { single = None } }) places ≡ acted_places s
+    (Print (Code c)) places
 beyond_places s c places low =
     ap (λ (b : Bool). wrapped_places b s places) (wrapped_still (columns_of c) s (record s.shifts { single = None }))
     ∙ ap (λ (o : Option ℕ). printed_places o s places) (sym (beyond_mapped s.shifts c low))
@@ -228,7 +235,8 @@ pub graphic : (c : ℕ) → is_letter c ≡ true → is_graphic (Code c) ≡ tru
 graphic c h = grind (arith, nat_tests)
 
 -- a letter is plain or beyond
-by_kind : (P : Type 0) (c : ℕ) → is_letter c ≡ true → (is_plain c ≡ true → P) → (0xA0 ≤ c → c < 0x300 → (c ≡ 0xAD → ⊥) → P) → P
+by_kind : (P : Type 0) (c : ℕ) → is_letter c ≡ true → (is_plain c ≡ true → P)
+    → (0xA0 ≤ c → c < 0x300 → (c ≡ 0xAD → ⊥) → P) → P
 by_kind P c h plain beyond = ⊎_elim
     (λ (low : c < 0xA0). plain (grind (arith, nat_tests)))
     (λ (high : 0xA0 ≤ c). beyond high (grind (arith, nat_tests)) (λ e. grind (arith, nat_tests)))

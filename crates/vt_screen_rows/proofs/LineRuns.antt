@@ -1,5 +1,6 @@
 -- A run of characters at the beginning of a line.
-use Rattle.std.proofs.Common.{◌≡◌, ℕ, ◌+◌, ◌-◌, ◌<◌, ◌≤◌, ◌==◌, Bool, true, false, cond, List, [], ◌∷◌, length, get_or, take, drop, refl, sym, ap, ◌∙◌, arith, eq-eqb}
+use Rattle.std.proofs.Common.{◌≡◌, ℕ, ◌+◌, ◌-◌, ◌<◌, ◌≤◌, ◌==◌, Bool, true, false, cond, List, [], ◌∷◌, length, get_or}
+use Rattle.std.proofs.Common.{take, drop, refl, sym, ap, ◌∙◌, arith, eq-eqb}
 use Rattle.std.specs.List.{list_all}
 use Rattle.std.proofs.lemmas.List.{take-append-drop, map-append}
 use Rattle.charsets.specs.declared.unit.Unit.TheVariants.{Code}
@@ -39,7 +40,8 @@ line_begun x = go x.state.modes.starts_lines
 pub scrolled_run : (x : Screen) (codes : List ℕ) → IsSound x → ScrollsPlain x.state
     → run_placed codes (wrapped true x) ≡ record x {
       state = advanced (record x.state { column = length codes - 1 }) 1;
-      page = page_spliced x.state.bottom 0 (narrow_cells codes plain false) (length codes) (page_from (scrolled_up 0 x.state.bottom 1) x.page);
+      page = page_spliced x.state.bottom 0 (narrow_cells codes plain false) (length codes)
+          (page_from (scrolled_up 0 x.state.bottom 1) x.page);
       kept = with_newest x.keep (line_at x.page 0) x.kept;
     }
 scrolled_run x codes sound scrolls =
@@ -49,19 +51,24 @@ scrolled_run x codes sound scrolls =
     let is_first : (s.top == 0) ≡ true = eq-eqb s.top 0 scrolls.first in
     let none : 0 + (length codes - 1) ≡ length codes - 1 = omega arith in
     let all : 0 + length codes ≡ length codes = omega arith in
-    let width : length (line_at (page_from (scrolled_up 0 s.bottom 1) x.page) s.bottom) ≡ s.columns = last_width x sound scrolls in
+    let width : length (line_at (page_from (scrolled_up 0 s.bottom 1) x.page) s.bottom) ≡ s.columns = last_width x sound
+    scrolls in
     rw (is_last, is_first, none, all, width, scrolls.plain, scrolls.unprotected, scrolls.first, scrolls.last) refl
   where
-    last_width : (x : Screen) → IsSound x → ScrollsPlain x.state → length (line_at (page_from (scrolled_up 0 x.state.bottom 1) x.page) x.state.bottom) ≡ x.state.columns
+    last_width : (x : Screen) → IsSound x → ScrollsPlain x.state
+        → length (line_at (page_from (scrolled_up 0 x.state.bottom 1) x.page) x.state.bottom) ≡ x.state.columns
     last_width x sound scrolls =
         let s : State = x.state in
         let is_last : (s.line == s.bottom) ≡ true = eq-eqb s.line s.bottom scrolls.last in
         let after : IsSound (wrapped true x) = sound_wrapped x sound in
         let line : (wrapped true x).state.line ≡ s.bottom = rw is_last scrolls.last in
-        let page : (wrapped true x).page ≡ page_from (scrolled_up 0 s.bottom 1) x.page = rw (is_last, scrolls.first) refl in
-        sym (ap (λ p. length (line_at p s.bottom)) page) ∙ sym (ap (λ k. length (line_at (wrapped true x).page k)) line) ∙ after.sized.width (wrapped true x).state.line after.cursor.0
+        let page : (wrapped true x).page ≡ page_from (scrolled_up 0 s.bottom 1) x.page = rw (is_last, scrolls.first)
+        refl in
+        sym (ap (λ p. length (line_at p s.bottom)) page) ∙ sym (ap (λ k. length (line_at (wrapped true x).page k)) line)
+        ∙ after.sized.width (wrapped true x).state.line after.cursor.0
 
-module _ (x : Screen) (codes : List ℕ) (t : TakesRuns x.state) (sound : IsSound x) (letters : list_all is_letter codes ≡ true) (some : 0 < length codes) (room : length codes ≤ x.state.columns) where
+module _ (x : Screen) (codes : List ℕ) (t : TakesRuns x.state) (sound : IsSound x)
+    (letters : list_all is_letter codes ≡ true) (some : 0 < length codes) (room : length codes ≤ x.state.columns) where
   abbrev w : Screen
   w = wrapped true x
 
@@ -73,35 +80,45 @@ module _ (x : Screen) (codes : List ℕ) (t : TakesRuns x.state) (sound : IsSoun
 
   -- characters in the next line
   pub line_printed : all_acted x (CarriageReturn ∷ LineFeed ∷ prints codes) ≡ run_placed codes w
-  line_printed = ap (λ (v : Screen). all_acted v (prints codes)) (line_begun x) ∙ run_is codes w takes refl (sound_wrapped x sound) letters some inside
+  line_printed = ap (λ (v : Screen). all_acted v (prints codes)) (line_begun x)
+      ∙ run_is codes w takes refl (sound_wrapped x sound) letters some inside
 
-  pub line_places : (places : List ℕ) → all_acted_places x (CarriageReturn ∷ LineFeed ∷ prints codes) places ≡ indexed_places x.state places
+  pub line_places : (places : List ℕ)
+      → all_acted_places x (CarriageReturn ∷ LineFeed ∷ prints codes) places ≡ indexed_places x.state places
   unfolding acted_from
-  line_places places = ap (λ (v : Screen). all_acted_places v (prints codes) (indexed_places x.state places)) (line_begun x)
+  line_places places = ap (λ (v : Screen). all_acted_places v (prints codes) (indexed_places x.state places))
+      (line_begun x)
       ∙ run_places codes w (indexed_places x.state places) takes refl (sound_wrapped x sound) letters inside
 
 -- some characters, and then the others
-pub prints_after : (x : Screen) (codes : List ℕ) (n : ℕ) → all_acted (all_acted x (prints (take n codes))) (prints (drop n codes)) ≡ all_acted x (prints codes)
+pub prints_after : (x : Screen) (codes : List ℕ) (n : ℕ)
+    → all_acted (all_acted x (prints (take n codes))) (prints (drop n codes)) ≡ all_acted x (prints codes)
 prints_after x codes n =
     sym (all_acted-append x (prints (take n codes)) (prints (drop n codes)))
     ∙ ap (all_acted x) (sym (map-append (λ (character : ℕ). Print (Code character)) (take n codes) (drop n codes)))
     ∙ ap (λ (v : List ℕ). all_acted x (prints v)) (take-append-drop n codes)
 
 pub places_after : (x : Screen) (codes : List ℕ) (n : ℕ) (places : List ℕ)
-    → all_acted_places (all_acted x (prints (take n codes))) (prints (drop n codes)) (all_acted_places x (prints (take n codes)) places) ≡ all_acted_places x (prints codes) places
+    → all_acted_places (all_acted x (prints (take n codes))) (prints (drop n codes))
+    (all_acted_places x (prints (take n codes)) places) ≡ all_acted_places x (prints codes) places
 places_after x codes n places =
     sym (all_acted_places-append x (prints (take n codes)) (prints (drop n codes)) places)
-    ∙ ap (λ (as' : List Action). all_acted_places x as' places) (sym (map-append (λ (character : ℕ). Print (Code character)) (take n codes) (drop n codes)))
+    ∙ ap (λ (as' : List Action). all_acted_places x as' places)
+    (sym (map-append (λ (character : ℕ). Print (Code character)) (take n codes) (drop n codes)))
     ∙ ap (λ (v : List ℕ). all_acted_places x (prints v) places) (take-append-drop n codes)
 
 -- one character, where no wrap is due
-pub one_placed : (x : Screen) (codes : List ℕ) → TakesRuns x.state → x.state.is_wrap_pending ≡ false → list_all is_letter codes ≡ true → 0 < length codes
+pub one_placed : (x : Screen) (codes : List ℕ) → TakesRuns x.state → x.state.is_wrap_pending ≡ false
+    → list_all is_letter codes ≡ true → 0 < length codes
     → placed_narrow (get_or codes 0 0) x ≡ all_acted x (prints (take 1 codes))
 one_placed x [] t settled letters some = absurd (omega arith)
 one_placed x (c ∷ codes) t settled letters some =
-    sym (print_is x c t (both (is_letter c) (list_all is_letter codes) letters).0 ∙ ap (λ (b : Bool). placed_narrow c (wrapped b x)) settled)
+    sym (print_is x c t (both (is_letter c) (list_all is_letter codes) letters).0
+    ∙ ap (λ (b : Bool). placed_narrow c (wrapped b x)) settled)
 
-pub one_stays : (x : Screen) (codes places : List ℕ) → TakesRuns x.state → x.state.is_wrap_pending ≡ false → list_all is_letter codes ≡ true → 0 < length codes
+pub one_stays : (x : Screen) (codes places : List ℕ) → TakesRuns x.state → x.state.is_wrap_pending ≡ false
+    → list_all is_letter codes ≡ true → 0 < length codes
     → all_acted_places x (prints (take 1 codes)) places ≡ places
 one_stays x [] places t settled letters some = absurd (omega arith)
-one_stays x (c ∷ codes) places t settled letters some = settled_place x.state c places t settled (both (is_letter c) (list_all is_letter codes) letters).0
+one_stays x (c ∷ codes) places t settled letters some = settled_place x.state c places t settled
+    (both (is_letter c) (list_all is_letter codes) letters).0

@@ -1,5 +1,6 @@
 -- Letters that are printed one after another are one run.
-use Rattle.std.proofs.Common.{◌≡◌, ℕ, zero, suc, ◌+◌, ◌-◌, ◌<◌, ◌≤◌, Bool, true, false, cond, ltb, List, [], ◌∷◌, ◌++◌, length, take, drop, Option, Some, refl, sym, ap, ◌∙◌, subst, arith, lt-ltb}
+use Rattle.std.proofs.Common.{◌≡◌, ℕ, zero, suc, ◌+◌, ◌-◌, ◌<◌, ◌≤◌, Bool, true, false, cond, ltb, List, [], ◌∷◌, ◌++◌}
+use Rattle.std.proofs.Common.{length, take, drop, Option, Some, refl, sym, ap, ◌∙◌, subst, arith, lt-ltb}
 use Rattle.std.specs.List.{list_all}
 use Rattle.std.proofs.lemmas.List.{take_all, take-append-drop, length-drop, drop-drop, map-append}
 use Rattle.charsets.specs.declared.shifts.Shifts.{Shifts}
@@ -35,11 +36,13 @@ list_all-drop p (suc n) [] h = refl
 list_all-drop p (suc n) (x ∷ xs) h = list_all-drop p n xs (both (p x) (list_all p xs) h).1
 
 -- one character, in the line that a pending wrap leads to
-pub print_is : (x : Screen) (c : ℕ) → TakesRuns x.state → is_letter c ≡ true → acted x (Print (Code c)) ≡ placed_narrow c (wrapped x.state.is_wrap_pending x)
+pub print_is : (x : Screen) (c : ℕ) → TakesRuns x.state → is_letter c ≡ true
+    → acted x (Print (Code c)) ≡ placed_narrow c (wrapped x.state.is_wrap_pending x)
 unfolding acted_from
 print_is x c t h =
     let s : State = x.state in
-    ap (λ (o : Option ℕ). printed o (with_state x (record s { shifts = spent s.shifts (Code c) }))) (mapped-ascii s.shifts c t.ascii t.unshifted (graphic c h))
+    ap (λ (o : Option ℕ). printed o (with_state x (record s { shifts = spent s.shifts (Code c) })))
+    (mapped-ascii s.shifts c t.ascii t.unshifted (graphic c h))
     ∙ ap (λ (v : Shifts). printed (Some c) (with_state x (record s { shifts = v }))) (spent-none s.shifts c t.unshifted)
     ∙ ap (λ (n : ℕ). printed_as n (drawn c) x) (columns-letter c h)
     ∙ ap (λ (d : ℕ). printed_as 1 d x) (drawn-letter c h)
@@ -48,65 +51,94 @@ pub takes-wrapped : (x : Screen) (b : Bool) → TakesRuns x.state → TakesRuns 
 takes-wrapped x true t = record { ascii = t.ascii; unshifted = t.unshifted; replaces = t.replaces }
 takes-wrapped x false t = t
 
-pub settled-wrapped : (x : Screen) (b : Bool) → x.state.is_wrap_pending ≡ b → (wrapped b x).state.is_wrap_pending ≡ false
+pub settled-wrapped : (x : Screen) (b : Bool) → x.state.is_wrap_pending ≡ b
+    → (wrapped b x).state.is_wrap_pending ≡ false
 settled-wrapped x true e = refl
 settled-wrapped x false e = e
 
 -- a wrap that is due may be done first
-pub print_wrapped : (x : Screen) (c : ℕ) → TakesRuns x.state → is_letter c ≡ true → acted (wrapped x.state.is_wrap_pending x) (Print (Code c)) ≡ acted x (Print (Code c))
+pub print_wrapped : (x : Screen) (c : ℕ) → TakesRuns x.state → is_letter c ≡ true
+    → acted (wrapped x.state.is_wrap_pending x) (Print (Code c)) ≡ acted x (Print (Code c))
 print_wrapped x c t h =
     let w : Screen = wrapped x.state.is_wrap_pending x in
     print_is w c (takes-wrapped x x.state.is_wrap_pending t) h
     ∙ ap (λ (b : Bool). placed_narrow c (wrapped b w)) (settled-wrapped x x.state.is_wrap_pending refl)
     ∙ sym (print_is x c t h)
 
-pub prints_wrapped : (x : Screen) (codes : List ℕ) → TakesRuns x.state → list_all is_letter codes ≡ true → 0 < length codes
+pub prints_wrapped : (x : Screen) (codes : List ℕ) → TakesRuns x.state → list_all is_letter codes ≡ true
+    → 0 < length codes
     → all_acted (wrapped x.state.is_wrap_pending x) (prints codes) ≡ all_acted x (prints codes)
 prints_wrapped x [] t h some = absurd (omega arith)
 prints_wrapped x (c ∷ codes) t h some =
-    ap (λ (v : Screen). all_acted v (prints codes)) (print_wrapped x c t (both (is_letter c) (list_all is_letter codes) h).0)
+    ap (λ (v : Screen). all_acted v (prints codes))
+    (print_wrapped x c t (both (is_letter c) (list_all is_letter codes) h).0)
 
 -- one character is a run
-pub print_one : (x : Screen) (c : ℕ) → TakesRuns x.state → x.state.is_wrap_pending ≡ false → is_letter c ≡ true → acted x (Print (Code c)) ≡ run_placed (c ∷ []) x
+pub print_one : (x : Screen) (c : ℕ) → TakesRuns x.state → x.state.is_wrap_pending ≡ false → is_letter c ≡ true
+    → acted x (Print (Code c)) ≡ run_placed (c ∷ []) x
 print_one x c t settled h =
     let s : State = x.state in
     let e : s.column ≡ s.column + 0 = omega arith in
     print_is x c t h
     ∙ ap (λ (b : Bool). placed_narrow c (wrapped b x)) settled
-    ∙ ap (λ (b : Bool). with_page x (advanced s 1) (page_from (edited s.line (spliced s.column (narrow_cell c s.rendition s.is_protecting ∷ []) (cond b s.column (s.column + 1)) s.columns)) x.page)) t.replaces
-    ∙ ap (λ (n : ℕ). with_page x (advanced (record s { column = n }) 1) (page_from (edited s.line (spliced s.column (narrow_cells (c ∷ []) s.rendition s.is_protecting) (s.column + 1) s.columns)) x.page)) e
+    ∙ ap (λ (b : Bool). with_page x (advanced s 1)
+    (page_from
+    (edited s.line
+    (spliced s.column (narrow_cell c s.rendition s.is_protecting ∷ []) (cond b s.column (s.column + 1)) s.columns))
+    x.page)) t.replaces
+    ∙ ap (λ (n : ℕ). with_page x (advanced (record s { column = n }) 1)
+    (page_from
+    (edited s.line (spliced s.column (narrow_cells (c ∷ []) s.rendition s.is_protecting) (s.column + 1) s.columns))
+    x.page)) e
 
 -- the state behind a first character that isn't the last one of the line
 abbrev pub behind_first : State → State
-behind_first s = record s { column = s.column + 1; is_wrap_pending = false; joining = Some (record { line = s.line; column = s.column }) }
+behind_first s = record s
+    { column = s.column + 1; is_wrap_pending = false; joining = Some (record { line = s.line; column = s.column }) }
 
-pub first_state : (s : State) → s.column + 1 < s.columns → advanced (record s { column = s.column + 0 }) 1 ≡ behind_first s
+pub first_state : (s : State) → s.column + 1 < s.columns
+    → advanced (record s { column = s.column + 0 }) 1 ≡ behind_first s
 first_state s room =
     let e : s.column + 0 ≡ s.column = omega arith in
     let fits : ltb (s.column + 1) s.columns ≡ true = lt-ltb (s.column + 1) s.columns room in
     ap (λ (n : ℕ). advanced (record s { column = n }) 1) e
-    ∙ ap (λ (b : Bool). record s { column = cond b (s.column + 1) (s.columns - 1); is_wrap_pending = cond b false s.modes.wraps; joining = Some (record { line = s.line; column = s.column }) }) fits
+    ∙ ap (λ (b : Bool). record s {
+      column = cond b (s.column + 1) (s.columns - 1);
+      is_wrap_pending = cond b false s.modes.wraps;
+      joining = Some
+          (record { line = s.line; column = s.column });
+    }) fits
 
-last_state : (s : State) (n : ℕ) → 0 < n → advanced (record (behind_first s) { column = s.column + 1 + (n - 1) }) 1 ≡ advanced (record s { column = s.column + (suc n - 1) }) 1
+last_state : (s : State) (n : ℕ) → 0 < n
+    → advanced (record (behind_first s) { column = s.column + 1 + (n - 1) }) 1 ≡ advanced
+    (record s { column = s.column + (suc n - 1) }) 1
 last_state s n some =
     let e : s.column + 1 + (n - 1) ≡ s.column + (suc n - 1) = omega arith in
     ap (λ (m : ℕ). advanced (record s { column = m }) 1) e
 
 -- a run behind a first character is one run
-run_first : (x : Screen) (c : ℕ) (codes : List ℕ) → IsSound x → 0 < length codes → x.state.column + suc (length codes) ≤ x.state.columns
+run_first : (x : Screen) (c : ℕ) (codes : List ℕ) → IsSound x → 0 < length codes
+    → x.state.column + suc (length codes) ≤ x.state.columns
     → run_placed codes (run_placed (c ∷ []) x) ≡ run_placed (c ∷ codes) x
 run_first x c codes sound some room =
     let s : State = x.state in
-    let page_one = page_from (edited s.line (spliced s.column (narrow_cells (c ∷ []) s.rendition s.is_protecting) (s.column + 1) s.columns)) x.page in
+    let page_one = page_from
+    (edited s.line (spliced s.column (narrow_cells (c ∷ []) s.rendition s.is_protecting) (s.column + 1) s.columns))
+    x.page in
     ap (λ (v : State). run_placed codes (record x { state = v; page = page_one })) (first_state s (omega arith))
     ∙ ap
     (λ (v : State). record x {
       state = v;
-      page = page_from (edited s.line (spliced (s.column + 1) (narrow_cells codes s.rendition s.is_protecting) (s.column + 1 + length codes) s.columns)) page_one;
+      page = page_from
+          (edited s.line
+          (spliced (s.column + 1) (narrow_cells codes s.rendition s.is_protecting) (s.column + 1 + length codes)
+          s.columns)) page_one;
     })
     (last_state s (length codes) some)
-    ∙ ap (λ page. record x { state = advanced (record s { column = s.column + (suc (length codes) - 1) }) 1; page = page })
-    (page_run_more s.rendition s.is_protecting s.rows s.columns s.line s.column c codes x.page sound.sized sound.cursor.0 some room)
+    ∙ ap (λ page. record x
+    { state = advanced (record s { column = s.column + (suc (length codes) - 1) }) 1; page = page })
+    (page_run_more s.rendition s.is_protecting s.rows s.columns s.line s.column c codes x.page sound.sized
+    sound.cursor.0 some room)
 
 pub behind_settled : (v s : State) → v ≡ behind_first s → v.is_wrap_pending ≡ false
 behind_settled v s e = ap (λ (u : State). u.is_wrap_pending) e
@@ -115,7 +147,8 @@ pub behind_room : (v s : State) (n : ℕ) → v ≡ behind_first s → s.column 
 behind_room v s n e room = rw e (omega arith)
 
 -- characters that have room in the line are a run
-pub run_is : (codes : List ℕ) (x : Screen) → TakesRuns x.state → x.state.is_wrap_pending ≡ false → IsSound x → list_all is_letter codes ≡ true → 0 < length codes
+pub run_is : (codes : List ℕ) (x : Screen) → TakesRuns x.state → x.state.is_wrap_pending ≡ false → IsSound x
+    → list_all is_letter codes ≡ true → 0 < length codes
     → x.state.column + length codes ≤ x.state.columns → all_acted x (prints codes) ≡ run_placed codes x
 run_is [] x t settled sound h some room = absurd (omega arith)
 run_is (c ∷ []) x t settled sound h some room = print_one x c t settled (both (is_letter c) true h).0
@@ -127,7 +160,8 @@ run_is (c ∷ d ∷ more) x t settled sound h some room =
     let state_is : y.state ≡ behind_first s = first_state s (omega arith) in
     let takes : TakesRuns y.state = record { ascii = t.ascii; unshifted = t.unshifted; replaces = t.replaces } in
     ap (λ (v : Screen). all_acted v (prints (d ∷ more))) first
-    ∙ run_is (d ∷ more) y takes (behind_settled y.state s state_is) (subst IsSound first (IsSound-acted x (Print (Code c)) sound)) k.1 (omega arith)
+    ∙ run_is (d ∷ more) y takes (behind_settled y.state s state_is)
+    (subst IsSound first (IsSound-acted x (Print (Code c)) sound)) k.1 (omega arith)
     (behind_room y.state s (suc (length more)) state_is room)
     ∙ run_first x c (d ∷ more) sound (omega arith) room
 
@@ -140,9 +174,11 @@ all_acted_sound : (x : Screen) (actions : List Action) → IsSound x → IsSound
 all_acted_sound x [] h = h
 all_acted_sound x (a ∷ later) h = all_acted_sound (acted x a) later (IsSound-acted x a h)
 
-pub all_acted_fit : (d later : Display) (actions : List Action) → IsFit d → screen_of later ≡ all_acted (screen_of d) actions → later.ring.columns ≡ d.ring.columns → IsFit later
+pub all_acted_fit : (d later : Display) (actions : List Action) → IsFit d
+    → screen_of later ≡ all_acted (screen_of d) actions → later.ring.columns ≡ d.ring.columns → IsFit later
 all_acted_fit d later actions fit e ring =
-    fit_after d later (all_acted (screen_of d) actions) fit e (all_acted_sound (screen_of d) actions fit.sound) (all_acted_columns (screen_of d) actions) ring
+    fit_after d later (all_acted (screen_of d) actions) fit e (all_acted_sound (screen_of d) actions fit.sound)
+    (all_acted_columns (screen_of d) actions) ring
 
 -- actions behind others
 pub all_acted-append : (x : Screen) (a b : List Action) → all_acted x (a ++ b) ≡ all_acted (all_acted x a) b
@@ -155,7 +191,8 @@ rest_is codes i = take_all (length codes - i) (drop i codes) (omega (arith, leng
 
 -- so many more of them
 pub prints_on : (x : Screen) (codes : List ℕ) (i n : ℕ)
-    → all_acted (all_acted x (prints (take n (take (length codes - i) (drop i codes))))) (prints (drop (i + n) codes)) ≡ all_acted x (prints (drop i codes))
+    → all_acted (all_acted x (prints (take n (take (length codes - i) (drop i codes))))) (prints (drop (i + n) codes)) ≡
+    all_acted x (prints (drop i codes))
 prints_on x codes i n =
     let rest : List ℕ = drop i codes in
     ap (λ (v : List ℕ). all_acted (all_acted x (prints (take n v))) (prints (drop (i + n) codes))) (rest_is codes i)

@@ -6,10 +6,12 @@ use Rattle.terminal_model.specs.declared.state.State.{State}
 use Rattle.terminal_model.specs.declared.action.Mode.{Mode}
 use Rattle.terminal_model.specs.declared.action.Mode.TheVariants as modes
 use Rattle.terminal_model.specs.declared.action.Action.{Action}
-use Rattle.terminal_model.specs.declared.action.Action.TheVariants.{Print, InsertLines, DeleteLines, SetMargins, SetMode}
+use Rattle.terminal_model.specs.declared.action.Action.TheVariants.{Print, InsertLines, DeleteLines, SetMargins}
+use Rattle.terminal_model.specs.declared.action.Action.TheVariants.{SetMode}
 use Rattle.terminal_model.specs.Screen.{Screen, with_state}
 use Rattle.terminal_model.specs.Motion.{bottom_of, margins_or_none}
-use Rattle.terminal_model.specs.Printing.{columns_of, drawn, lacks_room, marked_at, printed, printed_as, wide_or_none, wide_printed, wrapped}
+use Rattle.terminal_model.specs.Printing.{columns_of, drawn, lacks_room, marked_at, printed, printed_as, wide_or_none}
+use Rattle.terminal_model.specs.Printing.{wide_printed, wrapped}
 use Rattle.terminal_model.specs.Erasing.{is_in_margins, lines_deleted, lines_inserted}
 use Rattle.terminal_model.specs.Settings.{homed}
 use Rattle.terminal_model.specs.Table.{acted, acted_from}
@@ -34,7 +36,8 @@ widely_columns c x =
 printed_as_columns : (n c : ℕ) (x : Screen) → (printed_as n c x).state.columns ≡ x.state.columns
 printed_as_columns zero c x = marked_columns x.state.joining c x
 printed_as_columns (suc zero) c x = wrapped_columns x.state.is_wrap_pending x
-printed_as_columns (suc (suc more)) c x = widely_columns c (wrapped x.state.is_wrap_pending x) ∙ wrapped_columns x.state.is_wrap_pending x
+printed_as_columns (suc (suc more)) c x = widely_columns c (wrapped x.state.is_wrap_pending x)
+    ∙ wrapped_columns x.state.is_wrap_pending x
 
 printed_columns : (c : Option ℕ) (x : Screen) → (printed c x).state.columns ≡ x.state.columns
 printed_columns None x = refl
@@ -63,8 +66,10 @@ homed_columns modes.Cursor s = refl
 
 pub acted_columns : (x : Screen) (a : Action) → (acted x a).state.columns ≡ x.state.columns
 unfolding acted_from
-acted_columns x (Print u) = printed_columns (mapped x.state.shifts u) (with_state x (record x.state { shifts = spent x.state.shifts u }))
-acted_columns x (SetMargins top bottom) = margins_columns (nat_lt top (bottom_of x.state.rows bottom)) top (bottom_of x.state.rows bottom) x.state
+acted_columns x (Print u) = printed_columns (mapped x.state.shifts u)
+    (with_state x (record x.state { shifts = spent x.state.shifts u }))
+acted_columns x (SetMargins top bottom) = margins_columns (nat_lt top (bottom_of x.state.rows bottom)) top
+    (bottom_of x.state.rows bottom) x.state
 acted_columns x (SetMode mode on) = homed_columns mode _
 acted_columns x (InsertLines n) = inserted_columns (is_in_margins x.state) n x
 acted_columns x (DeleteLines n) = deleted_columns (is_in_margins x.state) n x

@@ -20,30 +20,39 @@ pub page_height : (d : Display) → IsFit d → length d.page.lines ≡ d.state.
 page_height d fit = fit.sound.sized.height
 
 -- a display that shows another sound screen of the same width is fit
-pub fit_after : (d later : Display) (x : Screen) → IsFit d → screen_of later ≡ x → IsSound x → x.state.columns ≡ d.state.columns → later.ring.columns ≡ d.ring.columns → IsFit later
+pub fit_after : (d later : Display) (x : Screen) → IsFit d → screen_of later ≡ x → IsSound x
+    → x.state.columns ≡ d.state.columns → later.ring.columns ≡ d.ring.columns → IsFit later
 fit_after d later x fit e sound w ring = record {
   sound = rw e sound;
   columns = ring ∙ fit.columns ∙ sym w ∙ sym (ap (λ (y : Screen). y.state.columns) e);
 }
 
 -- so is one that went to the next line
-pub next_line_fit : (d later : Display) → IsFit d → screen_of later ≡ indexed (with_state (screen_of d) (moved_to d.state d.state.line 0)) → later.ring.columns ≡ d.ring.columns → IsFit later
+pub next_line_fit : (d later : Display) → IsFit d
+    → screen_of later ≡ indexed (with_state (screen_of d) (moved_to d.state d.state.line 0))
+    → later.ring.columns ≡ d.ring.columns → IsFit later
 unfolding acted_from
-next_line_fit d later fit e ring = fit_after d later (indexed (with_state (screen_of d) (moved_to d.state d.state.line 0))) fit e (IsSound-acted (screen_of d) NextLine fit.sound) refl ring
+next_line_fit d later fit e ring = fit_after d later
+    (indexed (with_state (screen_of d) (moved_to d.state d.state.line 0))) fit e
+    (IsSound-acted (screen_of d) NextLine fit.sound) refl ring
 
 -- so is one that did an action
-pub acted_fit : (d later : Display) (a : Action) → IsFit d → screen_of later ≡ acted (screen_of d) a → later.ring.columns ≡ d.ring.columns → IsFit later
-acted_fit d later a fit e ring = fit_after d later (acted (screen_of d) a) fit e (IsSound-acted (screen_of d) a fit.sound) (acted_columns (screen_of d) a) ring
+pub acted_fit : (d later : Display) (a : Action) → IsFit d → screen_of later ≡ acted (screen_of d) a
+    → later.ring.columns ≡ d.ring.columns → IsFit later
+acted_fit d later a fit e ring = fit_after d later (acted (screen_of d) a) fit e
+    (IsSound-acted (screen_of d) a fit.sound) (acted_columns (screen_of d) a) ring
 
 -- so is a new one
-pub starting_fit : (d : Display) (rows columns keep : ℕ) → IsGridSize rows columns → screen_of d ≡ starting rows columns keep → d.ring.columns ≡ columns → IsFit d
+pub starting_fit : (d : Display) (rows columns keep : ℕ) → IsGridSize rows columns
+    → screen_of d ≡ starting rows columns keep → d.ring.columns ≡ columns → IsFit d
 starting_fit d rows columns keep size e ring = record {
   sound = rw e (IsSound-starting rows columns keep size);
   columns = ring ∙ sym (ap (λ (y : Screen). y.state.columns) e);
 }
 
 -- so is one that took another size
-pub resized_fit : (later : Display) (x : Screen) (rows columns : ℕ) → IsGridSize rows columns → IsSound x → screen_of later ≡ resized rows columns x → later.ring.columns ≡ columns → IsFit later
+pub resized_fit : (later : Display) (x : Screen) (rows columns : ℕ) → IsGridSize rows columns → IsSound x
+    → screen_of later ≡ resized rows columns x → later.ring.columns ≡ columns → IsFit later
 unfolding resized
 resized_fit later x rows columns size sound e ring = record {
   sound = rw e (IsSound-resized rows columns x size sound);

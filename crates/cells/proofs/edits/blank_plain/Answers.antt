@@ -6,12 +6,15 @@ pub loop-eight-init : goal.loop-eight-init
 loop-eight-init c = none_blanked c.args.from c.args.cells.now
 
 pub loop-place-init : goal.loop-place-init
-loop-place-init c = subst (λ n. AreBlanked c.args.from c.args.cells.now n c.loop-eight.cells) (omega arith) c.loop-eight.invariant
+loop-place-init c = subst (λ n. AreBlanked c.args.from c.args.cells.now n c.loop-eight.cells) (omega arith)
+    c.loop-eight.invariant
 
 pub loop-place-preserved : goal.loop-place-preserved
 loop-place-preserved c =
     let count : ℕ = 8 * c.loop-eight.eight + c.loop-place.place in
-    next_blanked c.args.from count (8 * c.loop-eight.eight + (c.loop-place.place + 1)) c.args.cells.now c.loop-place.cells _ c.requires.plain (omega (arith, c.loop-place.auto, c.loop-eight.auto, c.requires.inside)) (omega arith)
+    next_blanked c.args.from count (8 * c.loop-eight.eight + (c.loop-place.place + 1)) c.args.cells.now
+    c.loop-place.cells _ c.requires.plain (omega (arith, c.loop-place.auto, c.loop-eight.auto, c.requires.inside))
+    (omega arith)
     c.loop-place.invariant
 
 pub loop-eight-preserved : goal.loop-eight-preserved
@@ -26,7 +29,9 @@ loop-column-init c =
 
 pub loop-column-preserved : goal.loop-column-preserved
 loop-column-preserved c =
-    next_blanked c.args.from c.loop-column.column (c.loop-column.column + 1) c.args.cells.now c.loop-column.cells _ c.requires.plain (omega (arith, c.loop-column.auto, c.loop-eight.auto, c.requires.inside)) refl c.loop-column.invariant
+    next_blanked c.args.from c.loop-column.column (c.loop-column.column + 1) c.args.cells.now c.loop-column.cells _
+    c.requires.plain (omega (arith, c.loop-column.auto, c.loop-eight.auto, c.requires.inside)) refl
+    c.loop-column.invariant
 
 pub returns : goal.returns
 returns c =

@@ -1,4 +1,5 @@
-use Rattle.std.proofs.Common.{◌≡◌, ℕ, ◌+◌, ◌-◌, ◌≤◌, List, ◌++◌, length, take, drop, refl, sym, ap, ◌∙◌, subst, arith, length-take, length-drop, length-append, get_or}
+use Rattle.std.proofs.Common.{◌≡◌, ℕ, ◌+◌, ◌-◌, ◌≤◌, List, ◌++◌, length, take, drop, refl, sym, ap, ◌∙◌, subst, arith}
+use Rattle.std.proofs.Common.{length-take, length-drop, length-append, get_or}
 use Rattle.std.proofs.lemmas.List.{get_or-take, get_or-drop, get_or_append_left, get_or-append_right}
 use borrow.Rule.Slice.PartMut.{put_mid}
 use Rattle.cells.specs.declared.cell.Cell.{Cell}
@@ -19,9 +20,11 @@ module _ (at : ℕ) (fresh old : List Cell) (room : at + length fresh ≤ length
   is_put : IsPut at fresh old line
   is_put = record {
     width = simp (length-append, length-take, length-drop) (omega arith);
-    front = λ k h. get_or_append_left (take at old) (fresh ++ drop count (drop at old)) blank k (omega (arith, front_width)) ∙ get_or-take at old k blank h;
+    front = λ k h. get_or_append_left (take at old) (fresh ++ drop count (drop at old)) blank k
+        (omega (arith, front_width)) ∙ get_or-take at old k blank h;
     placed = λ k h. let e : at + k - at ≡ k = omega arith in
-        get_or-append_right (take at old) (fresh ++ drop count (drop at old)) at (at + k) blank front_width (omega arith)
+        get_or-append_right (take at old) (fresh ++ drop count (drop at old)) at (at + k) blank front_width
+        (omega arith)
         ∙ ap (λ i. get_or (fresh ++ drop count (drop at old)) i blank) e
         ∙ get_or_append_left fresh (drop count (drop at old)) blank k h;
     rest = λ k h. let e : at + (count + (k - at - length fresh)) ≡ k = omega arith in
@@ -33,6 +36,8 @@ module _ (at : ℕ) (fresh old : List Cell) (room : at + length fresh ≤ length
   }
 
 pub returns : goal.returns
-returns c = subst (λ (copied : List Cell). IsPut c.args.at c.args.fresh.now c.args.cells.now (put_mid c.args.at (c.args.at + length c.args.fresh.now - c.args.at) c.args.cells.now copied))
+returns c = subst
+    (λ (copied : List Cell). IsPut c.args.at c.args.fresh.now c.args.cells.now
+    (put_mid c.args.at (c.args.at + length c.args.fresh.now - c.args.at) c.args.cells.now copied))
     (sym c.copy_from_slice.ensures.after)
     (is_put c.args.at c.args.fresh.now c.args.cells.now c.requires.room)

@@ -12,29 +12,47 @@ pub returns-then-is_empty : goal.returns-then-is_empty
 returns-then-is_empty c =
     let none : length c.args.letters.now ≡ 0 = grind (arith, nat_tests, c.if-is_empty.true, c.is_empty.ensures) in
     let fresh : List Cell = narrow_cells c.args.letters.now c.args.rendition c.args.is_protected in
-    let n : length fresh ≡ length c.args.letters.now = length-narrow_cells c.args.letters.now c.args.rendition c.args.is_protected in
+    let n : length fresh ≡ length c.args.letters.now = length-narrow_cells c.args.letters.now c.args.rendition
+    c.args.is_protected in
     put_none c.args.at fresh c.args.cells.now (n ∙ none) c.requires.paired
     ∙ ap (λ m. cells_from (spliced c.args.at fresh (c.args.at + m) (length c.args.cells.now)) c.args.cells.now) n
 
 pub cut-requires-2 : goal.cut-requires-2
-cut-requires-2 c = record { paired = subst IsPaired (sym c.cut.ensures) (IsPaired-cut_of c.args.at c.args.cells.now c.requires.paired) }
+cut-requires-2 c = record
+    { paired = subst IsPaired (sym c.cut.ensures) (IsPaired-cut_of c.args.at c.args.cells.now c.requires.paired) }
 
 pub loop-column-preserved : goal.loop-column-preserved
 loop-column-preserved c =
-    let same : length c.loop-column.cells ≡ length c.args.cells.now = c.loop-column.auto.cells ∙ ap length c.cut-2.ensures ∙ length-cut_of _ c.cut.new.cells ∙ ap length c.cut.ensures ∙ length-cut_of c.args.at c.args.cells.now in
+    let same : length c.loop-column.cells ≡ length c.args.cells.now = c.loop-column.auto.cells
+    ∙ ap length c.cut-2.ensures ∙ length-cut_of _ c.cut.new.cells ∙ ap length c.cut.ensures
+    ∙ length-cut_of c.args.at c.args.cells.now in
     let fresh : List Cell = narrow_cells c.args.letters.now c.args.rendition c.args.is_protected in
     let two : List Cell = cut_of (c.args.at + length c.args.letters.now) (cut_of c.args.at c.args.cells.now) in
-    subst (λ (x : Cell). IsPutSoFar c.args.at fresh two (c.loop-column.column + 1) (slice_set c.loop-column.cells (c.args.at + c.loop-column.column) x))
+    subst
+    (λ (x : Cell). IsPutSoFar c.args.at fresh two (c.loop-column.column + 1)
+    (slice_set c.loop-column.cells (c.args.at + c.loop-column.column) x))
     (narrow_at c.args.letters.now c.args.rendition c.args.is_protected c.loop-column.column c.loop-column-test.true
-    ∙ ap (λ code. narrow_cell code c.args.rendition c.args.is_protected) (sym (get_or_default_zero c.args.letters.now c.loop-column.column c.index-letters-column.result c.loop-column-test.true) ∙ sym c.index-letters-column.is)
+    ∙ ap (λ code. narrow_cell code c.args.rendition c.args.is_protected)
+    (sym
+    (get_or_default_zero c.args.letters.now c.loop-column.column c.index-letters-column.result
+    c.loop-column-test.true) ∙ sym c.index-letters-column.is)
     ∙ sym (ap (λ (x : Cell). record x { character = c.index-letters-column.result }) c.space_cell-pattern.ensures))
-    (put_next c.args.at fresh two c.loop-column.column c.loop-column.cells c.loop-column.invariant (omega (arith, c.requires.room)))
+    (put_next c.args.at fresh two c.loop-column.column c.loop-column.cells c.loop-column.invariant
+    (omega (arith, c.requires.room)))
 
 pub returns : goal.returns
 returns c =
-    let same : length c.loop-column.cells ≡ length c.args.cells.now = c.loop-column.auto.cells ∙ ap length c.cut-2.ensures ∙ length-cut_of _ c.cut.new.cells ∙ ap length c.cut.ensures ∙ length-cut_of c.args.at c.args.cells.now in
+    let same : length c.loop-column.cells ≡ length c.args.cells.now = c.loop-column.auto.cells
+    ∙ ap length c.cut-2.ensures ∙ length-cut_of _ c.cut.new.cells ∙ ap length c.cut.ensures
+    ∙ length-cut_of c.args.at c.args.cells.now in
     let all : c.loop-column.column ≡ length c.args.letters.now = omega arith in
     let some : 0 < length c.args.letters.now = grind (arith, nat_tests, c.if-is_empty.false, c.is_empty.ensures) in
-    let so_far : IsPutSoFar c.args.at (narrow_cells c.args.letters.now c.args.rendition c.args.is_protected) (cut_of (c.args.at + length c.args.letters.now) (cut_of c.args.at c.args.cells.now)) (length c.args.letters.now) c.loop-column.cells =
-    subst (λ n. IsPutSoFar c.args.at (narrow_cells c.args.letters.now c.args.rendition c.args.is_protected) (cut_of (c.args.at + length c.args.letters.now) (cut_of c.args.at c.args.cells.now)) n c.loop-column.cells) all c.loop-column.invariant in
-    run_is c.args.letters.now c.args.rendition c.args.is_protected c.args.at c.args.cells.now c.loop-column.cells c.requires.room some c.requires.paired same so_far
+    let so_far : IsPutSoFar c.args.at (narrow_cells c.args.letters.now c.args.rendition c.args.is_protected)
+    (cut_of (c.args.at + length c.args.letters.now) (cut_of c.args.at c.args.cells.now)) (length c.args.letters.now)
+    c.loop-column.cells =
+    subst
+    (λ n. IsPutSoFar c.args.at (narrow_cells c.args.letters.now c.args.rendition c.args.is_protected)
+    (cut_of (c.args.at + length c.args.letters.now) (cut_of c.args.at c.args.cells.now)) n c.loop-column.cells) all
+    c.loop-column.invariant in
+    run_is c.args.letters.now c.args.rendition c.args.is_protected c.args.at c.args.cells.now c.loop-column.cells
+    c.requires.room some c.requires.paired same so_far

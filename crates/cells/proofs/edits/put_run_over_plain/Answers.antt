@@ -4,18 +4,22 @@ use Rattle.cells.proofs.OverPlain.{AreWritten, none_written, next_written, all_w
 use Rattle.cells.proofs.edits.put_run_over_plain.Goals as goal
 
 pub returns-then-is_empty : goal.returns-then-is_empty
-returns-then-is_empty c = nothing_written c.args.at c.args.codes.now c.args.cells.now (grind (arith, nat_tests, c.if-is_empty.true, c.is_empty.ensures)) c.requires.paired
+returns-then-is_empty c = nothing_written c.args.at c.args.codes.now c.args.cells.now
+    (grind (arith, nat_tests, c.if-is_empty.true, c.is_empty.ensures)) c.requires.paired
 
 pub loop-eight-init : goal.loop-eight-init
 loop-eight-init c = none_written c.args.at c.args.codes.now c.args.cells.now
 
 pub loop-place-init : goal.loop-place-init
-loop-place-init c = subst (λ n. AreWritten c.args.at c.args.codes.now c.args.cells.now n c.loop-eight.cells) (omega arith) c.loop-eight.invariant
+loop-place-init c = subst (λ n. AreWritten c.args.at c.args.codes.now c.args.cells.now n c.loop-eight.cells)
+    (omega arith) c.loop-eight.invariant
 
 pub loop-place-preserved : goal.loop-place-preserved
 loop-place-preserved c =
     let count : ℕ = 8 * c.loop-eight.eight + c.loop-place.place in
-    next_written c.args.at count (8 * c.loop-eight.eight + (c.loop-place.place + 1)) c.args.codes.now c.args.cells.now c.loop-place.cells _ c.requires.plain (omega (arith, c.loop-place.auto, c.loop-eight.auto, c.requires.room)) (omega arith) (omega arith)
+    next_written c.args.at count (8 * c.loop-eight.eight + (c.loop-place.place + 1)) c.args.codes.now c.args.cells.now
+    c.loop-place.cells _ c.requires.plain (omega (arith, c.loop-place.auto, c.loop-eight.auto, c.requires.room))
+    (omega arith) (omega arith)
     c.loop-place.invariant
 
 pub loop-eight-preserved : goal.loop-eight-preserved
@@ -30,11 +34,16 @@ loop-column-init c =
 
 pub loop-column-preserved : goal.loop-column-preserved
 loop-column-preserved c =
-    next_written c.args.at c.loop-column.column (c.loop-column.column + 1) c.args.codes.now c.args.cells.now c.loop-column.cells _ c.requires.plain (omega (arith, c.loop-column.auto, c.loop-eight.auto, c.requires.room)) c.loop-column-test.true refl c.loop-column.invariant
+    next_written c.args.at c.loop-column.column (c.loop-column.column + 1) c.args.codes.now c.args.cells.now
+    c.loop-column.cells _ c.requires.plain (omega (arith, c.loop-column.auto, c.loop-eight.auto, c.requires.room))
+    c.loop-column-test.true refl c.loop-column.invariant
 
 pub returns : goal.returns
 returns c =
-    let same : length c.loop-column.cells ≡ length c.args.cells.now = c.loop-column.auto.cells ∙ c.loop-eight.auto.cells in
+    let same : length c.loop-column.cells ≡ length c.args.cells.now = c.loop-column.auto.cells
+    ∙ c.loop-eight.auto.cells in
     let all : c.loop-column.column ≡ length c.args.codes.now = omega arith in
-    all_written c.args.at c.args.codes.now c.args.cells.now c.loop-column.cells c.requires.room (grind (arith, nat_tests, c.if-is_empty.false, c.is_empty.ensures)) c.requires.paired c.requires.plain same
-    (subst (λ n. AreWritten c.args.at c.args.codes.now c.args.cells.now n c.loop-column.cells) all c.loop-column.invariant)
+    all_written c.args.at c.args.codes.now c.args.cells.now c.loop-column.cells c.requires.room
+    (grind (arith, nat_tests, c.if-is_empty.false, c.is_empty.ensures)) c.requires.paired c.requires.plain same
+    (subst (λ n. AreWritten c.args.at c.args.codes.now c.args.cells.now n c.loop-column.cells) all
+    c.loop-column.invariant)

@@ -8,13 +8,17 @@ pub put_run_over_plain-requires-clause-plain : goal.put_run_over_plain-requires-
 put_run_over_plain-requires-clause-plain c = c.requires.plain c.if-is_plain.true
 
 pub blank_plain-requires-clause-plain : goal.blank_plain-requires-clause-plain
-blank_plain-requires-clause-plain c = plain_behind c.args.codes.now c.args.cells.now c.put_run_over_plain.new.cells (c.requires.plain c.if-is_plain.true) c.put_run_over_plain.ensures
+blank_plain-requires-clause-plain c = plain_behind c.args.codes.now c.args.cells.now c.put_run_over_plain.new.cells
+    (c.requires.plain c.if-is_plain.true) c.put_run_over_plain.ensures
 
 pub put_run_over_plain-requires-else-is_plain-clause-plain : goal.put_run_over_plain-requires-else-is_plain-clause-plain
-put_run_over_plain-requires-else-is_plain-clause-plain c = subst (ArePlainFrom 0) (sym c.clear_used.ensures) (plain_blanks (length c.args.cells.now))
+put_run_over_plain-requires-else-is_plain-clause-plain c = subst (ArePlainFrom 0) (sym c.clear_used.ensures)
+    (plain_blanks (length c.args.cells.now))
 
-pub put_run_over_plain-requires-else-is_plain-clause-paired : goal.put_run_over_plain-requires-else-is_plain-clause-paired
-put_run_over_plain-requires-else-is_plain-clause-paired c = subst IsPaired (sym c.clear_used.ensures) (IsPaired-blanks (length c.args.cells.now))
+pub put_run_over_plain-requires-else-is_plain-clause-paired :
+    goal.put_run_over_plain-requires-else-is_plain-clause-paired
+put_run_over_plain-requires-else-is_plain-clause-paired c = subst IsPaired (sym c.clear_used.ensures)
+    (IsPaired-blanks (length c.args.cells.now))
 
 pub returns-else-is_plain : goal.returns-else-is_plain
 returns-else-is_plain c =
@@ -24,5 +28,6 @@ returns-else-is_plain c =
     ∙ ap (cells_spliced 0 (narrow_cells c.args.codes.now plain false) (length c.args.codes.now)) c.clear_used.ensures
 
 pub returns-then-is_plain : goal.returns-then-is_plain
-returns-then-is_plain c = cleared_behind c.args.codes.now c.args.used c.args.cells.now c.put_run_over_plain.new.cells c.blank_plain.new.cells c.requires.some c.requires.room c.requires.inside c.requires.paired c.requires.blank
+returns-then-is_plain c = cleared_behind c.args.codes.now c.args.used c.args.cells.now c.put_run_over_plain.new.cells
+    c.blank_plain.new.cells c.requires.some c.requires.room c.requires.inside c.requires.paired c.requires.blank
     (c.requires.plain c.if-is_plain.true) c.put_run_over_plain.ensures c.blank_plain.ensures

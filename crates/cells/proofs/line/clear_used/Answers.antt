@@ -9,8 +9,10 @@ pub blank_plain-requires-clause-plain : goal.blank_plain-requires-clause-plain
 blank_plain-requires-clause-plain c = c.requires.plain c.if-is_plain.true
 
 pub returns-then-is_plain : goal.returns-then-is_plain
-returns-then-is_plain c = cleared_plain c.args.used c.args.cells.now c.blank_plain.new.cells c.requires.inside c.requires.blank c.blank_plain.ensures
+returns-then-is_plain c = cleared_plain c.args.used c.args.cells.now c.blank_plain.new.cells c.requires.inside
+    c.requires.blank c.blank_plain.ensures
 
 pub returns : goal.returns
-returns c = ap (λ front. front ++ drop c.args.used c.args.cells.now) (c.copy_from_slice.ensures.after ∙ take-replicate c.args.used 300 blank (omega arith))
+returns c = ap (λ front. front ++ drop c.args.used c.args.cells.now)
+    (c.copy_from_slice.ensures.after ∙ take-replicate c.args.used 300 blank (omega arith))
     ∙ cleared_is c.args.used c.args.cells.now c.requires.inside c.requires.blank

@@ -7,4 +7,7 @@ pub returns-then-is_blank : goal.returns-then-is_blank
 returns-then-is_blank c =
     let is : c.args.space ≡ blank = c.is_blank.ensures.0 c.if-is_blank.true in
     c.put_run_over_plain.ensures
-    ∙ sym (ap (λ (x : Cell). cells_spliced c.args.at (narrow_cells c.args.codes.now x.rendition x.is_protected) (c.args.at + length c.args.codes.now) c.args.cells.now) is)
+    ∙ sym
+    (ap
+    (λ (x : Cell). cells_spliced c.args.at (narrow_cells c.args.codes.now x.rendition x.is_protected)
+    (c.args.at + length c.args.codes.now) c.args.cells.now) is)

@@ -20,7 +20,8 @@ returns c =
     let end : c.args.at + length fresh ≡ c.args.end = omega (arith, length-replicate count blank, c.requires.some) in
     let cut : c.cut-2.new.cells ≡ cut_of (c.args.at + length fresh) (cut_of c.args.at cells) =
     c.cut-2.ensures ∙ ap (cut_of c.args.end) c.cut.ensures ∙ ap (λ n. cut_of n (cut_of c.args.at cells)) (sym end) in
-    put_narrow_is c.args.at fresh cells c.blank_out.new.cells (rw end c.requires.inside) (omega (arith, end, c.requires.some)) c.requires.paired
+    put_narrow_is c.args.at fresh cells c.blank_out.new.cells (rw end c.requires.inside)
+    (omega (arith, end, c.requires.some)) c.requires.paired
     (length-cut_of (c.args.at + length fresh) (cut_of c.args.at cells) ∙ length-cut_of c.args.at cells)
     (subst (λ (old : List Cell). IsPut c.args.at fresh old c.blank_out.new.cells) cut c.blank_out.ensures)
     (λ column h g. ap (λ (x : Cell). x.shape) (blanks_at count column))

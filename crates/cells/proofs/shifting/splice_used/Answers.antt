@@ -1,4 +1,5 @@
-use Rattle.std.proofs.Common.{◌≡◌, ◌+◌, ◌-◌, ◌≤◌, [], ◌++◌, List, length, replicate, take, drop, refl, ap, ◌∙◌, inl, inr, ◌⊎◌, ⊎_elim, arith, length-take}
+use Rattle.std.proofs.Common.{◌≡◌, ◌+◌, ◌-◌, ◌≤◌, [], ◌++◌, List, length, replicate, take, drop, refl, ap, ◌∙◌, inl}
+use Rattle.std.proofs.Common.{inr, ◌⊎◌, ⊎_elim, arith, length-take}
 use Rattle.std.proofs.lemmas.List.{length-replicate}
 use Rattle.std.proofs.lemmas.Bool.{cases_lt}
 use Rattle.cells.specs.declared.cell.Cell.{Cell}
@@ -10,17 +11,20 @@ use Rattle.cells.proofs.shifting.splice_used.Goals as goal
 pub returns-then-used-at-clause-value : goal.returns-then-used-at-clause-value
 returns-then-used-at-clause-value c =
     put_none c.args.at [] c.args.cells.now refl c.requires.used.paired
-    ∙ splices_are_one c.args.at [] (replicate c.args.count blank) (c.args.at + 0) c.args.rest c.args.used c.args.cells.now (blanks_at 0) (blanks_at c.args.count)
+    ∙ splices_are_one c.args.at [] (replicate c.args.count blank) (c.args.at + 0) c.args.rest c.args.used
+    c.args.cells.now (blanks_at 0) (blanks_at c.args.count)
     (omega arith) (omega arith) c.requires.used.paired c.requires.used.blank
 
 pub returns-then-used-rest-clause-value : goal.returns-then-used-rest-clause-value
 returns-then-used-rest-clause-value c =
     c.erase.ensures
-    ∙ splices_are_one c.args.at (replicate (c.args.used - c.args.at) blank) (replicate c.args.count blank) c.args.used c.args.rest c.args.used c.args.cells.now (blanks_at _) (blanks_at _)
+    ∙ splices_are_one c.args.at (replicate (c.args.used - c.args.at) blank) (replicate c.args.count blank) c.args.used
+    c.args.rest c.args.used c.args.cells.now (blanks_at _) (blanks_at _)
     (omega arith) (omega arith) c.requires.used.paired c.requires.used.blank
 
 pub splice-requires-clause-paired : goal.splice-requires-clause-paired
-splice-requires-clause-paired c = front_paired c.max.result c.args.cells.now (λ k h. c.requires.used.blank k (omega arith)) c.requires.used.paired
+splice-requires-clause-paired c = front_paired c.max.result c.args.cells.now
+    (λ k h. c.requires.used.blank k (omega arith)) c.requires.used.paired
 
 pub returns-clause-value : goal.returns-clause-value
 returns-clause-value c =
@@ -28,7 +32,8 @@ returns-clause-value c =
     let end = c.max.result in
     let fresh : List Cell = replicate c.args.count blank in
     let count : length fresh ≡ c.args.count = length-replicate c.args.count blank in
-    let inside : end ≤ length cells = omega (arith, c.max.ensures, c.min.ensures, c.requires.used.inside, c.requires.room) in
+    let inside : end ≤ length cells = omega
+    (arith, c.max.ensures, c.min.ensures, c.requires.used.inside, c.requires.room) in
     let width : length (take end cells) ≡ end = simp length-take (omega arith) in
     let room : c.args.at + length fresh ≤ end = omega (arith, count, c.max.ensures, c.min.ensures) in
     let order : c.args.used ≤ end = omega (arith, c.max.ensures) in
@@ -38,4 +43,5 @@ returns-clause-value c =
     (cases_lt (c.args.used - c.args.rest) (length cells - (c.args.at + c.args.count))) in
     ap (λ (x : List Cell). x ++ drop end cells) c.splice.ensures
     ∙ ap (λ n. cells_from (spliced c.args.at fresh c.args.rest n) (take end cells) ++ drop end cells) width
-    ∙ front_spliced c.args.at fresh c.args.rest c.args.used end cells room order inside enough c.requires.used.paired c.requires.used.blank
+    ∙ front_spliced c.args.at fresh c.args.rest c.args.used end cells room order inside enough c.requires.used.paired
+    c.requires.used.blank

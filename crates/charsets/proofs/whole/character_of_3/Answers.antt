@@ -9,4 +9,5 @@ pub returns-clause-reads : goal.returns-clause-reads
 returns-clause-reads c =
     let second : follows c.args.a c.args.b ≡ true = grind (arith, nat_tests) in
     let third : continues c.args.c ≡ true = grind (arith, nat_tests) in
-    units-three c.args.a c.args.b c.args.c c.requires.low c.requires.high second third ∙ ap (λ d. (Code d ∷ [], [])) (sym c.char_of_3.ensures)
+    units-three c.args.a c.args.b c.args.c c.requires.low c.requires.high second third
+    ∙ ap (λ d. (Code d ∷ [], [])) (sym c.char_of_3.ensures)

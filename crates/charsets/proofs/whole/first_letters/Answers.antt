@@ -8,5 +8,6 @@ loop-count-init c = none_read is_letter c.args.bytes.now c.args.letters.now
 
 pub loop-count-preserved : goal.loop-count-preserved
 loop-count-preserved c =
-    next_read is_letter c.args.bytes.now c.loop-count.letters c.loop-count.count c.loop-count.read c.in-Some.letter c.in-Some.size c.loop-count.invariant (omega (arith, c.loop-count.auto.letters, c.loop-count-test.true))
+    next_read is_letter c.args.bytes.now c.loop-count.letters c.loop-count.count c.loop-count.read c.in-Some.letter
+    c.in-Some.size c.loop-count.invariant (omega (arith, c.loop-count.auto.letters, c.loop-count-test.true))
     (omega (arith, c.in-Some.ensures.few)) c.in-Some.ensures.reads c.in-Some.ensures.letter

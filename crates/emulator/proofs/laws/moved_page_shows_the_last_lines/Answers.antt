@@ -15,6 +15,8 @@ returns c e rows columns keep offset ws size are stands =
     let fresh = IsTerminal-ready x (IsSound-starting rows columns keep size) in
     let y : Screen = (writes_all t ws).terminal.screen in
     let kept : y.kept ≡ take keep (reverse (all_left [] t ws))
-    = writing_keeps t ws [] are fresh (sym (take_none keep)) ∙ ap (λ n. take n (reverse (all_left [] t ws))) (writing_keep t ws are fresh) in
-    let kept' : e.screen.kept ≡ take keep (reverse (all_left [] t ws)) = ap (λ (z : Screen). z.kept) stands.screen ∙ kept in
+    = writing_keeps t ws [] are fresh (sym (take_none keep))
+    ∙ ap (λ n. take n (reverse (all_left [] t ws))) (writing_keep t ws are fresh) in
+    let kept' : e.screen.kept ≡ take keep (reverse (all_left [] t ws)) = ap (λ (z : Screen). z.kept) stands.screen
+    ∙ kept in
     ap (λ (l : Page). take (length e.screen.page) (reverse (take offset l) ++ e.screen.page)) kept'

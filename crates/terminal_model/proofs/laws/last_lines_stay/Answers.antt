@@ -9,9 +9,12 @@ use Rattle.terminal_model.proofs.laws.last_lines_stay.Goals as goal
 
 pub returns : goal.returns
 returns c = record {
-  reading = λ t bytes lines k h. keeps_on t.screen (reads t bytes).terminal.screen lines (lines_of (reads t bytes).acts) h (reads_push t bytes k);
+  reading = λ t bytes lines k h. keeps_on t.screen (reads t bytes).terminal.screen lines (lines_of (reads t bytes).acts)
+      h (reads_push t bytes k);
   writing = writing_keeps;
   fresh = λ rows columns keep ws size are.
-      writing_keeps (ready (starting rows columns keep)) ws [] are (IsTerminal-ready (starting rows columns keep) (IsSound-starting rows columns keep size)) (sym (take_none keep));
+      writing_keeps (ready (starting rows columns keep)) ws [] are
+      (IsTerminal-ready (starting rows columns keep) (IsSound-starting rows columns keep size))
+      (sym (take_none keep));
   room = writing_keep;
 }

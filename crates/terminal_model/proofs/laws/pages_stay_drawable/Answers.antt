@@ -3,4 +3,10 @@ use Rattle.terminal_model.proofs.DrawableTerminals.{drawable-reads, drawable-wri
 use Rattle.terminal_model.proofs.laws.pages_stay_drawable.Goals as goal
 
 pub returns : goal.returns
-returns c = record { starting = drawable-starting; effect = drawable-effect; resized = drawable-resized; reading = drawable-reads; writing = drawable-writes_all }
+returns c = record {
+  starting = drawable-starting;
+  effect = drawable-effect;
+  resized = drawable-resized;
+  reading = drawable-reads;
+  writing = drawable-writes_all;
+}

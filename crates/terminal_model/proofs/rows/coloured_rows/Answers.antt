@@ -13,7 +13,9 @@ use Rattle.terminal_model.specs.Reading.{act, act_all, read_unit, read_units, re
 use Rattle.terminal_model.proofs.rows.coloured_rows.Goals as goal
 
 pub returns : goal.returns
-unfolding unicode_width cut piece mapped character_at supplement fields controls text begun_by function_piece functions_behind plain_sequence private_sequence columns_of drawn acted_from resized act act_all read_unit read_units read_byte reads
+unfolding unicode_width cut piece mapped character_at supplement fields controls text begun_by function_piece
+    functions_behind plain_sequence private_sequence columns_of drawn acted_from resized act act_all read_unit
+    read_units read_byte reads
 returns c = record {
   in_turn = refl;
   each_by_itself = refl;

@@ -10,7 +10,11 @@ use Rattle.vt_screen.proofs.performing.set_each.Given as goal
 abbrev pub invariant-loop-value : goal.invariant-loop-value
 invariant-loop-value l = record {
   fit : IsFit l.display;
-  screen : all_acted (screen_of l.display) (each (meaning l.setting) (drop l.value-index l.values)) ≡ all_acted (screen_of l.fn.display) (each (meaning l.setting) l.values);
-  places : all_acted_places (screen_of l.display) (each (meaning l.setting) (drop l.value-index l.values)) l.display.page.places ≡ all_acted_places (screen_of l.fn.display) (each (meaning l.setting) l.values) l.fn.display.page.places;
-  answers : all_answered (screen_of l.display) (each (meaning l.setting) (drop l.value-index l.values)) ≡ all_answered (screen_of l.fn.display) (each (meaning l.setting) l.values);
+  screen : all_acted (screen_of l.display) (each (meaning l.setting) (drop l.value-index l.values)) ≡ all_acted
+      (screen_of l.fn.display) (each (meaning l.setting) l.values);
+  places : all_acted_places (screen_of l.display) (each (meaning l.setting) (drop l.value-index l.values))
+      l.display.page.places ≡ all_acted_places (screen_of l.fn.display) (each (meaning l.setting) l.values)
+      l.fn.display.page.places;
+  answers : all_answered (screen_of l.display) (each (meaning l.setting) (drop l.value-index l.values)) ≡ all_answered
+      (screen_of l.fn.display) (each (meaning l.setting) l.values);
 }

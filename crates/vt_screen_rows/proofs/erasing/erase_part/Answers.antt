@@ -13,4 +13,5 @@ returns-clause-page c =
     let from = c.first_column-from.result in
     let end = c.end_column-end.result in
     rw c.erase_columns.ensures.value
-    (IsPage-page_from (edited s.line (spliced from (replicate (end - from) blank) end s.columns)) s.rows s.columns c.args.page.now.lines c.requires.page)
+    (IsPage-page_from (edited s.line (spliced from (replicate (end - from) blank) end s.columns)) s.rows s.columns
+    c.args.page.now.lines c.requires.page)

@@ -9,8 +9,12 @@ pub invariant_of-self : goal.invariant_of-self
 invariant_of-self c =
     record {
       used_part =
-          rw c.max-self-inside.ensures (IsUsed-set c.self.inside.cells.items c.self.inside.used c.args.column _ (rw c.self.view_is c.requires.inside)
-          (ap (λ (x : Cell). x.shape) (c.index_mut.ensures.value ∙ get_or_default c.self.inside.cells.items c.args.column _ blank (rw c.self.view_is c.requires.inside)))
+          rw c.max-self-inside.ensures
+          (IsUsed-set c.self.inside.cells.items c.self.inside.used c.args.column _
+          (rw c.self.view_is c.requires.inside)
+          (ap (λ (x : Cell). x.shape)
+          (c.index_mut.ensures.value
+          ∙ get_or_default c.self.inside.cells.items c.args.column _ blank (rw c.self.view_is c.requires.inside)))
           c.self.invariant.used_part);
       plain = λ e. absurd (cc);
     }

@@ -9,13 +9,31 @@ use Rattle.cells.proofs.line.Line.put_wide_run.Goals as goal
 pub invariant_of-self : goal.invariant_of-self
 invariant_of-self c =
     let items : List Cell = c.self.inside.cells.items in
-    let width : length items ≡ c.self.inside.cells.len = ap length (sym c.as_mut_slice.ensures.value) ∙ c.as_mut_slice.ensures.len in
+    let width : length items ≡ c.self.inside.cells.len = ap length (sym c.as_mut_slice.ensures.value)
+    ∙ c.as_mut_slice.ensures.len in
     let line : length items ≡ length c.args.self.now = ap length c.self.view_is in
     record {
       used_part =
-          IsUsed-stored (spliced c.args.at (wide_cells c.args.characters.now c.args.rendition c.args.is_protected) (c.args.at + 2 * length c.args.characters.now) (length c.as_mut_slice.result.now)) c.self.inside.used c.max-self-inside.result c.put_wide_run.new.cells c.as_mut_slice.result.now items c.self.inside.cells.len
-          (c.put_wide_run.auto.cells ∙ c.as_mut_slice.ensures.len) c.put_wide_run.ensures c.as_mut_slice.ensures.value c.self.invariant.used_part
+          IsUsed-stored
+          (spliced c.args.at (wide_cells c.args.characters.now c.args.rendition c.args.is_protected)
+          (c.args.at + 2 * length c.args.characters.now) (length c.as_mut_slice.result.now)) c.self.inside.used
+          c.max-self-inside.result c.put_wide_run.new.cells c.as_mut_slice.result.now items c.self.inside.cells.len
+          (c.put_wide_run.auto.cells ∙ c.as_mut_slice.ensures.len) c.put_wide_run.ensures c.as_mut_slice.ensures.value
+          c.self.invariant.used_part
           (omega (arith, c.max-self-inside.ensures, c.self.invariant.used_part.inside, width, line, c.requires.room))
-          (λ k past inside. ap (λ n. taken items (spliced c.args.at (wide_cells c.args.characters.now c.args.rendition c.args.is_protected) (c.args.at + 2 * length c.args.characters.now) n k)) (ap length c.as_mut_slice.ensures.value) ∙ spliced_behind c.args.at (wide_cells c.args.characters.now c.args.rendition c.args.is_protected) items (c.args.at + 2 * length c.args.characters.now) c.self.inside.used k c.self.invariant.used_part.blank (omega (arith, c.max-self-inside.ensures, length-wides c.args.rendition c.args.is_protected c.args.characters.now, inside, width)));
+          (λ k past inside. ap
+          (λ n. taken items
+          (spliced c.args.at (wide_cells c.args.characters.now c.args.rendition c.args.is_protected)
+          (c.args.at + 2 * length c.args.characters.now) n k)) (ap length c.as_mut_slice.ensures.value)
+          ∙ spliced_behind c.args.at (wide_cells c.args.characters.now c.args.rendition c.args.is_protected) items
+          (c.args.at + 2 * length c.args.characters.now) c.self.inside.used k c.self.invariant.used_part.blank
+          (omega (
+            arith,
+            c.max-self-inside.ensures,
+            length-wides c.args.rendition c.args.is_protected
+                c.args.characters.now,
+            inside,
+            width,
+          )));
       plain = λ e. absurd (cc);
     }

@@ -6,4 +6,5 @@ use Rattle.charsets.proofs.sets.CharacterSet.character.Goals as goal
 
 pub returns-in-Supplemental : goal.returns-in-Supplemental
 unfolding character_at supplement
-returns-in-Supplemental c = rw c.in-Supplemental.is (index-supplement SUPPLEMENTAL c.args.position refl c.requires.above c.requires.below)
+returns-in-Supplemental c = rw c.in-Supplemental.is
+    (index-supplement SUPPLEMENTAL c.args.position refl c.requires.above c.requires.below)

@@ -11,5 +11,9 @@ returns-in-Ground-clause-whole c = λ units h.
 pub returns-in_default : goal.returns-in_default
 returns-in_default c = record {
   idle = (λ t. absurd (cc), λ e. absurd (c.in_default.not-Ground (c.self.view_is ∙ e)));
-  whole = λ units h. (λ t. absurd (cc), λ e. absurd (c.in_default.not-Ground (c.self.view_is ∙ (idle-whole c.args.self.now units h).1 e)));
+  whole = λ units h. (
+    λ t. absurd (cc),
+    λ e. absurd
+        (c.in_default.not-Ground (c.self.view_is ∙ (idle-whole c.args.self.now units h).1 e)),
+  );
 }

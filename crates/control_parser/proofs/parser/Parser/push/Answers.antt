@@ -12,7 +12,8 @@ returns-clause-stands c = λ units h.
 pub returns-clause-gives : goal.returns-clause-gives
 returns-clause-gives c = λ units h.
     let e : (c.read.result, c.read.new.self) ≡ step_of c.args.self.now c.args.unit = search rules in
-    gives-push c.args.self.now c.args.unit units h ∙ ap (λ o. (functions units).0 ++ option_to_list o) (sym (ap (λ r. r.0) e))
+    gives-push c.args.self.now c.args.unit units h
+    ∙ ap (λ o. (functions units).0 ++ option_to_list o) (sym (ap (λ r. r.0) e))
 
 pub returns-clause-next : goal.returns-clause-next
 returns-clause-next c = λ rest proper h.

@@ -10,5 +10,6 @@ bytes-init c = λ t h. h
 
 pub bytes-preserved : goal.bytes-preserved
 bytes-preserved c = λ t h.
-    subst (λ (u : Terminal). StandsFor c.feed.new.self u) (sym (reads-more t c.args.bytes.now c.bytes.byte-index 0 (omega arith)))
+    subst (λ (u : Terminal). StandsFor c.feed.new.self u)
+    (sym (reads-more t c.args.bytes.now c.bytes.byte-index 0 (omega arith)))
     (c.feed.ensures.stands _ (c.bytes.invariant t h))

@@ -11,7 +11,8 @@ returns c = record {
       let read : List ℕ = take c.first_characters-count.result.0 c.first_characters-count.new.characters in
       have-read c.args.self.now _ t _ read said c.requires.idle c.requires.coding
       c.first_characters-count.ensures.reads (beyond_graphic read c.first_characters-count.ensures.beyond)
-      (c.print_characters.ensures.effect ∙ ap (λ (e : Parts). effects e.screen (map (λ code. Print code) read)) c.self.view_is)
+      (c.print_characters.ensures.effect
+      ∙ ap (λ (e : Parts). effects e.screen (map (λ code. Print code) read)) c.self.view_is)
       (ap (λ (e : Parts). e.decoding) c.self.view_is) (ap (λ (e : Parts). e.parsing) c.self.view_is) h;
   few = omega arith;
   decoding = ap (λ (v : Parts). v.decoding) c.self.view_is;

@@ -15,7 +15,8 @@ returns-clause-whole c = record {
       let read : List ℕ = take c.first_letters-count.result.0 c.first_letters-count.new.letters in
       have-read c.args.self.now _ t _ read said c.requires.idle c.requires.coding
       c.first_letters-count.ensures.reads (letters_graphic read c.first_letters-count.ensures.letters)
-      (c.print_letters.ensures.effect ∙ ap (λ (e : Parts). effects e.screen (map (λ code. Print code) read)) c.self.view_is)
+      (c.print_letters.ensures.effect
+      ∙ ap (λ (e : Parts). effects e.screen (map (λ code. Print code) read)) c.self.view_is)
       (ap (λ (e : Parts). e.decoding) c.self.view_is) (ap (λ (e : Parts). e.parsing) c.self.view_is) h;
   few = omega arith;
   decoding = ap (λ (v : Parts). v.decoding) c.self.view_is;

@@ -19,8 +19,10 @@ returns c = record {
       let last : ℕ = get_or c.args.bytes.now 1 0 in
       let f = Esc [] last in
       let e = front-two c.args.bytes.now 0x1B last (omega arith) c.requires.begins refl in
-      let reads : ReadsAs Utf8 (take 2 c.args.bytes.now) (f ∷ []) = subst (λ (v : List ℕ). ReadsAs Utf8 v (f ∷ [])) (sym e) (spelled_reads f (c.ends_escape.ensures c.if-not-ends_escape.false)) in
-      quiet-has-read c.args.self.now _ t _ said f c.requires.idle c.requires.coding (effect-coding c.args.self.now.screen f refl) reads
+      let reads : ReadsAs Utf8 (take 2 c.args.bytes.now) (f ∷ []) = subst (λ (v : List ℕ). ReadsAs Utf8 v (f ∷ []))
+      (sym e) (spelled_reads f (c.ends_escape.ensures c.if-not-ends_escape.false)) in
+      quiet-has-read c.args.self.now _ t _ said f c.requires.idle c.requires.coding
+      (effect-coding c.args.self.now.screen f refl) reads
       (c.escape.ensures.effect ∙ ap (λ (v : Parts). effect v.screen f) c.self.view_is)
       (ap (λ (v : Parts). v.decoding) c.self.view_is) (ap (λ (v : Parts). v.parsing) c.self.view_is)
       (ap (λ (v : Parts). report v.screen f) (sym c.self.view_is) ∙ c.escape.ensures.silent) h;

@@ -17,9 +17,12 @@ use Rattle.emulator.proofs.emulator.Emulator.read_piece.Goals as goal
 pub returns-then-first-lt127 : goal.returns-then-first-lt127
 returns-then-first-lt127 c = record {
   taken = λ said t h.
-      run-has-read c.args.self.now _ t (take c.plain_front-run.result c.args.bytes.now) said h c.requires.idle.whole c.requires.idle.idle
+      run-has-read c.args.self.now _ t (take c.plain_front-run.result c.args.bytes.now) said h c.requires.idle.whole
+      c.requires.idle.idle
       c.plain_front-run.ensures.plain
-      (c.print_run.ensures.effect ∙ ap (λ (e : Parts). effects e.screen (map (λ b. Print b) (take c.plain_front-run.result c.args.bytes.now))) c.self-2.view_is)
+      (c.print_run.ensures.effect
+      ∙ ap (λ (e : Parts). effects e.screen (map (λ b. Print b) (take c.plain_front-run.result c.args.bytes.now)))
+      c.self-2.view_is)
       (ap (λ (e : Parts). e.decoding) c.self-2.view_is) (ap (λ (e : Parts). e.parsing) c.self-2.view_is);
   few = omega arith;
   decoding = ap (λ (v : Parts). v.decoding) c.self-2.view_is;
@@ -40,8 +43,10 @@ returns-in-0-to-31 c = record {
       let control : is_control b ≡ true = grind (arith, nat_tests) in
       let utf8 : c.args.self.now.decoding.coding ≡ Utf8 = search rules in
       let e = front-one c.args.bytes.now b c.requires.some refl in
-      let reads : ReadsAs Utf8 (take 1 c.args.bytes.now) (f ∷ []) = subst (λ (v : List ℕ). ReadsAs Utf8 v (f ∷ [])) (sym e) (spelled_reads f control) in
-      quiet-has-read c.args.self.now _ t _ said f c.requires.idle utf8 (effect-coding c.args.self.now.screen f refl) reads
+      let reads : ReadsAs Utf8 (take 1 c.args.bytes.now) (f ∷ []) = subst (λ (v : List ℕ). ReadsAs Utf8 v (f ∷ []))
+      (sym e) (spelled_reads f control) in
+      quiet-has-read c.args.self.now _ t _ said f c.requires.idle utf8 (effect-coding c.args.self.now.screen f refl)
+      reads
       (c.control.ensures.effect ∙ ap (λ (v : Parts). effect v.screen f) c.self-2.view_is)
       (ap (λ (v : Parts). v.decoding) c.self-2.view_is) (ap (λ (v : Parts). v.parsing) c.self-2.view_is)
       (ap (λ (v : Parts). report v.screen f) (sym c.self-2.view_is) ∙ c.control.ensures.silent) h;

@@ -9,4 +9,6 @@ pub returns : goal.returns
 returns c = λ t h.
     let k = subst (λ (e : Parts). StandsFor e t) (sym c.self.view_is) h in
     c.feed_each.ensures (ready t.screen)
-    (stands-ready _ _ t k refl (c.set_coding.ensures.starts ∙ ap (λ (coding : Coding). record { coding = coding; rest = [] }) c.coding.ensures) c.new-self-inside.ensures.starts)
+    (stands-ready _ _ t k refl
+    (c.set_coding.ensures.starts ∙ ap (λ (coding : Coding). record { coding = coding; rest = [] }) c.coding.ensures)
+    c.new-self-inside.ensures.starts)

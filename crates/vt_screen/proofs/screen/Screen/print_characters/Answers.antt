@@ -16,4 +16,5 @@ pub returns-clause-places : goal.returns-clause-places
 returns-clause-places c =
     c.print_characters.ensures.places
     ∙ places-prints (screen_of c.self.inside.display) c.args.characters.now c.self.inside.display.page.places
-    ∙ ap (λ (x : Stored). effects_places x.screen (map (λ code. Print code) c.args.characters.now) x.places) c.self.view_is
+    ∙ ap (λ (x : Stored). effects_places x.screen (map (λ code. Print code) c.args.characters.now) x.places)
+    c.self.view_is

@@ -8,8 +8,11 @@ use Rattle.vt_screen_page.proofs.page.Page.blank.Goals as goal
 
 pub invariant_of-result : goal.invariant_of-result
 invariant_of-result c = rw (c.in_ok-stored.ensures, c.in_ok-places.ensures)
-    (IsStore-in_order c.args.rows (replicate c.args.rows (replicate c.args.columns blank)) (length-replicate c.args.rows _) (IsGrid-blanks c.args.rows c.args.columns c.requires))
+    (IsStore-in_order c.args.rows (replicate c.args.rows (replicate c.args.columns blank))
+    (length-replicate c.args.rows _) (IsGrid-blanks c.args.rows c.args.columns c.requires))
 
 pub returns : goal.returns
 returns c = rw (c.in_ok-stored.ensures, c.in_ok-places.ensures)
-    (ap (λ (l : List (List Cell)). record { lines = l; places = range_with_len 0 c.args.rows }) (in_order c.args.rows (replicate c.args.rows (replicate c.args.columns blank)) (length-replicate c.args.rows _)))
+    (ap (λ (l : List (List Cell)). record { lines = l; places = range_with_len 0 c.args.rows })
+    (in_order c.args.rows (replicate c.args.rows (replicate c.args.columns blank))
+    (length-replicate c.args.rows _)))

@@ -7,14 +7,20 @@ use Rattle.vt_screen_page.proofs.Sizes.{kept_store, kept_lines}
 use Rattle.vt_screen_page.proofs.page.Page.erase_lines.Goals as goal
 
 pub invariant_of-self : goal.invariant_of-self
-invariant_of-self c = kept_store c.erase_lines.new.stored c.self.inside.stored.items c.self.inside.stored.len c.self.inside.places.items
-    (c.erase_lines.auto.stored ∙ c.as_mut_slice.ensures.len) (subst (IsStore c.erase_lines.new.stored) c.as_slice.ensures.value c.erase_lines.ensures.store)
+invariant_of-self c = kept_store c.erase_lines.new.stored c.self.inside.stored.items c.self.inside.stored.len
+    c.self.inside.places.items
+    (c.erase_lines.auto.stored ∙ c.as_mut_slice.ensures.len)
+    (subst (IsStore c.erase_lines.new.stored) c.as_slice.ensures.value c.erase_lines.ensures.store)
 
 pub returns-clause-lines : goal.returns-clause-lines
-returns-clause-lines c = kept_lines c.erase_lines.new.stored c.self.inside.stored.items _ c.self.inside.stored.len c.self.inside.places.items
+returns-clause-lines c = kept_lines c.erase_lines.new.stored c.self.inside.stored.items _ c.self.inside.stored.len
+    c.self.inside.places.items
     (c.erase_lines.auto.stored ∙ c.as_mut_slice.ensures.len)
-    (subst (λ (p : List ℕ). lines_in_order c.erase_lines.new.stored p ≡ page_from (erased_lines c.args.first c.args.end) (lines_in_order c.as_mut_slice.result.now p)) c.as_slice.ensures.value c.erase_lines.ensures.page)
-    ∙ ap (λ (s : List (List Cell)). page_from (erased_lines c.args.first c.args.end) (lines_in_order s c.self.inside.places.items)) c.as_mut_slice.ensures.value
+    (subst
+    (λ (p : List ℕ). lines_in_order c.erase_lines.new.stored p ≡ page_from (erased_lines c.args.first c.args.end)
+    (lines_in_order c.as_mut_slice.result.now p)) c.as_slice.ensures.value c.erase_lines.ensures.page)
+    ∙ ap (λ (s : List (List Cell)). page_from (erased_lines c.args.first c.args.end)
+    (lines_in_order s c.self.inside.places.items)) c.as_mut_slice.ensures.value
     ∙ ap (page_from (erased_lines c.args.first c.args.end)) (ap (λ (v : Placed). v.lines) c.self.view_is)
 
 pub returns-clause-places : goal.returns-clause-places

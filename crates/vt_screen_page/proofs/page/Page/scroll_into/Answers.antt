@@ -8,18 +8,25 @@ use Rattle.vt_screen_page.proofs.Sizes.{kept_both, kept_page}
 use Rattle.vt_screen_page.proofs.page.Page.scroll_into.Goals as goal
 
 pub invariant_of-self : goal.invariant_of-self
-invariant_of-self c = kept_both c.scroll_into.new.stored c.self.inside.stored.items c.self.inside.stored.len c.scroll_into.new.places c.self.inside.places.items c.self.inside.places.len
-    (c.scroll_into.auto.stored ∙ c.as_mut_slice.ensures.len) (c.scroll_into.auto.places ∙ c.as_mut_slice-2.ensures.len) c.scroll_into.ensures.store
+invariant_of-self c = kept_both c.scroll_into.new.stored c.self.inside.stored.items c.self.inside.stored.len
+    c.scroll_into.new.places c.self.inside.places.items c.self.inside.places.len
+    (c.scroll_into.auto.stored ∙ c.as_mut_slice.ensures.len) (c.scroll_into.auto.places ∙ c.as_mut_slice-2.ensures.len)
+    c.scroll_into.ensures.store
 
 pub returns-clause-lines : goal.returns-clause-lines
-returns-clause-lines c = kept_page c.scroll_into.new.stored c.self.inside.stored.items _ c.self.inside.stored.len c.scroll_into.new.places c.self.inside.places.items c.self.inside.places.len
-    (c.scroll_into.auto.stored ∙ c.as_mut_slice.ensures.len) (c.scroll_into.auto.places ∙ c.as_mut_slice-2.ensures.len) c.scroll_into.ensures.page
-    ∙ ap (λ (s : List (List Cell)). page_from (scrolled_up 0 c.args.bottom 1) (lines_in_order s c.as_mut_slice-2.result.now)) c.as_mut_slice.ensures.value
-    ∙ ap (λ (p : List ℕ). page_from (scrolled_up 0 c.args.bottom 1) (lines_in_order c.self.inside.stored.items p)) c.as_mut_slice-2.ensures.value
+returns-clause-lines c = kept_page c.scroll_into.new.stored c.self.inside.stored.items _ c.self.inside.stored.len
+    c.scroll_into.new.places c.self.inside.places.items c.self.inside.places.len
+    (c.scroll_into.auto.stored ∙ c.as_mut_slice.ensures.len) (c.scroll_into.auto.places ∙ c.as_mut_slice-2.ensures.len)
+    c.scroll_into.ensures.page
+    ∙ ap (λ (s : List (List Cell)). page_from (scrolled_up 0 c.args.bottom 1)
+    (lines_in_order s c.as_mut_slice-2.result.now)) c.as_mut_slice.ensures.value
+    ∙ ap (λ (p : List ℕ). page_from (scrolled_up 0 c.args.bottom 1) (lines_in_order c.self.inside.stored.items p))
+    c.as_mut_slice-2.ensures.value
     ∙ ap (page_from (scrolled_up 0 c.args.bottom 1)) (ap (λ (v : Placed). v.lines) c.self.view_is)
 
 pub returns-clause-places : goal.returns-clause-places
 returns-clause-places c =
-    take_at c.scroll_into.new.places (drop (length c.scroll_into.new.places) c.self.inside.places.items) c.self.inside.places.len (c.scroll_into.auto.places ∙ c.as_mut_slice-2.ensures.len)
+    take_at c.scroll_into.new.places (drop (length c.scroll_into.new.places) c.self.inside.places.items)
+    c.self.inside.places.len (c.scroll_into.auto.places ∙ c.as_mut_slice-2.ensures.len)
     ∙ c.scroll_into.ensures.places
     ∙ ap (turned 0 c.args.bottom 1) (c.as_mut_slice-2.ensures.value ∙ ap (λ (v : Placed). v.places) c.self.view_is)

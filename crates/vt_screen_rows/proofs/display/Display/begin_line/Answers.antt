@@ -1,4 +1,5 @@
-use Rattle.std.proofs.Common.{◌≡◌, ◌<◌, ◌≤◌, [], ◌∷◌, true, length, take, ℕ, List, sym, ap, ◌∙◌, arith, length-take, min}
+use Rattle.std.proofs.Common.{◌≡◌, ◌<◌, ◌≤◌, [], ◌∷◌, true, length, take, ℕ, List, sym, ap, ◌∙◌, arith, length-take}
+use Rattle.std.proofs.Common.{min}
 use Rattle.std.specs.List.{list_all}
 use Rattle.std.proofs.lemmas.Bool.Decides.{nat_tests}
 use Rattle.charsets.specs.Units.{is_letter}
@@ -18,8 +19,10 @@ returns-clause-screen c =
     let x : Screen = screen_of c.args.self.now in
     let codes : List ℕ = take c.min-count.result c.args.codes.now in
     let takes : TakesRuns x.state = c.takes_runs.ensures.0 c.if-not-takes_runs.false in
-    let letters : list_all is_letter codes ≡ true = list_all-take is_letter c.min-count.result c.args.codes.now (plain_letters c.args.codes.now c.requires.plain) in
-    let n : length codes ≡ min c.min-count.result (length c.args.codes.now) = length-take c.min-count.result c.args.codes.now in
+    let letters : list_all is_letter codes ≡ true = list_all-take is_letter c.min-count.result c.args.codes.now
+    (plain_letters c.args.codes.now c.requires.plain) in
+    let n : length codes ≡ min c.min-count.result (length c.args.codes.now) = length-take c.min-count.result
+    c.args.codes.now in
     let given : 0 < length c.args.codes.now = grind (arith, nat_tests, c.if-is_empty.false, c.is_empty.ensures) in
     let inside : x.state.column < x.state.columns = c.requires.fit.sound.cursor.1 in
     let some : 0 < length codes = omega arith in
@@ -27,23 +30,30 @@ returns-clause-screen c =
     c.place_run_below.ensures.screen ∙ sym (line_printed x codes takes c.requires.fit.sound letters some room)
 
 pub returns-clause-fit : goal.returns-clause-fit
-returns-clause-fit c = all_acted_fit c.args.self.now c.place_run_below.new.self (CarriageReturn ∷ LineFeed ∷ prints (take c.min-count.result c.args.codes.now)) c.requires.fit (returns-clause-screen c) c.place_run_below.ensures.width
+returns-clause-fit c = all_acted_fit c.args.self.now c.place_run_below.new.self
+    (CarriageReturn ∷ LineFeed ∷ prints (take c.min-count.result c.args.codes.now)) c.requires.fit
+    (returns-clause-screen c) c.place_run_below.ensures.width
 
 pub returns-clause-places : goal.returns-clause-places
 returns-clause-places c =
     let x : Screen = screen_of c.args.self.now in
     let codes : List ℕ = take c.min-count.result c.args.codes.now in
     let takes : TakesRuns x.state = c.takes_runs.ensures.0 c.if-not-takes_runs.false in
-    let letters : list_all is_letter codes ≡ true = list_all-take is_letter c.min-count.result c.args.codes.now (plain_letters c.args.codes.now c.requires.plain) in
-    let n : length codes ≡ min c.min-count.result (length c.args.codes.now) = length-take c.min-count.result c.args.codes.now in
+    let letters : list_all is_letter codes ≡ true = list_all-take is_letter c.min-count.result c.args.codes.now
+    (plain_letters c.args.codes.now c.requires.plain) in
+    let n : length codes ≡ min c.min-count.result (length c.args.codes.now) = length-take c.min-count.result
+    c.args.codes.now in
     let given : 0 < length c.args.codes.now = grind (arith, nat_tests, c.if-is_empty.false, c.is_empty.ensures) in
     let inside : x.state.column < x.state.columns = c.requires.fit.sound.cursor.1 in
     let some : 0 < length codes = omega arith in
     let room : length codes ≤ x.state.columns = omega arith in
-    c.place_run_below.ensures.places ∙ sym (line_places x codes takes c.requires.fit.sound letters some room c.args.self.now.page.places)
+    c.place_run_below.ensures.places
+    ∙ sym (line_places x codes takes c.requires.fit.sound letters some room c.args.self.now.page.places)
 
 pub returns-then-is_empty-clause-fit : goal.returns-then-is_empty-clause-fit
 unfolding acted_from
 returns-then-is_empty-clause-fit c =
     all_acted_fit c.args.self.now c.feed_line.new.self (CarriageReturn ∷ LineFeed ∷ []) c.requires.fit
-    (c.feed_line.ensures.screen ∙ ap (λ (s : State). acted (with_state (screen_of c.args.self.now) s) LineFeed) c.go_to_first_column.ensures) c.feed_line.ensures.width
+    (c.feed_line.ensures.screen
+    ∙ ap (λ (s : State). acted (with_state (screen_of c.args.self.now) s) LineFeed) c.go_to_first_column.ensures)
+    c.feed_line.ensures.width

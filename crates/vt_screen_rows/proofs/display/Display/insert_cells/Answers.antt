@@ -5,4 +5,5 @@ use Rattle.vt_screen_rows.proofs.display.Display.insert_cells.Goals as goal
 
 pub returns-clause-screen : goal.returns-clause-screen
 unfolding acted_from
-returns-clause-screen c = rw (c.settle.ensures, c.splice.ensures.lines, c.min-count.ensures, line_width c.args.self.now c.requires.fit) refl
+returns-clause-screen c = rw
+    (c.settle.ensures, c.splice.ensures.lines, c.min-count.ensures, line_width c.args.self.now c.requires.fit) refl

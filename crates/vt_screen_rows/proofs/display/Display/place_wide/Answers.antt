@@ -3,4 +3,11 @@ use Rattle.vt_screen_rows.proofs.Widths.{line_width}
 use Rattle.vt_screen_rows.proofs.display.Display.place_wide.Goals as goal
 
 pub returns-clause-screen : goal.returns-clause-screen
-returns-clause-screen c = rw (c.advance.ensures, c.put_wide.ensures.lines, c.left-left.ensures, c.following-rest.ensures, line_width c.args.self.now c.requires.fit) refl
+returns-clause-screen c = rw (
+  c.advance.ensures,
+  c.put_wide.ensures.lines,
+  c.left-left.ensures,
+  c.following-rest.ensures,
+  line_width
+      c.args.self.now c.requires.fit,
+) refl

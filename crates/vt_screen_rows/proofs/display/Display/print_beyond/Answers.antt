@@ -8,4 +8,6 @@ pub returns-then-is_letter-clause-screen : goal.returns-then-is_letter-clause-sc
 returns-then-is_letter-clause-screen c =
     let x : Screen = screen_of c.args.self.now in
     c.print_narrow.ensures.screen
-    ∙ sym (ap (λ (n : ℕ). printed_as n (drawn c.args.character) x) (c.if-is_letter.ensures.columns refl) ∙ ap (λ (d : ℕ). printed_as 1 d x) (c.if-is_letter.ensures.drawn refl))
+    ∙ sym
+    (ap (λ (n : ℕ). printed_as n (drawn c.args.character) x) (c.if-is_letter.ensures.columns refl)
+    ∙ ap (λ (d : ℕ). printed_as 1 d x) (c.if-is_letter.ensures.drawn refl))

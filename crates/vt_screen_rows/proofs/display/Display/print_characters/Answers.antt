@@ -12,13 +12,26 @@ pub loop-printed-preserved : goal.loop-printed-preserved
 loop-printed-preserved c = record {
   fit = c.print_some_characters-printed.ensures.fit;
   screen =
-      ap (λ (v : Screen). all_acted v (prints (drop (c.loop-printed.printed + c.print_some_characters-printed.result) c.args.characters.now))) c.print_some_characters-printed.ensures.screen
-      ∙ prints_on (screen_of c.loop-printed.self) c.args.characters.now c.loop-printed.printed c.print_some_characters-printed.result
+      ap (λ (v : Screen). all_acted v
+      (prints (drop (c.loop-printed.printed + c.print_some_characters-printed.result) c.args.characters.now)))
+      c.print_some_characters-printed.ensures.screen
+      ∙ prints_on (screen_of c.loop-printed.self) c.args.characters.now c.loop-printed.printed
+      c.print_some_characters-printed.result
       ∙ c.loop-printed.invariant.screen;
   places =
-      ap (λ (v : Screen). all_acted_places v (prints (drop (c.loop-printed.printed + c.print_some_characters-printed.result) c.args.characters.now)) c.print_some_characters-printed.new.self.page.places) c.print_some_characters-printed.ensures.screen
-      ∙ ap (λ (ps : List ℕ). all_acted_places (all_acted (screen_of c.loop-printed.self) (prints (take c.print_some_characters-printed.result (take (length c.args.characters.now - c.loop-printed.printed) (drop c.loop-printed.printed c.args.characters.now))))) (prints (drop (c.loop-printed.printed + c.print_some_characters-printed.result) c.args.characters.now)) ps) c.print_some_characters-printed.ensures.places
-      ∙ places_on (screen_of c.loop-printed.self) c.args.characters.now c.loop-printed.printed c.print_some_characters-printed.result c.loop-printed.self.page.places
+      ap (λ (v : Screen). all_acted_places v
+      (prints (drop (c.loop-printed.printed + c.print_some_characters-printed.result) c.args.characters.now))
+      c.print_some_characters-printed.new.self.page.places) c.print_some_characters-printed.ensures.screen
+      ∙ ap (λ (ps : List ℕ). all_acted_places
+      (all_acted (screen_of c.loop-printed.self)
+      (prints
+      (take c.print_some_characters-printed.result
+      (take (length c.args.characters.now - c.loop-printed.printed)
+      (drop c.loop-printed.printed c.args.characters.now)))))
+      (prints (drop (c.loop-printed.printed + c.print_some_characters-printed.result) c.args.characters.now)) ps)
+      c.print_some_characters-printed.ensures.places
+      ∙ places_on (screen_of c.loop-printed.self) c.args.characters.now c.loop-printed.printed
+      c.print_some_characters-printed.result c.loop-printed.self.page.places
       ∙ c.loop-printed.invariant.places;
   few = omega arith;
 }

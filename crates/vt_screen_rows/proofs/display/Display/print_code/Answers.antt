@@ -7,7 +7,8 @@ use Rattle.vt_screen_rows.proofs.Widths.{acted_fit}
 use Rattle.vt_screen_rows.proofs.display.Display.print_code.Goals as goal
 
 pub returns-then-character-lt160-clause-fit : goal.returns-then-character-lt160-clause-fit
-returns-then-character-lt160-clause-fit c = acted_fit c.args.self.now c.print.new.self (Print (Code c.args.character)) c.requires c.print.ensures.screen c.print.ensures.width
+returns-then-character-lt160-clause-fit c = acted_fit c.args.self.now c.print.new.self (Print (Code c.args.character))
+    c.requires c.print.ensures.screen c.print.ensures.width
 
 pub returns-else-character-lt160-clause-screen : goal.returns-else-character-lt160-clause-screen
 returns-else-character-lt160-clause-screen c =
@@ -16,7 +17,8 @@ returns-else-character-lt160-clause-screen c =
 
 pub returns-else-character-lt160-clause-fit : goal.returns-else-character-lt160-clause-fit
 returns-else-character-lt160-clause-fit c =
-    acted_fit c.args.self.now c.print_beyond.new.self (Print (Code c.args.character)) c.requires (returns-else-character-lt160-clause-screen c) c.print_beyond.ensures.width
+    acted_fit c.args.self.now c.print_beyond.new.self (Print (Code c.args.character)) c.requires
+    (returns-else-character-lt160-clause-screen c) c.print_beyond.ensures.width
 
 pub returns-else-character-lt160-clause-places : goal.returns-else-character-lt160-clause-places
 returns-else-character-lt160-clause-places c =

@@ -10,19 +10,34 @@ use Rattle.vt_screen_rows.proofs.RunLemmas.{list_all-drop, list_all-take, prints
 use Rattle.vt_screen_rows.proofs.display.Display.print_letters.Goals as goal
 
 pub print_some_letters-printed-requires-clause-letters : goal.print_some_letters-printed-requires-clause-letters
-print_some_letters-printed-requires-clause-letters c = list_all-take is_letter (length c.args.letters.now - c.loop-printed.printed) (drop c.loop-printed.printed c.args.letters.now) (list_all-drop is_letter c.loop-printed.printed c.args.letters.now c.requires.letters)
+print_some_letters-printed-requires-clause-letters c = list_all-take is_letter
+    (length c.args.letters.now - c.loop-printed.printed) (drop c.loop-printed.printed c.args.letters.now)
+    (list_all-drop is_letter c.loop-printed.printed c.args.letters.now c.requires.letters)
 
 pub loop-printed-preserved : goal.loop-printed-preserved
 loop-printed-preserved c = record {
   fit = c.print_some_letters-printed.ensures.fit;
   screen =
-      ap (λ (v : Screen). all_acted v (prints (drop (c.loop-printed.printed + c.print_some_letters-printed.result) c.args.letters.now))) c.print_some_letters-printed.ensures.screen
-      ∙ prints_on (screen_of c.loop-printed.self) c.args.letters.now c.loop-printed.printed c.print_some_letters-printed.result
+      ap (λ (v : Screen). all_acted v
+      (prints (drop (c.loop-printed.printed + c.print_some_letters-printed.result) c.args.letters.now)))
+      c.print_some_letters-printed.ensures.screen
+      ∙ prints_on (screen_of c.loop-printed.self) c.args.letters.now c.loop-printed.printed
+      c.print_some_letters-printed.result
       ∙ c.loop-printed.invariant.screen;
   places =
-      ap (λ (v : Screen). all_acted_places v (prints (drop (c.loop-printed.printed + c.print_some_letters-printed.result) c.args.letters.now)) c.print_some_letters-printed.new.self.page.places) c.print_some_letters-printed.ensures.screen
-      ∙ ap (λ (ps : List ℕ). all_acted_places (all_acted (screen_of c.loop-printed.self) (prints (take c.print_some_letters-printed.result (take (length c.args.letters.now - c.loop-printed.printed) (drop c.loop-printed.printed c.args.letters.now))))) (prints (drop (c.loop-printed.printed + c.print_some_letters-printed.result) c.args.letters.now)) ps) c.print_some_letters-printed.ensures.places
-      ∙ places_on (screen_of c.loop-printed.self) c.args.letters.now c.loop-printed.printed c.print_some_letters-printed.result c.loop-printed.self.page.places
+      ap (λ (v : Screen). all_acted_places v
+      (prints (drop (c.loop-printed.printed + c.print_some_letters-printed.result) c.args.letters.now))
+      c.print_some_letters-printed.new.self.page.places) c.print_some_letters-printed.ensures.screen
+      ∙ ap (λ (ps : List ℕ). all_acted_places
+      (all_acted (screen_of c.loop-printed.self)
+      (prints
+      (take c.print_some_letters-printed.result
+      (take (length c.args.letters.now - c.loop-printed.printed)
+      (drop c.loop-printed.printed c.args.letters.now)))))
+      (prints (drop (c.loop-printed.printed + c.print_some_letters-printed.result) c.args.letters.now)) ps)
+      c.print_some_letters-printed.ensures.places
+      ∙ places_on (screen_of c.loop-printed.self) c.args.letters.now c.loop-printed.printed
+      c.print_some_letters-printed.result c.loop-printed.self.page.places
       ∙ c.loop-printed.invariant.places;
   few = omega arith;
 }

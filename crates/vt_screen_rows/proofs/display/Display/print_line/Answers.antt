@@ -12,7 +12,9 @@ use Rattle.vt_screen_rows.proofs.RunLemmas.{list_all-drop, list_all-take, rest_i
 use Rattle.vt_screen_rows.proofs.display.Display.print_line.Goals as goal
 
 pub print_run-requires-clause-plain : goal.print_run-requires-clause-plain
-print_run-requires-clause-plain c = list_all-take is_plain (length c.args.codes.now - c.begin_line-printed.result) (drop c.begin_line-printed.result c.args.codes.now) (list_all-drop is_plain c.begin_line-printed.result c.args.codes.now c.requires.plain)
+print_run-requires-clause-plain c = list_all-take is_plain (length c.args.codes.now - c.begin_line-printed.result)
+    (drop c.begin_line-printed.result c.args.codes.now)
+    (list_all-drop is_plain c.begin_line-printed.result c.args.codes.now c.requires.plain)
 
 pub returns-then-printed-codes-clause-screen : goal.returns-then-printed-codes-clause-screen
 returns-then-printed-codes-clause-screen c =
@@ -21,7 +23,8 @@ returns-then-printed-codes-clause-screen c =
     let rest : List ℕ = take (length c.args.codes.now - n) (drop n c.args.codes.now) in
     c.print_run.ensures.screen
     ∙ ap (λ (v : Screen). all_acted v (prints rest)) c.begin_line-printed.ensures.screen
-    ∙ ap (λ (v : List ℕ). all_acted (all_acted w (prints (take n c.args.codes.now))) (prints v)) (rest_is c.args.codes.now n)
+    ∙ ap (λ (v : List ℕ). all_acted (all_acted w (prints (take n c.args.codes.now))) (prints v))
+    (rest_is c.args.codes.now n)
     ∙ prints_after w c.args.codes.now n
 
 pub returns-then-printed-codes-clause-places : goal.returns-then-printed-codes-clause-places
@@ -32,17 +35,26 @@ returns-then-printed-codes-clause-places c =
     let n : ℕ = c.begin_line-printed.result in
     let rest : List ℕ = take (length c.args.codes.now - n) (drop n c.args.codes.now) in
     c.print_run.ensures.places
-    ∙ ap (λ (v : Screen). all_acted_places v (prints rest) c.begin_line-printed.new.self.page.places) c.begin_line-printed.ensures.screen
-    ∙ ap (λ (ps : List ℕ). all_acted_places (all_acted w (prints (take n c.args.codes.now))) (prints rest) ps) c.begin_line-printed.ensures.places
-    ∙ ap (λ (v : List ℕ). all_acted_places (all_acted w (prints (take n c.args.codes.now))) (prints v) (all_acted_places w (prints (take n c.args.codes.now)) begun)) (rest_is c.args.codes.now n)
+    ∙ ap (λ (v : Screen). all_acted_places v (prints rest) c.begin_line-printed.new.self.page.places)
+    c.begin_line-printed.ensures.screen
+    ∙ ap (λ (ps : List ℕ). all_acted_places (all_acted w (prints (take n c.args.codes.now))) (prints rest) ps)
+    c.begin_line-printed.ensures.places
+    ∙ ap (λ (v : List ℕ). all_acted_places (all_acted w (prints (take n c.args.codes.now))) (prints v)
+    (all_acted_places w (prints (take n c.args.codes.now)) begun)) (rest_is c.args.codes.now n)
     ∙ places_after w c.args.codes.now n begun
 
 pub returns-else-printed-codes-clause-screen : goal.returns-else-printed-codes-clause-screen
 returns-else-printed-codes-clause-screen c =
-    let all : take c.begin_line-printed.result c.args.codes.now ≡ c.args.codes.now = take_all c.begin_line-printed.result c.args.codes.now (omega arith) in
-    c.begin_line-printed.ensures.screen ∙ ap (λ (v : List ℕ). all_acted (screen_of c.args.self.now) (CarriageReturn ∷ LineFeed ∷ prints v)) all
+    let all : take c.begin_line-printed.result c.args.codes.now ≡ c.args.codes.now = take_all
+    c.begin_line-printed.result c.args.codes.now (omega arith) in
+    c.begin_line-printed.ensures.screen
+    ∙ ap (λ (v : List ℕ). all_acted (screen_of c.args.self.now) (CarriageReturn ∷ LineFeed ∷ prints v)) all
 
 pub returns-else-printed-codes-clause-places : goal.returns-else-printed-codes-clause-places
 returns-else-printed-codes-clause-places c =
-    let all : take c.begin_line-printed.result c.args.codes.now ≡ c.args.codes.now = take_all c.begin_line-printed.result c.args.codes.now (omega arith) in
-    c.begin_line-printed.ensures.places ∙ ap (λ (v : List ℕ). all_acted_places (screen_of c.args.self.now) (CarriageReturn ∷ LineFeed ∷ prints v) c.args.self.now.page.places) all
+    let all : take c.begin_line-printed.result c.args.codes.now ≡ c.args.codes.now = take_all
+    c.begin_line-printed.result c.args.codes.now (omega arith) in
+    c.begin_line-printed.ensures.places
+    ∙ ap
+    (λ (v : List ℕ). all_acted_places (screen_of c.args.self.now) (CarriageReturn ∷ LineFeed ∷ prints v)
+    c.args.self.now.page.places) all

@@ -8,8 +8,10 @@ use Rattle.vt_screen_rows.proofs.display.Display.print_run.Given as goal
 abbrev pub invariant-loop-printed : goal.invariant-loop-printed
 invariant-loop-printed l = record {
   fit : IsFit l.self;
-  screen : all_acted (screen_of l.self) (prints (drop l.printed l.codes)) ≡ all_acted (screen_of l.fn.self) (prints l.codes);
-  places : all_acted_places (screen_of l.self) (prints (drop l.printed l.codes)) l.self.page.places ≡ all_acted_places (screen_of l.fn.self) (prints l.codes) l.fn.self.page.places;
+  screen : all_acted (screen_of l.self) (prints (drop l.printed l.codes)) ≡ all_acted (screen_of l.fn.self)
+      (prints l.codes);
+  places : all_acted_places (screen_of l.self) (prints (drop l.printed l.codes)) l.self.page.places ≡ all_acted_places
+      (screen_of l.fn.self) (prints l.codes) l.fn.self.page.places;
   few : l.printed ≤ length l.codes;
 }
 

@@ -13,11 +13,16 @@ returns-clause-screen c =
     let run : List ℕ = take n c.args.characters.now in
     let size : length run ≡ n = omega (arith, length-take n c.args.characters.now) in
     c.place_wide_run.ensures.screen
-    ∙ sym (wides_run run (screen_of c.args.self.now) (c.wide_count-count.ensures.runs some) (c.wide_count-count.ensures.settled some) c.requires.fit.sound
-    (front_wide c.args.characters.now n few c.wide_count-count.ensures.wide) (omega arith) (omega (arith, c.wide_count-count.ensures.room)))
+    ∙ sym
+    (wides_run run (screen_of c.args.self.now) (c.wide_count-count.ensures.runs some)
+    (c.wide_count-count.ensures.settled some) c.requires.fit.sound
+    (front_wide c.args.characters.now n few c.wide_count-count.ensures.wide) (omega arith)
+    (omega (arith, c.wide_count-count.ensures.room)))
 
 pub returns-clause-fit : goal.returns-clause-fit
-returns-clause-fit c = all_acted_fit c.args.self.now c.place_wide_run.new.self (prints (take c.wide_count-count.result c.args.characters.now)) c.requires.fit (returns-clause-screen c) c.place_wide_run.ensures.width
+returns-clause-fit c = all_acted_fit c.args.self.now c.place_wide_run.new.self
+    (prints (take c.wide_count-count.result c.args.characters.now)) c.requires.fit (returns-clause-screen c)
+    c.place_wide_run.ensures.width
 
 pub returns-clause-places : goal.returns-clause-places
 returns-clause-places c =
@@ -27,5 +32,8 @@ returns-clause-places c =
     let run : List ℕ = take n c.args.characters.now in
     let size : length run ≡ n = omega (arith, length-take n c.args.characters.now) in
     c.place_wide_run.ensures.places
-    ∙ sym (wides_places run (screen_of c.args.self.now) c.args.self.now.page.places (c.wide_count-count.ensures.runs some) (c.wide_count-count.ensures.settled some) c.requires.fit.sound
-    (front_wide c.args.characters.now n few c.wide_count-count.ensures.wide) (omega (arith, c.wide_count-count.ensures.room)))
+    ∙ sym
+    (wides_places run (screen_of c.args.self.now) c.args.self.now.page.places (c.wide_count-count.ensures.runs some)
+    (c.wide_count-count.ensures.settled some) c.requires.fit.sound
+    (front_wide c.args.characters.now n few c.wide_count-count.ensures.wide)
+    (omega (arith, c.wide_count-count.ensures.room)))

@@ -7,4 +7,11 @@ use Rattle.vt_screen_rows.proofs.display.Display.resized.Goals as goal
 pub returns-in-Ok-clause-ok : goal.returns-in-Ok-clause-ok
 unfolding resized
 returns-in-Ok-clause-ok c =
-    rw (c.fit.ensures, c.new-self.ensures, c.fit_saved-self.ensures, c.in_ok-page.ensures.ok, c.in-Ok.ensures.ok, reverse-map (line_resized c.args.columns) c.args.self.now.ring.lines) refl
+    rw (
+      c.fit.ensures,
+      c.new-self.ensures,
+      c.fit_saved-self.ensures,
+      c.in_ok-page.ensures.ok,
+      c.in-Ok.ensures.ok,
+      reverse-map (line_resized c.args.columns) c.args.self.now.ring.lines,
+    ) refl

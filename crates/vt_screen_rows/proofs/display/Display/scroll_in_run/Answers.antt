@@ -8,7 +8,13 @@ use Rattle.vt_screen_rows.proofs.display.Display.scroll_in_run.Goals as goal
 pub returns-clause-screen : goal.returns-clause-screen
 returns-clause-screen c =
     let d = c.args.self.now in
-    rw (c.advance.ensures, c.scroll_in_run.ensures.lines, c.scroll_in_run.ensures.kept, reverse-with_line d.ring.keep d.ring.lines (line_at d.page.lines 0))
+    rw (
+      c.advance.ensures,
+      c.scroll_in_run.ensures.lines,
+      c.scroll_in_run.ensures.kept,
+      reverse-with_line d.ring.keep
+          d.ring.lines (line_at d.page.lines 0),
+    )
     (sym (scrolled_run (screen_of d) c.args.codes.now c.requires.fit.sound c.requires.scrolls))
 
 pub returns-clause-places : goal.returns-clause-places
