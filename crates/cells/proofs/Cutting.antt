@@ -1,4 +1,4 @@
--- A cut at a boundary keeps halves paired, and leaves no wide character on both sides of it.
+-- A cut at a boundary keeps halves paired, and leaves no wide character across it.
 use Rattle.std.proofs.Common.{◌≡◌, ℕ, suc, ◌-◌, ◌<◌, true, false, List, length, set, refl, sym, ap, ◌∙◌, arith, ⊎_elim}
 use Rattle.std.proofs.lemmas.List.{get_or-set_same, get_or-set_other, length-set}
 use Rattle.std.proofs.lemmas.Bool.{cases_lt, cases_eq, cases_Bool}

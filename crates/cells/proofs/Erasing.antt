@@ -1,4 +1,4 @@
--- Erasures in place: two after one another are one.
+-- Erasures in place: two, one after the other, are one.
 use Rattle.std.proofs.Common.{◌≡◌, ℕ, zero, suc, ◌+◌, ◌-◌, ◌<◌, ◌≤◌, Bool, true, false, ◌&&◌, ◌||◌, cond, eqb, List}
 use Rattle.std.proofs.Common.{length, replicate, not, leb, ltb, refl, sym, ap, ◌∙◌, ◌⊎◌, inl, inr, arith, ⊎_elim}
 use Rattle.std.proofs.Common.{eq-eqb}
@@ -14,7 +14,7 @@ use Rattle.cells.proofs.Splicing.{at_front, at_fresh, at_rest}
 use Rattle.cells.proofs.Settling.{settled_at, cell_at-cells_from, cells_from-is, length-cells_from, cell_at_past}
 use Rattle.cells.proofs.Settling.{true≢false, after_inside, after_last, IsPaired-cells_from, and_false}
 
--- the columns of a test are erased
+-- the columns that pass the test are erased
 abbrev pub inplace : (ℕ → Bool) → ℕ → Source
 inplace p column = cond (p column) (Fresh blank) (Old column)
 
@@ -23,7 +23,7 @@ abbrev pub before_of : (ℕ → Bool) → ℕ → Bool
 before_of p zero = false
 before_of p (suc column) = p column
 
--- what a column that isn't erased has then
+-- the cell of a column that isn't erased
 abbrev pub value_by : Shape → Bool → Bool → Cell → Cell
 value_by Narrow before after cell = cell
 value_by Left before after cell = cond after blank cell
@@ -80,13 +80,13 @@ pub cell_at-erased : (p : ℕ → Bool) (cells : List Cell) → IsPaired cells �
 cell_at-erased p cells paired c within = cell_at-cells_from (inplace p) cells c within
     ∙ value_at p cells paired c within
 
--- a line with these values is the erased one
+-- a line with these cells is the erased one
 pub erased_is : (p : ℕ → Bool) (cells line : List Cell) → IsPaired cells → length line ≡ length cells
     → ((c : ℕ) → c < length cells → cell_at line c ≡ value p cells c) → line ≡ cells_from (inplace p) cells
 erased_is p cells line paired n each = cells_from-is (inplace p) cells line n
     (λ c within. each c within ∙ sym (value_at p cells paired c within))
 
--- to erase a column that is blank changes nothing
+-- erasing a blank column changes nothing
 blank_next : (s : Shape) (cell : Cell) (before after : Bool) → (is_left s ≡ true → after ≡ false)
     → (is_right s ≡ true → before ≡ false) → value_by s before after cell ≡ cell
 blank_next Narrow cell before after l r = refl
@@ -167,7 +167,7 @@ cells_from-same f g cells same = cells_from-is g cells (cells_from f cells) (len
         ∙ sym (after_last g (length cells) c e))
         (cases_lt (suc c) (length cells))
 
--- a splice of one column is its erasure
+-- a splice of one column is an erasure of it
 pub spliced_one : (k : ℕ) (cells : List Cell) → k < length cells
     → cells_from (spliced k (replicate 1 blank) (k + 1) (length cells)) cells ≡ cells_from (inplace (λ c. eqb c k))
     cells
@@ -239,7 +239,7 @@ not_yet : (cells : List Cell) (from k : ℕ) → so_far cells from k k ≡ false
 not_yet cells from k = let b : ltb k k ≡ false = le-ltb k k (omega arith) in rw b
     (ap (λ x. x && not (protected_at cells k)) (and_false _))
 
--- the loop has left a column as it was, or blank
+-- the loop has left a column as it was, or blanked it
 here_is : (cells : List Cell) (from k : ℕ) → IsPaired cells → k < length cells
     → (cell_at (cells_from (unprotected_erased cells from k) cells) k ≡ blank) ⊎
     (cell_at (cells_from (unprotected_erased cells from k) cells) k ≡ cell_at cells k)
@@ -253,7 +253,7 @@ here_is cells from k paired within =
     ⊎_elim (λ h. inl (e ∙ h)) (λ h. inr (e ∙ h))
     (blank_or_old (cell_at cells k).shape (before_of p k) (p (suc k)) (cell_at cells k))
 
--- a protected cell stays
+-- a protected cell stays as it is
 pub erase_kept : (cells : List Cell) (from k : ℕ) → IsPaired cells → k < length cells
     → (cell_at (cells_from (unprotected_erased cells from k) cells) k).is_protected ≡ true
     → cells_from (unprotected_erased cells from k) cells ≡ cells_from (unprotected_erased cells from (k + 1)) cells
@@ -262,7 +262,7 @@ erase_kept cells from k paired within held = ⊎_elim
     (λ h. still cells from k (sym (ap (λ (x : Cell). x.is_protected) h) ∙ held))
     (here_is cells from k paired within)
 
--- another one is erased
+-- an unprotected cell is erased
 pub erase_one : (cells : List Cell) (from k : ℕ) → IsPaired cells → from ≤ k → k < length cells
     → (cell_at (cells_from (unprotected_erased cells from k) cells) k).is_protected ≡ false
     → cells_from (spliced k (replicate 1 blank) (k + 1) (length (cells_from (unprotected_erased cells from k) cells)))

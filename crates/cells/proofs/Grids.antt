@@ -1,4 +1,4 @@
--- What keeps a grid well formed, and what a change of size gives.
+-- A grid stays well formed; the lines of a page of another size.
 use Rattle.std.proofs.Common.{◌≡◌, ℕ, ◌<◌, ◌≤◌, Bool, List, [], length, set, replicate, refl, sym, ap, ◌∙◌, subst}
 use Rattle.std.proofs.Common.{arith, ⊎_elim}
 use Rattle.std.proofs.lemmas.List.FromFn.{length-map-range_with_len, get_or-map-range_with_len}
@@ -13,7 +13,7 @@ use Rattle.cells.specs.Resizing.{line_resized, page_resized}
 use Rattle.cells.proofs.Pages.{map_same, settled_on_line, before_on_line, after_on_line, IsPaired-line_from}
 use Rattle.cells.proofs.Pages.{IsPaired-nil, IsPage-is, length-line_from, map_replicate}
 
--- a line of the same width takes another one's place
+-- a line of the same width replaces another one
 pub IsGrid-set : (page : List (List Cell)) (line : ℕ) (new : List Cell) → IsGrid page → line < length page
     → length new ≡ length (line_at page line) → IsPaired new → IsGrid (set page line new)
 IsGrid-set page line new grid inside same paired =

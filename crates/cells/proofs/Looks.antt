@@ -1,4 +1,4 @@
--- Cells of one look have one rendition and one shape.
+-- Cells with one look have one rendition and one shape.
 use Rattle.std.proofs.Common.{◌≡◌, ℕ, zero, suc, ◌<◌, Bool, true, false, [], ◌∷◌, get_or, refl, sym, ap, ◌∙◌, arith}
 use Rattle.cells.specs.declared.cell.Shape.{Shape}
 use Rattle.cells.specs.declared.cell.Shape.TheVariants.{Narrow, Left, Right}
@@ -35,7 +35,7 @@ shape_few Narrow = omega arith
 shape_few Left = omega arith
 shape_few Right = omega arith
 
--- digits back
+-- from a number back to its digits
 abbrev bit_at : ℕ → Bool
 bit_at zero = false
 bit_at (suc n) = true
@@ -75,7 +75,7 @@ same_colour a b e = sym (colour_back a) ∙ ap colour_at e ∙ colour_back b
 same_shape : (a b : Shape) → shape_part a ≡ shape_part b → a ≡ b
 same_shape a b e = sym (shape_back a) ∙ ap shape_at e ∙ shape_back b
 
--- a bit and what stands behind it
+-- a bit and the digits after it
 module _ (a b : Bool) (x y : ℕ) (e : before (bit a) x ≡ before (bit b) y) where
   first_bit : a ≡ b
   first_bit = same_bit a b (first (bit a) (bit b) x y (bit_few a) (bit_few b) e)
@@ -90,7 +90,7 @@ module _ (a b : Colour) (x y : ℕ) (e : before (colour_part a) x ≡ before (co
   after_colour : x ≡ y
   after_colour = rest (colour_part a) (colour_part b) x y (colour_few a) (colour_few b) e
 
--- the attributes of cells of one number
+-- cells with one number have the same attributes
 module _ (a b : Cell) (e : attributes_of a ≡ attributes_of b) where
   same_attributes : (a.rendition.is_bold ≡ b.rendition.is_bold)
       × (a.rendition.is_underlined ≡ b.rendition.is_underlined)
@@ -108,7 +108,7 @@ module _ (a b : Cell) (e : attributes_of a ≡ attributes_of b) where
         same_bit p.is_reversed q.is_reversed reversed,
       )
 
--- their colours and shapes
+-- cells with one number have the same colours and shapes
 module _ (a b : Cell) (e : colours_of a ≡ colours_of b) where
   same_colours : (a.rendition.fore ≡ b.rendition.fore) × (a.rendition.back ≡ b.rendition.back) × (a.shape ≡ b.shape)
   unfolding colours_of
@@ -137,7 +137,7 @@ attributes_few c =
     let r : Rendition = c.rendition in
     omega (arith, bit_few r.is_bold, bit_few r.is_underlined, bit_few r.is_blinking, bit_few r.is_reversed)
 
--- cells of one look have both
+-- cells with one look have both
 pub same_look : (a b : Cell) → look_of a ≡ look_of b → (attributes_of a ≡ attributes_of b)
     × (colours_of a ≡ colours_of b)
 unfolding look_of

@@ -1,4 +1,4 @@
--- What the slice calls of a splice leave in each column.
+-- The cells of each column after the slice calls of a splice.
 use Rattle.std.proofs.Common.{◌≡◌, ℕ, ◌+◌, ◌-◌, ◌<◌, ◌≤◌, List, length, get_or, take, drop, replicate, ap, ◌∙◌, arith}
 use Rattle.std.proofs.Common.{length-take, length-drop, length-append}
 use Rattle.std.proofs.lemmas.List.{places, length-replicate}
@@ -51,7 +51,7 @@ module _ {X : Type 0} (blank : X) (old : List X) (at start rest moved : ℕ) (or
   pub moved_end : (k : ℕ) (d : X) → start + moved ≤ k → k < length old → get_or line k d ≡ blank
   moved_end k d h g = grind (arith, places, length_cleared, length_shifted)
 
--- the three slice calls, as a function meets them
+-- the three slice calls, in the form that a function has them
 pub calls_are : {X : Type 0} → (blank : X) (old copied first second : List X) (at start rest moved : ℕ) → at ≤ start
     → start + moved ≤ length old → rest + moved ≤ length old
     → copied ≡ paste old start (drop rest old) (rest + moved - rest)

@@ -1,4 +1,4 @@
--- Characters alone are written over cells that differ from blanks in these alone.
+-- Cells that differ from blanks in their characters only: writing the characters is enough.
 use Rattle.std.proofs.Common.{◌≡◌, ℕ, zero, suc, ◌+◌, ◌-◌, ◌<◌, ◌≤◌, Bool, true, false, ◌&&◌, cond, ltb, List, [], ◌∷◌}
 use Rattle.std.proofs.Common.{◌++◌, length, take, drop, get_or, set, replicate, not, leb, inr, refl, sym, ap, ◌∙◌}
 use Rattle.std.proofs.Common.{subst, arith, ⊎_elim}
@@ -16,14 +16,14 @@ use Rattle.cells.proofs.Splicing.{IsPaired-blanks}
 use Rattle.cells.proofs.Runs.{with_run, run_inside, run_outside}
 use Rattle.cells.proofs.Putting.{IsPutSoFar, put_next, put_none, narrow_at, length-narrow_cells, run_is}
 
--- so many characters are written
+-- the first `count` characters are written
 abbrev pub AreWritten : ℕ → List ℕ → List Cell → ℕ → List Cell → Type 0
 AreWritten at codes old count line = IsPutSoFar at (narrow_cells codes plain false) old count line
 
 pub none_written : (at : ℕ) (codes : List ℕ) (old : List Cell) → AreWritten at codes old 0 old
 none_written at codes old = record { outside = λ k h. refl; new = λ j h. absurd (omega arith) }
 
--- a cell that no character was written to yet
+-- a cell whose character isn't written yet
 unwritten : (at count : ℕ) (old line : List Cell) (unread : Cell) → ArePlainFrom at old → at + count < length line
     → cell_at line (at + count) ≡ cell_at old (at + count)
     → get_or line (at + count) unread ≡ narrow_cell (cell_at old (at + count)).character plain false
@@ -44,7 +44,7 @@ next_written at count next codes old line unread plains inside within more writt
     (subst (λ n. AreWritten at codes old n (set line (at + count) (fresh_at fresh count))) more
     (put_next at fresh old count line written inside))
 
--- no wide character stands at a plain cell
+-- no wide character stands in a plain cell
 uncut : (column : ℕ) (cells : List Cell) → IsPlain (cell_at cells column) → cut_of column cells ≡ cells
 uncut column cells is = ap
     (λ (x : Cell). cond (is_right x.shape) (set (set cells (column - 1) blank) column blank) cells) is
@@ -71,7 +71,7 @@ nothing_written at codes cells none paired =
     let n : length fresh ≡ length codes = length-narrow_cells codes plain false in
     put_none at fresh cells (n ∙ none) paired ∙ ap (λ m. cells_from (spliced at fresh (at + m) (length cells)) cells) n
 
--- so many are blanked
+-- the first cells are blanked
 abbrev pub AreBlanked : ℕ → List Cell → ℕ → List Cell → Type 0
 AreBlanked from old count line = IsPut from (replicate count blank) old line
 
@@ -106,7 +106,7 @@ next_blanked from count next old line unread plains inside more blanked =
           ∙ blanked.rest k (omega (arith, n, m));
     })
 
--- blanks in the used columns make a blank line
+-- blanks in the used columns make the line blank
 pub cleared_plain : (used : ℕ) (cells line : List Cell) → used ≤ length cells → IsBlankFrom used cells
     → IsPut 0 (replicate (used - 0) blank) cells line → line ≡ replicate (length cells) blank
 cleared_plain used cells line inside blanks put =
@@ -128,7 +128,7 @@ cleared_plain used cells line inside blanks put =
 pub blanks_plain : (from : ℕ) (cells : List Cell) → IsBlankFrom from cells → ArePlainFrom from cells
 blanks_plain from cells blanks = λ k h. subst IsPlain (sym (blanks k h)) refl
 
--- all cells are, where all sources are
+-- all cells are plain if all sources are
 settled_plain : (cells : List Cell) (before here after : Source) → IsPlain (taken cells here)
     → settled cells before here after ≡ taken cells here
 settled_plain cells before here after is = ap
@@ -190,7 +190,7 @@ blank_at width k = ⊎_elim
     (λ (past : width ≤ k). cell_at_past (replicate width blank) k (rw (length-replicate width blank) past))
     (cases_lt k width)
 
--- what is left behind a run in the first columns of a line is blanked
+-- after a run in the first columns, the rest of the line is blanked
 module _ (codes : List ℕ) (used : ℕ) (cells put line : List Cell) (some : 0 < length codes)
     (room : length codes ≤ length cells) (inside : used ≤ length cells) (paired : IsPaired cells)
     (blanks : IsBlankFrom used cells) (plains : ArePlainFrom 0 cells)
@@ -242,7 +242,7 @@ module _ (codes : List ℕ) (used : ℕ) (cells put line : List Cell) (some : 0 
       (subst (λ old. AreWritten 0 codes old (length codes) line) (sym whole) written)
       ∙ ap (λ m. cells_from (spliced 0 (narrow_cells codes plain false) m (length empty)) empty) n
 
--- what an edit wrote back
+-- the line after an edit is written back
 pub plain-stored : (source : ℕ → Source) (new old items : List Cell) (len : ℕ) → length new ≡ len
     → new ≡ cells_from source old → old ≡ items → ((k : ℕ) → IsPlain (taken items (source k)))
     → ArePlainFrom 0 (take len (new ++ drop (length new) items))
@@ -258,7 +258,7 @@ erased_plain cells old from end plains k = go (leb from k && ltb k end && not (c
     go true = refl
     go false = plains k (omega arith)
 
--- what is noted of a line that was cleared, also behind a run
+-- what is noted of a line that was cleared, perhaps except for a run
 pub noted_blank : (width len : ℕ) (new rest : List Cell) → length new ≡ len → new ≡ replicate width blank
     → IsNoted 0 true (take len (new ++ rest))
 noted_blank width len new rest n is = rw (take_at new rest len n) (subst (IsNoted 0 true) (sym is) (record {
@@ -291,7 +291,7 @@ pub both : (a b : Bool) → a && b ≡ true → (a ≡ true) × (b ≡ true)
 both true b h = (refl, h)
 both false b h = absurd (cc)
 
--- a line of plain cells, behind a run in its first columns
+-- a line of plain cells, after a run in its first columns
 pub plain_behind : (codes : List ℕ) (cells put : List Cell) → ArePlainFrom 0 cells
     → put ≡ with_run plain false 0 codes cells → ArePlainFrom (length codes) put
 plain_behind codes cells put plains is =

@@ -14,7 +14,7 @@ use Rattle.cells.specs.Page.{settled_cell, origin_before, origin_after, line_fro
 use Rattle.cells.proofs.Settling.{kept_is, cells_from-is, settled_at, true≢false, cell_at_past, after_inside, left_kept}
 use Rattle.cells.proofs.Settling.{right_kept, and_false, same_side}
 
--- lists made of equal functions
+-- lists made by equal functions
 pub map_same : {X : Type 0} → (f g : ℕ → X) (a n : ℕ) → ((k : ℕ) → f k ≡ g k)
     → map f (range_with_len a n) ≡ map g (range_with_len a n)
 map_same f g a zero h = refl
@@ -50,7 +50,7 @@ after_on_line origin source line width same column = ⊎_elim
     (λ (e : eqb (suc column) width ≡ false). rw e (same (suc column)))
     (cases_Bool (eqb (suc column) width))
 
--- a line that is edited in its place, or elsewhere
+-- a line that an edit changes, and one that it doesn't
 pub line_from-edit : (origin : ℕ → Origin) (source : ℕ → Source) (page : List (List Cell)) (line width : ℕ)
     → width ≡ length (line_at page line) → ((column : ℕ) → origin column ≡ on_line line (source column))
     → line_from origin width page ≡ cells_from source (line_at page line)
@@ -241,7 +241,7 @@ IsPage-page_from origin rows columns page is_page = let n : length page ≡ rows
       (cases_lt line (length page));
 }
 
--- a page of some size is well formed
+-- a page of a size is well formed
 pub IsPage-is : (rows columns : ℕ) (page : List (List Cell)) → IsPage rows columns page → 0 < rows → IsWellFormed page
 IsPage-is rows columns page is_page some = let n : length page ≡ rows = is_page.height in record {
   height = refl;

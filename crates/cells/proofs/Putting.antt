@@ -1,4 +1,4 @@
--- New cells in place of as many old ones.
+-- New cells put over as many old ones.
 use Rattle.std.proofs.Common.{◌≡◌, ℕ, zero, suc, ◌+◌, ◌-◌, ◌<◌, ◌≤◌, min, Bool, true, false, ◌&&◌, cond, List, [], ◌∷◌}
 use Rattle.std.proofs.Common.{◌++◌, length, take, drop, set, replicate, refl, sym, ap, ◌∙◌, ◌⊎◌, inl, inr, subst, arith}
 use Rattle.std.proofs.Common.{⊎_elim, eq-eqb, length-take, get_or}
@@ -23,7 +23,7 @@ use Rattle.cells.proofs.Splicing.{plain_spliced, plain_from, cell_at-plain_from,
 use Rattle.cells.proofs.Splicing.{at_rest, cells_from-spliced, cut_thrice, length-cut_thrice, IsPaired-blanks}
 use Rattle.cells.proofs.Splicing.{narrow_pairs, wide_pairs}
 
--- where nothing is torn, the other cells stay
+-- if nothing is torn, the other cells stay
 pub put_plain : (at : ℕ) (fresh cells line : List Cell) → at + length fresh ≤ length cells → IsPaired cells
     → IsPaired fresh → is_right (cell_at cells at).shape ≡ false
     → is_right (cell_at cells (at + length fresh)).shape ≡ false → length line ≡ length cells
@@ -71,7 +71,7 @@ put_narrow_plain at cell cells room paired new old =
     ∙ sym (ap (cell_at (cell ∷ [])) z))
     (λ k h g. get_or-set_other cells at k cell blank (omega arith))
 
--- both halves over cells of which none is torn
+-- both halves over cells, if none is torn
 pub put_wide_plain : (at : ℕ) (l r : Cell) (cells : List Cell) → at + 2 ≤ length cells → IsPaired cells → l.shape ≡ Left
     → r.shape ≡ Right
     → is_right (cell_at cells at).shape ≡ false → is_left (cell_at cells (at + 1)).shape ≡ false
@@ -96,7 +96,7 @@ put_wide_plain at l r cells room paired hl hr before after =
     (λ k h g. get_or-set_other (set cells at l) (at + 1) k r blank (omega arith)
     ∙ get_or-set_other cells at k l blank (omega arith))
 
--- no new cells change nothing
+-- without new cells nothing changes
 pub put_none : (at : ℕ) (fresh cells : List Cell) → length fresh ≡ 0 → IsPaired cells
     → cells ≡ cells_from (spliced at fresh (at + length fresh) (length cells)) cells
 put_none at fresh cells none paired = sym
@@ -114,7 +114,7 @@ IsPaired-shapes a b same paired = record {
   next = λ column. sym (ap is_left (same column)) ∙ paired.next column ∙ ap is_right (same (suc column));
 }
 
--- the cells of a line, after an edit of them all
+-- the cells of a line, after an edit of all of them
 pub IsPaired-stored : (source : ℕ → Source) (new old items : List Cell) (len : ℕ) → length new ≡ len
     → new ≡ cells_from source old → old ≡ items → IsPaired items
     → IsPaired (take len (new ++ drop (length new) items))
@@ -122,7 +122,7 @@ IsPaired-stored source new old items len n is same paired =
     rw (take_at new (drop (length new) items) len n)
     (subst IsPaired (sym is) (IsPaired-cells_from source old (subst IsPaired (sym same) paired)))
 
--- new cells of any kind: each column of theirs
+-- new cells of any kind: each of their columns
 module _ (at : ℕ) (fresh cells : List Cell) (room : at + length fresh ≤ length cells) where
   abbrev source : ℕ → Source
   source column = spliced at fresh (at + length fresh) (length cells) column
@@ -187,7 +187,7 @@ module _ (at : ℕ) (fresh cells : List Cell) (room : at + length fresh ≤ leng
   n_blanks : length blanks ≡ length fresh
   n_blanks = length-replicate (length fresh) blank
 
-  -- a column that no new cell takes
+  -- a column outside of the new cells
   abbrev IsOutside : ℕ → Type 0
   IsOutside k = (k < at) ⊎ (at + length fresh ≤ k)
 
@@ -289,7 +289,7 @@ module _ (at : ℕ) (fresh cells : List Cell) (room : at + length fresh ≤ leng
         ∙ ap (taken (cut_thrice at (length blanks) (at + length fresh) cells)) (kept_place_blank k h within)
         ∙ ap (λ x. cell_at x k) thrice
 
-    -- a line with the right cells is the one that the new cells were put into
+    -- a line with the right cells is the line into which the new cells were put
     pub put_is : (line : List Cell) → length line ≡ length cells
         → ((k : ℕ) → IsOutside k → cell_at line k ≡ cell_at cut_twice k)
         → ((j : ℕ) → j < length fresh → cell_at line (at + j) ≡ fresh_at fresh j)
@@ -304,7 +304,7 @@ module _ (at : ℕ) (fresh cells : List Cell) (room : at + length fresh ≤ leng
         (cases_lt k (at + length fresh)))
         (cases_lt k at))
 
--- so many of the new cells are in their places
+-- the first `count` new cells are in their places
 pub record IsPutSoFar (at : ℕ) (fresh old : List Cell) (count : ℕ) (line : List Cell) : Type 0 where
   pub outside : (k : ℕ) → (k < at) ⊎ (at + count ≤ k) → cell_at line k ≡ cell_at old k
   pub new : (j : ℕ) → j < count → cell_at line (at + j) ≡ fresh_at fresh j
@@ -361,7 +361,7 @@ pub cell_at-line_resized : (width : ℕ) (cells : List Cell) (k : ℕ) → k < w
     → cell_at (line_resized width cells) k ≡ settled cells (source_before Old k) (Old k) (source_after Old width k)
 cell_at-line_resized width cells k h = get_or-map-range_with_len _ 0 width k k blank h (omega arith)
 
--- what is kept depends only on the side that a half has
+-- which cell is kept depends only on the other half of a half
 kept_same : (s : Shape) (cell : Cell) (p q p' q' : Bool) → (is_left s ≡ true → p ≡ p') → (is_right s ≡ true → q ≡ q')
     → kept s cell p q ≡ kept s cell p' q'
 kept_same Narrow cell p q p' q' l r = refl

@@ -1,4 +1,4 @@
--- A run of characters of width 1 is the first one and then the others.
+-- A run of characters of width 1 is its first character and then the others.
 use Rattle.std.proofs.Common.{◌≡◌, ℕ, zero, suc, ◌+◌, ◌-◌, ◌<◌, ◌≤◌, Bool, true, false, cond, List, [], ◌∷◌, length}
 use Rattle.std.proofs.Common.{set, refl, sym, ap, ◌∙◌, ◌⊎◌, inl, inr, subst, arith, ⊎_elim}
 use Rattle.std.proofs.lemmas.List.{get_or-set_same, get_or-set_other, length-set, set-set}
@@ -23,7 +23,7 @@ cut_elsewhere c cells k n m = go (is_right (cell_at cells c).shape)
         ∙ get_or-set_other cells (c - 1) k blank blank m
     go false = refl
 
--- what stands behind a cut
+-- a cell after a cut
 abbrev pub uncut : Cell → Cell
 uncut cell = cond (is_right cell.shape) blank cell
 
@@ -35,7 +35,7 @@ cut_behind c cells h = go (is_right (cell_at cells c).shape)
     go false = refl
 
 module _ (rendition : Rendition) (is_protected : Bool) where
-  -- a line with a run in place of as many cells
+  -- a line with a run over as many cells
   abbrev pub with_run : ℕ → List ℕ → List Cell → List Cell
   with_run at codes cells = cells_from
       (spliced at (narrow_cells codes rendition is_protected) (at + length codes) (length cells)) cells
@@ -126,7 +126,7 @@ module _ (rendition : Rendition) (is_protected : Bool) where
         ∙ cut_elsewhere (at + 1) front k (omega arith) (omega arith)
         ∙ sym (cut_elsewhere (at + suc (length codes)) front k (omega arith) (omega arith))
 
-    -- behind it
+    -- after the run
     one_behind : (k : ℕ) → at + 1 + length codes ≤ k → k < length cells → cell_at one k ≡ cell_at front k
     one_behind k h within = one_outside k (inr (omega arith)) within
         ∙ cut_elsewhere (at + 1) front k (omega arith) (omega arith)
@@ -180,7 +180,7 @@ module _ (rendition : Rendition) (is_protected : Bool) where
     run_more = run_is (code ∷ codes) rendition is_protected at cells both room (omega arith) paired length_both
         (record { outside = outside_both; new = inside_both })
 
-  -- the same in a page
+  -- a page with a run in one of its lines
   abbrev pub page_run : ℕ → ℕ → ℕ → List ℕ → List (List Cell) → List (List Cell)
   page_run width line at codes page = page_from
       (edited line (spliced at (narrow_cells codes rendition is_protected) (at + length codes) width)) page

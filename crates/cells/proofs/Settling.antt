@@ -1,4 +1,4 @@
--- What `cells_from` gives in each column, and that it keeps halves paired.
+-- The cell of each column of `cells_from`, which keeps halves paired.
 use Rattle.std.proofs.Common.{◌≡◌, ℕ, zero, suc, ◌-◌, ◌<◌, ◌≤◌, Bool, true, false, ◌&&◌, cond, eqb, List, length, set}
 use Rattle.std.proofs.Common.{refl, sym, ap, ◌∙◌, arith, ⊎_elim, eq-eqb}
 use Rattle.std.proofs.lemmas.List.FromFn.{length-map-range_with_len, get_or-map-range_with_len}
@@ -92,7 +92,7 @@ pub after_last : (source : ℕ → Source) (width column : ℕ) → suc column �
     → source_after source width column ≡ Fresh blank
 after_last source width column h = rw (eq-eqb (suc column) width h) refl
 
--- whatever the sources, halves stay paired
+-- halves stay paired, whatever the sources are
 pub IsPaired-cells_from : (source : ℕ → Source) (cells : List Cell) → IsPaired cells
     → IsPaired (cells_from source cells)
 unfolding settled_at
@@ -137,14 +137,14 @@ cells_from-is source cells line h each = ext_get_or blank line (cells_from sourc
     (h ∙ sym (length-cells_from source cells)) (λ column inside.
     each column (rw h at inside) ∙ sym (cell_at-cells_from source cells column (rw h at inside)))
 
--- a cell stays where its other half comes along
+-- a cell stays if its other half comes along
 pub kept_is : (s : Shape) (cell : Cell) (p q : Bool) → (is_left s ≡ true → p ≡ true) → (is_right s ≡ true → q ≡ true)
     → kept s cell p q ≡ cell
 kept_is Narrow cell p q l r = refl
 kept_is Left cell p q l r = rw (l refl) refl
 kept_is Right cell p q l r = rw (r refl) refl
 
--- no column and the next one bring both halves across the boundary before `at` along
+-- no two neighbouring columns bring both halves across the boundary before `at` along
 pub record Tears (source : ℕ → Source) (width at : ℕ) : Type 0 where
   pub apart : (column : ℕ) → suc column < width → source column ≡ Old (at - 1) → source (suc column) ≡ Old at → ⊥
 
@@ -214,7 +214,7 @@ torn_after source width at tears column inside here after = ⊎_elim
 pub true≢false : (b : Bool) → b ≡ true → b ≡ false → ⊥
 true≢false b t f = cc
 
--- where the sources tear the boundary before `at`, a cut there changes nothing
+-- if the sources tear the boundary before `at`, a cut there changes nothing
 pub cells_from-cut : (source : ℕ → Source) (cells : List Cell) (at : ℕ) → IsPaired cells
     → Tears source (length cells) at → cells_from source (cut_of at cells) ≡ cells_from source cells
 unfolding settled_at cut_cells

@@ -15,7 +15,7 @@ use Rattle.cells.proofs.Settling.{after_inside, length-cut_of, length-cells_from
 use Rattle.cells.proofs.Moves.{moved_line, length-moved_line, moved_front, moved_blank, moved_rest, moved_end}
 use Rattle.cells.proofs.Cutting.{IsPaired-cut_of, right-cut_of_same, right-cut_of_other}
 
--- the line of plain cells, where no half is torn
+-- the line of plain cells, if no half is torn
 abbrev pub plain_from : (ℕ → Source) → List Cell → List Cell
 plain_from source cells = map (λ column. taken cells (source column)) (range_with_len 0 (length cells))
 
@@ -58,7 +58,7 @@ same_column : (a : Source) (c d : ℕ) → a ≡ Old c → a ≡ Old d → c ≡
 unfolding old_column
 same_column a c d h k = ap (λ x. old_column x 0) (sym h ∙ k)
 
--- which columns keep an old cell, and which one
+-- which columns keep an old cell, and which cell that is
 old_at : (at : ℕ) (fresh : List Cell) (rest width column c : ℕ) → spliced at fresh rest width column ≡ Old c
     → ((column < at) × (column ≡ c)) ⊎
     ((at + length fresh ≤ column) × (column + rest < at + length fresh + width)
@@ -296,7 +296,7 @@ IsPaired-blanks count = record {
         (λ h. get_or_past (replicate count blank) column blank (rw (length-replicate count blank) h))
         (cases_lt column count)
 
--- what the slice calls of a splice leave is the line from its sources
+-- the slice calls of a splice leave the line from its sources
 pub moved_line-is : (at count rest : ℕ) (cells : List Cell) → at ≤ rest → rest ≤ length cells
     → at + count ≤ length cells → at < rest + count → IsPaired cells
     → moved_line blank (cut_thrice at count rest cells) at (at + count) rest
@@ -345,7 +345,7 @@ moved_line-is at count rest cells order inside room changes paired =
     ∙ sym
     (cells_from-spliced at fresh rest cells order inside (rw n room) (rw n changes) paired (IsPaired-blanks count))
 
--- what is new, over a splice of as many blanks
+-- new cells over a splice of as many blanks
 module _ (at : ℕ) (fresh : List Cell) (rest : ℕ) (cells : List Cell) (order : at ≤ rest) (inside : rest ≤ length cells)
     (room : at + length fresh ≤ length cells)
     (changes : at < rest + length fresh) (paired : IsPaired cells) (pairs : IsPaired fresh) where

@@ -1,4 +1,4 @@
--- What stays blank behind the columns that are used.
+-- The columns that stay blank after the used ones.
 use Rattle.std.proofs.Common.{◌≡◌, ℕ, ◌+◌, ◌-◌, ◌<◌, ◌≤◌, max, Bool, true, false, ◌&&◌, cond, leb, ltb, not, suc, List}
 use Rattle.std.proofs.Common.{◌++◌, length, take, drop, set, replicate, refl, sym, ap, ◌∙◌, subst, arith, ⊎_elim}
 use Rattle.std.proofs.lemmas.List.{ext_get_or, take_at, length-replicate, get_or-replicate, length-set}
@@ -31,7 +31,7 @@ IsBlankFrom-cells_from source used cells each k h = ⊎_elim
     (λ (past : length cells ≤ k). cell_at_past (cells_from source cells) k (rw (length-cells_from source cells) past))
     (cases_lt k (length cells))
 
--- what an edit wrote back
+-- the line after an edit is written back
 pub IsUsed-stored : (source : ℕ → Source) (used next : ℕ) (new old items : List Cell) (len : ℕ) → length new ≡ len
     → new ≡ cells_from source old → old ≡ items → IsUsed used items
     → next ≤ length items → ((k : ℕ) → next ≤ k → k < length items → taken items (source k) ≡ blank)
@@ -44,7 +44,7 @@ IsUsed-stored source used next new old items len n is same used_is inside each =
       blank = IsBlankFrom-cells_from source next items each;
     }))
 
--- behind new cells, and the old ones that follow them
+-- the columns after new cells, and after the old ones that follow them
 pub spliced_behind : (at : ℕ) (fresh cells : List Cell) (rest used k : ℕ) → IsBlankFrom used cells
     → used - rest + (at + length fresh) ≤ k
     → taken cells (spliced at fresh rest (length cells) k) ≡ blank
@@ -56,7 +56,7 @@ spliced_behind at fresh cells rest used k blanks past = ⊎_elim
     (at_end at fresh rest (length cells) k (omega arith) end))
     (cases_lt (k + rest) (at + length fresh + length cells))
 
--- what is erased is blank
+-- erased columns are blank
 pub erased_behind : (cells : List Cell) (from end used k : ℕ) → IsBlankFrom used cells → used ≤ k
     → taken cells (unprotected_erased cells from end k) ≡ blank
 erased_behind cells from end used k blanks past = go (leb from k && ltb k end && not (cell_at cells k).is_protected)
@@ -65,7 +65,7 @@ erased_behind cells from end used k blanks past = go (leb from k && ltb k end &&
     go true = refl
     go false = blanks k past
 
--- one cell of its shape in place of another
+-- a cell of the same shape in place of another
 pub IsUsed-set : (cells : List Cell) (used column : ℕ) (cell : Cell) → column < length cells
     → cell.shape ≡ (cell_at cells column).shape → IsUsed used cells
     → IsUsed (max used (column + 1)) (set cells column cell)
@@ -75,7 +75,7 @@ IsUsed-set cells used column cell inside same used_is = record {
   blank = λ k h. get_or-set_other cells column k cell blank (omega arith) ∙ used_is.blank k (omega arith);
 }
 
--- the same cell, of width 1, in each column
+-- one cell, of width 1, in every column
 pub IsUsed-filled : (count : ℕ) (cell : Cell) → cell.shape ≡ Narrow → IsUsed count (replicate count cell)
 IsUsed-filled count cell narrow = record {
   paired = record {
@@ -93,7 +93,7 @@ IsUsed-filled count cell narrow = record {
         (cell_at_past (replicate count cell) k (rw (length-replicate count cell) h)))
         (cases_lt k count)
 
--- blanks in the used columns make a blank line
+-- blanks in the used columns make the line blank
 pub cleared_is : (used : ℕ) (cells : List Cell) → used ≤ length cells → IsBlankFrom used cells
     → replicate used blank ++ drop used cells ≡ replicate (length cells) blank
 cleared_is used cells inside blanks =

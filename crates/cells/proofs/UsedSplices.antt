@@ -1,4 +1,4 @@
--- Splices of a line whose end is blank.
+-- Splices of a line that ends in blanks.
 use Rattle.std.proofs.Common.{◌≡◌, ℕ, zero, suc, ◌+◌, ◌-◌, ◌<◌, ◌≤◌, min, Bool, true, false, ◌&&◌, cond, List, ◌++◌}
 use Rattle.std.proofs.Common.{length, take, drop, replicate, refl, sym, ap, ◌∙◌, ◌⊎◌, inl, inr, arith, ⊎_elim}
 use Rattle.std.proofs.Common.{length-take}
@@ -16,7 +16,7 @@ use Rattle.cells.proofs.Splicing.{at_front, at_fresh, at_rest, at_end}
 use Rattle.cells.proofs.Putting.{IsPaired-shapes}
 use Rattle.cells.proofs.Used.{settled_blank}
 
--- two sources of a column: they are one, or both give a blank
+-- two sources of a column are the same, or both give a blank
 abbrev pub Alike : List Cell → Source → Source → Type 0
 Alike cells a b = (a ≡ b) ⊎ ((taken cells a ≡ blank) × (taken cells b ≡ blank))
 
@@ -62,7 +62,7 @@ settled_alike cells paired b h a b' h' a' before here after = ⊎_elim
     ∙ sym (settled_blank cells b' h' a' blanks.1))
     here
 
--- the columns below `end` have sources that are alike, and the others get blanks
+-- the columns below `end` have sources that are alike, and the other columns get blanks
 record AreAlike (cells : List Cell) (end width : ℕ) (source other : ℕ → Source) : Type 0 where
   pub front : (k : ℕ) → k < end → Alike cells (source k) (other k)
   pub back : (k : ℕ) → end ≤ k → k < width → taken cells (other k) ≡ blank
@@ -85,7 +85,7 @@ module _ (cells : List Cell) (end width : ℕ) (source other : ℕ → Source) (
       (cases_lt (suc k) width))
       (cases_lt (suc k) end)
 
--- what is blank from a column on, from its front
+-- the cells before the column from which on a line is blank
 module _ (end : ℕ) (cells : List Cell) (blanks : IsBlankFrom end cells) where
   front_at : (k : ℕ) → cell_at (take end cells) k ≡ cell_at cells k
   front_at k = ⊎_elim
@@ -104,7 +104,7 @@ module _ (end : ℕ) (cells : List Cell) (blanks : IsBlankFrom end cells) where
   front_settled : (b h a : Source) → settled (take end cells) b h a ≡ settled cells b h a
   front_settled b h a = ap (λ (x : Cell). kept x.shape x (are_halves h a) (are_halves b h)) (front_taken h)
 
--- a line whose cells from `end` on stay blank, from its front
+-- a line that stays blank from `end` on is known by the cells before it
 front_is : (cells : List Cell) (end : ℕ) (source other : ℕ → Source) → IsPaired cells → end ≤ length cells
     → IsBlankFrom end cells → AreAlike cells end (length cells) source other
     → cells_from source (take end cells) ++ drop end cells ≡ cells_from other cells
@@ -130,7 +130,7 @@ front_is cells end source other paired inside blanks alike =
     (alike.back k back within)))
     (cases_lt k end))
 
--- sources that are alike give one line
+-- sources that are alike give the same line
 same_cells : (cells : List Cell) (source other : ℕ → Source) → IsPaired cells
     → ((k : ℕ) → k < length cells → Alike cells (source k) (other k)) → cells_from source cells ≡ cells_from other cells
 unfolding settled_at
@@ -152,7 +152,7 @@ blanks_at count k = ⊎_elim
     (λ h. get_or_past (replicate count blank) k blank (rw (length-replicate count blank) h))
     (cases_lt k count)
 
--- where only blanks follow, blanks stand behind the cells that stay
+-- if only blanks follow, the columns after the cells that stay are blank
 all_blank_behind : (at : ℕ) (fresh : List Cell) (rest used : ℕ) (cells : List Cell) → AreBlank fresh → used ≤ rest
     → IsBlankFrom used cells
     → (k : ℕ) → at ≤ k → taken cells (spliced at fresh rest (length cells) k) ≡ blank
@@ -174,7 +174,7 @@ all_blank_from at fresh rest used cells new order blanks k past = ⊎_elim
     (λ (h : at ≤ k). all_blank_behind at fresh rest used cells new order blanks k h)
     (cases_lt k at)
 
--- so such splices are one, whatever they count
+-- so such splices are the same, whatever their counts
 pub splices_are_one : (at : ℕ) (fresh other : List Cell) (rest last used : ℕ) (cells : List Cell) → AreBlank fresh
     → AreBlank other → used ≤ rest → used ≤ last → IsPaired cells → IsBlankFrom used cells
     → cells_from (spliced at fresh rest (length cells)) cells ≡ cells_from (spliced at other last (length cells)) cells
@@ -189,7 +189,7 @@ splices_are_one at fresh other rest last used cells new new' order order' paired
     ))
     (cases_lt k at))
 
--- a splice of the front, where nothing but blanks leaves it
+-- a splice of the cells before `end`, if only blanks leave them
 pub front_spliced : (at : ℕ) (fresh : List Cell) (rest used end : ℕ) (cells : List Cell) → at + length fresh ≤ end
     → used ≤ end → end ≤ length cells
     → ((end ≡ length cells) ⊎ (used + (at + length fresh) ≤ end + rest)) → IsPaired cells → IsBlankFrom used cells

@@ -1,4 +1,4 @@
--- A run of characters of width 2 is the first one and then the others.
+-- A run of characters of width 2 is its first character and then the others.
 use Rattle.std.proofs.Common.{◌≡◌, ℕ, zero, suc, ◌+◌, ◌*◌, ◌<◌, ◌≤◌, Bool, false, List, [], ◌∷◌, length, set, refl, sym}
 use Rattle.std.proofs.Common.{ap, ◌∙◌, ◌⊎◌, inl, inr, subst, arith, ⊎_elim}
 use Rattle.std.proofs.lemmas.List.{get_or-set_same, set-set}
@@ -16,7 +16,7 @@ use Rattle.cells.proofs.Runs.{cut_elsewhere, cut_behind, uncut}
 use Rattle.cells.proofs.Wides.{wides, length-wides, fresh-later, wides_are}
 
 module _ (rendition : Rendition) (is_protected : Bool) where
-  -- a line with a run in place of as many cells
+  -- a line with a run over twice as many cells
   abbrev pub with_wides : ℕ → List ℕ → List Cell → List Cell
   with_wides at codes cells = cells_from
       (spliced at (wides rendition is_protected codes) (at + 2 * length codes) (length cells)) cells
@@ -107,7 +107,7 @@ module _ (rendition : Rendition) (is_protected : Bool) where
         ∙ cut_elsewhere (at + 2) front k (omega arith) (omega arith)
         ∙ sym (cut_elsewhere (at + 2 * suc (length codes)) front k (omega arith) (omega arith))
 
-    -- behind it
+    -- after the run
     one_behind : (k : ℕ) → at + 2 + 2 * length codes ≤ k → k < length cells → cell_at one k ≡ cell_at front k
     one_behind k h within = one_outside k (inr (omega arith)) within
         ∙ cut_elsewhere (at + 2) front k (omega arith) (omega arith)
@@ -162,7 +162,7 @@ module _ (rendition : Rendition) (is_protected : Bool) where
     wides_more = wides_are rendition is_protected at (code ∷ codes) cells both room (omega arith) paired length_both
         (record { outside = outside_both; new = inside_both })
 
-  -- the same in a page
+  -- a page with a run in one of its lines
   abbrev pub page_wides : ℕ → ℕ → ℕ → List ℕ → List (List Cell) → List (List Cell)
   page_wides width line at codes page = page_from
       (edited line (spliced at (wides rendition is_protected codes) (at + 2 * length codes) width)) page

@@ -16,7 +16,7 @@ module _ (rendition : Rendition) (is_protected : Bool) where
   length-wides [] = refl
   length-wides (c ∷ characters) = let n = length-wides characters in omega arith
 
-  -- behind the first character the others stand as alone
+  -- after the first character the others stand as they would alone
   pub fresh-later : (c : ℕ) (characters : List ℕ) (k : ℕ)
       → fresh_at (wides (c ∷ characters)) (suc (suc k)) ≡ fresh_at (wides characters) k
   fresh-later c characters zero = refl
@@ -39,7 +39,7 @@ module _ (rendition : Rendition) (is_protected : Bool) where
       ap (fresh_at (wides (c ∷ characters))) e ∙ fresh-later c characters (2 * j + 1)
       ∙ right_at characters j (omega arith)
 
-  -- a character more is put
+  -- one more character is put
   pub put_pair : (at : ℕ) (characters : List ℕ) (old line : List Cell) (j next : ℕ) → j < length characters
       → at + 2 * j + 1 < length line → 2 * (j + 1) ≡ next
       → IsPutSoFar at (wides characters) old (2 * j) line

@@ -1,7 +1,7 @@
 use Rattle.std.specs.Prelude.{ℕ, zero, suc, ◌==◌, cond, Option, Some, None}
 
--- the columns of a character on a screen, from its width (UAX #11): none for a control, and one
--- where the width is 3, since a screen draws such a character as U+FFFD
+-- the columns of a character on a screen, by its width (UAX #11): none for a control, and one for a
+-- width of 3, since a screen draws such a character as U+FFFD
 abbrev pub glyph_columns : Option ℕ → ℕ
 glyph_columns None = 0
 glyph_columns (Some zero) = 0

@@ -23,7 +23,7 @@ plain = record {
   back = Default;
 }
 
--- the number of a colour; none is the terminal's own
+-- the number of a colour; None for the terminal's own
 abbrev pub colour_number : Colour → Option ℕ
 colour_number Default = None
 colour_number Black = Some 0
@@ -40,7 +40,7 @@ abbrev pub blank : Cell
 blank =
     record { shape = Narrow; character = 32; marks = Bare; rendition = plain; is_protected = false }
 
--- a new character of width 1, and the halves of one of width 2
+-- a new character of width 1, and then the halves of one of width 2
 abbrev pub narrow_cell : ℕ → Rendition → Bool → Cell
 narrow_cell character rendition is_protected =
     record {
@@ -76,8 +76,7 @@ abbrev pub narrow_cells : List ℕ → Rendition → Bool → List Cell
 narrow_cells characters rendition is_protected =
     map (λ character. narrow_cell character rendition is_protected) characters
 
--- marks and one more, which is dropped where there are two (Unicode core specification, section
--- 5.13)
+-- marks and one more; it is dropped if there are two (Unicode core specification, section 5.13)
 abbrev pub joined : Marks → ℕ → Marks
 joined Bare mark = One mark
 joined (One first) mark = Two first mark
@@ -87,11 +86,11 @@ joined (Two first second) mark = Two first second
 abbrev pub marked : Cell → ℕ → Cell
 marked cell mark = record cell { marks = joined cell.marks mark }
 
--- what is seen of a cell
+-- the visible part of a cell
 abbrev pub unprotected : Cell → Cell
 unprotected cell = record cell { is_protected = false }
 
--- the content of a column, and a blank past the end
+-- the cell of a column, and a blank past the end
 abbrev pub cell_at : List Cell → ℕ → Cell
 cell_at cells column = slice_index_or cells column blank
 
@@ -105,7 +104,7 @@ is_right Narrow = false
 is_right Left = false
 is_right Right = true
 
--- a left half stands in a column exactly where a right half stands in the next one
+-- a left half stands in a column if and only if a right half stands in the next column
 pub record IsPaired (cells : List Cell) : Type 0 where
   pub first : is_right (cell_at cells 0).shape ≡ false
   pub next : (column : ℕ)
@@ -121,7 +120,7 @@ pub record IsUsed (used : ℕ) (cells : List Cell) : Type 0 where
   pub inside : used ≤ length cells
   pub blank : IsBlankFrom used cells
 
--- what a column gets: a new cell, or the old cell of a column
+-- where the cell of a column comes from: it is new, or the old cell of a column
 pub data Source : Type 0 where
   Fresh : Cell → Source
   Old : ℕ → Source
@@ -131,14 +130,14 @@ abbrev pub taken : List Cell → Source → Cell
 taken cells (Fresh cell) = cell
 taken cells (Old column) = cell_at cells column
 
--- the second source has the other half of what is a left half at the first one
+-- the second source has the other half of the left half at the first one
 abbrev pub are_halves : Source → Source → Bool
 are_halves (Fresh left) (Fresh right) = is_left left.shape && is_right right.shape
 are_halves (Old left) (Old right) = suc left == right
 are_halves (Fresh left) (Old right) = false
 are_halves (Old left) (Fresh right) = false
 
--- a half whose own other half doesn't come along beside it is a blank
+-- a half becomes a blank unless its own other half comes along beside it
 abbrev pub kept : Shape → Cell → Bool → Bool → Cell
 kept Narrow cell after before = cell
 kept Left cell after before = cond after cell blank
@@ -149,23 +148,23 @@ settled cells before here after =
     let cell : Cell = taken cells here in
     kept cell.shape cell (are_halves here after) (are_halves before here)
 
--- the source of the column before, of which there is none before the first
+-- the source of the column before; the first column has none before it
 abbrev pub source_before : (ℕ → Source) → ℕ → Source
 source_before source zero = Fresh blank
 source_before source (suc column) = source column
 
--- the source of the column after, of which there is none after the last
+-- the source of the column after; the last column has none after it
 abbrev pub source_after : (ℕ → Source) → ℕ → ℕ → Source
 source_after source width column = cond (suc column == width) (Fresh blank) (source (suc column))
 
--- the line that gets each column's cell from its source
+-- the line in which each column has the cell of its source
 abbrev pub cells_from : (ℕ → Source) → List Cell → List Cell
 cells_from source cells =
     map (λ column. settled cells (source_before source column) (source column)
     (source_after source (length cells) column))
     (range_with_len 0 (length cells))
 
--- a wide character on both sides of the boundary before a column becomes two blanks
+-- a wide character that the boundary before a column cuts becomes two blanks
 abbrev pub cut_of : ℕ → List Cell → List Cell
 cut_of column cells =
     cond (is_right (cell_at cells column).shape)
@@ -185,20 +184,20 @@ spliced at fresh rest width column =
 abbrev pub cells_spliced : ℕ → List Cell → ℕ → List Cell → List Cell
 cells_spliced at fresh rest cells = cells_from (spliced at fresh rest (length cells)) cells
 
--- the cells from `from` on and below `end` are erased, but for protected ones
--- (DECSEL, VT220 Programmer Reference Manual)
+-- the unprotected cells from `from` up to but not including `end` are erased (DECSEL, VT220
+-- Programmer Reference Manual)
 abbrev pub unprotected_erased : List Cell → ℕ → ℕ → ℕ → Source
 unprotected_erased cells from end column =
     cond (nat_le from column && nat_lt column end && not (cell_at cells column).is_protected)
     (Fresh blank) (Old column)
 
--- a right half stands in a column behind its left half
+-- the right half of a wide character, in the column after its left half
 abbrev pub right_follows : List Cell → ℕ → Bool
 right_follows fresh zero = false
 right_follows fresh (suc column) =
     is_left (cell_at fresh column).shape && is_right (cell_at fresh (suc column)).shape
 
--- the new cell of a column, or a blank where it is a half without its other half beside it
+-- the new cell of a column; a half without its other half beside it becomes a blank
 abbrev pub fresh_at : List Cell → ℕ → Cell
 fresh_at fresh column =
     kept (cell_at fresh column).shape (cell_at fresh column)
@@ -213,8 +212,8 @@ IsPlain cell = cell ≡ narrow_cell cell.character plain false
 abbrev pub ArePlainFrom : ℕ → List Cell → Type 0
 ArePlainFrom from cells = (column : ℕ) → from ≤ column → IsPlain (cell_at cells column)
 
--- what a line keeps beside its cells: from which column on it is blank, and whether it is known that
--- all its cells are plain
+-- what a line notes beside its cells: the column from which on it is blank, and whether all its
+-- cells are known to be plain
 pub record IsNoted (used : ℕ) (is_plain : Bool) (cells : List Cell) : Type 0 where
   pub used_part : IsUsed used cells
   pub plain : is_plain ≡ true → ArePlainFrom 0 cells

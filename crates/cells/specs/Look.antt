@@ -1,4 +1,4 @@
--- Parts of a cell as numbers: digits to the base 256, in the order in which a cell holds them.
+-- Parts of a cell as numbers: digits to the base 256, in the order of the fields.
 use Rattle.std.specs.Prelude.{ℕ, ◌+◌, ◌*◌, Bool, true, false}
 use Rattle.cells.specs.declared.cell.Shape.{Shape}
 use Rattle.cells.specs.declared.cell.Shape.TheVariants.{Narrow, Left, Right}
@@ -27,7 +27,7 @@ shape_part Narrow = 0
 shape_part Left = 1
 shape_part Right = 2
 
--- a digit, and the number of the digits behind it
+-- a digit before the number of the digits after it
 abbrev pub before : ℕ → ℕ → ℕ
 before digit rest = digit + 256 * rest
 
@@ -43,6 +43,6 @@ colours_of c =
     before (colour_part c.rendition.fore) (before (colour_part c.rendition.back)
     (before (shape_part c.shape) (bit c.is_protected)))
 
--- both, behind one another
+-- the attributes, and then the colours
 unfoldable pub look_of : Cell → ℕ
 look_of c = attributes_of c + 0x1_0000_0000 * colours_of c

@@ -5,11 +5,11 @@ use Rattle.cells.specs.declared.cell.Cell.{Cell}
 use Rattle.cells.specs.Line.{blank, marked, cell_at, is_left, is_right, kept, IsPaired, Source}
 use Rattle.cells.specs.Line.{Fresh, Old, spliced}
 
--- a line of a page, and no cells past its end
+-- a line of a page; past its end there is an empty line
 abbrev pub line_at : List (List Cell) → ℕ → List Cell
 line_at page line = slice_index_or page line []
 
--- so many lines of so many cells, with halves paired in each
+-- `rows` lines of `columns` cells, with halves paired in each
 pub record IsPage (rows columns : ℕ) (page : List (List Cell)) : Type 0 where
   pub height : length page ≡ rows
   pub width : (line : ℕ) → line < rows → length (line_at page line) ≡ columns
@@ -31,7 +31,7 @@ pub record IsGrid (page : List (List Cell)) : Type 0 where
   pub well_formed : IsWellFormed page
   pub size : IsGridSize (length page) (length (line_at page 0))
 
--- what a place gets: a new cell, or the old cell of a place
+-- where the cell of a place comes from: it is new, or the old cell of a place
 pub data Origin : Type 0 where
   New : Cell → Origin
   From : ℕ → ℕ → Origin
@@ -41,25 +41,25 @@ abbrev pub cell_from : List (List Cell) → Origin → Cell
 cell_from page (New cell) = cell
 cell_from page (From line column) = cell_at (line_at page line) column
 
--- the second origin has the other half of what is a left half at the first one
+-- the second origin has the other half of the left half at the first one
 abbrev pub are_own_halves : Origin → Origin → Bool
 are_own_halves (New left) (New right) = is_left left.shape && is_right right.shape
 are_own_halves (From line left) (From other right) = (line == other) && (suc left == right)
 are_own_halves (New left) (From line right) = false
 are_own_halves (From line left) (New right) = false
 
--- a half whose own other half doesn't come along beside it is a blank
+-- a half becomes a blank unless its own other half comes along beside it
 abbrev pub settled_cell : List (List Cell) → Origin → Origin → Origin → Cell
 settled_cell page before here after =
     let cell : Cell = cell_from page here in
     kept cell.shape cell (are_own_halves here after) (are_own_halves before here)
 
--- the origin of the column before, of which there is none before the first
+-- the origin of the column before; the first column has none before it
 abbrev pub origin_before : (ℕ → Origin) → ℕ → Origin
 origin_before origin zero = New blank
 origin_before origin (suc column) = origin column
 
--- the origin of the column after, of which there is none after the last
+-- the origin of the column after; the last column has none after it
 abbrev pub origin_after : (ℕ → Origin) → ℕ → ℕ → Origin
 origin_after origin width column = cond (suc column == width) (New blank) (origin (suc column))
 
@@ -70,13 +70,13 @@ line_from origin width page =
     (origin_after origin width column))
     (range_with_len 0 width)
 
--- the page that gets each place's cell from its origin
+-- the page in which each place has the cell of its origin
 abbrev pub page_from : (ℕ → ℕ → Origin) → List (List Cell) → List (List Cell)
 page_from origin page =
     map (λ line. line_from (origin line) (length (line_at page line)) page)
     (range_with_len 0 (length page))
 
--- the origin on a page of a column's source in a line
+-- the origin on a page, from a source in one of its lines
 abbrev pub on_line : ℕ → Source → Origin
 on_line line (Fresh cell) = New cell
 on_line line (Old column) = From line column

@@ -1,10 +1,10 @@
--- New cells in the places of as many old ones.
+-- New cells put over as many old ones.
 use Rattle.std.specs.Prelude.{◌≡◌, ℕ, ◌+◌, ◌<◌, ◌≤◌, List, length}
 use Rattle.cells.specs.declared.cell.Cell.{Cell}
 use Rattle.cells.specs.declared.cell.Shape.TheVariants.{Narrow}
 use Rattle.cells.specs.Line.{cell_at}
 
--- The cells from a column on and below another one are of width 1.
+-- The cells from a column up to but not including another one are of width 1.
 abbrev pub AreNarrowIn : List Cell → ℕ → ℕ → Type 0
 AreNarrowIn cells from end =
     (column : ℕ) → from ≤ column → column < end → (cell_at cells column).shape ≡ Narrow
@@ -13,7 +13,7 @@ AreNarrowIn cells from end =
 abbrev pub AreNarrow : List Cell → Type 0
 AreNarrow cells = AreNarrowIn cells 0 (length cells)
 
--- new cells stand from `at` on, and the others are the old ones
+-- the new cells stand from `at` on, and the other columns keep the old ones
 pub record IsPut (at : ℕ) (fresh old cells : List Cell) : Type 0 where
   pub width : length cells ≡ length old
   pub front : (column : ℕ) → column < at → cell_at cells column ≡ cell_at old column

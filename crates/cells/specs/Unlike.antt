@@ -2,14 +2,14 @@ use Rattle.std.specs.Prelude.{◌≡◌, ◌≢◌, ℕ, ◌<◌, ◌≤◌, Lis
 use Rattle.cells.specs.declared.cell.Cell.{Cell}
 use Rattle.cells.specs.Line.{cell_at, unprotected}
 
--- two lines look alike in a column: protection isn't seen
+-- two lines look alike in a column; protection isn't seen
 abbrev pub IsAlike : List Cell → List Cell → ℕ → Type 0
 IsAlike a b column = unprotected (cell_at a column) ≡ unprotected (cell_at b column)
 
 abbrev pub IsUnlike : List Cell → List Cell → ℕ → Type 0
 IsUnlike a b column = unprotected (cell_at a column) ≢ unprotected (cell_at b column)
 
--- they look alike from a column on and below another one
+-- they look alike from a column up to but not including another one
 abbrev pub AreAlikeIn : List Cell → List Cell → ℕ → ℕ → Type 0
 AreAlikeIn a b from end = (column : ℕ) → from ≤ column → column < end → IsAlike a b column
 
@@ -31,7 +31,7 @@ pub record IsEndOfUnlike (a b : List Cell) (start end : ℕ) : Type 0 where
   pub unlike : (column : ℕ) → start ≤ column → column < end → IsUnlike a b column
   pub alike_after : end < length a → IsAlike a b end
 
--- the first run of columns from `from` on in which they look different, up to `end`
+-- the first run of columns, from `from` on, in which they look different, up to `end`
 pub record IsNextUnlike (a b : List Cell) (from start end : ℕ) : Type 0 where
   pub first : IsFirstUnlike a b from start
   pub last : IsEndOfUnlike a b start end

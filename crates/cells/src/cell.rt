@@ -1,11 +1,11 @@
-//! What stands at a place of a line.
+//! The content of one place of a line.
 
 ghost use Rattle.std.specs.Prelude.{◌≡◌, ◌↔◌, IsTrue};
 ghost use Rattle.cells.specs.Look.{attributes_of, colours_of, look_of};
 ghost use Rattle.cells.specs.Line.{blank, colour_number, joined, unprotected, narrow_cell};
 ghost use Rattle.cells.specs.Line.{left_cell, right_cell};
 
-/// The part of its character that a cell holds (UAX #11, section 5).
+/// The part of a character that a cell holds (UAX #11, section 5).
 #[derive(Clone, Copy, Debug, PartialEq, Eq)]
 pub enum Shape {
     /// A character of width 1.
@@ -16,8 +16,8 @@ pub enum Shape {
     Right,
 }
 
-/// The nonspacing marks that joined a cell, in their order: at most two
-/// (Unicode core specification, section 5.13).
+/// The nonspacing marks that joined a cell, in their order: at most two (Unicode core
+/// specification, section 5.13).
 #[derive(Clone, Copy, Debug, PartialEq, Eq)]
 pub enum Marks {
     Bare,
@@ -25,7 +25,7 @@ pub enum Marks {
     Two(char, char),
 }
 
-/// A colour (ECMA-48, 8.3.117, SGR): the terminal's own, or one of eight, in the order of their
+/// A colour (ECMA-48, 8.3.117, SGR): the terminal's own, or one of eight in the order of their
 /// numbers.
 #[derive(Clone, Copy, Debug, PartialEq, Eq)]
 pub enum Colour {
@@ -47,9 +47,9 @@ pub struct Rendition {
     pub is_underlined: bool,
     pub is_blinking: bool,
     pub is_reversed: bool,
-    /// The foreground.
+    /// The colour of the character.
     pub fore: Colour,
-    /// The background.
+    /// The colour of the background.
     pub back: Colour,
 }
 
@@ -61,12 +61,12 @@ pub struct Cell {
     pub marks: Marks,
     pub rendition: Rendition,
     pub shape: Shape,
-    /// Whether a selective erasure spares it (VT220 Programmer Reference Manual, DECSCA).
+    /// Whether a selective erasure leaves it as it is (VT220 Programmer Reference Manual, DECSCA).
     pub is_protected: bool,
 }
 
 impl Marks {
-    /// These marks and one more, which is dropped where there are two.
+    /// These marks and one more. If there are two already, the new one is dropped.
     pub fn joined(self, mark: char) -> Marks
         ensures { result ≡ joined self mark }
     {
@@ -79,7 +79,7 @@ impl Marks {
 }
 
 impl Colour {
-    /// Its number, 0 to 7; None for the terminal's own.
+    /// The number of the colour, 0 to 7; None for the terminal's own.
     pub fn number(self) -> Option<u8>
         ensures { result ≡ colour_number self }
     {
@@ -121,7 +121,7 @@ impl Cell {
 
     ghost use Rattle.cells.specs.Line.{is_left as is_left_shape, is_right as is_right_shape};
 
-    /// A character of width 1, without marks.
+    /// A cell with a character of width 1, without marks.
     pub fn narrow(character: char, rendition: Rendition, is_protected: bool) -> Cell
         ensures { result ≡ narrow_cell character rendition is_protected }
     {
@@ -153,63 +153,63 @@ impl Cell {
         }
     }
 
-    /// Its character, which both halves of a wide one have.
+    /// The character. Both halves of a wide character have it.
     pub fn glyph(&self) -> char
         ensures { result ≡ self.now.character }
     {
         self.character
     }
 
-    /// The marks that joined it.
+    /// The marks that joined the cell.
     pub fn marks(&self) -> Marks
         ensures { result ≡ self.now.marks }
     {
         self.marks
     }
 
-    /// How it is shown.
+    /// The rendition.
     pub fn rendition(&self) -> Rendition
         ensures { result ≡ self.now.rendition }
     {
         self.rendition
     }
 
-    /// The number of its foreground's colour, 0 to 7; None for the terminal's own.
+    /// The number of the foreground colour, 0 to 7; None for the terminal's own.
     pub fn fore(&self) -> Option<u8>
         ensures { result ≡ colour_number self.now.rendition.fore }
     {
         self.rendition.fore.number()
     }
 
-    /// The number of its background's colour, 0 to 7; None for the terminal's own.
+    /// The number of the background colour, 0 to 7; None for the terminal's own.
     pub fn back(&self) -> Option<u8>
         ensures { result ≡ colour_number self.now.rendition.back }
     {
         self.rendition.back.number()
     }
 
-    /// Whether a selective erasure spares it.
+    /// Whether a selective erasure leaves the cell as it is.
     pub fn is_protected(&self) -> bool
         ensures { result ≡ self.now.is_protected }
     {
         self.is_protected
     }
 
-    /// The part of its character that it holds.
+    /// The part of its character that the cell holds.
     pub fn shape(&self) -> Shape
         ensures { result ≡ self.now.shape }
     {
         self.shape
     }
 
-    /// Whether it is a blank: a space without rendition, marks and protection.
+    /// Whether the cell is a blank: a space without rendition, marks or protection.
     pub fn is_blank(&self) -> bool
         ensures { IsTrue result ↔ (self.now ≡ blank) }
     {
         self.is_like(&Cell::BLANK) && !self.is_protected
     }
 
-    /// Whether it is a character of width 1.
+    /// Whether the cell holds a character of width 1.
     pub fn is_narrow(&self) -> bool
         ensures { IsTrue result ↔ (self.now.shape ≡ Shape.Narrow) }
     {
@@ -219,7 +219,7 @@ impl Cell {
         }
     }
 
-    /// Whether it is the left half of a wide character.
+    /// Whether the cell holds the left half of a wide character.
     pub fn is_left(&self) -> bool
         ensures { result ≡ is_left_shape self.now.shape }
     {
@@ -229,7 +229,7 @@ impl Cell {
         }
     }
 
-    /// Whether it is the right half of a wide character.
+    /// Whether the cell holds the right half of a wide character.
     pub fn is_right(&self) -> bool
         ensures { result ≡ is_right_shape self.now.shape }
     {
@@ -239,7 +239,7 @@ impl Cell {
         }
     }
 
-    /// What is seen of it: the cell without protection.
+    /// The cell without protection, which can't be seen.
     pub fn unprotected(&self) -> Cell
         ensures { result ≡ unprotected self.now }
     {
@@ -249,7 +249,7 @@ impl Cell {
         }
     }
 
-    /// Whether both look alike: they are one cell, protection aside.
+    /// Whether two cells look alike: they are equal, or differ in protection only.
     pub fn is_like(&self, other: &Cell) -> bool
         ensures { IsTrue result ↔ (unprotected self.now ≡ unprotected other.now) }
     {
@@ -261,16 +261,17 @@ impl Cell {
     }
 }
 
-// Sums of digits in the order of the fields, of which the compiler makes a load of a whole word. One
-// sum of all eight bytes was dearer: its bounds are proved of a copy alone.
-/// Whether both are one cell, without marks. Most that look alike are, and few comparisons tell.
+// These sums have the digits in the order of the fields, so the compiler loads a whole word. A sum
+// of all eight bytes was slower, since its bounds are proved of a copy only.
+/// Whether two cells are equal and without marks. It is a quick test: most cells that look alike
+/// pass it.
 pub(crate) fn is_same_bare(a: &Cell, b: &Cell) -> bool
     ensures { IsTrue result → unprotected a.now ≡ unprotected b.now }
 {
     a.character == b.character && look(a) == look(b) && is_bare(a.marks) & is_bare(b.marks)
 }
 
-/// All but the character and the marks as one number.
+/// The colours, the attributes, the shape and the protection as one number.
 #[tactic(auto, unfolding(crate::specs::Look::look_of))]
 fn look(cell: &Cell) -> u64
     ensures { result ≡ look_of cell.now }
@@ -287,8 +288,8 @@ fn is_bare(marks: Marks) -> bool
     }
 }
 
-/// The attributes as one number, in the order in which a cell holds them: a comparison of two reads
-/// each as one word.
+/// The attributes as one number, in the order of the fields, so that each is read as one word when
+/// two are compared.
 #[tactic(auto, unfolding(crate::specs::Look::attributes_of))]
 fn attributes(cell: &Cell) -> u32
     ensures { result ≡ attributes_of cell.now }
@@ -299,7 +300,7 @@ fn attributes(cell: &Cell) -> u32
         + 0x1000000 * cell.rendition.is_reversed as u32
 }
 
-/// Colours, shape and protection as one number, in the same way.
+/// The colours, the shape and the protection as one number, in the order of the fields.
 #[tactic(auto, unfolding(crate::specs::Look::colours_of))]
 fn colours(cell: &Cell) -> u32
     ensures { result ≡ colours_of cell.now }

@@ -1,4 +1,4 @@
-//! Edits of a line's cells.
+//! Edits of the cells of a line.
 
 ghost use Rattle.std.specs.Prelude.{◌≡◌, ◌+◌, ◌*◌, ◌-◌, ◌<◌, ◌≤◌, length, replicate, [], ◌∷◌, false};
 ghost use Rattle.std.specs.Prelude.{IsTrue};
@@ -11,7 +11,7 @@ ghost use Rattle.cells.specs.Wide.{wide_cells};
 
 use crate::cell::{Cell, Rendition, Shape};
 
-/// Blanks a wide character that stands on both sides of the boundary before `at`.
+/// Blanks both halves of a wide character that the boundary before column `at` would cut.
 pub fn cut(cells: &mut [Cell], at: usize)
     requires paired { IsPaired cells.old }
     ensures { cells.new ≡ cut_of at cells.old }
@@ -22,8 +22,8 @@ pub fn cut(cells: &mut [Cell], at: usize)
     }
 }
 
-/// Keeps the cells before `at`, puts in `count` blanks, and lets the old cells from `rest` on
-/// follow them.
+/// Keeps the cells before `at` and puts `count` blanks there. The old cells from `rest` on follow
+/// the blanks, as far as the line has room; columns after them become blank.
 pub fn splice(cells: &mut [Cell], at: usize, count: usize, rest: usize)
     requires paired { IsPaired cells.old }
     requires order { at ≤ rest }
@@ -43,8 +43,8 @@ pub fn splice(cells: &mut [Cell], at: usize, count: usize, rest: usize)
     cells[start + moved..].fill(Cell::BLANK);
 }
 
-/// Copies the cells from `from` on and below `end` to `to`. Where they stand there already, nothing
-/// is done.
+/// Copies the cells from `from` up to but not including `end` to `to`. Does nothing if `to` is
+/// `from`.
 #[inline(always)]
 fn copy_to(cells: &mut [Cell], from: usize, end: usize, to: usize)
     requires order { from ≤ end }
@@ -57,7 +57,7 @@ fn copy_to(cells: &mut [Cell], from: usize, end: usize, to: usize)
     }
 }
 
-/// Puts a cell of width 1 in at `at`, and lets the old cells from `rest` on follow it.
+/// Puts a cell of width 1 at `at`; the old cells from `rest` on follow it.
 pub fn put_narrow(cells: &mut [Cell], at: usize, cell: Cell, rest: usize)
     requires paired { IsPaired cells.old }
     requires order { at ≤ rest }
@@ -74,8 +74,7 @@ pub fn put_narrow(cells: &mut [Cell], at: usize, cell: Cell, rest: usize)
     cells[at] = cell;
 }
 
-/// Puts the halves of a wide character in at `at`, and lets the old cells from `rest` on follow
-/// them.
+/// Puts both halves of a wide character at `at`; the old cells from `rest` on follow them.
 pub fn put_wide(cells: &mut [Cell], at: usize, left: Cell, right: Cell, rest: usize)
     requires paired { IsPaired cells.old }
     requires order { at ≤ rest }
@@ -95,7 +94,7 @@ pub fn put_wide(cells: &mut [Cell], at: usize, left: Cell, right: Cell, rest: us
     cells[at + 1] = right;
 }
 
-/// The new cell of a column, or a blank where it is a half without its other half beside it.
+/// The new cell of a column. A half without its other half beside it becomes a blank.
 fn settled_fresh(fresh: &[Cell], column: usize) -> Cell
     requires { column < length fresh.now }
     ensures { result ≡ fresh_at fresh.now column }
@@ -109,7 +108,7 @@ fn settled_fresh(fresh: &[Cell], column: usize) -> Cell
     if is_whole { cell } else { Cell::BLANK }
 }
 
-/// Puts new cells in place of as many old ones.
+/// Puts new cells over as many old ones, from `at` on.
 pub fn put(cells: &mut [Cell], at: usize, fresh: &[Cell])
     requires paired { IsPaired cells.old }
     requires room { at + length fresh.now ≤ length cells.old }
@@ -129,7 +128,7 @@ pub fn put(cells: &mut [Cell], at: usize, fresh: &[Cell])
     }
 }
 
-/// Whether all cells are of width 1. They are looked at eight at a time.
+/// Whether all cells are of width 1. Eight cells are tested at a time.
 fn are_narrow(cells: &[Cell]) -> bool
     ensures { IsTrue result → AreNarrow cells.now }
 {
@@ -147,7 +146,7 @@ fn are_narrow(cells: &[Cell]) -> bool
     true
 }
 
-/// Whether eight cells are of width 1.
+/// Whether the eight cells from `from` on are of width 1.
 fn are_eight_narrow(cells: &[Cell], from: usize) -> bool
     requires { from + 8 ≤ length cells.now }
     ensures { IsTrue result → AreNarrowIn cells.now from (from + 8) }
@@ -160,7 +159,7 @@ fn are_eight_narrow(cells: &[Cell], from: usize) -> bool
     true
 }
 
-/// Copies cells of width 1 over as many old ones.
+/// Copies cells of width 1 over as many old ones, from `at` on.
 fn copy_over(cells: &mut [Cell], at: usize, fresh: &[Cell])
     requires room { at + length fresh.now ≤ length cells.old }
     requires narrow { AreNarrow fresh.now }
@@ -169,8 +168,7 @@ fn copy_over(cells: &mut [Cell], at: usize, fresh: &[Cell])
     cells[at..at + fresh.len()].copy_from_slice(fresh);
 }
 
-/// Puts a run of characters of width 1 in place of as many old cells: `codes` has their code
-/// points.
+/// Puts characters of width 1 over as many old cells, from `at` on. `codes` has their code points.
 pub fn put_run(
     cells: &mut [Cell],
     at: usize,
@@ -202,7 +200,7 @@ pub fn put_run(
     }
 }
 
-/// The same as `put_run`, of characters.
+/// Puts characters of width 1, from all of Unicode, over as many old cells, from `at` on.
 pub fn put_letters(
     cells: &mut [Cell],
     at: usize,
@@ -228,7 +226,7 @@ pub fn put_letters(
     }
 }
 
-/// Puts a run of characters of width 2 in place of twice as many old cells.
+/// Puts characters of width 2 over twice as many old cells, from `at` on.
 pub fn put_wide_run(
     cells: &mut [Cell],
     at: usize,
@@ -257,7 +255,7 @@ pub fn put_wide_run(
     }
 }
 
-/// The halves of a wide space, made apart as `space_cell`.
+/// The halves of a wide space. This function isn't inlined, for the reason given at `space_cell`.
 #[inline(never)]
 fn space_halves(rendition: Rendition, is_protected: bool) -> (Cell, Cell)
     ensures left { result.0 ≡ left_cell 0x20 rendition is_protected }
@@ -267,10 +265,9 @@ fn space_halves(rendition: Rendition, is_protected: bool) -> (Cell, Cell)
     (left, Cell::right(' ', rendition, is_protected))
 }
 
-/// Puts a run of characters of width 1, without rendition or protection, in place of as many cells of
-/// a line's end that differ from blanks in the character alone: that alone is written. `codes` has
-/// their code points. They are put in eight at a time, so that a turn of the loop costs little beside
-/// them.
+/// Puts characters of width 1 without rendition or protection over as many cells, from `at` on.
+/// `codes` has their code points. All old cells from `at` on differ from blanks in their characters
+/// only, so only characters are written: eight at a time, which makes the loop itself cheap.
 pub fn put_run_over_plain(cells: &mut [Cell], at: usize, codes: &[u8])
     requires paired { IsPaired cells.old }
     requires plain { ArePlainFrom at cells.old }
@@ -293,7 +290,8 @@ pub fn put_run_over_plain(cells: &mut [Cell], at: usize, codes: &[u8])
     }
 }
 
-/// Blanks the cells from `from` on and below `end`, which differ from blanks in the character alone.
+/// Blanks the cells from `from` up to but not including `end`. They differ from blanks in their
+/// characters only, so only characters are written.
 pub fn blank_plain(cells: &mut [Cell], from: usize, end: usize)
     requires plain { ArePlainFrom from cells.old }
     requires inside { end ≤ length cells.old }
@@ -311,8 +309,8 @@ pub fn blank_plain(cells: &mut [Cell], from: usize, end: usize)
     }
 }
 
-/// A space. It is made apart, so that the cells of a run are copied from one in memory as a whole,
-/// and not field by field.
+/// A space. This function isn't inlined, so that the cells of a run are copied from one in memory
+/// as a whole and not field by field.
 #[inline(never)]
 fn space_cell(rendition: Rendition, is_protected: bool) -> Cell
     ensures { result ≡ narrow_cell 0x20 rendition is_protected }
@@ -320,7 +318,7 @@ fn space_cell(rendition: Rendition, is_protected: bool) -> Cell
     Cell::narrow(' ', rendition, is_protected)
 }
 
-/// Erases the cells from `from` on and below `end`, but for protected ones.
+/// Erases the unprotected cells from `from` up to but not including `end`.
 pub fn erase_unprotected(cells: &mut [Cell], from: usize, end: usize)
     requires paired { IsPaired cells.old }
     requires order { from ≤ end }

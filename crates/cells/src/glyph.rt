@@ -6,11 +6,11 @@ ghost use Rattle.unicode_width.specs.Width.{char_width};
 
 use unicode_width::UnicodeWidthChar;
 
-/// What is drawn of a character of width 3.
+/// Drawn in place of a character of width 3.
 const REPLACEMENT: char = '\u{FFFD}';
 
-/// The columns that a character takes by itself: 0 for a mark and for a control, 1, or 2 (UAX #11,
-/// where ambiguous characters are narrow). U+17D8, whose width is 3, takes 1: a screen draws it as
+/// The number of columns of a character: 0 for a mark or a control, else 1 or 2 (UAX #11, with
+/// ambiguous characters narrow). U+17D8, the one of width 3, takes 1, since a screen draws it as
 /// U+FFFD.
 pub fn glyph_width(character: char) -> u8
     ensures width { result ≡ glyph_columns (char_width false character) }
@@ -19,7 +19,7 @@ pub fn glyph_width(character: char) -> u8
     glyph_columns(character.width())
 }
 
-/// The columns that a character of a width takes.
+/// The number of columns for a character of this width. None is the width of a control.
 pub fn glyph_columns(width: Option<usize>) -> u8
     ensures width { result ≡ glyph_columns width }
     ensures bound { result ≤ 2 }
@@ -31,7 +31,7 @@ pub fn glyph_columns(width: Option<usize>) -> u8
     }
 }
 
-/// What a screen draws of a character of a width: U+FFFD where that is 3.
+/// The character that a screen draws: U+FFFD in place of a character of width 3.
 pub fn drawn_as(width: Option<usize>, character: char) -> char
     ensures { result ≡ drawn_as width character }
 {

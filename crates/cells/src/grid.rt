@@ -11,7 +11,7 @@ use std::fmt;
 use std::marker::Model;
 use thiserror::Error;
 
-/// The fewest and the most lines of a grid, and the fewest and the most columns.
+/// The least and the greatest number of lines of a grid, and then of columns.
 const LEAST: usize = 2;
 
 const MOST_ROWS: usize = 200;
@@ -24,13 +24,13 @@ pub enum GridFault {
     /// An allocation was refused.
     #[error("out of memory")]
     NoMemory = 1,
-    /// Not 2 to 200 lines by 2 to 300 columns.
+    /// The size isn't 2 to 200 lines by 2 to 300 columns.
     #[error("bad size")]
     BadSize = 2,
 }
 
-/// Lines of one width, in which the halves of wide characters are paired: 2 to 200 lines by 2 to
-/// 300 columns. Lines and columns count from 0.
+/// A page of 2 to 200 lines by 2 to 300 columns, in which the halves of wide characters are paired.
+/// Lines and columns count from 0.
 #[derive(Drop)]
 pub struct Grid {
     lines: Vec<Line>,
@@ -48,7 +48,7 @@ impl Model for Grid {
     ghost invariant = { λ grid. IsGrid grid.lines.items };
 }
 
-/// So many blank lines.
+/// Makes `rows` blank lines of `columns` cells.
 pub fn blank_lines(alloc: Global, rows: usize, columns: usize) -> Result<Vec<Line>, AllocError>
     ensures { IfOk result (λ lines. lines.items ≡ replicate rows (replicate columns blank)) }
 {
@@ -59,7 +59,7 @@ pub fn blank_lines(alloc: Global, rows: usize, columns: usize) -> Result<Vec<Lin
     Ok(lines)
 }
 
-/// Copies of lines.
+/// Copies lines.
 fn copied_lines(alloc: Global, lines: &[Line]) -> Result<Vec<Line>, AllocError>
     ensures { IfOk result (λ copies. copies.items ≡ lines.now) }
 {
@@ -70,7 +70,7 @@ fn copied_lines(alloc: Global, lines: &[Line]) -> Result<Vec<Line>, AllocError>
     Ok(copies)
 }
 
-/// Whether a grid may have this size: 2 to 200 lines by 2 to 300 columns.
+/// Whether a grid can have this size: 2 to 200 lines by 2 to 300 columns.
 pub fn is_grid_size(rows: usize, columns: usize) -> bool
     ensures { IsTrue result ↔ IsGridSize rows columns }
 {
@@ -78,7 +78,8 @@ pub fn is_grid_size(rows: usize, columns: usize) -> bool
 }
 
 impl Grid {
-    /// A grid of blanks. It is `BadSize` outside 2 to 200 lines by 2 to 300 columns.
+    /// Makes a grid of blanks. `BadSize` if the size isn't 2 to 200 lines by 2 to 300 columns,
+    /// `NoMemory` if memory is refused.
     pub fn new(alloc: Global, rows: usize, columns: usize) -> Result<Grid, GridFault>
         ensures ok { IfOk result (λ grid. grid ≡ replicate rows (replicate columns blank)) }
         ensures size { IfOk result (λ _. IsGridSize rows columns) }
@@ -93,7 +94,7 @@ impl Grid {
         }
     }
 
-    /// A grid of the same cells.
+    /// Copies the grid.
     pub fn copied(&self, alloc: Global) -> Result<Grid, AllocError>
         ensures { IfOk result (λ grid. grid ≡ self.now) }
     {
@@ -102,7 +103,7 @@ impl Grid {
         })
     }
 
-    /// The number of its lines.
+    /// The number of lines.
     pub fn rows(&self) -> usize
         ensures value { result ≡ length self.now }
         ensures grid { IsGrid self.now }
@@ -110,14 +111,14 @@ impl Grid {
         self.lines.len()
     }
 
-    /// The number of cells of each line.
+    /// The number of columns.
     pub fn columns(&self) -> usize
         ensures { result ≡ length (line_at self.now 0) }
     {
         self.lines[0].width()
     }
 
-    /// The cells of a line, from the left.
+    /// The cells of a line, from left to right.
     pub fn row(&self, line: usize) -> &[Cell]
         requires { line < length self.now }
         ensures { result.now ≡ line_at self.now line }
@@ -125,8 +126,8 @@ impl Grid {
         self.lines[line].cells()
     }
 
-    /// Puts cells at a place of a line, over as many old ones. What is torn at either end becomes
-    /// blank, and so does a half without its other half beside it.
+    /// Puts cells over as many old ones, from a column of a line on. An old half that loses its
+    /// other half becomes blank, and so does a new half without its other half beside it.
     pub fn write(&mut self, line: usize, column: usize, cells: &[Cell])
         requires line_inside { line < length self.old }
         requires room { column + length cells.now ≤ length (line_at self.old line) }

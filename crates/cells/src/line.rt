@@ -15,10 +15,10 @@ use crate::shifting::splice_used;
 use std::alloc::{AllocError, Global};
 use std::marker::Model;
 
-/// As many blanks as a line of a page has at most: they are copied at once.
+/// The blanks of the longest line of a page, from which lines are blanked by one copy.
 static BLANKS: [Cell; 300] = [Cell::BLANK; 300];
 
-/// So many blanks.
+/// Makes `width` blanks.
 fn blanks(alloc: Global, width: usize) -> Result<Vec<Cell>, AllocError>
     ensures { IfOk result (λ cells. cells.items ≡ replicate width blank) }
 {
@@ -30,8 +30,8 @@ fn blanks(alloc: Global, width: usize) -> Result<Vec<Cell>, AllocError>
     Ok(cells)
 }
 
-/// Makes every cell a blank, where those from `used` on are blank already. Where all differ from
-/// blanks in the character alone, that alone is written.
+/// Blanks every cell; those from `used` on are blank already. If `is_plain`, all cells differ from
+/// blanks in their characters only, and only characters are written.
 fn clear_used(cells: &mut [Cell], used: usize, is_plain: bool)
     requires inside { used ≤ length cells.old }
     requires blank { IsBlankFrom used cells.old }
@@ -49,8 +49,9 @@ fn clear_used(cells: &mut [Cell], used: usize, is_plain: bool)
     cells[..used].copy_from_slice(&BLANKS[..used]);
 }
 
-/// Makes every cell a blank, as `clear_used`, but for a run of characters of width 1 in the first
-/// columns.
+/// Blanks every cell but the first ones, one for each of `codes`, which a run of characters of
+/// width 1 takes. The cells from `used` on are blank already. If `is_plain`, only characters are
+/// written.
 #[inline(always)]
 fn clear_behind_run(cells: &mut [Cell], used: usize, is_plain: bool, codes: &[u8])
     requires paired { IsPaired cells.old }
@@ -71,8 +72,8 @@ fn clear_behind_run(cells: &mut [Cell], used: usize, is_plain: bool, codes: &[u8
     }
 }
 
-/// Puts in a run of characters of width 1, each in a copy of a space. The cells from `plain_from` on
-/// differ from blanks in the character alone.
+/// Puts characters of width 1 over as many cells, from `at` on, each in a copy of a space. The
+/// cells from `plain_from` on differ from blanks in their characters only.
 fn put_run_behind(cells: &mut [Cell], plain_from: usize, at: usize, codes: &[u8], space: Cell)
     requires paired { IsPaired cells.old }
     requires plain { ArePlainFrom plain_from cells.old }
@@ -89,7 +90,7 @@ fn put_run_behind(cells: &mut [Cell], plain_from: usize, at: usize, codes: &[u8]
     }
 }
 
-/// Where the used cells of a line end, once those from `rest` on begin at `start`.
+/// The column from which on a line is blank, after its cells from `rest` on were moved to `start`.
 fn used_after(used: usize, start: usize, rest: usize, width: usize) -> usize
     ensures { result ≡ min (used - rest + start) width }
 {
@@ -99,13 +100,13 @@ fn used_after(used: usize, start: usize, rest: usize, width: usize) -> usize
     used.saturating_sub(rest).saturating_add(start).min(width)
 }
 
-/// A line of cells, in which the halves of wide characters are paired. Its width stays.
+/// A line of cells, in which the halves of wide characters are paired. Its width never changes.
 pub struct Line {
     cells: Vec<Cell>,
-    /// The cells from this column on are blank, so that `clear` needn't touch them.
+    /// The cells from this column on are blank, so `clear` can leave them alone.
     used: usize,
-    /// Where it is true, all cells are of width 1 and have no rendition, marks or protection, so that
-    /// their characters alone have to be written.
+    /// If true, all cells are of width 1 without rendition, marks or protection, so only their
+    /// characters have to be written.
     is_plain: bool,
 }
 
@@ -132,7 +133,7 @@ impl Model for Line {
 }
 
 impl Line {
-    /// A line of blanks.
+    /// Makes a line of blanks.
     pub fn blank(alloc: Global, width: usize) -> Result<Line, AllocError>
         ensures { IfOk result (λ line. line ≡ replicate width blank) }
     {
@@ -144,7 +145,7 @@ impl Line {
         })
     }
 
-    /// A line of the same cells.
+    /// Copies the line.
     pub fn copied(&self, alloc: Global) -> Result<Line, AllocError>
         ensures { IfOk result (λ line. line ≡ self.now) }
     {
@@ -157,14 +158,14 @@ impl Line {
         })
     }
 
-    /// The number of its cells.
+    /// The number of cells.
     pub fn width(&self) -> usize
         ensures { result ≡ length self.now }
     {
         self.cells.len()
     }
 
-    /// Its cells, from the left.
+    /// The cells, from left to right.
     pub fn cells(&self) -> &[Cell]
         ensures value { result.now ≡ self.now }
         ensures paired { IsPaired self.now }
@@ -172,7 +173,7 @@ impl Line {
         self.cells.as_slice()
     }
 
-    /// Makes every cell a blank.
+    /// Blanks every cell.
     pub fn clear(&mut self)
         ensures { self.new ≡ replicate (length self.old) blank }
     {
@@ -181,8 +182,8 @@ impl Line {
         self.is_plain = true;
     }
 
-    /// Makes every cell a blank, and then puts a run of characters of width 1 in the first columns:
-    /// `codes` has their code points.
+    /// Blanks every cell, and then puts characters of width 1 in the first columns. `codes` has
+    /// their code points.
     #[inline(always)]
     pub fn clear_behind_run(&mut self, codes: &[u8])
         requires some { 0 < length codes.now }
@@ -195,7 +196,7 @@ impl Line {
         self.is_plain = true;
     }
 
-    /// Makes every cell the same one, of width 1.
+    /// Puts a copy of one cell, of width 1, in every column.
     pub fn fill(&mut self, cell: Cell)
         requires narrow { cell.shape ≡ Shape.Narrow }
         ensures { self.new ≡ replicate (length self.old) cell }
@@ -205,8 +206,8 @@ impl Line {
         self.is_plain = false;
     }
 
-    /// Keeps the cells before `at`, puts in `count` blanks, and lets the old cells from `rest` on
-    /// follow them.
+    /// Keeps the cells before `at` and puts `count` blanks there. The old cells from `rest` on
+    /// follow the blanks, as far as the line has room; columns after them become blank.
     pub fn splice(&mut self, at: usize, count: usize, rest: usize)
         requires order { at ≤ rest }
         requires inside { rest ≤ length self.old }
@@ -217,7 +218,7 @@ impl Line {
         self.used = splice_used(self.cells.as_mut_slice(), self.used, at, count, rest);
     }
 
-    /// Puts a cell of width 1 in at `at`, and lets the old cells from `rest` on follow it.
+    /// Puts a cell of width 1 at `at`; the old cells from `rest` on follow it.
     pub fn put_narrow(&mut self, at: usize, cell: Cell, rest: usize)
         requires order { at ≤ rest }
         requires inside { rest ≤ length self.old }
@@ -230,8 +231,7 @@ impl Line {
         self.is_plain = false;
     }
 
-    /// Puts the halves of a wide character in at `at`, and lets the old cells from `rest` on follow
-    /// them.
+    /// Puts both halves of a wide character at `at`; the old cells from `rest` on follow them.
     pub fn put_wide(&mut self, at: usize, left: Cell, right: Cell, rest: usize)
         requires order { at ≤ rest }
         requires inside { rest ≤ length self.old }
@@ -245,8 +245,8 @@ impl Line {
         self.is_plain = false;
     }
 
-    /// Puts new cells in place of as many old ones. What is torn at either end becomes blank, and
-    /// so does a new half without its other half beside it.
+    /// Puts new cells over as many old ones, from `at` on. An old half that loses its other half
+    /// becomes blank, and so does a new half without its other half beside it.
     pub fn put(&mut self, at: usize, fresh: &[Cell])
         requires room { at + length fresh.now ≤ length self.old }
         ensures { self.new ≡ cells_spliced at fresh.now (at + length fresh.now) self.old }
@@ -256,15 +256,15 @@ impl Line {
         self.is_plain = false;
     }
 
-    /// A column from which on all cells are of width 1 and have no rendition, marks or protection.
+    /// A column from which on all cells are of width 1 without rendition, marks or protection.
     fn plain_from(&self) -> usize
         ensures { ArePlainFrom result self.now }
     {
         if self.is_plain { 0 } else { self.used }
     }
 
-    /// Puts a run of characters of width 1 in place of as many old cells: `codes` has their code
-    /// points. What is torn at either end becomes blank.
+    /// Puts characters of width 1 over as many old cells, from `at` on. `codes` has their code
+    /// points. An old half that loses its other half becomes blank.
     pub fn put_run(&mut self, at: usize, codes: &[u8], rendition: Rendition, is_protected: bool)
         requires room { at + length codes.now ≤ length self.old }
         ensures { self.new ≡ cells_spliced at
@@ -277,7 +277,8 @@ impl Line {
         self.is_plain = self.is_plain & space.is_blank();
     }
 
-    /// The same as `put_run`, of characters.
+    /// Puts characters of width 1, from all of Unicode, over as many old cells, from `at` on. An
+    /// old half that loses its other half becomes blank.
     pub fn put_letters(
         &mut self,
         at: usize,
@@ -300,8 +301,8 @@ impl Line {
         self.is_plain = false;
     }
 
-    /// Puts a run of characters of width 2 in place of twice as many old cells. What is torn at either
-    /// end becomes blank.
+    /// Puts characters of width 2 over twice as many old cells, from `at` on. An old half that
+    /// loses its other half becomes blank.
     pub fn put_wide_run(
         &mut self,
         at: usize,
@@ -324,7 +325,7 @@ impl Line {
         self.is_plain = false;
     }
 
-    /// Erases the cells from `from` on and below `end`, but for protected ones.
+    /// Erases the unprotected cells from `from` up to but not including `end`.
     pub fn erase_unprotected(&mut self, from: usize, end: usize)
         requires order { from ≤ end }
         requires inside { end ≤ length self.old }
@@ -333,7 +334,7 @@ impl Line {
         edits::erase_unprotected(self.cells.as_mut_slice(), from, end);
     }
 
-    /// Lets a mark join the cell of a column, which drops it where it has two.
+    /// Adds a mark to the cell of a column. A cell with two marks drops it.
     pub fn mark(&mut self, column: usize, mark: char)
         requires inside { column < length self.old }
         ensures { self.new ≡ slice_set self.old column (marked (cell_at self.old column) mark) }
@@ -344,8 +345,8 @@ impl Line {
         self.is_plain = false;
     }
 
-    /// A line of another width with the same cells: what is added is blank, and so is a half that
-    /// is cut off from its other half.
+    /// Makes a line of another width with the same cells. New columns are blank, and so is a half
+    /// that is cut off from its other half.
     pub fn resized(&self, alloc: Global, width: usize) -> Result<Line, AllocError>
         ensures { IfOk result (λ line. line ≡ line_resized width self.now) }
     {

@@ -1,4 +1,4 @@
-//! Blanks that come into a line whose end is blank.
+//! Blanks that come into a line that ends in blanks.
 
 ghost use Rattle.std.specs.Prelude.{◌≡◌, ◌+◌, ◌-◌, ◌<◌, ◌≤◌, min, length, replicate};
 ghost use Rattle.cells.specs.Line.{cells_spliced, IsPaired, IsUsed, blank};
@@ -7,8 +7,8 @@ ghost use Rattle.cells.specs.Put.{IsPut};
 use crate::cell::Cell;
 use crate::edits::{cut, splice};
 
-/// The same as `splice` in a line whose cells from `used` on are blank: these are left as they are.
-/// It gives the column from which on they are blank then.
+/// Does what `edits::splice` does, in a line whose cells from `used` on are blank and stay
+/// untouched. Returns the column from which on the line is blank afterwards.
 pub fn splice_used(cells: &mut [Cell], used: usize, at: usize, count: usize, rest: usize) -> usize
     requires used { IsUsed used cells.old }
     requires order { at ≤ rest }
@@ -36,7 +36,8 @@ pub fn splice_used(cells: &mut [Cell], used: usize, at: usize, count: usize, res
     behind
 }
 
-/// Makes the cells from `at` on and below `end` blank, and what is torn at either end.
+/// Blanks the cells from `at` up to but not including `end`, and any half beside them that loses
+/// its other half.
 fn erase(cells: &mut [Cell], at: usize, end: usize)
     requires paired { IsPaired cells.old }
     requires some { at < end }
@@ -48,7 +49,7 @@ fn erase(cells: &mut [Cell], at: usize, end: usize)
     blank_out(cells, at, end);
 }
 
-/// Puts a blank in place of each cell from `at` on and below `end`.
+/// Puts a blank in each column from `at` up to but not including `end`.
 fn blank_out(cells: &mut [Cell], at: usize, end: usize)
     requires order { at ≤ end }
     requires inside { end ≤ length cells.old }

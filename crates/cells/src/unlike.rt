@@ -1,4 +1,4 @@
-//! Where two lines look different.
+//! The columns in which two lines look different.
 
 ghost use Rattle.std.specs.Prelude.{◌≡◌, ◌≤◌, ◌+◌, length, IfSome, IfNone, IsTrue};
 ghost use Rattle.cells.specs.Unlike.{IsNextUnlike, IsFirstUnlike, IsEndOfUnlike, AreAlikeFrom};
@@ -6,8 +6,9 @@ ghost use Rattle.cells.specs.Unlike.{AreAlikeIn};
 
 use crate::cell::{Cell, is_same_bare};
 
-/// The first run of columns, not below `from`, in which two lines look different, protection aside:
-/// its first column, and the first one after that in which they look alike, or their width.
+/// The first run of columns, from `from` on, in which two lines look different; protection isn't
+/// seen. Returns its first column, and the first column after it in which the lines look alike, or
+/// else the width. None if they look alike from `from` on.
 pub fn next_unlike(a: &[Cell], b: &[Cell], from: usize) -> Option<(usize, usize)>
     requires { length a.now ≡ length b.now }
     ensures found { IfSome result (λ run. IsNextUnlike a.now b.now from run.0 run.1) }
@@ -17,7 +18,7 @@ pub fn next_unlike(a: &[Cell], b: &[Cell], from: usize) -> Option<(usize, usize)
     Some((start, end_of_unlike(a, b, start)))
 }
 
-/// The first column, not below `from`, in which the lines look different.
+/// The first column, from `from` on, in which the lines look different. None if they look alike.
 fn first_unlike(a: &[Cell], b: &[Cell], from: usize) -> Option<usize>
     requires { length a.now ≡ length b.now }
     ensures found { IfSome result (λ start. IsFirstUnlike a.now b.now from start) }
@@ -31,9 +32,9 @@ fn first_unlike(a: &[Cell], b: &[Cell], from: usize) -> Option<usize>
     None
 }
 
-/// A column up to which the lines look alike from another one on. The cells are compared eight at a
-/// time and by words: it ends at the first eight that differ or have marks. It is compiled by
-/// itself, so that a turn of its loop moves nothing about.
+/// A column before which, from `from` on, the lines look alike. Eight cells are compared at a time,
+/// as words; the search stops at the first eight that differ or have marks. It isn't inlined, so
+/// that its loop stays tight.
 #[inline(never)]
 fn same_end(a: &[Cell], b: &[Cell], from: usize) -> usize
     requires { length a.now ≡ length b.now }
@@ -50,7 +51,7 @@ fn same_end(a: &[Cell], b: &[Cell], from: usize) -> usize
     from + 8 * eights
 }
 
-/// Whether eight cells are the same in both lines, without marks.
+/// Whether the eight cells from `from` on are equal in both lines and without marks.
 fn are_eight_same(a: &[Cell], b: &[Cell], from: usize) -> bool
     requires same_width { length a.now ≡ length b.now }
     requires inside { from + 8 ≤ length a.now }
@@ -64,7 +65,7 @@ fn are_eight_same(a: &[Cell], b: &[Cell], from: usize) -> bool
     true
 }
 
-/// The first column, not below `start`, in which the lines look alike, or their width.
+/// The first column, from `start` on, in which the lines look alike, or else their width.
 fn end_of_unlike(a: &[Cell], b: &[Cell], start: usize) -> usize
     requires same_width { length a.now ≡ length b.now }
     requires inside { start ≤ length a.now }

@@ -1,11 +1,11 @@
--- Bytes cut in pieces, however they come.
+-- Bytes cut into pieces, wherever the cuts are.
 use Rattle.std.proofs.Common.{◌≡◌, ℕ, zero, suc, ◌≤◌, Bool, true, false, cond, List, [], ◌∷◌, ◌++◌, length, Option}
 use Rattle.std.proofs.Common.{Some, None, refl, sym, ap, ◌∙◌, arith, append_assoc}
 use Rattle.std.specs.Prelude.{nat_lt}
 use Rattle.charsets.specs.Utf8.{Piece, is_lead, follows, continues, piece, piece_of_2, piece_of_3, piece_of_4, cut}
 use Rattle.charsets.specs.Utf8.{codes, with_front}
 
--- a piece that is known stays, whatever follows
+-- a piece that is known stays, whatever comes after it
 abbrev pub Stays : Option Piece → Option Piece → Type 0
 Stays None longer = Unit {0}
 Stays (Some p) longer = longer ≡ Some p
@@ -37,7 +37,7 @@ unfolding piece
 stays a bytes later = stays_cond (nat_lt a 0x80) _ _ _ _ refl
     (stays_cond (is_lead a) _ _ _ _ (stays_2 a bytes later) refl)
 
--- it lies within the bytes
+-- the piece lies within the bytes
 abbrev pub Within : Option Piece → List ℕ → Type 0
 Within None bytes = Unit {0}
 Within (Some p) bytes = p.more ≤ length bytes
@@ -81,7 +81,7 @@ cut-step a bytes = step (piece a bytes)
     step None = refl
     step (Some q) = refl
 
--- how the cut of a longer list goes on from the cut of its front
+-- the cut of a longer list, from the cut of its front
 pub cut-append : (skip : ℕ) (bytes later : List ℕ) → skip ≤ length bytes
     → cut skip (bytes ++ later) ≡ with_front (cut skip bytes).0 (cut 0 ((cut skip bytes).1 ++ later))
 unfolding cut
@@ -106,7 +106,7 @@ cut-append zero (a ∷ bytes) later h =
         ∙ ap (λ l. (l, (cut 0 ((cut p.more bytes).1 ++ later)).1))
         (sym (append_assoc p.gives (cut p.more bytes).0 (cut 0 ((cut p.more bytes).1 ++ later)).0)))
 
--- one byte more
+-- one more byte
 pub codes-push : (bytes rest new codes_given : List ℕ) (b : ℕ) → (codes bytes).1 ≡ rest
     → codes (rest ++ b ∷ []) ≡ (codes_given, new)
     → codes (bytes ++ b ∷ []) ≡ ((codes bytes).0 ++ codes_given, new)

@@ -1,4 +1,4 @@
--- What is written as UTF-8 reads back.
+-- Characters written in UTF-8 are read back.
 use Rattle.std.proofs.Common.{◌≡◌, ◌+◌, ◌/◌, ◌%◌, ◌<◌, ◌≤◌, ℕ, true, false, List, [], ◌∷◌, map, Option, ◌⊎◌, refl, ap}
 use Rattle.std.proofs.Common.{◌∙◌, arith, inl, inr, ⊎_elim}
 use Rattle.std.specs.Prelude.{nat_lt}

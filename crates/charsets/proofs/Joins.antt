@@ -1,4 +1,4 @@
--- Whole characters join, and CAN ends what has begun.
+-- Complete characters join, and CAN ends an incomplete one.
 use Rattle.std.proofs.Common.{◌≡◌, ℕ, zero, suc, ◌+◌, Bool, true, false, cond, List, [], ◌∷◌, ◌++◌, length, map, Option}
 use Rattle.std.proofs.Common.{Some, None, refl, ap, ◌∙◌, arith}
 use Rattle.std.specs.Prelude.{nat_lt}
@@ -12,7 +12,7 @@ use Rattle.charsets.specs.Utf8.{codes, with_front}
 use Rattle.charsets.specs.Units.{units, unit_of_byte}
 use Rattle.charsets.proofs.Cuts.{cut_by, cut-step, cut-append}
 
--- CAN breaks a beginning, which then gives nothing
+-- CAN breaks off a beginning, which then gives nothing
 abbrev Breaks : Option Piece → Option Piece → ℕ → Type 0
 Breaks None longer n = longer ≡ Some (record { gives = []; more = n })
 Breaks (Some p) longer n = Prim.Unit {0}
@@ -55,7 +55,7 @@ unfolding cut
 cut-skip [] later = refl
 cut-skip (b ∷ bytes) later = cut-skip bytes later
 
--- what stands at the end has begun
+-- the bytes at the end begin a character
 abbrev HasBegun : List ℕ → Type 0
 HasBegun [] = Prim.Unit {0}
 HasBegun (a ∷ bytes) = piece a bytes ≡ None

@@ -1,4 +1,4 @@
--- Letters that are read one after another.
+-- Letters read one after another.
 use Rattle.std.proofs.Common.{Bool, ◌≡◌, ℕ, ◌+◌, ◌-◌, ◌<◌, ◌≤◌, true, List, [], ◌∷◌, ◌++◌, length, take, drop, map, set}
 use Rattle.std.proofs.Common.{get_or, refl, sym, ap, ◌∙◌, arith}
 use Rattle.std.specs.List.{list_all}
@@ -19,7 +19,7 @@ plain_is_letter c low high = grind (arith, nat_tests)
 pub beyond_is_letter : (c : ℕ) → 0xA0 ≤ c → c < 0x300 → (c ≡ 0xAD → ⊥) → is_letter c ≡ true
 beyond_is_letter c low high other = grind (arith, nat_tests)
 
--- a byte of 20 to 7E
+-- one byte of 20 to 7E
 pub one_byte_reads : (bytes : List ℕ) → 0 < length bytes → 0x1F < get_or bytes 0 0 → get_or bytes 0 0 < 0x7F
     → units Utf8 (take 1 bytes) ≡ (Code (get_or bytes 0 0) ∷ [], [])
 one_byte_reads [] some low high = absurd (omega arith)
@@ -27,7 +27,7 @@ one_byte_reads (a ∷ bytes) some low high =
     let plain : is_plain a ≡ true = grind (arith, nat_tests) in
     units-plain Utf8 (a ∷ []) (rw plain refl)
 
--- so many bytes are read as so many characters of a kind
+-- the first `read` bytes are read as the first `count` characters, which are of a kind
 pub record AreRead (kind : ℕ → Bool) (bytes given : List ℕ) (count read : ℕ) : Type 0 where
   pub reads : units Utf8 (take read bytes) ≡ (map (λ letter. Code letter) (take count given), [])
   pub all : list_all kind (take count given) ≡ true

@@ -15,7 +15,7 @@ use Rattle.charsets.proofs.Joins.{units-go_on}
 use Rattle.charsets.proofs.Pushes.{units-none}
 use Rattle.charsets.proofs.Tables.{both}
 
--- pieces behind what was read before them
+-- pieces read after some bytes
 behind_front : (coding : Coding) (pieces : List (List ℕ)) (front : List ℕ) → units coding (front ++ concat pieces)
     ≡ (
       (units coding front).0 ++ (units_of_pieces coding (units coding front).1 pieces).0,

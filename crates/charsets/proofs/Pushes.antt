@@ -1,4 +1,4 @@
--- One byte more, in units.
+-- One more byte, in units.
 use Rattle.std.proofs.Common.{◌≡◌, ℕ, List, [], ◌∷◌, ◌++◌, map, refl, sym, ap, ◌∙◌, subst}
 use Rattle.std.proofs.lemmas.List.{map-append}
 use Rattle.charsets.specs.Utf8.{codes, cut}
@@ -28,7 +28,7 @@ units-push old coding rest new given b is same e bytes h =
     let here : (units Utf8 bytes).1 ≡ old.rest = subst P is_utf8 h in
     rw is_utf8 (in_utf8 bytes rest new given b e (here ∙ sym (ap (λ (d : Decoding). d.rest) same)))
 
--- no byte gives nothing
+-- without a byte there is no unit
 pub units-none : (coding : Coding) → units coding [] ≡ ([], [])
 unfolding cut
 units-none Utf8 = refl

@@ -1,4 +1,4 @@
--- Graphic codes where nothing is shifted.
+-- Graphic codes if nothing is shifted.
 use Rattle.std.proofs.Common.{◌≡◌, ℕ, Bool, true, false, cond, Some, None, refl, sym, ap, ◌∙◌}
 use Rattle.std.specs.Prelude.{unwrap_or}
 use Rattle.charsets.specs.declared.sets.CharacterSet.TheVariants.{Ascii}

@@ -5,7 +5,7 @@ use Rattle.std.specs.Prelude.{◌==◌}
 use Rattle.std.proofs.lemmas.Bool.{eqb-true}
 use Rattle.charsets.specs.Sets.{supplement}
 
--- the table has what the rule says, from the position u on
+-- the table has the rule's values, from the position u on
 abbrev pub agrees : (ℕ → ℕ) → ℕ → List ℕ → Bool
 agrees rule u [] = true
 agrees rule u (x ∷ xs) = x == rule u && agrees rule (u + 1) xs
@@ -21,7 +21,7 @@ index-agrees rule u zero (x ∷ xs) h i = eqb-true x (rule u) (both _ _ h).0 ∙
 index-agrees rule u (suc k) (x ∷ xs) h i = index-agrees rule (u + 1) k xs (both (x == rule u) _ h).1 (omega arith)
     ∙ ap rule (omega arith)
 
--- a table of the supplemental set
+-- the table of the supplemental set
 pub index-supplement : (xs : List ℕ) (p : ℕ) → agrees supplement 0x21 xs ≡ true → 0x20 < p → p < 0x21 + length xs
     → slice_index xs (p - 0x21) ≡ supplement p
 index-supplement xs p h low high = index-agrees supplement 0x21 (p - 0x21) xs h (omega arith)

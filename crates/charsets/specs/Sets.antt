@@ -16,13 +16,13 @@ graphics = codes " ◆▒␉␌␍␊°±␤␋┘┐┌└┼⎺⎻─⎼⎽├
 abbrev pub unassigned : List ℕ
 unassigned = codes "$&,-./48>P^p~"
 
--- those that aren't the code 80 above: the currency sign and some letters
+-- the positions whose character isn't the code plus 80: the currency sign and some letters
 abbrev pub supplements : List (ℕ × ℕ)
 supplements =
     (code "(", code "¤") ∷ (code "W", code "Œ") ∷ (code "]", code "Ÿ") ∷ (code "w", code "œ")
     ∷ (code "}", code "ÿ") ∷ []
 
--- each other position u has the code u + 80
+-- every other position u has the code u + 80
 unfoldable pub supplement : ℕ → ℕ
 supplement u =
     if list_any (λ v. v == u) unassigned then 0xFFFD else entry_or (u + 0x80) supplements u

@@ -42,7 +42,7 @@ set_at s G1 = s.g1
 set_at s G2 = s.g2
 set_at s G3 = s.g3
 
--- 20 is graphic and has no position; so are the units from A0 on
+-- the code 20 is graphic and has no position in a set; so are the units from A0 on
 abbrev pub is_graphic : Unit → Bool
 is_graphic (Code c) = (nat_lt 0x1F c && nat_lt c 0x7F) || nat_lt 0x9F c
 is_graphic (High b) = nat_lt 0x9F b
@@ -51,8 +51,8 @@ abbrev pub is_position : ℕ → Bool
 is_position u = nat_lt 0x20 u && nat_lt u 0x7F
 
 -- The character of a unit: 21 to 7E through GL, A1 to FE of ECMA-35 through GR, both through a
--- single shift that waits. Other graphic codes stand for themselves; A0 and FF of ECMA-35, and what
--- is no graphic, have none.
+-- pending single shift instead. Other graphic codes stand for themselves. A0 and FF of ECMA-35, and
+-- units that aren't graphic, have no character.
 unfoldable pub mapped : Shifts → Unit → Option ℕ
 mapped s (Code c) =
     if is_position c then Some (character_at (set_at s (unwrap_or s.single s.gl)) c)
@@ -62,6 +62,6 @@ mapped s (High b) =
     then Some (character_at (set_at s (unwrap_or s.single s.gr)) (b - 0x80))
     else None
 
--- each graphic unit spends a single shift
+-- each graphic unit ends a pending single shift
 abbrev pub spent : Shifts → Unit → Shifts
 spent s u = if is_graphic u then record s { single = None } else s

@@ -11,17 +11,17 @@ use Rattle.charsets.specs.declared.unit.Units.{Units}
 use Rattle.charsets.specs.declared.unit.Units.TheVariants.{Nothing, One, Two}
 use Rattle.charsets.specs.Utf8.{codes}
 
--- in ECMA-35 each byte is a unit: below A0 it is the code, from A0 on a byte of GR (ECMA-35, 8-bit
--- codes)
+-- in ECMA-35 each byte is a unit: below A0 it is the code itself, from A0 on a byte of GR (ECMA-35,
+-- 8-bit codes)
 abbrev pub unit_of_byte : ℕ → Unit
 unit_of_byte b = if nat_lt b 0xA0 then Code b else High b
 
--- the units of the bytes, and the beginning of a character that stands at their end
+-- the units of the bytes, and the bytes of the incomplete character at their end
 abbrev pub units : Coding → List ℕ → List Unit × List ℕ
 units Utf8 bytes = (map (λ c. Code c) (codes bytes).0, (codes bytes).1)
 units Ecma35 bytes = (map unit_of_byte bytes, [])
 
--- the units that a decoder gives: characters, and bytes from A0 on
+-- the units that a decoder can give: characters, and bytes from A0 on
 abbrev pub IsUnit : Unit → Type 0
 IsUnit (Code c) = IsScalar c
 IsUnit (High b) = 0xA0 ≤ b
@@ -32,7 +32,7 @@ unit_list Nothing = []
 unit_list (One u) = u ∷ []
 unit_list (Two u v) = u ∷ v ∷ []
 
--- what a decoder keeps: its coding, and the rest
+-- what a decoder keeps: its coding, and the bytes of an incomplete character
 pub record Decoding : Type 0 where
   pub coding : Coding
   pub rest : List ℕ
@@ -41,12 +41,13 @@ pub record Decoding : Type 0 where
 abbrev pub StandsFor : Decoding → List ℕ → Type 0
 StandsFor decoder bytes = (units decoder.coding bytes).1 ≡ decoder.rest
 
--- these units are what it has given of these bytes, and it has read no others
+-- these units are what it has given for these bytes, and it has read no others
 pub record HasGiven (decoder : Decoding) (given : List Unit) (bytes : List ℕ) : Type 0 where
   pub stands : StandsFor decoder bytes
   pub all : given ≡ (units decoder.coding bytes).0
 
--- bytes that come in pieces: each piece is read behind the rest of those before it
+-- the units of bytes that come in pieces: each piece is read after the incomplete character of
+-- those before it
 abbrev pub units_of_pieces : Coding → List ℕ → List (List ℕ) → List Unit × List ℕ
 units_of_pieces coding rest [] = ([], rest)
 units_of_pieces coding rest (piece ∷ pieces) =
@@ -58,11 +59,10 @@ units_of_pieces coding rest (piece ∷ pieces) =
 abbrev pub is_plain : ℕ → Bool
 is_plain b = nat_lt 0x1F b && nat_lt b 0x7F
 
--- 20 to 7E, and the letters behind them, as far as each takes one column (UAX #11): A0 to 2FF, but
--- for the soft hyphen
+-- 20 to 7E, and the letters from A0 to 2FF that take one column (UAX #11): all but the soft hyphen
 abbrev pub is_letter : ℕ → Bool
 is_letter c = is_plain c || (nat_lt 0x9F c && nat_lt c 0x300 && not (c == 0xAD))
 
--- what no set and no shift changes
+-- a code that no set and no shift changes
 abbrev pub is_beyond : ℕ → Bool
 is_beyond c = nat_lt 0x9F c

@@ -7,7 +7,7 @@ use Rattle.std.specs.Prelude.{List, [], ◌∷◌, ◌++◌, Option, Some, None}
 abbrev pub is_lead : ℕ → Bool
 is_lead a = nat_lt 0xC1 a && nat_lt a 0xF5
 
--- the byte may stand third or fourth, and second but for the bounds below
+-- a byte that may stand third or fourth, and second within the bounds below
 abbrev pub continues : ℕ → Bool
 continues b = nat_lt 0x7F b && nat_lt b 0xC0
 
@@ -30,7 +30,7 @@ code_of_3 a b c = ((a - 0xE0) * 64 + (b - 0x80)) * 64 + (c - 0x80)
 abbrev pub code_of_4 : ℕ → ℕ → ℕ → ℕ → ℕ
 code_of_4 a b c d = (((a - 0xF0) * 64 + (b - 0x80)) * 64 + (c - 0x80)) * 64 + (d - 0x80)
 
--- A piece of the bytes: what it gives, and how many bytes it has beside its first one.
+-- A piece of the bytes: the codes that it gives, and its number of bytes without the first one.
 pub record Piece : Type 0 where
   pub gives : List ℕ
   pub more : ℕ
@@ -43,15 +43,15 @@ whole code more = Some (record { gives = code ∷ []; more = more })
 abbrev pub no_beginning : Option Piece
 no_beginning = Some (record { gives = 0xFFFD ∷ []; more = 0 })
 
--- what a maximal beginning gives that the byte b breaks: U+FFFD, but CAN (18) cancels it. The byte
--- is read anew.
+-- the codes of a maximal beginning that the byte b breaks off: U+FFFD, or nothing if b is CAN (18).
+-- The byte is then read anew.
 abbrev pub broken_gives : ℕ → List ℕ
 broken_gives b = if b == 0x18 then [] else 0xFFFD ∷ []
 
 abbrev pub broken_by : ℕ → ℕ → Option Piece
 broken_by b more = Some (record { gives = broken_gives b; more = more })
 
--- the piece that begins with these bytes; None where they end inside of it
+-- the piece that begins with these bytes; None if they end inside of it
 abbrev pub piece_of_4 : ℕ → ℕ → ℕ → List ℕ → Option Piece
 piece_of_4 a b c [] = None
 piece_of_4 a b c (d ∷ bytes) = if continues d then whole (code_of_4 a b c d) 3 else broken_by d 2
@@ -74,11 +74,13 @@ piece a bytes =
     if nat_lt a 0x80 then whole a 0
     else (if is_lead a then piece_of_2 a bytes else no_beginning)
 
--- what the pieces give, one after another, and the beginning that stands at the end of the bytes
+-- the codes of the pieces, one after another, and the beginning of a character at the end of the
+-- bytes
 abbrev pub with_front : List ℕ → List ℕ × List ℕ → List ℕ × List ℕ
 with_front front later = (front ++ later.0, later.1)
 
--- the same without the first skip bytes, which belong to a piece that began before
+-- the codes and the beginning at the end, without the first `skip` bytes, which belong to an
+-- earlier piece
 unfoldable pub cut : ℕ → List ℕ → List ℕ × List ℕ
 cut skip [] = ([], [])
 cut (suc skip) (a ∷ bytes) = cut skip bytes

@@ -1,4 +1,4 @@
-//! Bytes to units, one byte at a time.
+//! Turns bytes into units, one byte at a time.
 
 ghost use Rattle.std.specs.Prelude.{◌≡◌, ◌↔◌, ℕ, List, [], ◌∷◌, ◌++◌, map, IsTrue};
 ghost use Rattle.charsets.specs.Units.{unit_of_byte, unit_list};
@@ -8,7 +8,7 @@ use crate::unit::{Coding, Unit, Units};
 use crate::utf8::{Chars, Partial, step};
 use std::marker::Model;
 
-/// Reads bytes in one coding, and keeps the beginning of a character.
+/// Reads bytes in one coding, and keeps the bytes of a character that isn't complete yet.
 #[derive(Debug, Drop)]
 pub struct Decoder {
     coding: Coding,
@@ -30,7 +30,7 @@ impl Decoder {
     ghost use Rattle.charsets.specs.Units.{Decoding, units, StandsFor, HasGiven};
     ghost use Rattle.charsets.specs.declared.unit.Coding.TheVariants.{Utf8};
 
-    /// A decoder that has read nothing, in UTF-8.
+    /// A decoder for UTF-8 that has read nothing.
     pub fn new() -> Decoder
         ensures starts { result ≡ record { coding = Utf8; rest = [] } }
         ensures nothing { HasGiven result [] [] }
@@ -41,7 +41,7 @@ impl Decoder {
         }
     }
 
-    /// Reads on in this coding. A character that has begun is dropped.
+    /// Reads in this coding from here on. The bytes of an incomplete character are dropped.
     pub fn set_coding(&mut self, coding: Coding)
         ensures starts { self.new ≡ record { coding = coding; rest = [] } }
         ensures nothing { HasGiven self.new [] [] }
@@ -50,26 +50,26 @@ impl Decoder {
         self.partial = Partial::Empty;
     }
 
-    /// The coding that it reads in.
+    /// The coding in which it reads.
     pub fn coding(&self) -> Coding
         ensures { result ≡ self.now.coding }
     {
         self.coding
     }
 
-    /// Whether no character has begun.
+    /// Whether it keeps no bytes of an incomplete character.
     pub fn is_idle(&self) -> bool
         ensures { IsTrue result ↔ (self.now.rest ≡ []) }
     {
         matches!(self.partial, Partial::Empty)
     }
 
-    /// Reads one byte, and gives the units that it completes.
+    /// Reads one byte and returns the units that it completes, at most two.
     pub fn push(&mut self, byte: u8) -> Units
         ensures coding { self.new.coding ≡ self.old.coding }
         ensures next { units self.old.coding (self.old.rest ++ byte ∷ [])
             ≡ (unit_list result, self.new.rest) }
-        // Whatever bytes were read, this one is read behind them.
+        // Whichever bytes it has read before, this byte is read after them.
         ensures stands { (bytes : List ℕ) → StandsFor self.old bytes →
             StandsFor self.new (bytes ++ byte ∷ []) }
         ensures gives { (bytes : List ℕ) → StandsFor self.old bytes

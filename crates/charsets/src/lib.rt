@@ -1,4 +1,4 @@
-//! Bytes to units: UTF-8 or ECMA-35, however the bytes are cut.
+//! Turns bytes into units: UTF-8 or ECMA-35, no matter how the bytes are cut into pieces.
 #![tactic(auto)]
 
 mod decoder;

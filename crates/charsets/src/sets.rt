@@ -15,7 +15,7 @@ pub enum CharacterSet {
     Supplemental,
 }
 
-// DEC special graphics from 5F on; below they are ASCII.
+// DEC special graphics from 5F on; its positions below are those of ASCII.
 const SPECIAL_GRAPHICS: [char; 32] = [
     '\u{20}', '\u{25C6}', '\u{2592}', '\u{2409}', '\u{240C}', '\u{240D}', '\u{240A}', '\u{B0}',
     '\u{B1}', '\u{2424}', '\u{240B}', '\u{2518}', '\u{2510}', '\u{250C}', '\u{2514}', '\u{253C}',
@@ -23,7 +23,7 @@ const SPECIAL_GRAPHICS: [char; 32] = [
     '\u{252C}', '\u{2502}', '\u{2264}', '\u{2265}', '\u{3C0}', '\u{2260}', '\u{A3}', '\u{B7}',
 ];
 
-// The supplemental set from 21 on, in rows of sixteen from the second on.
+// The supplemental set from 21 on: one line for each row of the code chart.
 const SUPPLEMENTAL: [char; 94] = [
     '¡', '¢', '£', '\u{FFFD}', '¥', '\u{FFFD}', '§', '¤', '©', 'ª', '«', '\u{FFFD}', '\u{FFFD}',
     '\u{FFFD}', '\u{FFFD}', '°', '±', '²', '³', '\u{FFFD}', 'µ', '¶', '·', '\u{FFFD}', '¹', 'º',
@@ -38,7 +38,7 @@ impl CharacterSet {
     ghost use Rattle.charsets.specs.Sets.{character_at};
 
     #[tactic(auto, unfolding(crate::specs::Sets::character_at))]
-    /// The character at a position.
+    /// The character at a position of the set, 21 to 7E.
     pub fn character(self, position: u8) -> char
         requires above { 0x20 < position }
         requires below { position < 0x7F }

@@ -1,4 +1,4 @@
-//! Which set a graphic unit is read in.
+//! The sets that graphic units are read in.
 
 ghost use Rattle.std.specs.Prelude.{◌≡◌};
 
@@ -44,11 +44,11 @@ pub struct Shifts {
     pub g1: CharacterSet,
     pub g2: CharacterSet,
     pub g3: CharacterSet,
-    /// The place that 21 to 7E go through.
+    /// The place that the codes 21 to 7E go through.
     pub gl: Place,
-    /// The place that A1 to FE go through, in ECMA-35.
+    /// The place that the bytes A1 to FE go through, in ECMA-35.
     pub gr: Place,
-    /// The single shift that waits for a graphic unit.
+    /// The place of a pending single shift, which holds for the next graphic unit.
     pub single: Option<Place>,
 }
 
@@ -70,7 +70,7 @@ impl Shifts {
         }
     }
 
-    /// Designates a set to a place.
+    /// Designates a set to one of the four places.
     pub fn designate(&mut self, place: Place, set: CharacterSet)
         ensures { self.new ≡ designated self.old place set }
     {
@@ -82,7 +82,7 @@ impl Shifts {
         }
     }
 
-    /// Does a shift function.
+    /// Performs a shift function.
     pub fn shift(&mut self, shift: Shift)
         ensures { self.new ≡ shifted self.old shift }
     {
@@ -100,8 +100,8 @@ impl Shifts {
     }
 
     #[tactic(auto, unfolding(crate::specs::Shifts::mapped))]
-    /// The character of a graphic unit, which spends a single shift. None where A0 or FF of ECMA-35
-    /// is dropped, and where the unit is no graphic, which spends nothing.
+    /// The character of a graphic unit, which ends a pending single shift. None for A0 and FF of
+    /// ECMA-35, which are dropped, and for a unit that isn't graphic, which ends no shift.
     pub fn map(&mut self, unit: Unit) -> Option<char>
         ensures character { result ≡ mapped self.old unit }
         ensures spends { self.new ≡ spent self.old unit }

@@ -1,4 +1,4 @@
-//! UTF-8, byte by byte.
+//! UTF-8, read byte by byte.
 
 ghost use Rattle.std.specs.Prelude.{◌≡◌, ◌<◌, ◌≤◌, [], ◌∷◌, ◌++◌, true};
 ghost use Rattle.std.specs.Prelude.{option_to_list};
@@ -6,7 +6,7 @@ ghost use Rattle.charsets.specs.Utf8.{is_lead, follows, continues, code_of_2, co
 ghost use Rattle.charsets.specs.Utf8.{codes, with_front, broken_gives};
 ghost use Rattle.charsets.specs.Partial.{IsPartial, partial_bytes, chars_of};
 
-/// The bytes of a character that has begun.
+/// The bytes of an incomplete character: at most three.
 #[derive(Clone, Copy, Debug, PartialEq, Eq)]
 pub enum Partial {
     Empty,
@@ -15,7 +15,7 @@ pub enum Partial {
     Three(u8, u8, u8),
 }
 
-/// The characters that a byte completes.
+/// The characters that one byte completes.
 #[derive(Clone, Copy, Debug, PartialEq, Eq)]
 pub enum Chars {
     Nothing,
@@ -85,7 +85,7 @@ fn char_of_4(a: u8, b: u8, c: u8, d: u8) -> char
     char::from_u32(code).unwrap()
 }
 
-// What a byte gives where no character has begun.
+// Reads a byte while no character is incomplete.
 #[tactic(auto, unfolding(crate::specs::Utf8::cut, crate::specs::Utf8::piece))]
 fn start(byte: u8) -> (Option<char>, Partial)
     ensures value { codes (byte ∷ []) ≡ (option_to_list result.0, partial_bytes result.1) }
@@ -100,7 +100,8 @@ fn start(byte: u8) -> (Option<char>, Partial)
     }
 }
 
-// What a byte gives that breaks a beginning: CAN cancels it, and each byte is then read anew.
+// Reads a byte that breaks off an incomplete character: CAN cancels the character, any other byte
+// turns it into U+FFFD. The byte is then read as the first one of a character.
 #[tactic(auto, unfolding(crate::specs::Utf8::cut, crate::specs::Utf8::piece))]
 fn broken(byte: u8) -> (Chars, Partial)
     ensures value { with_front (broken_gives byte) (codes (byte ∷ []))
@@ -117,7 +118,7 @@ fn broken(byte: u8) -> (Chars, Partial)
     )
 }
 
-/// The characters that a byte completes, and what has begun then.
+/// Reads a byte: the characters that it completes, and the incomplete character afterwards.
 #[tactic(auto, unfolding(crate::specs::Utf8::cut, crate::specs::Utf8::piece))]
 pub fn step(partial: Partial, byte: u8) -> (Chars, Partial)
     requires { IsPartial partial }

@@ -1,4 +1,4 @@
-//! Characters that stand whole in a list of bytes.
+//! Complete characters at the beginning of a list of bytes.
 
 ghost use Rattle.std.specs.Prelude.{◌≡◌, ◌<◌, ◌≤◌, ◌-◌, ◌*◌, [], ◌∷◌, true, IfSome};
 ghost use Rattle.std.specs.Prelude.{length, map, take};
@@ -12,9 +12,9 @@ use crate::utf8::{can_continue, can_follow, char_of_2, char_of_3};
 /// A character that takes no column.
 const SOFT_HYPHEN: char = '\u{AD}';
 
-/// The character of two or three bytes, from U+00A0 on, that stands at the front of some bytes in
-/// UTF-8, and how many bytes it has (Unicode core specification, table 3-7). None where something
-/// else stands there.
+/// The character from U+00A0 on with which some bytes begin in UTF-8, if it has two or three bytes,
+/// and its number of bytes (Unicode core specification, table 3-7). None if they begin with
+/// anything else.
 #[inline(always)]
 fn first_character(bytes: &[u8]) -> Option<(char, usize)>
     ensures reads { IfSome result (λ c. units Utf8 (take c.1 bytes.now) ≡ (Code c.0 ∷ [], [])) }
@@ -36,9 +36,9 @@ fn first_character(bytes: &[u8]) -> Option<(char, usize)>
     Some((character_of_3(a, b, bytes[2])?, 3))
 }
 
-/// Reads the letters that stand at the front of some bytes in UTF-8, as many as `letters` has room
-/// for: 20 to 7E, and U+00A0 to U+02FF but for the soft hyphen. It gives how many they are, and how
-/// many bytes they have.
+/// Reads the letters with which some bytes begin in UTF-8, at most as many as `letters` has room
+/// for: 20 to 7E, and U+00A0 to U+02FF without the soft hyphen. Returns the number of letters and
+/// their number of bytes.
 pub fn first_letters(bytes: &[u8], letters: &mut [char]) -> (usize, usize)
     ensures reads { units Utf8 (take result.1 bytes.now)
         ≡ (map (λ letter. Code letter) (take result.0 letters.new), []) }
@@ -59,9 +59,9 @@ pub fn first_letters(bytes: &[u8], letters: &mut [char]) -> (usize, usize)
     (count, read)
 }
 
-/// Reads the characters of two or three bytes that stand at the front of some bytes in UTF-8, from
-/// U+00A0 on, as many as `characters` has room for. It gives how many they are, and how many bytes
-/// they have.
+/// Reads the characters from U+00A0 on with which some bytes begin in UTF-8, if they have two or
+/// three bytes each, at most as many as `characters` has room for. Returns the number of characters
+/// and their number of bytes.
 pub fn first_characters(bytes: &[u8], characters: &mut [char]) -> (usize, usize)
     ensures reads { units Utf8 (take result.1 bytes.now)
         ≡ (map (λ character. Code character) (take result.0 characters.new), []) }
@@ -82,7 +82,8 @@ pub fn first_characters(bytes: &[u8], characters: &mut [char]) -> (usize, usize)
     (count, read)
 }
 
-/// The letter that stands at the front of some bytes, and how many bytes it has.
+/// The letter with which some bytes begin, and its number of bytes. None if they begin with no
+/// letter.
 #[inline(always)]
 fn first_letter(bytes: &[u8]) -> Option<(char, usize)>
     requires { 0 < length bytes.now }
@@ -105,7 +106,8 @@ fn first_letter(bytes: &[u8]) -> Option<(char, usize)>
     Some((letter, 2))
 }
 
-/// The character of two bytes, but for a C1 control.
+/// The character of these two bytes. None if they are no well-formed character, or are a C1
+/// control.
 fn character_of_2(a: u8, b: u8) -> Option<char>
     requires low { 0xC1 < a }
     requires high { a < 0xE0 }
@@ -119,7 +121,7 @@ fn character_of_2(a: u8, b: u8) -> Option<char>
     Some(char_of_2(a, b))
 }
 
-/// The character of three bytes.
+/// The character of these three bytes. None if they are no well-formed character.
 fn character_of_3(a: u8, b: u8, c: u8) -> Option<char>
     requires low { 0xE0 ≤ a }
     requires high { a < 0xF0 }

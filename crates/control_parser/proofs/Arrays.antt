@@ -17,7 +17,7 @@ front_pushed room count x array h k = (
       ∙ drop-replicate 1 (room - count) 0 ∙ ap (λ n. replicate n 0) (omega arith),
 )
 
--- a place behind the front, which is 0 already
+-- a place after the front, which is 0 already
 pub front_longer : (room count : ℕ) (array : List ℕ) → IsFront room count array → count < room
     → IsFront room (count + 1) array
 front_longer room count array h k = (

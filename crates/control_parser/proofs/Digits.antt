@@ -20,7 +20,7 @@ digit_added-packed (suc n) d y xs now p q h e =
     let e' : y ≡ longer (get_or xs n 0) d = e ∙ ap (λ k. longer (get_or xs k 0) d) less in
     ap (λ k. take (suc n) (set xs k y)) less ∙ digit_packed n d y xs (omega arith) e' ∙ ap (λ l. digit_added l d) h
 
--- the last of the first values, which is read and written apart from them
+-- the last of the first values, which is read and written separately
 last_front : (n : ℕ) (xs : List ℕ) → n < length xs → get_or xs n 0 ≡ last_value (take (suc n) xs)
 last_front n [] h = absurd (omega arith)
 last_front zero (x ∷ xs) h = refl

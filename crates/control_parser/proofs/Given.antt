@@ -1,4 +1,4 @@
--- What units can give.
+-- The functions that units can give.
 use Rattle.std.proofs.Common.{◌≡◌, ℕ, zero, suc, ◌-◌, ◌<◌, ◌≤◌, Bool, true, false, ◌&&◌, cond, List, [], ◌∷◌, ◌++◌}
 use Rattle.std.proofs.Common.{length, take, map, min, Some, None, IfSome, refl, sym, subst, arith}
 use Rattle.std.specs.Prelude.{nat_lt, nat_le, ◌==◌}

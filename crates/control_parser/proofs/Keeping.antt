@@ -1,4 +1,4 @@
--- What the parser keeps follows the grammar.
+-- The parser keeps what the grammar leaves incomplete.
 use Rattle.std.proofs.Common.{◌≡◌, ℕ, ◌-◌, Bool, true, false, ◌&&◌, cond, List, [], ◌∷◌, ◌++◌, length, Option, Some}
 use Rattle.std.proofs.Common.{None, option_to_list, refl, sym, ap, ◌∙◌, arith, length-append}
 use Rattle.std.specs.Prelude.{nat_le, ◌==◌}
@@ -36,7 +36,7 @@ tracks_cond_if : (b : Bool) (s s' : Option Func × State) (r r' : List Func × R
 tracks_cond_if true s s' r r' h k = h refl
 tracks_cond_if false s s' r r' h k = k refl
 
--- one side alone has the test
+-- only one side has the test
 tracks_left : (b : Bool) (s s' : Option Func × State) (r : List Func × Rest) → (b ≡ true → Tracks s r)
     → (b ≡ false → Tracks s' r) → Tracks (cond b s s') r
 tracks_left true s s' r h k = h refl
@@ -201,7 +201,7 @@ pub none_given : (old : State) (given : List Func) → old ≡ state.Ground → 
 unfolding kept functions_behind
 none_given old given h k = record { stands = h; all = k }
 
--- units that leave nothing unended, and more units
+-- units that leave nothing incomplete, and more units
 pub functions-append : (us vs : List Unit) → (functions us).1 ≡ nothing
     → functions (us ++ vs) ≡ with_front (functions us).0 (functions vs)
 functions-append us vs h =
@@ -217,7 +217,7 @@ can_ends (control t) = refl
 can_ends string = refl
 can_ends osc = refl
 
--- CAN leaves nothing unended, and gives nothing
+-- CAN leaves nothing incomplete, and gives nothing
 pub functions-can : (us : List Unit) → functions (us ++ units.Code 0x18 ∷ []) ≡ ((functions us).0, nothing)
 functions-can us =
     functions-push us (units.Code 0x18) ∙ ap (with_front (functions us).0) (can_ends (functions us).1)

@@ -1,4 +1,4 @@
--- A run of bytes that pass a test, seen a vector at a time through the mask of those that fail it.
+-- A run of bytes that pass a test, read a vector at a time through the mask of those that fail it.
 use Rattle.std.proofs.Common.{◌≡◌, ℕ, ◌+◌, ◌*◌, ◌-◌, ◌%◌, ◌^◌, ◌<◌, ◌≤◌, leb, Bool, true, false, not, cond, eqb, List}
 use Rattle.std.proofs.Common.{[], ◌∷◌, map, length, drop, replicate, refl, sym, ap, ap₂, ◌∙◌, arith, w8, Fits}
 use Rattle.std.specs.List.{prefix_len}

@@ -66,7 +66,7 @@ machine-append r (u ∷ us) vs =
     (append_assoc (rest_step r u).0 (machine (rest_step r u).1 us).0
     (machine (machine (rest_step r u).1 us).1 vs).0))
 
--- what the longest front leaves
+-- the state after the longest front
 abbrev taken : {A : Type 0} → Bool → A → List A → List A × List A → List A × List A
 taken b u us later = cond b (u ∷ later.0, later.1) ([], u ∷ us)
 
@@ -80,7 +80,7 @@ while-drop : {A : Type 0} (p : A → Bool) (us : List A) → drop (length (while
 while-drop p [] = refl
 while-drop p (u ∷ us) = drop-taken (p u) u us (while p us) (while-drop p us)
 
--- what stands behind it doesn't pass
+-- the items after it begin with one that doesn't pass
 abbrev pub Stops : {A : Type 0} → (A → Bool) → List A → Type 0
 Stops p [] = Prim.Unit {0}
 Stops p (u ∷ us) = p u ≡ false
@@ -168,7 +168,7 @@ goes_on_string u h = grind (arith, nat_tests)
 goes_on_osc : (u : Unit) → in_osc u ≡ true → rest_step osc u ≡ ([], osc)
 goes_on_osc u h = grind (arith, nat_tests)
 
--- what a piece gives, and then what stands behind it
+-- the functions of a piece, and then those of the units after it
 abbrev pub outcome : Piece → List Unit → List Func × Rest
 outcome (ends gives n) us = with_front gives (machine nothing (drop n us))
 outcome (unended gives rest) us = (gives, rest)
@@ -182,7 +182,7 @@ outcome-behind front n (unended gives rest) us = refl
 one_more : (n : ℕ) (us : List Unit) (f : Unit) (after : List Unit) → drop n us ≡ f ∷ after → drop (n + 1) us ≡ after
 one_more n us f after h = sym (drop-drop 1 n us) ∙ ap (λ l. drop 1 l) h
 
--- the machine gives what the piece does
+-- the machine gives the functions of the piece
 record Same (r : List Func × Rest) (p : Piece) (after us : List Unit) : Type 0 where
   same : with_front r.0 (machine r.1 after) ≡ outcome p us
 

@@ -1,4 +1,4 @@
--- What is unended goes on as the units that begin it.
+-- An incomplete sequence or string goes on like the units that begin it.
 use Rattle.std.proofs.Common.{◌≡◌, ℕ, ◌-◌, ◌<◌, Bool, true, false, ◌&&◌, cond, List, [], ◌∷◌, ◌++◌, length, map, refl}
 use Rattle.std.proofs.Common.{sym, ap, ◌∙◌, subst, arith, append_assoc}
 use Rattle.std.specs.Prelude.{◌==◌}
@@ -124,7 +124,7 @@ functions-opening us =
     subst P (sym (functions_behind-machine 0 us))
     (functions_behind-machine 0 (opening r) ∙ opening_machine r (machine_keeps us nothing tt))
 
--- the units that begin what is unended are characters
+-- the units that begin something incomplete are characters
 text_units : (text : List ℕ) → list_all is_sequence_text text ≡ true → AllByRecursion IsUnit (coded text)
 text_units [] h = tt
 text_units (c ∷ text) h =

@@ -1,4 +1,4 @@
--- Units in pieces, and plain ones.
+-- Units in pieces, and units that are printed.
 use Rattle.std.proofs.Common.{◌≡◌, ◌↔◌, ℕ, Bool, true, false, cond, List, [], ◌∷◌, ◌++◌, length, map, Option, Some}
 use Rattle.std.proofs.Common.{None, refl, sym, ap, ◌∙◌, arith, append_assoc}
 use Rattle.std.specs.Prelude.{nat_le}
@@ -24,7 +24,7 @@ pub functions-none : functions [] ≡ ([], nothing)
 unfolding functions_behind
 functions-none = refl
 
--- pieces behind what was read before them
+-- pieces read after some units
 behind_front : (pieces : List (List Unit)) (us : List Unit)
     → functions (us ++ flat_map (λ piece. piece) pieces) ≡ with_front (functions us).0
     (functions_of_pieces (functions us).1 pieces)
@@ -69,7 +69,7 @@ pub functions-plain : (codes : List ℕ) → list_all is_plain codes ≡ true
     → functions (map (λ c. Code c) codes) ≡ (map (λ c. Print c) codes, nothing)
 functions-plain codes h = functions-graphic codes (plain_graphic codes h)
 
--- nothing else is kept as nothing
+-- only `nothing` is kept as Ground
 pub kept-ground : (r : Rest) → kept r ≡ state.Ground → r ≡ nothing
 unfolding kept
 kept-ground nothing h = refl

@@ -1,4 +1,4 @@
--- What is spelled, function after function.
+-- Spelled functions, one after another.
 use Rattle.std.proofs.Common.{◌≡◌, ℕ, List, [], ◌∷◌, ◌++◌, map, true, ap, ◌∙◌, subst}
 use Rattle.std.specs.List.{AllByRecursion, flat_map, list_all}
 use Rattle.charsets.specs.Units.{units, is_plain}

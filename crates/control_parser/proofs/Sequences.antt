@@ -1,4 +1,4 @@
--- A control sequence that stands whole.
+-- A complete control sequence.
 use Rattle.std.proofs.Common.{◌≡◌, ℕ, zero, suc, ◌+◌, ◌-◌, ◌<◌, ◌≤◌, Bool, true, false, cond, arith, List, [], ◌∷◌}
 use Rattle.std.proofs.Common.{◌++◌, length, take, get_or, Some, refl, sym, ap, ◌∙◌, subst, lt-ltb}
 use Rattle.std.specs.List.{list_all}
@@ -59,7 +59,7 @@ sequence-whole bytes at t l h p above below =
     (sym (take_more bytes at 0 l))
     (whole-text (take at bytes) t (get_or bytes at 0) h p above below)
 
--- the text with one digit more, which isn't written down yet
+-- the text with one more digit, which isn't written down yet
 pub digit-grown : (t : SequenceText) (value c : ℕ) → TakesDigits t → is_digit c ≡ true
     → text_grown (valued t value) c ≡ Some (valued (record t { begun = true }) (longer value (c - 0x30)))
 digit-grown t value c takes d =
@@ -80,7 +80,7 @@ valued-stays t = ap (λ (v : List ℕ). Some (record t { params = v })) (last-st
 pub no-digits : TakesDigits no_text
 no-digits = record { few = refl; inside = refl }
 
--- the bytes so far are the text, but for the value of its last parameter
+-- the bytes up to here are the text, but for the value of its last parameter
 pub record IsRead (bytes : List ℕ) (at : ℕ) (t : SequenceText) (value : ℕ) (takes_digits : Bool) : Type 0 where
   pub inside : list_all is_sequence_text (take at bytes) ≡ true
   pub text : parts (take at bytes) ≡ Some (valued t value)
@@ -114,7 +114,7 @@ other-read bytes at t whole grown-text value next takes takes' l r is w g n y = 
   digits = y;
 }
 
--- the text whose last parameter is written down, and behind a semicolon another one
+-- the text whose last parameter is written down, and a new parameter after a semicolon
 last_pushed : (values : List ℕ) → last_value (values ++ 0 ∷ []) ≡ 0
 last_pushed [] = refl
 last_pushed (n ∷ []) = refl
@@ -125,7 +125,7 @@ length-with_last [] value = refl
 length-with_last (n ∷ []) value = refl
 length-with_last (n ∷ m ∷ ns) value = ap suc (length-with_last (m ∷ ns) value)
 
--- the bytes so far are digits and semicolons; that something has begun is not written down
+-- the bytes up to here are digits and semicolons; that something has begun is not written down
 pub record IsNumerals (bytes : List ℕ) (at : ℕ) (t : SequenceText) (value : ℕ) : Type 0 where
   pub begun : Bool
   pub read : IsRead bytes at (record t { begun = begun }) value true
@@ -139,7 +139,7 @@ number-read bytes at t value next l r d n = record {
   read = digit-read bytes at (record t { begun = r.begun }) value next true l r.read refl d n;
 }
 
--- so many digits more: `rest` has the bytes from there on
+-- after the next `count` digits: `rest` has the bytes from there on
 pub value-read : (bytes rest : List ℕ) (at count : ℕ) (t : SequenceText) → at + count ≤ length bytes
     → ((k : ℕ) → k < count → get_or rest k 0 ≡ get_or bytes (at + k) 0) → IsNumerals bytes at t 0
     → ((k : ℕ) → k < count → is_digit (get_or rest k 0) ≡ true) → IsNumerals bytes (at + count) t (value_of rest count)

@@ -1,4 +1,4 @@
--- What is spelled reads back.
+-- Spelled functions are read back.
 use Rattle.std.proofs.Common.{◌≡◌, ℕ, ◌/◌, ◌<◌, ◌≤◌, Bool, true, false, ◌&&◌, cond, List, [], ◌∷◌, ◌++◌, length, take}
 use Rattle.std.proofs.Common.{map, Option, Some, None, IfSome, option_to_list, refl, sym, ap, ◌∙◌, subst, arith}
 use Rattle.std.proofs.Common.{append_assoc, ⊎_elim, take_all}
@@ -210,7 +210,7 @@ values-numerals : (n : ℕ) (ns : List ℕ) → list_all (λ n. nat_lt n 10000) 
     → values (numerals (n ∷ ns)) ≡ n ∷ ns
 values-numerals n ns h = ap (map value) (fields-numerals n ns) ∙ values-map (n ∷ ns) h
 
--- all of them are numbers
+-- all of them are digits and semicolons
 digit_number : (c : ℕ) → is_digit c ≡ true → is_number c ≡ true
 digit_number c h = rw h refl
 
@@ -239,7 +239,7 @@ stops_intermediates (c ∷ cs) h =
     let p = both (is_intermediate c) (list_all is_intermediate cs) h in
     let a : is_intermediate c ≡ true = p.0 in grind (arith, nat_tests)
 
--- numerals and intermediates begin with no mark
+-- numerals and intermediates begin with no private marker
 record IsUnmarked (text : List ℕ) : Type 0 where
   mark : mark_of text ≡ None
   same : unmarked text ≡ text
@@ -301,7 +301,7 @@ control_of-spelled mark n ns is last h few low fine =
     ∙ ap (λ m. Csi m (take 16 (values (numerals ps))) is last ∷ []) t.mark
     ∙ ap (λ l. Csi mark l is last ∷ []) vs
 
--- a function alone
+-- a single function
 pub print_reads : (c : ℕ) → is_graphic c ≡ true → rest_step nothing (units.Code c) ≡ (Print c ∷ [], nothing)
 print_reads c h =
     let a : (c == 0x1A && false) ≡ false = and-false (c == 0x1A) in
@@ -317,7 +317,7 @@ control_reads c h =
     let d : is_c1 c ≡ false = grind (arith, nat_tests) in
     rw (h, a, b, d) refl
 
--- the bytes of a sequence are low
+-- the bytes of a sequence are below 80
 text_low : (c : ℕ) → is_sequence_text c ≡ true → is_low c ≡ true
 text_low c h = grind (arith, nat_tests)
 

@@ -1,4 +1,4 @@
--- The text of a control sequence, one character more.
+-- The text of a control sequence with one more character.
 use Rattle.std.proofs.Common.{◌≡◌, ℕ, zero, suc, ◌+◌, ◌-◌, ◌*◌, ◌<◌, ◌≤◌, Bool, true, false, not, ◌&&◌, ◌||◌, cond}
 use Rattle.std.proofs.Common.{List, [], ◌∷◌, ◌++◌, length, take, map, min, Option, Some, None, refl, sym, ap, ◌∙◌}
 use Rattle.std.proofs.Common.{arith, ⊎_elim, length-append, take_all}
@@ -25,7 +25,7 @@ value-push digits d = ap (λ k. min 9999 k) (number_after-push 0 digits d) ∙ s
     saturated : (n d : ℕ) → min 9999 (n * 10 + d) ≡ min 9999 (min 9999 n * 10 + d)
     saturated n d = omega arith
 
--- the last field grows
+-- the last field with one more character
 abbrev last_grown : List (List ℕ) → ℕ → List (List ℕ)
 last_grown [] d = []
 last_grown (f ∷ []) d = (f ++ d ∷ []) ∷ []
@@ -94,7 +94,7 @@ map-snoc (f ∷ fs) = ap (λ l. value f ∷ l) (map-snoc fs)
 values-next : (cs : List ℕ) → values (cs ++ 0x3B ∷ []) ≡ values cs ++ 0 ∷ []
 values-next cs = ap (map value) (fields-next cs) ∙ map-snoc (fields cs)
 
--- at most sixteen count
+-- at most sixteen parameters count
 take-digit : (n : ℕ) (vs : List ℕ) (d : ℕ) → n < length vs → take n (digit_added vs d) ≡ take n vs
 take-digit zero vs d h = refl
 take-digit (suc n) [] d h = absurd (omega arith)
@@ -106,7 +106,7 @@ length-digit [] d = refl
 length-digit (v ∷ []) d = refl
 length-digit (v ∷ w ∷ vs) d = ap suc (length-digit (w ∷ vs) d)
 
--- the sixteen that count, one digit more
+-- the sixteen parameters that count, with one more digit
 params-digit : (vs : List ℕ) (d : ℕ)
     → take 16 (digit_added vs d) ≡ cond (nat_lt 16 (length vs)) (take 16 vs) (digit_added (take 16 vs) d)
 params-digit vs d = ⊎_elim (λ e. rw e (take-digit 16 vs d (grind (arith, nat_tests))))
@@ -130,7 +130,7 @@ over-next : (vs : List ℕ)
     → nat_lt 16 (length (vs ++ 0 ∷ [])) ≡ cond (nat_lt (length (take 16 vs)) 16) (nat_lt 16 (length vs)) true
 over-next vs = grind (arith, nat_tests, length-take, length-append)
 
--- the longest front, one character more
+-- the longest front, with one more character
 abbrev pushed : List ℕ × List ℕ → Bool → ℕ → List ℕ × List ℕ
 pushed (front, []) b c = cond b (front ++ c ∷ [], []) (front, c ∷ [])
 pushed (front, a ∷ later) b c = (front, a ∷ (later ++ c ∷ []))
@@ -254,7 +254,7 @@ next_found begun mark front c h =
       intermediates = [];
     })) (over-next vs)
 
--- behind numbers alone
+-- after digits and semicolons only
 chosen : (mark : Option ℕ) (front : List ℕ) (c : ℕ) (i d s m : Bool) (in_i in_d in_s in_m : Option SequenceText)
     → (i ≡ true → (d || s) ≡ false) → m ≡ false
     → finish true mark (front, c ∷ []) ≡ cond i in_i None
@@ -276,7 +276,7 @@ bare-push begun mark front c h =
     (λ i. grind (arith, nat_tests)) h
     (single mark front c) (digit_found begun mark front c) (next_found begun mark front c)
 
--- behind intermediates
+-- after intermediates
 all-push : (p : ℕ → Bool) (xs : List ℕ) (c : ℕ) → list_all p (xs ++ c ∷ []) ≡ (list_all p xs && p c)
 all-push p [] c = by (p c)
   where

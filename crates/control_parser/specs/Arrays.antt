@@ -1,4 +1,4 @@
--- A list at the front of a fixed array, whose rest is 0.  The lemmas stand here and not in proofs/,
+-- A list at the front of a fixed array, filled up with 0. The lemmas stand here and not in proofs/,
 -- since a Model cites them, and its ghost imports take nothing from a crate's own proofs.
 use Rattle.std.specs.Prelude.{◌≡◌, ℕ, ◌-◌, ◌≤◌, List, ◌++◌, length, take, drop, replicate}
 use Rattle.std.proofs.Common.{take-append-drop, length-take-le, ap, ◌∙◌, sym, subst}
@@ -7,7 +7,7 @@ abbrev pub IsFront : ℕ → ℕ → List ℕ → Type 0
 IsFront room count array =
     (count ≤ room) × (length array ≡ room) × (drop count array ≡ replicate (room - count) 0)
 
--- the array of a list
+-- the array with a list at its front
 abbrev pub array_of : ℕ → List ℕ → List ℕ
 array_of room xs = xs ++ replicate (room - length xs) 0
 

@@ -11,7 +11,7 @@ use Rattle.control_parser.specs.declared.func.Func.TheVariants.{Print, High, Con
 use Rattle.control_parser.specs.Text.{is_intermediate, while, is_well_formed, mark_of, params_of}
 use Rattle.control_parser.specs.Text.{intermediates_of}
 
--- what the unit counts as: each byte from A0 on in ECMA-35 does as A0
+-- the code of a unit: every byte of ECMA-35 from A0 on counts as A0
 abbrev pub code : Unit → ℕ
 code (units.Code c) = c
 code (units.High b) = 0xA0
@@ -25,20 +25,19 @@ CAN = 0x18
 abbrev pub SUB : ℕ
 SUB = 0x1A
 
--- a C0 control that is executed wherever it stands, but in a string (ECMA-48, 5.2; VT220 manual,
--- chapter 2)
+-- a C0 control that is executed anywhere but in a string (ECMA-48, 5.2; VT220 manual, chapter 2)
 abbrev pub is_control : ℕ → Bool
 is_control c = nat_lt c 0x20 && not (c == ESC) && not (c == CAN) && not (c == SUB)
 
--- a C1 control, the same function as ESC and its code less 40 (ECMA-48, 5.3)
+-- a C1 control, which is the function ESC and its code less 40 (ECMA-48, 5.3)
 abbrev pub is_c1 : ℕ → Bool
 is_c1 c = nat_lt 0x7F c && nat_lt c 0xA0
 
 abbrev pub is_graphic : ℕ → Bool
 is_graphic c = (nat_lt 0x1F c && nat_lt c 0x7F) || nat_lt 0x9F c
 
--- what stands inside an escape sequence, a control sequence, a string, an OSC string: all before
--- what ends it
+-- the units inside an escape sequence, a control sequence, a string, an OSC string: any other unit
+-- ends it
 abbrev pub goes_on_beside : (ℕ → Bool) → Unit → Bool
 goes_on_beside is_text u = is_control (code u) || (code u == 0x7F || is_text (code u))
 
@@ -66,7 +65,8 @@ unfoldable pub text : List Unit → List ℕ
 text [] = []
 text (u ∷ us) = if is_sequence_text (code u) then code u ∷ text us else text us
 
--- what is unended at the end of a list, with the text that it has so far, controls taken out
+-- the incomplete sequence or string at the end of a list, with its text up to there, without
+-- controls
 pub data Rest : Type 0 where
   nothing : Rest
   escape : List ℕ → Rest
@@ -74,38 +74,38 @@ pub data Rest : Type 0 where
   string : Rest
   osc : Rest
 
--- A piece of the units: the functions that it gives, and how many units it has beside its first
--- one; or it is unended.
+-- A piece of the units: the functions that it gives, and its number of units without the first one;
+-- or it is incomplete.
 pub data Piece : Type 0 where
   ends : List Func → ℕ → Piece
   unended : List Func → Rest → Piece
 
--- with functions before, and units beside
+-- the piece with functions before it, and with more units
 abbrev pub behind : List Func → ℕ → Piece → Piece
 behind front more (ends gives n) = ends (front ++ gives) (more + n)
 behind front more (unended gives rest) = unended (front ++ gives) rest
 
--- The unit f breaks off a sequence or string that has n units beside its first one. CAN and SUB
--- belong to it; any other is read anew.
+-- The unit f breaks off a sequence or string that has n units without its first one. CAN and SUB
+-- belong to it; any other unit is read anew.
 abbrev pub broken : ℕ → ℕ → Piece
 broken n f =
     if f == SUB then ends (Print 0xFFFD ∷ []) (n + 1)
     else (if f == CAN then ends [] (n + 1) else ends [] n)
 
--- an escape sequence, its intermediates and its final (ECMA-35, 13); with more than two
+-- an escape sequence, from its intermediates and its final byte (ECMA-35, 13); with more than two
 -- intermediates it is ignored
 abbrev pub escape_of : List ℕ → ℕ → List Func
 escape_of intermediates last =
     if nat_le (length intermediates) 2 then Esc intermediates last ∷ [] else []
 
--- a control sequence, its text and its final (ECMA-48, 5.4)
+-- a control sequence, from its text and its final byte (ECMA-48, 5.4)
 abbrev pub control_of : List ℕ → ℕ → List Func
 control_of text last =
     if is_well_formed text
     then Csi (mark_of text) (params_of text) (intermediates_of text) last ∷ []
     else []
 
--- The control sequence that goes on with these units, behind its CSI; the string.
+-- The control sequence, and then the string, that goes on with these units after its introducer.
 abbrev pub control_end : List ℕ → ℕ → List Unit → Piece
 control_end text n [] = unended [] (control text)
 control_end text n (f ∷ after) =
@@ -136,7 +136,7 @@ begun_by f us =
     else (if is_string_opener f then string_of string in_string us
     else ends (escape_of [] f) 0))
 
--- The escape sequence that goes on with these units, behind its ESC.
+-- The escape sequence that goes on with these units after its ESC.
 abbrev pub escape_end : List ℕ → ℕ → List Unit → Piece
 escape_end intermediates n [] = unended [] (escape intermediates)
 escape_end intermediates n (f ∷ after) =
@@ -150,13 +150,13 @@ escape_sequence us =
     let inside = (while in_escape us).0 in
     behind (controls inside) 0 (escape_end (text inside) (length inside) (while in_escape us).1)
 
--- a unit by itself: DEL is dropped, and CAN and SUB change nothing
+-- the function of a unit by itself: DEL is dropped, and CAN and SUB change nothing
 abbrev pub alone : Unit → List Func
 alone (units.High b) = High b ∷ []
 alone (units.Code c) =
     if is_control c then Control c ∷ [] else (if is_graphic c then Print c ∷ [] else [])
 
--- the piece that begins with u
+-- the piece that begins with the unit u
 unfoldable pub piece : Unit → List Unit → Piece
 piece u us =
     if code u == ESC then escape_sequence us
@@ -166,8 +166,8 @@ piece u us =
 abbrev pub with_front : List Func → List Func × Rest → List Func × Rest
 with_front front later = (front ++ later.0, later.1)
 
--- the functions of the units behind the first skip, which belong to a piece that began before, and
--- what is unended
+-- the functions of the units after the first `skip`, which belong to an earlier piece, and what is
+-- incomplete at the end
 unfoldable pub functions_behind : ℕ → List Unit → List Func × Rest
 functions_behind skip [] = ([], nothing)
 functions_behind (suc skip) (u ∷ us) = functions_behind skip us

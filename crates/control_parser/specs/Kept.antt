@@ -14,7 +14,7 @@ use Rattle.control_parser.specs.Text.{intermediates_of}
 use Rattle.control_parser.specs.Grammar.{Rest, nothing, escape, control, string, osc, with_front}
 use Rattle.control_parser.specs.Grammar.{functions}
 
--- the parts of a control sequence's text so far, or None where it is ignored
+-- the parts of a control sequence's text as far as it was read; None if it is ignored
 unfoldable pub parts : List ℕ → Option SequenceText
 parts text = if is_well_formed text then Some (record {
   begun = not (length text == 0);
@@ -40,16 +40,16 @@ kept osc = Osc
 abbrev pub StandsFor : State → List Unit → Type 0
 StandsFor parser units = parser ≡ kept (functions units).1
 
--- these functions are what it has given of these units, and it has read no others
+-- these functions are what it has given for these units, and it has read no others
 pub record HasGiven (parser : State) (given : List Func) (units : List Unit) : Type 0 where
   pub stands : StandsFor parser units
   pub all : given ≡ (functions units).0
 
--- no sequence or string has begun
+-- no sequence or string is incomplete
 abbrev pub IsIdle : State → Type 0
 IsIdle parser = parser ≡ Ground
 
--- units that stand for what is unended: it begins so, without its controls
+-- units that leave this incomplete: the beginning of the sequence or string, without its controls
 abbrev pub opening : Rest → List Unit
 opening nothing = []
 opening (escape intermediates) = Code 0x1B ∷ map (λ c. Code c) intermediates
@@ -57,8 +57,8 @@ opening (control text) = Code 0x1B ∷ Code 0x5B ∷ map (λ c. Code c) text
 opening string = Code 0x1B ∷ Code 0x58 ∷ []
 opening osc = Code 0x1B ∷ Code 0x5D ∷ []
 
--- units that come in pieces: each piece is read behind what is unended at the end of those before
--- it
+-- the functions of units that come in pieces: each piece is read after what the pieces before it
+-- left incomplete
 abbrev pub functions_of_pieces : Rest → List (List Unit) → List Func × Rest
 functions_of_pieces rest [] = ([], rest)
 functions_of_pieces rest (piece ∷ pieces) =

@@ -16,7 +16,7 @@ use Rattle.control_parser.specs.Grammar.{functions}
 abbrev pub digit : ℕ → ℕ
 digit n = 0x30 + n % 10
 
--- a number below 10,000
+-- a number below 10,000, in decimal
 unfoldable pub decimal : ℕ → List ℕ
 decimal n =
     if nat_lt n 10 then digit n ∷ []
@@ -24,8 +24,8 @@ decimal n =
     else (if nat_lt n 1000 then digit (n / 100) ∷ digit (n / 10) ∷ digit n ∷ []
     else digit (n / 1000) ∷ digit (n / 100) ∷ digit (n / 10) ∷ digit n ∷ []))
 
--- A parameter: 0 is spelled as nothing, since an empty one is read as it (ECMA-48, 5.4.2; VT220
--- manual, chapter 2).
+-- A parameter: 0 is spelled as nothing, since an empty parameter is read as 0 (ECMA-48, 5.4.2;
+-- VT220 manual, chapter 2).
 abbrev pub parameter : ℕ → List ℕ
 parameter n = if n == 0 then [] else decimal n
 
@@ -42,7 +42,7 @@ spelling (Esc intermediates last) = 0x1B ∷ (intermediates ++ last ∷ [])
 spelling (Csi mark params intermediates last) =
     0x1B ∷ 0x5B ∷ ((option_to_list mark ++ (numerals params ++ intermediates)) ++ last ∷ [])
 
--- the coding that it is read in
+-- a coding in which the spelling is read back
 abbrev pub coding_of : Func → Coding
 coding_of (High b) = Ecma35
 coding_of f = Utf8
@@ -50,7 +50,7 @@ coding_of f = Utf8
 abbrev pub are_intermediates : List ℕ → Bool
 are_intermediates is = list_all is_intermediate is && nat_le (length is) 2
 
--- what ESC and this final don't begin
+-- an escape sequence that is complete: ESC and this final byte begin nothing longer
 abbrev pub begins_none : List ℕ → ℕ → Bool
 begins_none is last =
     not (length is == 0) || not (last == 0x5B || (last == 0x5D || is_string_opener last))
@@ -67,16 +67,17 @@ IsGiven (Csi mark params is last) =
     × (list_all (λ n. nat_lt n 10000) params ≡ true)
     × (are_intermediates is ≡ true) × (0x3F < last) × (last < 0x7F)
 
--- the functions of some bytes, and no rest
+-- the bytes are read as these functions, and leave nothing incomplete
 abbrev pub ReadsAs : Coding → List ℕ → List Func → Type 0
 ReadsAs coding bytes given =
     ((units coding bytes).1 ≡ []) × (functions (units coding bytes).0 ≡ (given, nothing))
 
--- so many bytes behind the CSI of a function are the rest of its bytes in UTF-8, unless none are
+-- the first `count` bytes after a CSI complete this function in UTF-8; a count of 0 promises
+-- nothing
 abbrev pub ReadsBehindCsi : ℕ → List ℕ → Func → Type 0
 ReadsBehindCsi count bytes given =
     0 < count → ReadsAs Utf8 (0x1B ∷ 0x5B ∷ take count bytes) (given ∷ [])
 
--- a function that bytes give in UTF-8
+-- a function that bytes in UTF-8 can give
 abbrev pub IsGivenInUtf8 : Func → Type 0
 IsGivenInUtf8 f = IsGiven f × (coding_of f ≡ Utf8)

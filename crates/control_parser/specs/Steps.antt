@@ -1,5 +1,5 @@
--- One unit more, on what the parser keeps. The grammar is apart from this: what the public calls
--- promise cites this nowhere.
+-- The parser's step: one more unit read into what it keeps. The grammar doesn't need these
+-- definitions, and no promise of a public call cites them.
 use Rattle.std.specs.Prelude.{◌≡◌, ℕ, ◌-◌, Bool, true, false, not, ◌&&◌, ◌||◌, nat_lt, ◌==◌}
 use Rattle.std.specs.Prelude.{if◌then◌else◌, List, [], ◌∷◌, ◌++◌, length, Option, Some, None}
 use Rattle.charsets.specs.declared.unit.Unit.{Unit}
@@ -15,18 +15,18 @@ use Rattle.control_parser.specs.Grammar.{is_string_opener, alone}
 abbrev pub no_text : SequenceText
 no_text = record { begun = false; mark = None; params = 0 ∷ []; over = false; intermediates = [] }
 
--- one intermediate more, of at most two
+-- one more intermediate, of at most two
 abbrev pub with_intermediate : SequenceText → ℕ → Option SequenceText
 with_intermediate t c =
     if length t.intermediates == 2 then None
     else Some (record t { begun = true; intermediates = t.intermediates ++ c ∷ [] })
 
--- one digit more of the last parameter
+-- one more digit of the last parameter
 abbrev pub with_digit : SequenceText → ℕ → SequenceText
 with_digit t d =
     record t { begun = true; params = if t.over then t.params else digit_added t.params d }
 
--- one parameter more, of at most sixteen
+-- one more parameter, of at most sixteen
 abbrev pub with_parameter : SequenceText → SequenceText
 with_parameter t =
     record t {
@@ -74,7 +74,7 @@ broken_step u inside =
     else (if is_c1 (code u) then begun_step (code u - 0x40)
     else (alone_of u, state.Ground)))
 
--- inside a sequence: a control is executed, DEL is dropped
+-- a unit inside a sequence: a control is executed, DEL is dropped
 abbrev pub inside_step : State → Unit → Option Func × State → Option Func × State
 inside_step here u otherwise =
     if is_control (code u) then (Some (Control (code u)), here)
@@ -90,7 +90,7 @@ grown_step (Some t) = (None, state.Control t)
 abbrev pub is_final_from : ℕ → ℕ → Bool
 is_final_from low c = nat_lt low c && nat_lt c 0x7F
 
--- inside an escape sequence, a control sequence, but for controls and DEL
+-- a unit inside an escape sequence or a control sequence, other than controls and DEL
 abbrev pub escape_step : List ℕ → Unit → Option Func × State
 escape_step is u =
     if is_intermediate (code u) then

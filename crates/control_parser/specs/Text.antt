@@ -1,11 +1,11 @@
--- The text of a control sequence: what stands between CSI and the final byte (ECMA-48, 5.4).
+-- The text of a control sequence: the bytes between CSI and the final byte (ECMA-48, 5.4).
 use Rattle.std.specs.Prelude.{ℕ, zero, suc, ◌+◌, ◌-◌, ◌*◌, Bool, not, ◌&&◌, ◌||◌, nat_lt, nat_le, ◌==◌}
 use Rattle.std.specs.Prelude.{if◌then◌else◌, List, [], ◌∷◌, length, take, map, min, Option, Some}
 use Rattle.std.specs.Prelude.{None, slice_index}
 use Rattle.std.specs.List.{list_all}
 use Rattle.charsets.specs.Units.{is_plain}
 
--- an intermediate byte (ECMA-48, 5.4, and of escape sequences ECMA-35, 13)
+-- an intermediate byte (ECMA-48, 5.4; for escape sequences ECMA-35, 13)
 abbrev pub is_intermediate : ℕ → Bool
 is_intermediate c = nat_lt 0x1F c && nat_lt c 0x30
 
@@ -16,7 +16,7 @@ is_digit c = nat_lt 0x2F c && nat_lt c 0x3A
 abbrev pub is_number : ℕ → Bool
 is_number c = is_digit c || c == 0x3B
 
--- one of < = > ?, which begin private parameters (ECMA-48, 5.4.1)
+-- one of < = > ?, which begins private parameters (ECMA-48, 5.4.1)
 abbrev pub is_mark : ℕ → Bool
 is_mark c = nat_lt 0x3B c && nat_lt c 0x40
 
@@ -24,12 +24,12 @@ is_mark c = nat_lt 0x3B c && nat_lt c 0x40
 abbrev pub is_no_plain : ℕ → Bool
 is_no_plain b = not (is_plain b)
 
--- the longest front that passes, and what follows it
+-- the longest front whose items pass the test, and the items after it
 abbrev pub while : {A : Type 0} → (A → Bool) → List A → List A × List A
 while p [] = ([], [])
 while p (x ∷ xs) = if p x then (x ∷ (while p xs).0, (while p xs).1) else ([], x ∷ xs)
 
--- the decimal number that some digits spell, behind what is spelled before them
+-- the decimal number of some digits, after the digits of a number
 abbrev pub number_after : ℕ → List ℕ → ℕ
 number_after n [] = n
 number_after n (d ∷ digits) = number_after (n * 10 + (d - 0x30)) digits
@@ -50,7 +50,7 @@ fields (c ∷ cs) = if c == 0x3B then [] ∷ fields cs else onto_first c (fields
 abbrev pub values : List ℕ → List ℕ
 values numbers = map value (fields numbers)
 
--- A text is a mark, perhaps, then numbers, then intermediates.
+-- A text is an optional private marker, then digits and semicolons, then intermediates.
 abbrev pub mark_of : List ℕ → Option ℕ
 mark_of [] = None
 mark_of (c ∷ cs) = if is_mark c then Some c else None
@@ -65,16 +65,16 @@ numbers_of text = (while is_number (unmarked text)).0
 abbrev pub intermediates_of : List ℕ → List ℕ
 intermediates_of text = (while is_number (unmarked text)).1
 
--- with at most two intermediates, and nothing else behind the numbers; any other text is ignored
+-- a text with at most two intermediates and nothing else after the numbers; any other is ignored
 abbrev pub is_well_formed : List ℕ → Bool
 is_well_formed text =
     list_all is_intermediate (intermediates_of text) && nat_le (length (intermediates_of text)) 2
 
--- sixteen parameters count (VT220 Programmer Reference Manual, chapter 2)
+-- the parameters: the first sixteen count (VT220 Programmer Reference Manual, chapter 2)
 abbrev pub params_of : List ℕ → List ℕ
 params_of text = take 16 (values (numbers_of text))
 
--- the last of some values, and some values with another last one
+-- the last one of some values; the values with another last one
 abbrev pub last_value : List ℕ → ℕ
 last_value [] = 0
 last_value (n ∷ []) = n
@@ -85,7 +85,7 @@ with_last [] value = []
 with_last (n ∷ []) value = value ∷ []
 with_last (n ∷ m ∷ ns) value = n ∷ with_last (m ∷ ns) value
 
--- one digit more of a value, and of the last of some values
+-- a value with one more digit; the values whose last one has one more digit
 abbrev pub longer : ℕ → ℕ → ℕ
 longer n digit = min 9999 (n * 10 + digit)
 
@@ -94,7 +94,7 @@ digit_added [] digit = []
 digit_added (n ∷ []) digit = longer n digit ∷ []
 digit_added (n ∷ m ∷ ns) digit = n ∷ digit_added (m ∷ ns) digit
 
--- the value of so many digits at the front of some bytes
+-- the value of the first `count` digits of some bytes
 abbrev pub value_of : List ℕ → ℕ → ℕ
 value_of bytes zero = 0
 value_of bytes (suc count) = longer (value_of bytes count) (slice_index bytes count - 0x30)

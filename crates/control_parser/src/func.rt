@@ -8,11 +8,11 @@ use crate::params::Params;
 pub enum Func {
     /// A graphic character.
     Print(char),
-    /// A byte from A0 on of ECMA-35, which goes through GR.
+    /// A byte of ECMA-35 from A0 on, which goes through GR.
     High(u8),
-    /// A C0 control, but for CAN, SUB and ESC.
+    /// A C0 control other than CAN, SUB and ESC.
     Control(u8),
-    /// An escape sequence, or the C1 control that it stands for.
+    /// An escape sequence. A C1 control is given as the escape sequence that stands for it.
     Esc {
         intermediates: Intermediates,
         /// The final byte, 30 to 7E.
@@ -20,7 +20,7 @@ pub enum Func {
     },
     /// A control sequence.
     Csi {
-        /// One of `<`, `=`, `>`, `?` before the parameters.
+        /// The private marker before the parameters, if there is one: `<`, `=`, `>` or `?`.
         mark: Option<u8>,
         params: Params,
         intermediates: Intermediates,

@@ -4,7 +4,7 @@ ghost use Rattle.std.specs.Prelude.{◌≡◌, ◌<◌, ◌≤◌, ◌==◌, ◌
 
 use std::marker::Model;
 
-/// The intermediate bytes of a sequence: at most two, each 20 to 2F where a parser gives it.
+/// The intermediate bytes of a sequence: at most two. Those that a parser gives are 20 to 2F.
 #[derive(Clone, Copy, Debug, PartialEq, Eq)]
 pub struct Intermediates {
     bytes: [u8; 2],
@@ -30,7 +30,7 @@ impl Model for Intermediates {
 }
 
 impl Intermediates {
-    /// These bytes.
+    /// The intermediates with these bytes, at most two.
     pub fn from_slice(bytes: &[u8]) -> Intermediates
         requires { length bytes.now ≤ 2 }
         ensures { result ≡ bytes.now }
@@ -52,7 +52,7 @@ impl Intermediates {
         }
     }
 
-    /// Becomes no intermediate.
+    /// Removes all intermediates.
     pub(crate) fn clear(&mut self)
         ensures { self.new ≡ [] }
     {
@@ -60,7 +60,7 @@ impl Intermediates {
         self.count = 0;
     }
 
-    /// How many there are.
+    /// The number of intermediates, 0 to 2.
     pub fn len(&self) -> usize
         ensures value { result ≡ length self.now }
         ensures few { result ≤ 2 }
@@ -68,7 +68,7 @@ impl Intermediates {
         self.as_slice().len()
     }
 
-    /// Whether there is none.
+    /// Whether there is no intermediate.
     pub fn is_empty(&self) -> bool
         ensures { result ≡ (length self.now == 0) }
     {
@@ -83,7 +83,7 @@ impl Intermediates {
         &self.bytes[..self.count]
     }
 
-    // One byte more.
+    // Appends a byte.
     pub(crate) fn push(&mut self, byte: u8)
         requires { length self.old < 2 }
         ensures { self.new ≡ self.old ++ byte ∷ [] }

@@ -13,36 +13,38 @@ ghost use Rattle.control_parser.specs.Grammar.{functions, is_graphic, nothing, w
 ghost use Rattle.control_parser.specs.Spelling.{spelling, IsGiven, IsGivenInUtf8, ReadsAs};
 ghost use Rattle.control_parser.specs.Kept.{opening, functions_of_pieces};
 
-/// Units give nothing but functions that have a spelling.
+/// Units give no functions but those that have a spelling.
 pub fn each_is_spelled()
     ensures { (units : List Unit) → AllByRecursion IsUnit units →
         AllByRecursion IsGiven (functions units).0 }
 {}
 
-/// Bytes that leave no rest are read for themselves, one list behind another.
+/// If two lists of bytes are read as some functions and leave nothing incomplete, then the one
+/// after the other is read as the functions of the first and then those of the second.
 pub fn readings_join()
     ensures { (coding : Coding) (front later : List ℕ) (fs gs : List Func) → ReadsAs coding front fs
         → ReadsAs coding later gs → ReadsAs coding (front ++ later) (fs ++ gs) }
 {}
 
-/// Functions that are spelled one behind another read back as they are.
+/// Functions that are spelled one after another in UTF-8 are read back as these functions.
 pub fn spelled_ones_read_back()
     ensures { (fs : List Func) → AllByRecursion IsGivenInUtf8 fs
         → ReadsAs Utf8 (flat_map spelling fs) fs }
 {}
 
-/// Where nothing is unended, units are read for themselves.
+/// If some units leave nothing incomplete, the units after them are read as if they came first.
 pub fn whole_ones_join()
     ensures { (us vs : List Unit) → (functions us).1 ≡ nothing →
         functions (us ++ vs) ≡ with_front (functions us).0 (functions vs) }
 {}
 
-/// CAN ends what is unended, and gives nothing.
+/// CAN drops an incomplete sequence or string, and gives no function.
 pub fn can_ends_all()
     ensures { (us : List Unit) → functions (us ++ Code 0x18 ∷ []) ≡ ((functions us).0, nothing) }
 {}
 
-/// More units are read behind what is unended as behind the units that begin it.
+/// After some units, more units are read as if only the incomplete sequence or string had come
+/// before them. It is begun by units of its own, which give no function and leave it incomplete.
 pub fn unended_go_on()
     ensures go_on { (us vs : List Unit) → functions (us ++ vs)
         ≡ with_front (functions us).0 (functions (opening (functions us).1 ++ vs)) }
@@ -50,13 +52,14 @@ pub fn unended_go_on()
     ensures units { (us : List Unit) → AllByRecursion IsUnit (opening (functions us).1) }
 {}
 
-/// Reading in pieces is reading the whole, however it is cut.
+/// Units read in pieces give the functions of all the units at once, no matter where they are cut.
 pub fn pieces_are_whole()
     ensures { (pieces : List (List Unit)) →
         functions_of_pieces nothing pieces ≡ functions (flat_map (λ piece. piece) pieces) }
 {}
 
-/// Graphic codes, as 20 to 7E, are printed where nothing is unended.
+/// If nothing is incomplete, graphic codes, 20 to 7E among them, are printed and leave nothing
+/// incomplete.
 pub fn graphic_codes_print()
     ensures graphic { (codes : List ℕ) → list_all is_graphic codes ≡ true →
         functions (map (λ c. Code c) codes) ≡ (map (λ c. Print c) codes, nothing) }
@@ -64,7 +67,7 @@ pub fn graphic_codes_print()
         functions (map (λ c. Code c) codes) ≡ (map (λ c. Print c) codes, nothing) }
 {}
 
-/// Bytes 20 to 7E are printed, in either coding.
+/// Bytes 20 to 7E are printed, in both codings.
 pub fn plain_bytes_print()
     ensures { (coding : Coding) (bytes : List ℕ) → list_all is_plain bytes ≡ true →
         ReadsAs coding bytes (map (λ b. Print b) bytes) }

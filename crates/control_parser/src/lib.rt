@@ -1,4 +1,4 @@
-//! Units to control functions, however the units are cut.
+//! Turns units into control functions, no matter how the units are cut into pieces.
 #![tactic(auto)]
 
 mod func;

@@ -1,4 +1,4 @@
-//! Control sequences of digits and semicolons that stand whole in a list of bytes.
+//! Control sequences of digits and semicolons, read from a list of bytes at once.
 
 ghost use Rattle.std.specs.Prelude.{◌≡◌, ℕ, ◌-◌, ◌<◌, ◌≤◌, true, false, length, slice_index, [], None};
 ghost use Rattle.control_parser.specs.declared.func.Func.TheVariants.{Csi};
@@ -8,8 +8,8 @@ ghost use Rattle.control_parser.specs.Text.{is_digit, value_of};
 use crate::params::Params;
 use std::marker::Model;
 
-/// The place of a control sequence that has digits and semicolons alone before its final byte, the
-/// commonest ones: less is kept of it than of any, and its parameters are read without a loop over
+/// Holds one control sequence that has only digits and semicolons before its final byte, which is
+/// the commonest kind. It holds less than `Sequence`, and reads parameters without a loop over
 /// their digits.
 #[derive(Debug, Drop)]
 pub struct Numerals {
@@ -29,7 +29,7 @@ impl Model for Numerals {
 }
 
 impl Numerals {
-    /// Some control sequence.
+    /// A place for sequences, which holds `CSI m` at first.
     #[inline(always)]
     pub fn new() -> Numerals {
         Numerals {
@@ -38,7 +38,7 @@ impl Numerals {
         }
     }
 
-    /// Its parameters and its final byte.
+    /// The parameters and the final byte.
     #[inline(always)]
     pub fn parts(&self) -> (&[u16], u8)
         ensures { self.now ≡ Csi None result.0.now [] result.1 }
@@ -46,17 +46,18 @@ impl Numerals {
         (self.params.as_slice(), self.last)
     }
 
-    /// Reads the control sequence that goes on with these bytes behind its CSI, and gives how many
-    /// of them it has. It gives 0 where it has anything but digits and semicolons before its final
-    /// byte, where a parameter has more than three digits, and where fewer than four bytes stand
-    /// behind a semicolon or behind CSI.
+    /// Reads the control sequence that begins with a CSI before these bytes, and returns how many
+    /// of the bytes belong to it. Returns 0, which means that nothing was read, if another byte
+    /// than a digit or a semicolon comes before the final byte, if a parameter has more than three
+    /// digits, or if fewer than four bytes follow the CSI or a semicolon.
     #[inline(always)]
     pub fn read(&mut self, bytes: &[u8]) -> usize
         ensures reads { ReadsBehindCsi result bytes.now self.new }
         ensures few { result ≤ length bytes.now }
     {
         self.params.clear();
-        // A parameter of three digits and what stands behind it begin before this place.
+        // A parameter of at most three digits and the byte after it fit in if they begin before
+        // this place.
         let end = bytes.len().saturating_sub(3);
         let mut at = 0;
         while at < end {
@@ -76,9 +77,9 @@ impl Numerals {
     }
 }
 
-/// The number that the digits at the front spell, of which at most three are read, how many bytes
-/// they and the one behind them are, and that one. There is no loop, and no value that could be above
-/// 9,999.
+/// Reads a number of at most three digits at the beginning of some bytes. Returns the number, the
+/// number of bytes read, which includes the byte after the digits, and that byte. There is no loop,
+/// and no value can be above 9,999.
 #[inline(always)]
 fn numeral(bytes: &[u8]) -> (u16, usize, u8)
     requires { 3 < length bytes.now }
@@ -108,7 +109,7 @@ fn numeral(bytes: &[u8]) -> (u16, usize, u8)
     ((number * 10 + third) as u16, 4, bytes[3])
 }
 
-/// What a digit counts for; of any other byte it is more than 9.
+/// The value of a digit; more than 9 for any other byte.
 #[inline(always)]
 fn digit(c: u8) -> u32
     ensures digit { result ≤ 9 → (is_digit c ≡ true) × (result ≡ c - 0x30) }

@@ -5,11 +5,11 @@ ghost use Rattle.control_parser.specs.Text.{digit_added, last_value, with_last};
 
 use std::marker::Model;
 
-// How many parameters count.
+// The number of parameters that count.
 const PARAMS: usize = 16;
 
-/// The parameters of a control sequence: one to sixteen, each at most 9,999 where a parser gives
-/// it. An absent one is 0.
+/// The parameters of a control sequence: one to sixteen. Those that a parser gives are at most
+/// 9,999, and an absent one is 0.
 #[derive(Clone, Copy, Debug, PartialEq, Eq)]
 pub struct Params {
     values: [u16; PARAMS],
@@ -35,7 +35,7 @@ impl Model for Params {
 }
 
 impl Params {
-    /// These parameters.
+    /// The parameters with these values, one to sixteen.
     pub fn from_slice(values: &[u16]) -> Params
         requires some { 0 < length values.now }
         requires few { length values.now ≤ 16 }
@@ -49,7 +49,7 @@ impl Params {
         params
     }
 
-    /// One parameter.
+    /// A single parameter of this value.
     pub fn one(value: u16) -> Params
         ensures { result ≡ value ∷ [] }
     {
@@ -58,7 +58,7 @@ impl Params {
         params
     }
 
-    /// One parameter, absent.
+    /// A single absent parameter.
     pub fn absent() -> Params
         ensures { result ≡ 0 ∷ [] }
     {
@@ -68,7 +68,7 @@ impl Params {
         }
     }
 
-    /// Becomes one parameter, absent.
+    /// Resets to a single absent parameter.
     pub(crate) fn clear(&mut self)
         ensures { self.new ≡ 0 ∷ [] }
     {
@@ -76,7 +76,7 @@ impl Params {
         self.count = 1;
     }
 
-    /// How many there are.
+    /// The number of parameters, 1 to 16.
     pub fn len(&self) -> usize
         ensures { result ≡ length self.now }
     {
@@ -91,14 +91,14 @@ impl Params {
         &self.values[..self.count]
     }
 
-    /// The parameter at a place, from 0 on; 0 where there is none.
+    /// The parameter at a place, counted from 0; 0 if there is none.
     pub fn get(&self, i: usize) -> u16
         ensures { result ≡ slice_index self.now i }
     {
         self.as_slice().get(i).copied().unwrap_or(0)
     }
 
-    // One digit more of the last parameter, which saturates.
+    // Appends a digit to the last parameter, which is at most 9,999.
     pub(crate) fn add_digit(&mut self, digit: u8)
         requires { digit < 10 }
         ensures { self.new ≡ digit_added self.old digit }
@@ -108,21 +108,21 @@ impl Params {
         self.values[last] = longer.min(9999) as u16;
     }
 
-    /// The last one.
+    /// The last parameter.
     pub(crate) fn last(&self) -> u16
         ensures { result ≡ last_value self.now }
     {
         self.values[self.count - 1]
     }
 
-    /// Gives the last one another value.
+    /// Replaces the last parameter.
     pub(crate) fn set_last(&mut self, value: u16)
         ensures { self.new ≡ with_last self.old value }
     {
         self.values[self.count - 1] = value;
     }
 
-    /// One parameter more.
+    /// Appends a parameter.
     pub fn push(&mut self, value: u16)
         requires { length self.old < 16 }
         ensures { self.new ≡ self.old ++ value ∷ [] }
@@ -131,7 +131,7 @@ impl Params {
         self.count += 1;
     }
 
-    /// One parameter more, absent: the places behind the last one are 0.
+    /// Appends an absent parameter: the places after the last parameter are 0.
     pub(crate) fn push_absent(&mut self)
         requires { length self.old < 16 }
         ensures { self.new ≡ self.old ++ 0 ∷ [] }

@@ -1,4 +1,4 @@
-//! Control sequences that stand whole in a list of bytes.
+//! Control sequences, read from a list of bytes at once.
 
 ghost use Rattle.std.specs.Prelude.{◌≡◌, ◌<◌, ◌≤◌, length};
 ghost use Rattle.control_parser.specs.declared.func.Func.TheVariants.{Csi};
@@ -8,8 +8,8 @@ ghost use Rattle.control_parser.specs.Text.{longer};
 use crate::state::SequenceText;
 use std::marker::Model;
 
-/// The place of a control sequence that is read at once. It is used for one after another, so that
-/// none is copied.
+/// Holds one control sequence that was read at once. It is used for one sequence after another, so
+/// that none is copied.
 #[derive(Debug, Drop)]
 pub struct Sequence {
     text: SequenceText,
@@ -27,7 +27,7 @@ impl Model for Sequence {
 }
 
 impl Sequence {
-    /// Some control sequence.
+    /// A place for sequences, which holds `CSI m` at first.
     pub fn new() -> Sequence {
         Sequence {
             text: SequenceText::empty(),
@@ -35,7 +35,7 @@ impl Sequence {
         }
     }
 
-    /// Its mark, its parameters, its intermediates and its final byte.
+    /// The private marker, the parameters, the intermediates and the final byte.
     pub fn parts(&self) -> (Option<u8>, &[u16], &[u8], u8)
         ensures { self.now ≡ Csi result.0 result.1.now result.2.now result.3 }
     {
@@ -47,9 +47,9 @@ impl Sequence {
         )
     }
 
-    /// Reads the control sequence that goes on with these bytes behind its CSI, and gives how many
-    /// of them it has. It gives 0 where the sequence doesn't end within them, is ignored, or has a
-    /// control inside.
+    /// Reads the control sequence that begins with a CSI before these bytes, and returns how many
+    /// of the bytes belong to it. Returns 0, which means that nothing was read, if the sequence
+    /// doesn't end within the bytes, has to be ignored, or has a control inside.
     pub fn read(&mut self, bytes: &[u8]) -> usize
         ensures reads { ReadsBehindCsi result bytes.now self.new }
         ensures few { result ≤ length bytes.now }
@@ -83,7 +83,7 @@ impl Sequence {
     }
 }
 
-/// A value with one digit more.
+/// The value with one more digit.
 fn longer(value: u16, digit: u8) -> u16
     requires { digit < 10 }
     ensures { result ≡ longer value digit }

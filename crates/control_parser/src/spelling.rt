@@ -1,4 +1,4 @@
-//! Control functions as bytes.
+//! Control functions written as bytes.
 
 ghost use Rattle.std.specs.Prelude.{◌≡◌, ◌<◌, ◌≤◌, ◌+◌, ◌*◌, ℕ, List, [], ◌∷◌, ◌++◌, length, take};
 ghost use Rattle.std.specs.Prelude.{OnOk, OnErr};
@@ -9,7 +9,7 @@ use crate::func::Func;
 use std::alloc::AllocError as NoMemory;
 use std::marker::Model;
 
-// The longest spelling has 85 bytes.
+// Room for a spelling: the longest has 85 bytes.
 const ROOM: usize = 96;
 
 #[derive(Drop)]
@@ -132,12 +132,12 @@ fn spelled(func: &Func) -> Room
     room
 }
 
-/// Appends the 7-bit spelling (ECMA-48, 5.3 and 5.4), in which a parameter 0 is empty, so that SGR
-/// 0 is `CSI m`.
+/// Appends the 7-bit spelling of a function (ECMA-48, 5.3 and 5.4). A parameter 0 is spelled as an
+/// empty one, so that SGR 0 is `CSI m`. `NoMemory` if `out` can't grow.
 pub fn spell(func: &Func, out: &mut Vec<u8>) -> Result<(), NoMemory>
     ensures ok { OnOk result (out.new.items ≡ out.old.items ++ spelling func.now) }
     ensures err { OnErr result (out.new.items ≡ out.old.items) }
-    // What units can give reads back, alone.
+    // A function that units can give is read back from its spelling, and no other one is.
     ensures reads { IsGiven func.now
         → ReadsAs (coding_of func.now) (spelling func.now) (func.now ∷ []) }
 {

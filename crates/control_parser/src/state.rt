@@ -1,4 +1,4 @@
-//! What the parser keeps of a sequence that is not ended.
+//! What the parser keeps of an incomplete sequence or string.
 
 ghost use Rattle.std.specs.Prelude.{◌≡◌, ◌==◌, true, false, Some, None, IsTrue};
 ghost use Rattle.control_parser.specs.Text.{is_intermediate};
@@ -12,7 +12,7 @@ use crate::intermediates::Intermediates;
 use crate::params::Params;
 use charsets::Unit;
 
-/// The text of a control sequence so far.
+/// The text of a control sequence as far as it was read.
 #[derive(Clone, Copy, Debug)]
 pub struct SequenceText {
     pub begun: bool,
@@ -23,7 +23,7 @@ pub struct SequenceText {
     pub intermediates: Intermediates,
 }
 
-/// What has begun.
+/// The incomplete sequence or string, or none.
 #[derive(Clone, Copy, Debug)]
 pub enum State {
     Ground,
@@ -31,7 +31,7 @@ pub enum State {
     /// An escape sequence with more than two intermediates.
     EscapeIgnored,
     Control(SequenceText),
-    /// A control sequence whose text can't become well formed.
+    /// A control sequence that is ignored, since its text can't become well formed.
     ControlIgnored,
     /// DCS, SOS, PM, APC or ESC k.
     String,
@@ -48,7 +48,7 @@ const ESC: u32 = 0x1B;
 
 const DEL: u32 = 0x7F;
 
-// The code of a unit; each byte from A0 on in ECMA-35 does as A0.
+// The code of a unit; every byte of ECMA-35 from A0 on counts as A0.
 fn code(unit: Unit) -> u32
     ensures { result ≡ code unit }
 {
@@ -83,7 +83,7 @@ fn ends_string(c: u32) -> bool
 }
 
 impl SequenceText {
-    /// The text of a control sequence that has just begun.
+    /// The empty text of a control sequence.
     pub fn empty() -> SequenceText
         ensures { result ≡ no_text }
     {
@@ -96,7 +96,7 @@ impl SequenceText {
         }
     }
 
-    /// Becomes the text of a control sequence that has just begun.
+    /// Resets to the empty text of a control sequence.
     pub fn clear(&mut self)
         ensures { self.new ≡ no_text }
     {
@@ -114,7 +114,7 @@ impl SequenceText {
         !self.over && self.intermediates.is_empty()
     }
 
-    // The control sequence with this final.
+    // The control sequence with this text and this final byte.
     fn ended(&self, last: u8) -> Func
         ensures { result ≡ Func.Csi self.now.mark self.now.params self.now.intermediates last }
     {
@@ -126,7 +126,7 @@ impl SequenceText {
         }
     }
 
-    /// Takes one character more; false where the text is ignored from here on.
+    /// Appends a character. Returns false if the text is ignored from here on.
     pub fn grow(&mut self, c: u8) -> bool
         ensures grown { IsTrue result → text_grown self.old c ≡ Some self.new }
         ensures ignored { result ≡ false → text_grown self.old c ≡ None }
@@ -147,7 +147,7 @@ impl SequenceText {
     }
 }
 
-// What a unit gives by itself.
+// The function of a unit if nothing is incomplete.
 fn alone(unit: Unit) -> Option<Func>
     ensures { result ≡ alone_of unit }
 {
@@ -160,7 +160,7 @@ fn alone(unit: Unit) -> Option<Func>
 }
 
 impl State {
-    // What ESC and a final begin.
+    // Begins what ESC and this final byte begin; or returns the function that they are.
     fn begin(&mut self, last: u8) -> Option<Func>
         ensures { (result, self.new) ≡ begun_step last }
     {
@@ -179,7 +179,7 @@ impl State {
         None
     }
 
-    // What a unit does where nothing has begun, or where it breaks off what has.
+    // Reads a unit that begins anew: nothing is incomplete, or the unit breaks off what is.
     fn break_off(&mut self, unit: Unit, inside: bool) -> Option<Func>
         ensures { (result, self.new) ≡ broken_step unit inside }
     {
@@ -198,7 +198,8 @@ impl State {
         alone(unit)
     }
 
-    // An intermediate or the final of an escape sequence, or what breaks it off.
+    // Reads a unit inside an escape sequence: an intermediate, the final byte, or a unit that
+    // breaks the sequence off.
     fn escape(&mut self, mut intermediates: Intermediates, unit: Unit) -> Option<Func>
         ensures { (result, self.new) ≡ escape_step intermediates unit }
     {
@@ -226,7 +227,7 @@ impl State {
         })
     }
 
-    /// Reads one unit more, and gives what it completes.
+    /// Reads one more unit and returns the function that it completes, if it completes one.
     pub fn read(&mut self, unit: Unit) -> Option<Func>
         ensures { (result, self.new) ≡ step_of self.old unit }
     {

@@ -13,7 +13,7 @@ use Rattle.cells.proofs.Pages.{IsPaired-nil}
 use Rattle.terminal_model.specs.Screen.{Page, Screen, IsSound}
 use Rattle.terminal_model.specs.Scrollback.{moved_back}
 
--- the kept lines that stand above the page's
+-- the lines of the scrollback that stand above the page's lines
 abbrev above : ℕ → Screen → Page
 above back x = reverse (take back x.kept)
 
@@ -45,7 +45,7 @@ moved-below back line x h l k =
     get_or-take (length x.page) (above back x ++ x.page) line [] k
     ∙ get_or-append_right (above back x) x.page back line [] (length-above back x h) l
 
--- a kept line that was found
+-- a line that was found in the scrollback
 pub kept-line : (found : Option (Bor (List Cell))) (lent default : Bor (List Cell)) (lines : Page) (n : ℕ)
     → n < length lines → option_copied found ≡ slice_get lines n
     → lent ≡ unwrap_or found default → lent.now ≡ line_at lines n
@@ -78,10 +78,10 @@ moved-sized back x s h =
           (cases_lt line (length x.page));
     }
 
--- all kept lines, where they are fewer
+-- all lines of the scrollback, if they are fewer
 pub moved-fewer : (offset : ℕ) (x : Screen) → moved_back (min offset (length x.kept)) x ≡ moved_back offset x
 moved-fewer offset x = ap (λ (lines : Page). take (length x.page) (reverse lines ++ x.page)) (take_min offset x.kept)
 
--- and none
+-- no line of the scrollback
 pub moved-none : (x : Screen) → moved_back 0 x ≡ x.page
 moved-none x = take_all (length x.page) x.page (omega arith)

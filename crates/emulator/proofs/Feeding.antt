@@ -1,4 +1,4 @@
--- What an emulator stands for, unit by unit and byte by byte.
+-- The terminals that an emulator stands for, unit by unit and byte by byte.
 use Rattle.std.proofs.Common.{◌≡◌, ◌==◌, true, arith, ℕ, ◌<◌, ◌+◌, List, [], ◌∷◌, ◌++◌, length, take, get_or, refl, sym}
 use Rattle.std.proofs.Common.{ap, ◌∙◌, subst, append_assoc, append-nil, Result, Ok, Err, OnOk, IsOk, is_ok, is_err}
 use Rattle.std.proofs.Common.{false, if◌then◌else◌}
@@ -44,12 +44,12 @@ opened-next : (t : Terminal) (u : Unit) (given : List Func) (rest : Rest)
 opened-next t u given rest e = subst (λ (v : List Func × Rest). functions (opening v.1) ≡ ([], v.1)) e
     (functions-opening (opening t.unended ++ u ∷ []))
 
--- what the functions of a unit are, and what they leave
+-- the functions of a unit, and what they leave incomplete
 read-of : (t : Terminal) (u : Unit) (given : List Func) → (functions (opening t.unended ++ u ∷ [])).0 ≡ given
     → functions (opening t.unended ++ u ∷ []) ≡ (given, (functions (opening t.unended ++ u ∷ [])).1)
 read-of t u given g = ap (λ (v : List Func). (v, (functions (opening t.unended ++ u ∷ [])).1)) g
 
--- it gives no function
+-- the unit completes no function
 pub none-stands : (old new : Parts) (t : Terminal) (u : Unit) → StandsWithin old t
     → (functions (opening t.unended ++ u ∷ [])).0 ≡ []
     → new.screen ≡ old.screen → new.parsing ≡ kept (functions (opening t.unended ++ u ∷ [])).1
@@ -63,7 +63,7 @@ pub none-reports : (t : Terminal) (u : Unit) → (functions (opening t.unended +
     → [] ≡ (read_unit t u).reports
 none-reports t u g = sym (ap (λ (r : Read). r.reports) (none-read t u _ (read-of t u [] g)))
 
--- it gives one
+-- the unit completes one function
 pub one-stands : (old new : Parts) (t : Terminal) (u : Unit) (f : Func) → StandsWithin old t
     → (functions (opening t.unended ++ u ∷ [])).0 ≡ f ∷ []
     → new.screen ≡ effect old.screen f → new.parsing ≡ kept (functions (opening t.unended ++ u ∷ [])).1
@@ -141,7 +141,7 @@ pub IsTerminal-byte : (t : Terminal) (b : ℕ) → IsTerminal t → IsTerminal (
 unfolding reads
 IsTerminal-byte t b h = IsTerminal-reads t (b ∷ []) h
 
--- once its decoder has read the byte
+-- after its decoder has read the byte
 pub within : (old e : Parts) (t : Terminal) (rest : List ℕ) → e.screen ≡ old.screen → e.parsing ≡ old.parsing
     → StandsFor old t → StandsWithin e (record t { rest = rest })
 within old e t rest s p h = record { opened = h.terminal.opened; screen = s ∙ h.screen; parsing = p ∙ h.parsing }
@@ -182,7 +182,7 @@ pub byte-reports : (t : Terminal) (b : ℕ) (us : List Unit) (rest : List ℕ)
     → (read_units (record t { rest = rest }) us).reports ≡ (read_byte t b).reports
 byte-reports t b us rest e = sym (ap (λ (r : Read). r.reports) (byte-read t b us rest e))
 
--- the decoder's clause, of the terminal that it stands for
+-- the decoder's clause, for the terminal that it stands for
 pub units-of : (old : Parts) (t : Terminal) (b : ℕ) (us : List Unit) (rest : List ℕ) → StandsFor old t
     → units old.decoding.coding (old.decoding.rest ++ b ∷ []) ≡ (us, rest)
     → units t.screen.state.coding (t.rest ++ b ∷ []) ≡ (us, rest)
@@ -206,7 +206,7 @@ reads-more t bytes i d l =
     ∙ ap (λ (r : Read). r.terminal) (reads-append t (take i bytes) (get_or bytes i d ∷ []))
     ∙ ap (λ (r : Read). r.terminal) (reads-one (reads t (take i bytes)).terminal (get_or bytes i d))
 
--- bytes behind others
+-- bytes after others
 pub has-read-both : (t : Terminal) (a b before answered next : List ℕ) (e e' : Parts) → HasRead t a before e answered
     → HasRead (reads t a).terminal b answered e' next
     → HasRead t (a ++ b) before e' next
@@ -230,7 +230,7 @@ byte-has-read t b answered said next e s r n =
       reports = n ∙ ap (λ (v : List ℕ). answered ++ v) (r ∙ ap (λ (v : Read). v.reports) (sym (reads-one t b)));
     }
 
--- one byte more of some
+-- one more byte
 pub has-read-more : (t : Terminal) (bytes : List ℕ) (i d : ℕ) (before answered said next : List ℕ) (e e' : Parts)
     → i < length bytes
     → HasRead t (take i bytes) before e answered
@@ -257,7 +257,7 @@ stands-ready old e t h s d p =
       parsing = p;
     }
 
--- as it starts
+-- a new emulator
 pub starts : (e : Parts) (rows columns keep : ℕ) → IsGridSize rows columns → e.screen ≡ starting rows columns keep
     → e.decoding ≡ record { coding = Utf8; rest = [] } → e.parsing ≡ kept nothing
     → StandsFor e (ready (starting rows columns keep))
@@ -282,7 +282,7 @@ stands-resized old e t rows columns g h s d p =
       parsing = p ∙ h.parsing;
     }
 
--- the change, where it isn't refused
+-- a change of size that isn't refused
 pub stands-resized-on : (r : Result (Prim.Unit {0}) GridFault) (inside old e : Parts) (rows columns : ℕ) → inside ≡ old
     → OnOk r (IsGridSize rows columns)
     → OnOk r (e.screen ≡ resized rows columns inside.screen) → e.decoding ≡ inside.decoding → e.parsing ≡ inside.parsing

@@ -40,7 +40,7 @@ letters_graphic codes h = all_more is_letter is_graphic (λ c is. grind (arith, 
 pub beyond_graphic : (codes : List ℕ) → list_all is_beyond codes ≡ true → list_all is_graphic codes ≡ true
 beyond_graphic codes h = all_more is_beyond is_graphic (λ c is. grind (arith, nat_tests)) codes h
 
--- what prints them
+-- the functions that print them
 abbrev prints : List ℕ → List Func
 prints printed = map (λ code. Print code) printed
 

@@ -1,4 +1,4 @@
--- CR, LF and a run of plain bytes that are done at once.
+-- CR, LF and a run of bytes 20 to 7E, performed at once.
 use Rattle.std.proofs.Common.{◌≡◌, ℕ, true, List, [], ◌∷◌, refl, sym, subst}
 use Rattle.std.specs.List.{list_all}
 use Rattle.charsets.specs.declared.unit.Coding.TheVariants.{Utf8}
@@ -15,7 +15,7 @@ use Rattle.emulator.proofs.Feeding.{has-read-both}
 use Rattle.emulator.proofs.RunLemmas.{run-has-read}
 use Rattle.emulator.proofs.Wholes.{quiet-has-read}
 
--- what it holds behind a function of the screen
+-- the parts after a function acted on the screen
 abbrev after : Parts → Func → Parts
 after e f = record { screen = effect e.screen f; decoding = e.decoding; parsing = e.parsing }
 

@@ -1,4 +1,4 @@
--- A run of plain bytes that is printed at once.
+-- A run of bytes 20 to 7E that is printed at once.
 use Rattle.std.proofs.Common.{◌≡◌, ℕ, suc, ◌+◌, ◌-◌, Bool, true, false, List, [], ◌∷◌, ◌++◌, length, take, drop, map}
 use Rattle.std.proofs.Common.{refl, sym, ap, ◌∙◌, subst, append-nil, arith, if◌then◌else◌}
 use Rattle.std.proofs.lemmas.List.{take_all, length-drop}
@@ -21,7 +21,7 @@ use Rattle.vt_screen.specs.Effects.{effects}
 use Rattle.emulator.specs.Standing.{Parts, StandsFor, HasRead}
 use Rattle.emulator.proofs.Feeding.{has-read-both}
 
--- the longest beginning of plain bytes is plain
+-- the longest beginning of bytes that pass a test has only such bytes
 pub prefix-plain : (p : ℕ → Bool) (xs : List ℕ) → list_all p (take (prefix_len p xs) xs) ≡ true
 prefix-plain p [] = refl
 prefix-plain p (x ∷ xs) = by (p x) refl (prefix-plain p xs)
@@ -33,7 +33,7 @@ prefix-plain p (x ∷ xs) = by (p x) refl (prefix-plain p xs)
         subst (λ n. list_all p (take n (x ∷ xs)) ≡ true) (sym next) (rw e h)
     by false e h = refl
 
--- functions that act, as the screen and as the terminal have them
+-- functions that act, in the words of the screen and of the terminal
 pub effects-are : (x : Screen) (fs : List Func) → effects x fs ≡ readings.effects x fs
 effects-are x [] = refl
 effects-are x (f ∷ later) = effects-are (effect x f) later
@@ -80,7 +80,7 @@ run-has-read old new t bytes before h rest idle plain s d p =
       reports = sym (append-nil before) ∙ ap (λ (v : Read). before ++ v.reports) (sym r);
     }
 
--- some of the rest of the bytes behind those before
+-- more of some bytes, after those before
 pub has-read-on : (t : Terminal) (bytes : List ℕ) (i n : ℕ) (before answered next : List ℕ) (e e' : Parts)
     → HasRead t (take i bytes) before e answered
     → HasRead (reads t (take i bytes)).terminal (take n (take (length bytes - i) (drop i bytes))) answered e' next

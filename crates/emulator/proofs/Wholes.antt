@@ -1,4 +1,4 @@
--- What stands whole in a list of bytes, and is taken at once.
+-- Complete functions at the beginning of some bytes, performed at once.
 use Rattle.std.proofs.Common.{◌≡◌, ℕ, suc, ◌+◌, ◌-◌, ◌<◌, ◌≤◌, List, [], ◌∷◌, ◌++◌, length, take, drop, get_or, refl}
 use Rattle.std.proofs.Common.{sym, ap, ◌∙◌, subst, append-nil, true, arith}
 use Rattle.std.proofs.lemmas.List.{take_all, length-drop}
@@ -23,7 +23,7 @@ use Rattle.emulator.specs.Standing.{Parts, StandsFor, HasRead, HasTaken, TakesWh
 use Rattle.emulator.proofs.Feeding.{nothing-has-read}
 use Rattle.emulator.proofs.RunLemmas.{ready-is}
 
--- the function leaves the coding as it is
+-- the function doesn't change the coding
 abbrev pub KeepsCoding : Screen → Func → Type 0
 KeepsCoding x f = (effect x f).state.coding ≡ x.state.coding
 
@@ -74,7 +74,7 @@ whole-has-read old new t bytes before answered f b utf8 kept_coding w s d p a h 
           ∙ ap (λ (v : Read). before ++ v.reports) (sym r);
     }
 
--- the same, where it is answered by nothing
+-- bytes that are read as one function without an answer
 pub quiet-has-read : (old new : Parts) (t : Terminal) (bytes before : List ℕ) (f : Func) → IsBetween old
     → old.decoding.coding ≡ Utf8
     → KeepsCoding old.screen f → ReadsAs Utf8 bytes (f ∷ [])
@@ -121,6 +121,6 @@ front-more (x ∷ y ∷ bytes) a b n h =
     let e : n + 2 ≡ suc (suc n) = omega arith in
     ap (λ k. take k (x ∷ y ∷ bytes)) e ∙ ap (λ (v : ℕ). v ∷ y ∷ take n bytes) p ∙ ap (λ (v : ℕ). a ∷ v ∷ take n bytes) q
 
--- what is lent behind the first bytes
+-- the bytes after the first ones
 pub rest-lent : (bytes : List ℕ) (i : ℕ) → take (length bytes - i) (drop i bytes) ≡ drop i bytes
 rest-lent bytes i = take_all (length bytes - i) (drop i bytes) (omega (arith, length-drop i bytes))

@@ -1,4 +1,4 @@
--- What a terminal answers to the commands clear, reset and encoding: nothing.
+-- A terminal doesn't answer the commands clear, reset and encoding.
 use Rattle.std.proofs.Common.{◌≡◌, ℕ, [], ◌∷◌, ◌++◌, None, refl, ap, ◌∙◌, arith}
 use Rattle.charsets.specs.declared.unit.Unit.TheVariants as codes
 use Rattle.charsets.specs.declared.unit.Coding.{Coding}

@@ -1,4 +1,4 @@
-//! Bytes to a screen.
+//! A VT220 that turns bytes into a page.
 
 ghost use Rattle.std.specs.Prelude.{◌≡◌, ◌≤◌, ◌<◌, ◌+◌, ◌*◌, ◌↔◌, ℕ, List, [], ◌∷◌, ◌++◌, true};
 ghost use Rattle.std.specs.Prelude.{Err, IfOk, IfErr, OnOk, OnErr, IsOk, IsTrue, length, take};
@@ -24,19 +24,19 @@ use terminal_model::{Modes, REPORT_BYTES, Report};
 use thiserror::Error;
 use vt_screen::Screen;
 
-/// Memory was refused behind so many bytes, which were read, and their reports appended.
+/// Memory for a report was refused. The first `read` bytes were read, and their reports appended.
 #[derive(Clone, Copy, Debug, PartialEq, Eq, Error)]
-#[error("out of memory behind {read} bytes")]
+#[error("out of memory after {read} bytes")]
 pub struct Stopped {
     pub read: usize,
 }
 
-/// A VT220 that reads bytes, however they come.
+/// A VT220 that reads bytes, no matter how they are cut into pieces.
 pub struct Emulator {
     pub(crate) decoder: Decoder,
     pub(crate) parser: Parser,
     pub(crate) screen: Screen,
-    /// Where a control sequence is read that comes whole.
+    /// Holds the control sequences that are read at once.
     pub(crate) sequence: Sequence,
 }
 
@@ -61,8 +61,9 @@ impl Model for Emulator {
 }
 
 impl Emulator {
-    /// A terminal that has read nothing, and keeps at most `keep` lines that scroll off its page.
-    /// It is `BadSize` outside 2 to 200 lines by 2 to 300 columns, and above 2,000 kept lines.
+    /// A terminal that has read nothing, and keeps at most `keep` of the lines that scroll off its
+    /// page. `BadSize` if the size isn't 2 to 200 lines by 2 to 300 columns or `keep` is above
+    /// 2,000, `NoMemory` if memory is refused.
     pub fn new(
         alloc: Global,
         rows: usize,
@@ -82,7 +83,7 @@ impl Emulator {
         })
     }
 
-    /// Reads one byte, and gives what is answered.
+    /// Reads one byte and returns the answer, at most 24 bytes.
     pub fn feed(&mut self, byte: u8) -> Report
         ensures stands { (t : Terminal) → StandsFor self.old t
             → StandsFor self.new (read_byte t byte).terminal }
@@ -96,9 +97,8 @@ impl Emulator {
         report
     }
 
-    /// Reads bytes, and appends what is answered. Where memory for the answers is refused, it has
-    /// read the bytes before. It never is where `out` has room for 24 bytes of answers to each
-    /// byte.
+    /// Reads bytes and appends the answers. If memory for them is refused, the error says how many
+    /// bytes were read before. That can't happen if `out` has room for 24 more bytes for each byte.
     pub fn feed_all(&mut self, bytes: &[u8], out: &mut Vec<u8>) -> Result<(), Stopped>
         ensures ok { OnOk result ((t : Terminal) → StandsFor self.old t
             → HasRead t bytes.now out.old.items self.new out.new.items) }
@@ -118,9 +118,9 @@ impl Emulator {
         Ok(())
     }
 
-    /// Reads all that stands whole at the front of some bytes, or the first one of them, and
-    /// appends what is answered. It gives how many it has read. Where memory is refused, it has
-    /// read none.
+    /// Reads all complete functions at the beginning of some bytes, or else the first byte, and
+    /// appends the answers. Returns how many bytes it has read. If memory is refused, it has read
+    /// none.
     fn feed_some(&mut self, bytes: &[u8], out: &mut Vec<u8>) -> Result<usize, AllocError>
         requires { 0 < length bytes.now }
         ensures ok { IfOk result (λ count.
@@ -143,7 +143,7 @@ impl Emulator {
         Ok(1)
     }
 
-    /// Takes the units that a byte completes, and gives what is answered.
+    /// Reads the units that one byte completes, and returns the answer.
     fn push_units(&mut self, units: Units) -> Report
         ensures stands { (t : Terminal) → StandsWithin self.old t
             → StandsWithin self.new (read_units t (unit_list units)).terminal }
@@ -164,7 +164,7 @@ impl Emulator {
         }
     }
 
-    /// Takes a unit, and gives what is answered.
+    /// Reads one unit and returns the answer.
     fn push_unit(&mut self, unit: Unit) -> Report
         ensures stands { (t : Terminal) → StandsWithin self.old t
             → StandsWithin self.new (read_unit t unit).terminal }
@@ -179,7 +179,7 @@ impl Emulator {
         }
     }
 
-    /// What is read next is in the coding that the window asked for.
+    /// From here on the decoder reads in the coding that the window asked for.
     fn follow_coding(&mut self)
         ensures decoding { self.new.decoding ≡ in_screen_coding self.old }
         ensures screen { self.new.screen ≡ self.old.screen }
@@ -191,8 +191,9 @@ impl Emulator {
         }
     }
 
-    /// Takes another size; what is read of a character or of a sequence stays. `BadSize` as for
-    /// `new`; a refusal leaves everything as it was.
+    /// Changes the size. An incomplete character, sequence or string stays. `BadSize` if the size
+    /// isn't 2 to 200 lines by 2 to 300 columns, `NoMemory` if memory is refused; everything then
+    /// stays as it was.
     pub fn resized(&mut self, rows: usize, columns: usize) -> Result<(), GridFault>
         ensures ok { OnOk result (TakesWriting self.old (Size rows columns) self.new) }
         ensures size { OnOk result (IsGridSize rows columns) }
@@ -202,8 +203,8 @@ impl Emulator {
         self.screen.resized(rows, columns)
     }
 
-    /// Lends the lines of the page, moved back by so many kept lines, or by all where they are
-    /// fewer.
+    /// Lends the lines of the page, moved back by `offset` lines of the scrollback, or by all of
+    /// them if they are fewer.
     pub fn page(&self, offset: usize) -> MovedPage<'_>
         ensures lines { result ≡ moved_back offset self.now.screen }
         ensures sized { IsPage self.now.screen.state.rows self.now.screen.state.columns result }
@@ -212,14 +213,14 @@ impl Emulator {
         MovedPage::of(&self.screen, offset)
     }
 
-    /// The cursor's line and column, from 0.
+    /// The cursor's line and column, counted from 0.
     pub fn cursor(&self) -> (usize, usize)
         ensures { result ≡ (self.now.screen.state.line, self.now.screen.state.column) }
     {
         self.screen.cursor()
     }
 
-    /// The modes as they are set.
+    /// The current modes.
     pub fn modes(&self) -> Modes
         ensures { result ≡ self.now.screen.state.modes }
     {
@@ -240,24 +241,24 @@ impl Emulator {
         self.screen.columns()
     }
 
-    /// Erases the page and goes home, as if the window had written ED 2 and CUP behind what it
-    /// began, which is dropped.
+    /// Erases the page and moves the cursor home, as if the window had written ED 2 and CUP. An
+    /// incomplete character, sequence or string is dropped first.
     pub fn clear(&mut self)
         ensures { TakesWriting self.old Clear self.new }
     {
         self.write_anew(b"\x1B[2J\x1B[H");
     }
 
-    /// Takes all starting values, as if the window had written RIS behind what it began, which is
-    /// dropped.
+    /// Sets all starting values, as if the window had written RIS. An incomplete character,
+    /// sequence or string is dropped first.
     pub fn reset(&mut self)
         ensures { TakesWriting self.old Reset self.new }
     {
         self.write_anew(b"\x1Bc");
     }
 
-    /// Reads in a coding from here on, as if the window had written its escape sequence behind what
-    /// it began, which is dropped.
+    /// Reads in this coding from here on, as if the window had written its escape sequence. An
+    /// incomplete character, sequence or string is dropped first.
     pub fn set_encoding(&mut self, coding: Coding)
         ensures { TakesWriting self.old (Encoding coding) self.new }
     {
@@ -267,7 +268,7 @@ impl Emulator {
         });
     }
 
-    /// Drops what is read of a character or of a sequence, and reads bytes that aren't answered.
+    /// Drops an incomplete character, sequence or string, and reads bytes that aren't answered.
     fn write_anew(&mut self, bytes: &[u8])
         ensures { (t : Terminal) → StandsFor self.old t
             → StandsFor self.new (reads_anew t bytes.now).terminal }
@@ -277,7 +278,7 @@ impl Emulator {
         self.feed_each(bytes);
     }
 
-    /// Reads bytes, and drops what is answered.
+    /// Reads bytes and drops the answers.
     fn feed_each(&mut self, bytes: &[u8])
         ensures { (t : Terminal) → StandsFor self.old t
             → StandsFor self.new (reads t bytes.now).terminal }
@@ -288,7 +289,7 @@ impl Emulator {
     }
 }
 
-/// Appends a report for which there is room.
+/// Appends a report to a list that has room for it.
 fn append(report: &Report, out: &mut Vec<u8>)
     requires room { vec_len out.old + length report.now ≤ vec_capacity out.old }
     ensures items { out.new.items ≡ out.old.items ++ report.now }

@@ -12,14 +12,14 @@ ghost use Rattle.terminal_model.specs.Writing.{writes_all};
 ghost use Rattle.emulator.specs.Standing.{Parts, StandsFor, HasRead};
 ghost use Rattle.terminal_model.specs.Scrollback.{moved_back};
 
-/// Bytes that are read in two pieces are read as the whole.
+/// Bytes read in two pieces give the same as all of them at once.
 pub fn pieces_are_whole()
     ensures { (t : Terminal) (a b before answered next : List ℕ) (e e' : Parts)
         → HasRead t a before e answered → HasRead (reads t a).terminal b answered e' next
         → HasRead t (a ++ b) before e' next }
 {}
 
-/// A terminal answers nothing to the commands clear, reset and encoding.
+/// A terminal doesn't answer the commands clear, reset and encoding.
 pub fn commands_answer_nothing()
     ensures clear { (t : Terminal) → (writes t Clear).reports ≡ [] }
     ensures reset { (t : Terminal) → (writes t Reset).reports ≡ [] }
@@ -27,7 +27,7 @@ pub fn commands_answer_nothing()
         → (writes t (Encoding coding)).reports ≡ [] }
 {}
 
-/// A page that is moved back by no line is the page.
+/// The page moved back by 0 lines is the page.
 pub fn unmoved_page_is_the_page()
     ensures { (x : Screen) → moved_back 0 x ≡ x.page }
 {}

@@ -1,4 +1,4 @@
-//! A VT220 that reads bytes.
+//! A VT220 that turns bytes into a page.
 #![tactic(auto)]
 
 mod emulator;

@@ -8,11 +8,11 @@ use cells::Cell;
 use std::marker::Model;
 use vt_screen::Screen;
 
-/// The lines of a page that is moved back by some kept lines.
+/// The lines of a page that is moved back by lines of the scrollback.
 #[derive(Drop)]
 pub struct MovedPage<'a> {
     screen: &'a Screen,
-    /// How many kept lines stand above the page's.
+    /// The number of lines of the scrollback, which stand above the page's lines.
     back: usize,
 }
 
@@ -29,7 +29,8 @@ impl<'a> Model for MovedPage<'a> {
 }
 
 impl<'a> MovedPage<'a> {
-    /// The page moved back by so many lines, or by all that are kept where they are fewer.
+    /// The page moved back by `offset` lines of the scrollback, or by all of them if they are
+    /// fewer.
     pub(crate) fn of(screen: &'a Screen, offset: usize) -> MovedPage<'a>
         ensures lines { result ≡ moved_back offset screen.now.screen }
         ensures sized { IsPage screen.now.screen.state.rows screen.now.screen.state.columns result }
@@ -41,14 +42,14 @@ impl<'a> MovedPage<'a> {
         }
     }
 
-    /// The number of its lines.
+    /// The number of lines, which is that of the page.
     pub fn rows(&self) -> usize
         ensures { result ≡ length self.now }
     {
         self.screen.rows()
     }
 
-    /// The cells of a line, from 0 on.
+    /// The cells of a line; line 0 is the top one.
     pub fn line(&self, line: usize) -> &'a [Cell]
         requires { line < length self.now }
         ensures { result.now ≡ line_at self.now line }

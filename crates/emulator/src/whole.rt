@@ -1,4 +1,4 @@
-//! What stands whole in a list of bytes, and is taken at once.
+//! Complete functions at the beginning of a list of bytes, which are performed at once.
 
 ghost use Rattle.std.specs.Prelude.{◌≡◌, ◌≤◌, ◌<◌, ℕ, List, [], ◌∷◌, true, IsTrue, length, take};
 ghost use Rattle.std.specs.List.{list_all};
@@ -21,16 +21,16 @@ const ESC: u8 = 0x1B;
 /// The first byte of U+0300.
 const BEHIND_LETTERS: u8 = 0xCC;
 
-/// How many letters are read before they are printed.
+/// The number of letters that are read before they are printed.
 const LETTERS: usize = 64;
 
-/// The same of other characters.
+/// The number of other characters that are read before they are printed.
 const CHARACTERS: usize = 64;
 
 impl Emulator {
-    /// Where nothing has begun, reads all that stands whole at the front of some bytes and isn't
-    /// answered. It gives how many bytes that are: 0 where something has begun, or nothing of the
-    /// kind stands there.
+    /// Reads the complete functions at the beginning of some bytes, as long as they aren't
+    /// answered, and returns their number of bytes. Returns 0 if a character, sequence or string is
+    /// incomplete, or if the bytes begin with no such function.
     pub(crate) fn read_pieces(&mut self, bytes: &[u8]) -> usize
         ensures taken { (said : List ℕ) → HasTaken self.old bytes.now result said self.new said }
         ensures few { result ≤ length bytes.now }
@@ -42,7 +42,8 @@ impl Emulator {
         }
     }
 
-    /// The same where nothing has begun.
+    /// Reads the complete functions at the beginning of some bytes, as long as they aren't
+    /// answered, and returns their number of bytes. Nothing is incomplete.
     fn read_idle(&mut self, bytes: &[u8]) -> usize
         requires { IsBetween self.old }
         ensures taken { (said : List ℕ) → HasTaken self.old bytes.now result said self.new said }
@@ -59,9 +60,10 @@ impl Emulator {
         taken
     }
 
-    /// Reads the first that stands whole: a run of bytes 20 to 7E, and in UTF-8 a control, an
-    /// escape sequence without intermediates, a control sequence that isn't answered, a character
-    /// from U+00A0 on.
+    /// Reads one complete function at the beginning of some bytes, or one run of bytes 20 to 7E,
+    /// and returns its number of bytes. In UTF-8 the function is a control, an escape sequence
+    /// without intermediates, a control sequence that isn't answered, or characters from U+00A0 on.
+    /// Returns 0 if the bytes begin with anything else.
     fn read_piece(&mut self, bytes: &[u8]) -> usize
         requires some { 0 < length bytes.now }
         requires idle { IsBetween self.old }
@@ -90,8 +92,8 @@ impl Emulator {
         }
     }
 
-    /// The same of what begins with CR: where LF follows, the two and the run of bytes 20 to 7E behind
-    /// them, which mostly are a line.
+    /// Reads a CR and returns its number of bytes. If an LF follows, it reads both and the run of
+    /// bytes 20 to 7E after them, which mostly is a whole line.
     fn read_return(&mut self, bytes: &[u8]) -> usize
         requires begins { take 1 bytes.now ≡ 0x0D ∷ [] }
         requires idle { IsBetween self.old }
@@ -108,21 +110,23 @@ impl Emulator {
         run + 2
     }
 
-    /// The same of what begins with ESC.
+    /// Reads a sequence that begins with ESC and returns its number of bytes, or 0 if it can't be
+    /// read at once.
     fn read_escape(&mut self, bytes: &[u8]) -> usize
         requires begins { take 1 bytes.now ≡ 0x1B ∷ [] }
         requires idle { IsBetween self.old }
         requires coding { self.old.decoding.coding ≡ Utf8 }
         ensures { TakesWhole self.old bytes.now result self.new }
     {
-        // (with so many bytes a sequence's first parameter needn't be asked whether it has room)
+        // With more than 5 bytes, the first parameter needn't be tested for room.
         if bytes.len() > 5 && bytes[1] == b'[' {
             return self.read_sequence(bytes);
         }
         self.read_other_escape(bytes)
     }
 
-    /// The same where no CSI stands there, or few bytes behind it.
+    /// Reads an escape sequence without CSI, or one with CSI of which few bytes are there, and
+    /// returns its number of bytes, or 0 if it can't be read at once.
     #[inline(never)]
     fn read_other_escape(&mut self, bytes: &[u8]) -> usize
         requires begins { take 1 bytes.now ≡ 0x1B ∷ [] }
@@ -143,7 +147,8 @@ impl Emulator {
         2
     }
 
-    /// The same of what begins with CSI.
+    /// Reads a control sequence and returns its number of bytes, or 0 if it can't be read at once.
+    /// It tries `Numerals` first, which is quicker.
     fn read_sequence(&mut self, bytes: &[u8]) -> usize
         requires begins { take 2 bytes.now ≡ 0x1B ∷ 0x5B ∷ [] }
         requires idle { IsBetween self.old }
@@ -161,7 +166,8 @@ impl Emulator {
         count + 2
     }
 
-    /// The same of any, as where more than digits and semicolons stand before its final byte.
+    /// Reads a control sequence with `Sequence`, which takes any kind of sequence, and returns its
+    /// number of bytes, or 0 if it can't be read at once.
     #[inline(never)]
     fn read_other_sequence(&mut self, bytes: &[u8]) -> usize
         requires begins { take 2 bytes.now ≡ 0x1B ∷ 0x5B ∷ [] }
@@ -179,7 +185,8 @@ impl Emulator {
         count + 2
     }
 
-    /// The same of characters from U+00A0 on: of a run of letters, or of any.
+    /// Reads characters from U+00A0 on: a run of letters, or other characters. Returns their number
+    /// of bytes, or 0 if the bytes begin with none.
     fn read_text(&mut self, bytes: &[u8]) -> usize
         requires some { 0 < length bytes.now }
         requires idle { IsBetween self.old }
@@ -196,8 +203,8 @@ impl Emulator {
         count
     }
 
-    /// The same of letters, as many as there is room for at once. It gives 0 where none stands
-    /// there, and has done nothing then.
+    /// Reads letters, at most as many as are printed at once, and returns their number of bytes.
+    /// Returns 0 if the bytes begin with none, and has done nothing then.
     fn read_letters(&mut self, bytes: &[u8]) -> usize
         requires idle { IsBetween self.old }
         requires coding { self.old.decoding.coding ≡ Utf8 }
@@ -213,7 +220,8 @@ impl Emulator {
         read
     }
 
-    /// The same of characters of two or three bytes from U+00A0 on.
+    /// Reads characters of two or three bytes from U+00A0 on, at most as many as are printed at
+    /// once, and returns their number of bytes, or 0 if the bytes begin with none.
     fn read_characters(&mut self, bytes: &[u8]) -> usize
         requires idle { IsBetween self.old }
         requires coding { self.old.decoding.coding ≡ Utf8 }
@@ -226,8 +234,8 @@ impl Emulator {
     }
 }
 
-/// How many bytes 20 to 7E stand at the front; between two functions that is one mostly, and found
-/// at once.
+/// The number of bytes 20 to 7E at the beginning. Between two functions that is mostly 1, which is
+/// tested first.
 #[inline(always)]
 fn plain_front(bytes: &[u8]) -> usize
     ensures plain { list_all is_plain (take result bytes.now) ≡ true }
@@ -247,8 +255,8 @@ fn is_plain(byte: u8) -> bool
     0x1F < byte && byte < 0x7F
 }
 
-/// Whether ESC and this byte are a whole function: the byte is a final, and begins no control
-/// sequence and no string.
+/// Whether ESC and this byte are a complete function: the byte is a final byte, and begins no
+/// control sequence and no string.
 fn ends_escape(byte: u8) -> bool
     ensures { IsTrue result → IsGiven (Esc [] byte) }
 {

@@ -1,4 +1,4 @@
--- The last ones of a list.
+-- The last items of a list.
 use Rattle.std.proofs.Common.{◌≡◌, ℕ, ◌+◌, ◌-◌, ◌<◌, ◌≤◌, min, List, [], ◌∷◌, ◌++◌, length, get_or, drop, refl, sym, ap}
 use Rattle.std.proofs.Common.{◌∙◌, arith, ⊎_elim, length-append, length-drop, get_or-drop, Some}
 use Rattle.std.specs.Prelude.{slice_get, unwrap_or}
@@ -13,7 +13,7 @@ module _ {X : Type 0} where
   pub keep_fewer : (n : ℕ) (xs : List X) → n ≤ length xs → length (keep_last n xs) ≡ n
   keep_fewer n xs h = length-drop (length xs - n) xs ∙ omega arith
 
-  -- the last of a list with one more item are the last of it, and the item
+  -- the last items of a list, and one more item
   last_and_one : (n : ℕ) (xs : List X) (x : X) → keep_last n xs ++ x ∷ [] ≡ drop (length xs - n) (xs ++ x ∷ [])
   last_and_one n xs x = sym (drop-append-le (length xs - n) xs (x ∷ []) (omega arith))
 
@@ -23,7 +23,7 @@ module _ {X : Type 0} where
   n_drop : (n : ℕ) (xs : List X) (x : X) → length (drop n (xs ++ x ∷ [])) ≡ length xs + 1 - n
   n_drop n xs x = length-drop n (xs ++ x ∷ []) ∙ ap (λ k. k - n) (n_one xs x)
 
-  -- the last of a list and one more item, from the last of the list
+  -- the last items of a list with one more item, from the last items of the list
   pub keep_twice : (keep : ℕ) (xs : List X) (x : X)
       → keep_last keep (keep_last keep xs ++ x ∷ []) ≡ keep_last keep (xs ++ x ∷ [])
   keep_twice keep xs x =
@@ -35,7 +35,7 @@ module _ {X : Type 0} where
       ∙ drop-drop (length (drop (length xs - keep) zs) - keep) (length xs - keep) zs
       ∙ ap (λ k. drop k zs) (omega arith)
 
-  -- an item behind all but the first one: the last of them
+  -- all items but the first one, and one more: the last of them
   pub keep_next : (keep count : ℕ) (items : List X) (x : X) → length items ≡ keep → 0 < keep → count ≤ keep
       → keep_last (min (count + 1) keep) (drop 1 items ++ x ∷ []) ≡ keep_last keep (keep_last count items ++ x ∷ [])
   keep_next keep count items x full some room =
@@ -59,7 +59,7 @@ pub head_is : {X : Type 0} (items : List X) (x d : X) → Some x ≡ slice_get i
 head_is [] x d h = cc
 head_is (y ∷ ys) x d h = ap (λ o. unwrap_or o d) h
 
--- lines of one width, of which the first goes and another comes in behind
+-- lines of one width, of which the first one goes and another one comes in at the end
 pub widths_next : {X : Type 0} (items : List (List X)) (x : List X) (n : ℕ) → 0 < length items → length x ≡ n
     → ((k : ℕ) → k < length items → length (get_or items k []) ≡ n)
     → (k : ℕ) → k < length items → length (get_or (drop 1 items ++ x ∷ []) k []) ≡ n

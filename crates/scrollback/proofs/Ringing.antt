@@ -1,4 +1,4 @@
--- A ring goes on standing for the lines that were taken in.
+-- A ring keeps the last ones of the lines that were taken in.
 use Rattle.std.proofs.Common.{◌≡◌, ℕ, ◌-◌, List, [], ◌∷◌, ◌++◌, length, map, drop, sym, ap, ◌∙◌, subst}
 use Rattle.std.proofs.lemmas.List.{drop-map, length-map}
 use Rattle.circular_buffer.specs.Buffer.{keep_last}

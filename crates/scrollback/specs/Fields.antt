@@ -1,4 +1,4 @@
--- The fields of a ring, and what they stand for.
+-- The fields of a ring, and the lines that it keeps.
 use Rattle.std.specs.Prelude.{◌≡◌, ℕ, ◌<◌, ◌≤◌, [], length, slice_index_or}
 use Rattle.circular_buffer.specs.Buffer.{keep_last}
 use Rattle.scrollback.specs.Kept.{Kept}

@@ -15,12 +15,12 @@ use std::alloc::{AllocError as NoMemory, Global};
 use std::marker::Model;
 use std::mem;
 
-/// The last `keep` of the lines that it took in, all of one width. All its lines are made with it:
-/// taking one in takes no memory.
+/// The last `keep` of the lines that it took in, all of one width. All its lines are allocated when
+/// it is made, so taking a line in needs no memory.
 #[derive(Drop)]
 pub struct Ring {
     alloc: Global,
-    /// Always `keep` lines. The last `count` of them were taken in.
+    /// Always `keep` lines, of which the last `count` were taken in.
     lines: HeapCircularBuffer<Line>,
     count: usize,
     columns: usize,
@@ -37,7 +37,7 @@ impl Model for Ring {
     ghost invariant = { IsRing };
 }
 
-/// A full buffer of blank lines.
+/// Makes a full buffer of blank lines.
 fn blank_lines(
     alloc: Global,
     keep: usize,
@@ -53,7 +53,8 @@ fn blank_lines(
     Ok(lines)
 }
 
-/// Puts lines in another width behind those of a buffer that has room for them.
+/// Appends lines, in another width, to a buffer that has room for them. `NoMemory` if memory is
+/// refused.
 fn append_resized(
     alloc: Global,
     buffer: &mut HeapCircularBuffer<Line>,
@@ -70,7 +71,7 @@ fn append_resized(
     Ok(())
 }
 
-/// The lines of a full buffer in another width.
+/// Makes a buffer with the lines of a full one, in another width.
 fn resized_buffer(
     alloc: Global,
     lines: &HeapCircularBuffer<Line>,
@@ -88,7 +89,8 @@ fn resized_buffer(
 }
 
 impl Ring {
-    /// A ring that keeps at most `keep` lines of `columns` cells, and has taken in none.
+    /// A ring that keeps at most `keep` lines of `columns` cells and has taken in none. `NoMemory`
+    /// if memory is refused.
     pub fn new(alloc: Global, keep: usize, columns: usize) -> Result<Ring, NoMemory>
         ensures value { IfOk result (λ ring. ring ≡ no_lines keep columns) }
         ensures stands { IfOk result (λ ring. StandsFor ring []) }
@@ -101,7 +103,7 @@ impl Ring {
         })
     }
 
-    /// The number of lines that it has: those that it took in, or `keep` where they are more.
+    /// The number of lines that were taken in, at most `keep`.
     pub fn len(&self) -> usize
         ensures value { result ≡ length self.now.lines }
         ensures bound { result ≤ self.now.keep }
@@ -116,7 +118,8 @@ impl Ring {
         self.columns
     }
 
-    /// Takes in a line of its width, and hands one of that width back for use. No memory is taken.
+    /// Takes in a line of the ring's width, and returns a line of that width for reuse. It needs no
+    /// memory.
     pub fn take_in(&mut self, line: Line) -> Line
         requires { length line ≡ self.old.columns }
         ensures kept { self.new ≡ with_line self.old line }
@@ -128,7 +131,8 @@ impl Ring {
         spare
     }
 
-    /// The same, where the one that is handed back takes the place of the other.
+    /// Takes in the line at `line`, and leaves a line of that width for reuse there. It needs no
+    /// memory.
     #[inline(always)]
     pub fn exchange(&mut self, line: &mut Line)
         requires { length line.old ≡ self.old.columns }
@@ -144,7 +148,8 @@ impl Ring {
         }
     }
 
-    /// The cells of the n-th newest line, of which the newest is line 0.
+    /// The cells of the line that is `n` lines older than the newest one. None if the ring keeps no
+    /// such line.
     pub fn line(&self, n: usize) -> Option<&[Cell]>
         ensures { option_copied result ≡ slice_get (reverse self.now.lines) n }
     {
@@ -154,8 +159,8 @@ impl Ring {
         self.lines.nth_back(n).map(|line| line.cells())
     }
 
-    /// Gives its lines another width: each is cut or filled with blanks. A refusal leaves all as it
-    /// was.
+    /// Changes the width: each line is cut, or filled up with blanks. `NoMemory` if memory is
+    /// refused; the ring then stays as it was.
     pub fn resized(&mut self, columns: usize) -> Result<(), NoMemory>
         ensures ok { OnOk result (self.new ≡ resized_lines self.old columns) }
         ensures stands { OnOk result (ContinuesResized self.old self.new columns) }

@@ -1,4 +1,4 @@
--- Lines of a file, read one after another.
+-- The lines of a file, read one after another.
 use Rattle.std.proofs.Common.{◌≡◌, ℕ, ◌+◌, ◌<◌, ◌≤◌, Bool, true, false, List, [], ◌∷◌, ◌++◌, length, map, drop, get_or}
 use Rattle.std.proofs.Common.{Option, Some, None, Result, Ok, Err, Bor, refl, sym, ap, subst, ◌∙◌, append_assoc, arith}
 use Rattle.std.specs.Prelude.{nat_lt, if◌then◌else◌, IfOk, IfErr}
@@ -37,7 +37,7 @@ pub no_text : (n : ℕ) (bytes : List ℕ) → length bytes ≤ 1024 → (IsUtf8
     → fault_of (numbered n bytes) ≡ Some (NotText n)
 no_text n bytes le not = fault_is n bytes false le (not_utf8 bytes (is_utf8 bytes) refl not)
 
--- ---- lines behind one another
+-- ---- lines, one after another
 
 behind_fine : (o : Option SetupFault) (ls lms ms : Option SetupFault) → option_or o ls ≡ None → (ls ≡ None → lms ≡ ms)
     → option_or o lms ≡ ms
@@ -49,7 +49,7 @@ first_behind [] ms none = refl
 first_behind (l ∷ ls) ms none = behind_fine (fault_of l) (first_fault ls) (first_fault (ls ++ ms)) (first_fault ms) none
     (λ rest. first_behind ls ms rest)
 
--- some lines of a file were read, and those are left: the commands among them, none of which has a
+-- some lines of a file were read, and `rest` are left: the commands of the former, which have no
 -- fault
 pub record HaveRead (file : List ℕ) (lines : List Line) (number : ℕ) (rest : List (List ℕ)) : Type 0 where
   pub sound : first_fault lines ≡ None
@@ -152,7 +152,7 @@ pub end_at : (file : List ℕ) (lines : List Line) (parts : List (Bor (List ℕ)
 end_at file lines parts i le h = all_read file lines i
     (subst (λ rest. HaveRead file lines i rest) (ap texts (drop_of_length-le parts le)) h)
 
--- ---- what calls give
+-- ---- what calls return
 
 pub of_ok : {X E : Type 0} (r : Result X E) (x : X) (P : X → Type 0) → r ≡ Ok x → IfOk r P → P x
 of_ok r x P is h = subst (λ s. IfOk s P) is h

@@ -1,4 +1,4 @@
--- The lines of a setup file that give commands.
+-- The command lines of a setup file.
 use Rattle.std.specs.Prelude.{ℕ, ◌+◌, Bool, true, List, [], ◌∷◌, length, nat_lt, ◌==◌}
 use Rattle.std.specs.Prelude.{if◌then◌else◌, Option, Some, None}
 use Rattle.std.specs.List.{slice_split}
@@ -9,7 +9,7 @@ use Rattle.setup_lines.specs.declared.SetupLine.{SetupLine}
 use Rattle.setup_lines.specs.declared.SetupFault.{SetupFault}
 use Rattle.setup_lines.specs.declared.SetupFault.TheVariants.{TooLong, NotText}
 
--- a line of a file, and which one it is, counted from 1
+-- a line of a file with its number, counted from 1
 pub record Line : Type 0 where
   pub number : ℕ
   pub bytes : List ℕ
@@ -17,7 +17,7 @@ pub record Line : Type 0 where
 abbrev pub numbered : ℕ → List ℕ → Line
 numbered number bytes = record { number = number; bytes = bytes }
 
--- it is empty, or begins with #
+-- the line is empty or begins with #
 abbrev pub is_skipped : List ℕ → Bool
 is_skipped [] = true
 is_skipped (byte ∷ bytes) = byte == code "#"
@@ -25,7 +25,7 @@ is_skipped (byte ∷ bytes) = byte == code "#"
 abbrev pub is_feed : ℕ → Bool
 is_feed byte = byte == 0x0A
 
--- lines of which the first has this number, but those that are skipped
+-- the lines without the skipped ones, if the first line has this number
 abbrev pub commands_from : ℕ → List (List ℕ) → List Line
 commands_from number [] = []
 commands_from number (line ∷ lines) =

@@ -11,16 +11,16 @@ use std::alloc::{AllocError, AllocFailed, Global};
 use std::str;
 use thiserror::Error;
 
-/// The most bytes of a command line.
+/// The greatest number of bytes of a command line.
 const LONGEST: usize = 1024;
 
-/// Why a file is no setup.
+/// Why a setup file is refused.
 #[derive(Clone, Copy, Debug, PartialEq, Eq, Error)]
 pub enum SetupFault {
-    /// The line of this number, counted from 1, has too many bytes for a command.
+    /// The line with this number, counted from 1, has more than 1,024 bytes.
     #[error("line {0}: above 1,024 bytes")]
     TooLong(usize),
-    /// The line of this number isn't UTF-8.
+    /// The line with this number, counted from 1, isn't UTF-8.
     #[error("line {0}: not UTF-8")]
     NotText(usize),
     #[error("out of memory")]
@@ -43,16 +43,16 @@ impl<T: Drop> From<AllocFailed<T>> for SetupFault {
     }
 }
 
-/// A command line of a setup, which nothing is read of: what it asks for is the session's to say.
+/// A command line of a setup file. It isn't parsed here: the session does that.
 #[derive(Clone, Copy, Debug)]
 pub struct SetupLine<'a> {
-    /// Its number in the file, counted from 1.
+    /// The line's number in the file, counted from 1.
     pub number: usize,
-    /// At most 1,024 bytes.
+    /// The text of the line, at most 1,024 bytes.
     pub text: &'a str,
 }
 
-/// Whether a line gives no command: it is empty, or begins with `#`.
+/// Whether a line has no command: it is empty or begins with `#`.
 fn is_skipped(line: &[u8]) -> bool
     ensures { result ≡ is_skipped line.now }
 {
@@ -62,7 +62,7 @@ fn is_skipped(line: &[u8]) -> bool
     }
 }
 
-/// The text of the line of this number.
+/// The text of the line with this number, or why it is refused.
 fn text_of(number: usize, line: &[u8]) -> Result<&str, SetupFault>
     ensures ok { IfOk result (λ text. (text.now ≡ line.now)
         × (fault_of (numbered number line.now) ≡ None)) }
@@ -77,12 +77,13 @@ fn text_of(number: usize, line: &[u8]) -> Result<&str, SetupFault>
     }
 }
 
-/// The command lines of a setup file, in their order. Empty lines and those that begin with `#` are
-/// skipped; a line ends at a line feed, the last one also without it.
+/// Reads a setup file and returns its command lines in their order. Empty lines and lines that
+/// begin with `#` are skipped. A line ends at a line feed or at the end of the file. The first line
+/// that is too long or isn't UTF-8 is the error; `NoMemory` if memory is refused.
 pub fn read_setup<'a>(alloc: Global, file: &'a [u8]) -> Result<Vec<SetupLine<'a>>, SetupFault>
     ensures ok { IfOk result (λ lines. (map line_of lines.items ≡ commands_in file.now)
         × (first_fault (commands_in file.now) ≡ None)) }
-    // The first line that can be no command line is named, and why.
+    // The error is the fault of the first line that has one.
     ensures err { IfErr result (λ fault. (fault ≡ OfMemory)
         ⊎ (first_fault (commands_in file.now) ≡ Some fault)) }
 {

@@ -1,4 +1,4 @@
-//! Bytes that grow.
+//! A list of bytes that can grow.
 
 ghost use Rattle.std.specs.Prelude.{◌≡◌, ◌++◌, ◌==◌, [], length, OnOk, OnErr, IfOk, option_to_list};
 
@@ -34,7 +34,7 @@ impl Bytes {
         }
     }
 
-    /// A copy of some bytes.
+    /// Copies bytes. `AllocError` if memory is refused.
     pub fn of(alloc: Global, bytes: &[u8]) -> Result<Bytes, AllocError>
         ensures { IfOk result (λ b. b ≡ bytes.now) }
     {
@@ -42,14 +42,14 @@ impl Bytes {
         Ok(Bytes { items })
     }
 
-    /// Bytes that were made.
+    /// The bytes of a vector.
     pub fn from_vec(items: Vec<u8>) -> Bytes
         ensures { result ≡ items.items }
     {
         Bytes { items }
     }
 
-    /// Appends the byte, if there is one.
+    /// Appends the byte, if there is one. `AllocError` if memory is refused.
     pub fn push_some(&mut self, byte: Option<u8>) -> Result<(), AllocError>
         ensures ok { OnOk result (self.new ≡ self.old ++ option_to_list byte) }
         ensures err { OnErr result (self.new ≡ self.old) }

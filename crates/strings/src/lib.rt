@@ -1,4 +1,4 @@
-//! Bytes and texts that messages, commands, effects and events hold.
+//! The bytes and texts that messages, commands, effects and events hold.
 #![tactic(auto)]
 
 mod bytes;

@@ -1,5 +1,5 @@
-//! Texts. Contracts see a text as its bytes in UTF-8, while grammars are over characters: so no lemma
-//! cuts a text between bytes.
+//! Texts. Contracts see a text as its bytes in UTF-8, while grammars are over characters, so no
+//! lemma cuts a text between bytes.
 
 ghost use Rattle.std.specs.Prelude.{◌≡◌, IfOk, true};
 ghost use Rattle.std.specs.Str.{is_utf8};
@@ -8,7 +8,7 @@ ghost use Rattle.std.specs.String.{string_bytes};
 use std::alloc::{AllocError, Global};
 use std::marker::Model;
 
-/// A name, a title, a word or another text: UTF-8 (Unicode core specification, section 3.9).
+/// A text, such as a name, a title or a word, in UTF-8 (Unicode core specification, section 3.9).
 #[derive(Drop, Debug)]
 pub struct Text {
     text: String,
@@ -31,7 +31,7 @@ impl Text {
         Text { text }
     }
 
-    /// The text of these characters.
+    /// Copies characters. `AllocError` if memory is refused.
     pub fn of(alloc: Global, text: &str) -> Result<Text, AllocError>
         ensures { IfOk result (λ t. t ≡ text.now) }
     {
@@ -39,7 +39,7 @@ impl Text {
         Ok(Text { text })
     }
 
-    /// The characters.
+    /// The text as a string slice.
     pub fn as_str(&self) -> &str
         ensures value { result.now ≡ self.now }
         ensures text { is_utf8 self.now ≡ true }

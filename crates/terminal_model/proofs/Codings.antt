@@ -32,7 +32,7 @@ use Rattle.terminal_model.specs.Erasing.{lines_inserted, lines_deleted, is_in_ma
 use Rattle.terminal_model.specs.Settings.{homed}
 use Rattle.terminal_model.specs.Table.{acted_from, acted, all_acted, effect}
 
--- what neither prints nor sets the coding
+-- an action that neither prints nor sets the coding
 abbrev pub is_ordinary : Action → Bool
 is_ordinary (Print u) = false
 is_ordinary (SetCoding coding) = false
@@ -116,7 +116,7 @@ all_acted-coding x (a ∷ later) h =
 abbrev pub keep : List Action → Bool
 keep = list_all is_ordinary
 
--- the actions are such ones; and so is the one that there may be
+-- all these actions are ordinary; and so is the optional one
 pub record Keep (xs : List Action) : Type 0 where
   pub all : keep xs ≡ true
 
@@ -253,14 +253,14 @@ sequence-keep None params (i ∷ []) last = between-keep params i last
 sequence-keep (Some mark) params (i ∷ []) last = empty
 sequence-keep mark params (i ∷ j ∷ more) last = empty
 
--- in ESC, one intermediate and a final byte nothing but ESC % G and ESC % @ sets the coding
+-- with ESC, one intermediate and a final byte, only ESC % G and ESC % @ set the coding
 pub between-escape : (i last : ℕ) → (i == 0x25) ≡ false → Keeps (intermediate_action i last)
 between-escape i last h = rw h (search (if_keeps, none_keeps, some, designation-keeps) depth 60 fits 4000)
 
 pub coding-escape : (last : ℕ) → (last == 0x47) ≡ false → (last == 0x40) ≡ false → Keeps (intermediate_action 0x25 last)
 coding-escape last h k = rw (h, k) none_keeps
 
--- only a function that prints, or ESC with one intermediate, does something else
+-- only a function that prints, or an escape sequence with one intermediate, can do anything else
 abbrev pub is_designating : Func → Bool
 is_designating (funcs.Esc (i ∷ []) last) = true
 is_designating f = false

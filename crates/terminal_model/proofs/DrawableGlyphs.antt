@@ -1,4 +1,4 @@
--- What is drawn of a character of the sets is a glyph.
+-- What is drawn for a character of the sets is a glyph.
 use Rattle.std.proofs.Common.{◌≡◌, ℕ, zero, suc, ◌+◌, ◌-◌, ◌<◌, ◌≤◌, Bool, true, false, ◌&&◌, cond, List, [], ◌∷◌}
 use Rattle.std.proofs.Common.{length, slice_index, Option, Some, None, refl, sym, ap, ◌∙◌, subst, arith}
 use Rattle.std.specs.Prelude.{IfSome, nat_lt, ◌==◌, unwrap_or}
@@ -78,7 +78,7 @@ character_given SpecialGraphics u low high = graphics_given (nat_lt u 0x5F) refl
         (omega arith)
 character_given Supplemental u low high = supplement_given u low high
 
--- a unit that can be given: a byte above A0 always has a character of the sets
+-- a unit that can be given: a byte above A0 always has a character in the sets
 abbrev pub IsGivenUnit : Unit → Type 0
 IsGivenUnit (Code c) = IsGiven (Print c)
 IsGivenUnit (High b) = Prim.Unit {0}
@@ -137,7 +137,7 @@ pub drawn_glyph : (c : ℕ) → IsGiven (Print c) → IsGlyph (columns_of c) (dr
 unfolding columns_of drawn
 drawn_glyph c g = drawn_glyph_of (char_width false c) c refl g
 
--- no character takes more than two columns
+-- every character takes at most two columns
 pub columns_few : (c : ℕ) → columns_of c ≤ 2
 unfolding columns_of
 columns_few c = few (char_width false c)

@@ -1,4 +1,4 @@
--- Lines and pages that are made of drawable lines and new cells are drawable.
+-- Lines and pages of drawable lines and new cells are drawable.
 use Rattle.std.proofs.Common.{◌≡◌, ℕ, zero, suc, ◌+◌, ◌-◌, ◌<◌, ◌≤◌, Bool, true, false, ◌&&◌, cond, eqb, ltb, List, []}
 use Rattle.std.proofs.Common.{◌∷◌, length, map, set, take, replicate, refl, sym, ap, ◌∙◌, subst, arith, ⊎_elim, eq-eqb}
 use Rattle.std.proofs.lemmas.List.FromFn.{length-map-range_with_len, get_or-map-range_with_len}
@@ -36,7 +36,7 @@ cell_drawable cells h column = ⊎_elim
     (λ (past : length cells ≤ column). subst IsDrawableCell (sym (cell_at_past cells column past)) drawable_blank)
     (cases_lt column (length cells))
 
--- the cell behind a left half is its right half
+-- the cell after a left half is its right half
 abbrev pub Follows : Cell → Cell → Type 0
 Follows left right = is_left left.shape ≡ true → unprotected right ≡ right_cell left.character left.rendition false
 
@@ -65,7 +65,7 @@ abbrev pub IsDrawableOrigin : Origin → Type 0
 IsDrawableOrigin (New cell) = IsDrawableCell cell
 IsDrawableOrigin (From line column) = Prim.Unit {0}
 
--- of two new cells beside each other a right half is the other half of the left one
+-- of two neighbouring new cells, a right half is the other half of the left one
 abbrev pub Pairs : Origin → Origin → Type 0
 Pairs (New left) (New right) = is_right right.shape ≡ true → Follows left right
 Pairs (New left) (From line column) = Prim.Unit {0}
@@ -189,7 +189,7 @@ page_from-drawable origin page h k line = ⊎_elim
 pub from_drawable : (line : ℕ) → AreDrawable (From line)
 from_drawable line = record { cells = λ column. tt; halves = λ column. tt }
 
--- old cells and blanks alone
+-- only old cells and blanks
 abbrev pub IsOldOrBlank : Origin → Type 0
 IsOldOrBlank (New cell) = cell ≡ blank
 IsOldOrBlank (From line column) = Prim.Unit {0}
@@ -313,7 +313,7 @@ wide_drawable c r p h = record { printed = printed; halves = halves }
     halves (suc zero) = λ left. absurd (cc)
     halves (suc (suc n)) = λ left. absurd (cc)
 
--- the first new cell stays where it is no right half
+-- the first new cell stays if it is no right half
 pub first_stays : (line at rest width : ℕ) (fresh : List Cell) (page : Page) → 0 < length fresh
     → is_right (cell_at fresh 0).shape ≡ false
     → is_right (place (page_from (edited line (spliced at fresh rest width)) page) line at).shape ≡ false

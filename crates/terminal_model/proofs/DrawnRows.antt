@@ -20,7 +20,7 @@ use Rattle.terminal_model.specs.Reading.{act, act_all, read_unit, read_units, re
 use Rattle.terminal_model.specs.Drawing.{IsDiscreet, IsListed, PrintsOf, StandsAt, place_by}
 use Rattle.terminal_model.specs.Rows.{fresh_reads, csi, kanji, wide_page, printed_beside}
 
--- the character is one, and so is its place
+-- the character and its place
 stands : (page : Page) (x : Screen) (u c : ℕ) (p : Position) → mapped x.state.shifts (Code u) ≡ Some c
     → place_by (columns_of c) (record { before = x; func = Print u }) ≡ Some p
     → PrintsOf page (record { before = x; func = Print u }) → StandsAt (columns_of c) page p c

@@ -1,4 +1,4 @@
--- What the functions that frames are made of do to a screen.
+-- The effects of the functions that frames are made of.
 use Rattle.std.proofs.Common.{◌≡◌, ℕ, ◌+◌, ◌-◌, ◌<◌, ◌≤◌, min, max, Bool, true, false, ◌&&◌, cond, eqb, List, [], ◌∷◌}
 use Rattle.std.proofs.Common.{◌++◌, length, replicate, Option, Some, None, refl, sym, ap, ◌∙◌, subst, arith}
 use Rattle.std.proofs.Common.{append_assoc}
@@ -61,7 +61,7 @@ prints-mark : (x : Screen) (c : ℕ) → IsPlain x → is_graphic (Code c) ≡ t
     → effect x (Print c) ≡ marked_at x.state.joining (drawn c) x
 prints-mark x c h g w = prints x c h g ∙ ap (λ n. printed_as n (drawn c) x) w
 
--- new cells at the cursor, with IRM reset
+-- new cells at the cursor, if IRM is reset
 placed-over : (fresh : List Cell) (x : Screen) → IsSound x → x.state.modes.inserts ≡ false → IsPaired fresh
     → 0 < length fresh → x.state.column + length fresh ≤ x.state.columns
     → PutsOver x fresh (advanced x.state (length fresh)) (placed fresh x)
@@ -145,7 +145,7 @@ line-erased x h =
     (with_page x (unpending x.state) (line_erased x.state x.state.column e x.page))) end
     (erased-over x (x.state.columns - x.state.column) h (omega (arith, h.cursor.1)) (omega (arith, h.cursor.1)))
 
--- CUP, to a place of the page, with ?6 reset
+-- CUP to a place of the page, if ?6 is reset
 pub cursor-moved : (x : Screen) (line column : ℕ) → x.state.modes.counts_from_margin ≡ false → line < x.state.rows
     → column < x.state.columns
     → effect x (Csi None ((line + 1) ∷ (column + 1) ∷ []) [] 0x48) ≡ with_state x (moved_to x.state line column)
@@ -201,7 +201,7 @@ unfolding acted_from
 keypad-set x true = refl
 keypad-set x false = refl
 
--- none of these answers
+-- none of these functions is answered
 pub printed-quiet : (x : Screen) (c : ℕ) → report x (Print c) ≡ []
 printed-quiet x c = refl
 

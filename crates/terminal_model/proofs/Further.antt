@@ -1,4 +1,4 @@
--- First frames, acts behind each other, and the functions that frames are made of.
+-- First frames, acts one after another, and the functions of frames.
 use Rattle.std.proofs.Common.{◌≡◌, ℕ, ◌<◌, Bool, true, false, List, [], ◌∷◌, ◌++◌, length, Option, Some, None, refl}
 use Rattle.std.proofs.Common.{sym, ap, ◌∙◌, subst, arith, append-nil}
 use Rattle.std.proofs.lemmas.Grind.{flat_map-append}
@@ -16,7 +16,7 @@ use Rattle.terminal_model.specs.Drawing.{Draws, IsDiscreet, IsSpare, IsListed, I
 use Rattle.terminal_model.specs.Places.{IsPlain, mode_final, keypad_final}
 use Rattle.terminal_model.proofs.Sound.{IsPage-blank, tabs-start}
 
--- what a first frame begins with
+-- the beginning of a first frame
 
 pub IsSound-frame_start : (x : Screen) → IsSound x → IsSound (frame_start x)
 IsSound-frame_start x h = record {
@@ -54,7 +54,7 @@ IsDrawn-frame_start x h = record {
   ready_is = refl;
 }
 
--- acts behind each other
+-- acts, one after another
 
 all-append : {X : Type 0} → (P : X → Type 0) → (a b : List X) → AllByRecursion P a → AllByRecursion P b
     → AllByRecursion P (a ++ b)

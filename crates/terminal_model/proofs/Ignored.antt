@@ -1,4 +1,4 @@
--- What is ignored changes nothing.
+-- Ignored functions change nothing.
 use Rattle.std.proofs.Common.{◌≡◌, ℕ, false, [], Option, ap}
 use Rattle.std.specs.Prelude.{nat_lt}
 use Rattle.control_parser.specs.declared.func.Func.{Func}

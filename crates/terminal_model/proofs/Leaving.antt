@@ -34,7 +34,7 @@ use Rattle.terminal_model.proofs.Readings.{effects, acts_of, read_units-is}
 use Rattle.terminal_model.proofs.Sound.{IsSound-acted, IsSound-effect}
 use Rattle.terminal_model.proofs.Terminals.{IsTerminal-read_byte, IsTerminal-ready, IsTerminal-writes}
 
--- the first ones of a list whose end is cut
+-- the first items of a list whose end is cut
 take_within : {X : Type 0} (n m : ℕ) (xs ys : List X) → n ≤ m → take n (xs ++ take m ys) ≡ take n (xs ++ ys)
 take_within zero m xs ys h = refl
 take_within (suc n) m (x ∷ xs) ys h = ap (λ zs. x ∷ zs) (take_within n m xs ys (omega arith))
@@ -66,7 +66,7 @@ scrolled : (b : Bool) (x : Screen) → length x.kept ≤ x.keep
 scrolled true x few = refl
 scrolled false x few = sym (take_all x.keep x.kept few)
 
--- index, from a screen that differs in its state alone, but not in line and margins
+-- index, on a screen with another state, but with its line and margins
 indexed_pushes : (x : Screen) (s : State) → length x.kept ≤ x.keep → s.line ≡ x.state.line → s.bottom ≡ x.state.bottom
     → s.top ≡ x.state.top → Pushes x (indexed_out x) (indexed (with_state x s))
 indexed_pushes x s few line bottom top = record {
@@ -80,7 +80,7 @@ wrapped_pushes : (b : Bool) (x : Screen) (s : State) → length x.kept ≤ x.kee
 wrapped_pushes true x s few line bottom top = indexed_pushes x (moved_to s s.line 0) few line bottom top
 wrapped_pushes false x s few line bottom top = pushes_none x (with_state x s) few refl refl
 
--- nothing leaves
+-- no line leaves
 stays : (x y z : Screen) (a : Page) → Pushes x a y → z.keep ≡ y.keep → z.kept ≡ y.kept → Pushes x a z
 stays x y z a h keep kept = record { keep = keep ∙ h.keep; kept = kept ∙ h.kept }
 
@@ -92,7 +92,7 @@ wide_kept : (b : Bool) (c : ℕ) (x : Screen) → (wide_or_none b c x).kept ≡ 
 wide_kept true c x = refl
 wide_kept false c x = refl
 
--- a wide character, where a wrap may have been pending
+-- a wide character, perhaps with a pending wrap
 wide_pushes : (pending : Bool) (c : ℕ) (x : Screen) → length x.kept ≤ x.keep → 2 ≤ x.state.columns
     → Pushes x (cond (pending || (lacks_room x.state && x.state.modes.wraps)) (indexed_out x) [])
     (wide_printed c (wrapped pending x))
@@ -202,7 +202,7 @@ reads_push t (b ∷ later) h =
     (pushes_then t.screen r.terminal.screen s.terminal.screen (lines_of r.acts) (lines_of s.acts) (byte_pushes t b h)
     (reads_push r.terminal later (IsTerminal-read_byte t b h)))
 
--- the last ones of all lines that left so far, and of one more writing
+-- the last ones of all lines that have left, and of those that leave with one more writing
 pub keeps_on : (x y : Screen) (lines out : Page) → KeepsLast lines x → Pushes x out y → KeepsLast (lines ++ out) y
 keeps_on x y lines out h k =
     k.kept

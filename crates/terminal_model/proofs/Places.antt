@@ -1,4 +1,4 @@
--- What stands at a place where new cells were put over a line.
+-- The cell at each place after new cells were put over a line.
 use Rattle.std.proofs.Common.{◌≡◌, ℕ, zero, suc, ◌+◌, ◌-◌, ◌<◌, ◌≤◌, Bool, true, false, ◌&&◌, eqb, ltb, leb, List, []}
 use Rattle.std.proofs.Common.{length, set, replicate, refl, sym, ap, ◌∙◌, arith, ⊎_elim, eq-eqb}
 use Rattle.std.specs.Prelude.{if◌then◌else◌, ◌==◌}
@@ -39,7 +39,7 @@ module _ (fresh cells : List Cell) (at : ℕ) (paired : IsPaired cells) (pairs :
       let e : k + (at + length fresh) - (at + length fresh) ≡ k = omega arith in
       at_rest at fresh (at + length fresh) (length cells) k l (omega arith) ∙ ap Old e
 
-  -- an old cell whose other half comes along
+  -- an old cell whose other half comes along stays
   stays : (k : ℕ) → k < length cells → source k ≡ Old k
       → (is_left (cell_at cells k).shape ≡ true → source_after source (length cells) k ≡ Old (suc k))
       → (is_right (cell_at cells k).shape ≡ true → (j : ℕ) → k ≡ suc j → source j ≡ Old j)
@@ -135,7 +135,7 @@ module _ (fresh cells : List Cell) (at : ℕ) (paired : IsPaired cells) (pairs :
       ∙ sym (rw (ne_eqb (k + 1) at ne) refl))
       (cases_eq (k + 1) at)
 
-  -- behind them
+  -- after the new cells
   after_old : (k : ℕ) → at + length fresh ≤ k → k < length cells → is_left (cell_at cells k).shape ≡ true
       → source_after source (length cells) k ≡ Old (suc k)
   after_old k h w l =

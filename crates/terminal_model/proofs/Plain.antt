@@ -31,7 +31,8 @@ both : (p q : Bool) → (p && q) ≡ true → (p ≡ true) × (q ≡ true)
 both true q h = (refl, h)
 both false q h = (h, absurd (cc))
 
--- what plain bytes leave of a terminal between characters, sequences and strings; it answers nothing
+-- a terminal between characters, sequences and strings that has read bytes 20 to 7E; it answers
+-- nothing
 abbrev pub printed_read : Screen → List ℕ → Read
 printed_read x bytes = record {
   terminal = ready (effects x (map (λ b. Print b) bytes));

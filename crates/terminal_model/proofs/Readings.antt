@@ -1,4 +1,4 @@
--- Reading goes on, and what bytes give is what acts.
+-- Reading goes on, and the functions of the bytes are those that act.
 use Rattle.std.proofs.Common.{◌≡◌, ℕ, List, [], ◌∷◌, ◌++◌, refl, sym, ap, ◌∙◌, append_assoc, append-nil}
 use Rattle.charsets.specs.declared.unit.Unit.{Unit}
 use Rattle.control_parser.specs.declared.func.Func.{Func}
@@ -15,7 +15,7 @@ use Rattle.terminal_model.specs.Writing.{Writing, Output, writes, writes_all}
 joined_assoc : (r s u : Read) → joined (joined r s) u ≡ joined r (joined s u)
 joined_assoc r s u = simp append_assoc
 
--- reading in two pieces is reading the whole
+-- bytes read in two pieces are read as at once
 pub reads-append : (t : Terminal) (a b : List ℕ) → reads t (a ++ b) ≡ joined (reads t a) (reads (reads t a).terminal b)
 unfolding reads
 reads-append t [] b = refl
@@ -25,7 +25,7 @@ reads-append t (x ∷ a) b =
     (joined_assoc (read_byte t x) (reads (read_byte t x).terminal a)
     (reads (reads (read_byte t x).terminal a).terminal b))
 
--- so it is with a window's writing
+-- a window's writing in two pieces is its writing at once
 pub writes_all-append : (t : Terminal) (a b : List Writing)
     → writes_all t (a ++ b) ≡ joined (writes_all t a) (writes_all (writes_all t a).terminal b)
 unfolding writes_all
@@ -45,7 +45,7 @@ writes_all-output t a b later =
     (sym (joined_assoc (reads t a) (reads (reads t a).terminal b)
     (writes_all (reads (reads t a).terminal b).terminal later)))
 
--- functions that act on a screen, one after the other
+-- functions that act on a screen, one after another
 abbrev pub effects : Screen → List Func → Screen
 effects x [] = x
 effects x (f ∷ later) = effects (effect x f) later
@@ -58,7 +58,7 @@ abbrev pub acts_of : Screen → List Func → List Act
 acts_of x [] = []
 acts_of x (f ∷ later) = record { before = x; func = f } ∷ acts_of (effect x f) later
 
--- what they leave, with what has begun
+-- the terminal after these functions, with what is incomplete
 abbrev pub outcome : Screen → List Func → List ℕ → Rest → Read
 outcome x fs rest unended = record {
   terminal = record { screen = effects x fs; rest = rest; unended = unended };
@@ -91,7 +91,7 @@ unfolding act_all act
 act_all-is x r u [] = refl
 act_all-is x r u (f ∷ later) = rw (act_all-is (effect x f) r u later) refl
 
--- units give their functions, one unit after the other
+-- the functions of units, one unit after another
 pub read_units-is : (x : Screen) (r : List ℕ) (u : Rest) (us : List Unit) → functions (opening u) ≡ ([], u)
     → read_units (record { screen = x; rest = r; unended = u }) us ≡ outcome x (functions (opening u ++ us)).0 r
     (functions (opening u ++ us)).1

@@ -1,4 +1,4 @@
--- SGR: a rendition is made of any other, and nothing is answered.
+-- SGR sets a rendition from any other one, and answers nothing.
 use Rattle.std.proofs.Common.{◌≡◌, ℕ, ◌<◌, Bool, true, false, ◌&&◌, List, [], ◌∷◌, ◌++◌, length, Option, Some, None}
 use Rattle.std.proofs.Common.{refl, ap, ◌∙◌, arith}
 use Rattle.std.specs.Prelude.{if◌then◌else◌, option_to_list, is_some}
@@ -19,11 +19,11 @@ use Rattle.terminal_model.specs.Drawing.{IsListed}
 use Rattle.terminal_model.specs.Places.{value_if, value_of_colour, colour_values, rendition_values}
 use Rattle.terminal_model.proofs.Frames.{all_acted-append, each-append}
 
--- what SGR leaves of a screen, with a rendition
+-- a screen with another rendition, which SGR leaves
 abbrev with_rendition : Screen → Rendition → Screen
 with_rendition x r = with_state x (unjoined (record x.state { rendition = r }))
 
--- without colours, and then those that come
+-- first without colours, and then with them
 begun : (x : Screen) (b u k v : Bool) (later : List ℕ)
     → effect x (Csi None (0 ∷ (value_if b 1 ++ (value_if u 4 ++ (value_if k 5 ++ (value_if v 7 ++ later))))) [] 0x6D)
     ≡ all_acted
@@ -91,7 +91,7 @@ pub rendition-is : (x : Screen) (r : Rendition)
     → effect x (Csi None (rendition_values r) [] 0x6D) ≡ with_state x (unjoined (record x.state { rendition = r }))
 rendition-is x r = begun x r.is_bold r.is_underlined r.is_blinking r.is_reversed (colour_values r) ∙ colours-set x r
 
--- VALUES THAT ARE NAMED
+-- VALUES THAT ARE KNOWN
 both-more : (p q r : Bool) → p && q ≡ true → (q ≡ true → r ≡ true) → p && r ≡ true
 both-more true q r h f = f h
 both-more false q r h f = h
@@ -141,7 +141,7 @@ and-left : (p q : Bool) → p && q ≡ true → p ≡ true
 and-left true q h = refl
 and-left false q h = h
 
--- a list of values that begins with one that is named
+-- a list of values that begins with a known one
 pub named-listed : (rows n : ℕ) (values : List ℕ) → list_all is_named (n ∷ values) ≡ true
     → IsListed rows (Csi None (n ∷ values) [] 0x6D)
 unfolding plain_sequence
@@ -158,7 +158,7 @@ named-listed rows n values h = record {
 pub values-listed : (rows : ℕ) (r : Rendition) → IsListed rows (Csi None (rendition_values r) [] 0x6D)
 values-listed rows r = named-listed rows 0 _ (values-named r)
 
--- a value of SGR answers nothing
+-- a value of SGR is answered by nothing
 record IsRendering (o : Option Action) : Type 0 where
   pub quiet : (x : Screen) (later : List Action)
       → all_answered x (option_to_list o ++ later) ≡ all_answered

@@ -1,4 +1,4 @@
--- What a first frame begins with brings every terminal of a size to one screen.
+-- The beginning of a first frame brings every terminal of a size to one screen.
 use Rattle.std.proofs.Common.{◌≡◌, ℕ, List, [], ◌∷◌, ◌++◌, Some, refl, ap, ◌∙◌, arith, append-nil}
 use Rattle.charsets.specs.declared.unit.Unit.TheVariants as codes
 use Rattle.charsets.specs.declared.unit.Coding.{Coding}
@@ -27,7 +27,7 @@ cancel-functions : (u : Rest) → functions (opening u) ≡ ([], u)
     → functions (opening u ++ codes.Code 0x18 ∷ []) ≡ ([], nothing)
 cancel-functions u h = functions-can (opening u) ∙ ap (λ v. (v.0, nothing)) h
 
--- CAN ends all that has begun
+-- CAN ends an incomplete character, sequence or string
 pub cancel-reads : (t : Terminal) (bs : List ℕ) → IsTerminal t → reads t (0x18 ∷ bs) ≡ reads (ready t.screen) bs
 unfolding reads read_byte read_units read_unit act_all
 cancel-reads t bs h = rw (cancel-units t.screen.state.coding t.rest h.begun, cancel-functions t.unended h.opened) refl
@@ -76,7 +76,7 @@ frame-quiet : (x : Screen)
 unfolding private_sequence
 frame-quiet x = refl
 
--- the functions behind CAN
+-- the functions after CAN
 frame-reads : (x : Screen) → reads (ready x) (0x1B ∷ 0x63 ∷ 0x1B ∷ 0x25 ∷ 0x47 ∷ 0x1B ∷ 0x5B ∷ 0x3F ∷ 0x37 ∷ 0x6C ∷ [])
     ≡ joined (done x (Esc [] 0x63))
     (joined (done (reset-screen x) (Esc (0x25 ∷ []) 0x47))

@@ -1,4 +1,4 @@
--- Every effect keeps a sound screen.
+-- Every effect keeps a screen sound.
 use Rattle.std.proofs.Common.{◌≡◌, ℕ, zero, suc, ◌+◌, ◌-◌, ◌<◌, ◌≤◌, min, Bool, true, false, ◌&&◌, cond, eqb, ltb, leb}
 use Rattle.std.proofs.Common.{List, [], ◌∷◌, length, map, take, replicate, set, Option, Some, None, refl, sym, ap, ◌∙◌}
 use Rattle.std.proofs.Common.{subst, arith, ⊎_elim}
@@ -49,7 +49,7 @@ use Rattle.terminal_model.specs.Sizing
 use Rattle.terminal_model.specs.Table
 use Rattle.terminal_model.proofs.Resizes.{IsPaired-nil, IsPaired-line_resized, IsPage-page_resized}
 
--- what is asked of a state on a page of some size
+-- what a state must be on a page of a size
 pub record Fits (rows columns : ℕ) (s : State) : Type 0 where
   pub rows_are : s.rows ≡ rows
   pub columns_are : s.columns ≡ columns
@@ -123,7 +123,7 @@ same-place x h = record {
   joined = tt;
 }
 
--- a line more in the scrollback
+-- one more line in the scrollback
 kept-more : (columns keep : ℕ) (line : List Cell) (kept : Page) → length line ≡ columns → IsPaired line
     → AreKept columns kept → AreKept columns (with_newest keep line kept)
 kept-more columns keep line kept w p k = record {
@@ -321,7 +321,7 @@ IsPage-blank rows columns = record {
       (cases_lt line rows);
 }
 
--- home, within any margins
+-- home, with any margins
 home-fits : (rows columns : ℕ) (s : State) → s.rows ≡ rows → s.columns ≡ columns → 0 < columns → s.top < s.bottom
     → s.bottom < rows → Fits rows columns (Motion.home s)
 home-fits rows columns s r c w m b = record {

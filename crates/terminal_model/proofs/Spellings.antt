@@ -1,4 +1,4 @@
--- A function that is spelled is read as it alone.
+-- The spelling of a function is read as this function only.
 use Rattle.std.proofs.Common.{◌≡◌, ℕ, ◌<◌, true, ltb, ⊎_elim, List, [], ◌∷◌, ◌++◌, map, refl, sym, ap, ◌∙◌, subst}
 use Rattle.std.proofs.Common.{arith, append_assoc, append-nil}
 use Rattle.std.proofs.lemmas.Bool.{cases_eq, ne_eqb}
@@ -36,7 +36,7 @@ rest-stays [] c = refl
 rest-stays (b ∷ r) Utf8 = refl
 rest-stays (b ∷ r) Ecma35 = refl
 
--- what bytes give in a coding that stays is what acts
+-- bytes in a coding that stays: their functions are those that act
 pub reads-is : (bs : List ℕ) (x : Screen) (c : Coding) (r : List ℕ) (u : Rest) → units c r ≡ ([], r)
     → functions (opening u) ≡ ([], u)
     → Stays c x (functions (opening u ++ (units c (r ++ bs)).0)).0
@@ -79,7 +79,7 @@ reads-is (b ∷ bs) x c r u h k s =
     ∙ ap (λ v. outcome x (functions (opening u ++ (units c (r ++ b ∷ bs)).0)).0 v.1
     (functions (opening u ++ (units c (r ++ b ∷ bs)).0)).1) (sym us)
 
--- the same between characters and functions, where the bytes give one function and leave nothing begun
+-- between characters and functions: the bytes give one function and leave nothing incomplete
 abbrev pub done : Screen → Func → Read
 done x f = record { terminal = ready (effect x f); reports = report x f; acts = record { before = x; func = f } ∷ [] }
 
@@ -122,13 +122,13 @@ unfolding cut
 ascii-units Utf8 b h = ap (λ (v : List ℕ × List ℕ). (map (λ c. codes.Code c) v.0, v.1)) (one_byte b h [])
 ascii-units Ecma35 b h = let e : ltb b 0xA0 ≡ true = grind (arith, nat_tests) in rw e refl
 
--- one that gives no function
+-- a byte that completes no function
 pub silent : (x : Screen) (u v : Rest) (b : ℕ) (bs : List ℕ) → b < 128
     → functions (opening u ++ codes.Code b ∷ []) ≡ ([], v) → reads (at x u) (b ∷ bs) ≡ reads (at x v) bs
 unfolding reads read_byte read_units read_unit act_all
 silent x u v b bs h e = rw (ascii-units x.state.coding b h, e) refl
 
--- one that ends a function
+-- a byte that completes a function
 pub ending : (x : Screen) (u : Rest) (f : Func) (b : ℕ) (bs : List ℕ) → b < 128
     → functions (opening u ++ codes.Code b ∷ []) ≡ (f ∷ [], nothing)
     → reads (at x u) (b ∷ bs) ≡ joined (done x f) (reads (ready (effect x f)) bs)
@@ -156,7 +156,8 @@ ecma-acts x =
     ∙ ending x (escape (0x25 ∷ [])) (Esc (0x25 ∷ []) 0x40) 0x40 [] (omega arith) ecma-ends
     ∙ simp append-nil
 
--- a spelled function is read as it, by a terminal between characters and functions that reads its coding
+-- a terminal between characters and functions, in the coding of a function, reads its spelling as
+-- this function
 pub spelled-acts : (x : Screen) (f : Func) → IsGiven f → x.state.coding ≡ coding_of f → ActsAlone x (spelling f) f
 spelled-acts x (Print c) g h = one-acts Utf8 x (spelling (Print c)) (Print c) h (effect-coding x (Print c) refl ∙ h)
     (spelled_reads (Print c) g)

@@ -19,7 +19,8 @@ use Rattle.terminal_model.specs.Writing.{Writing, Output, Size, Clear, Reset, En
 use Rattle.terminal_model.proofs.Sound.{IsSound-effect, IsSound-resized}
 use Rattle.terminal_model.proofs.Spellings.{begun, nothing-opened}
 
--- what units keep: a sound screen, and what has begun of functions; the rest of a character stays
+-- units keep a sound screen, and something incomplete that units can leave; the incomplete
+-- character stays
 record Reads (t u : Terminal) : Type 0 where
   sound : IsSound u.screen
   opened : functions (opening u.unended) ≡ ([], u.unended)

@@ -1,4 +1,4 @@
--- What acts are the functions of all units of all bytes.
+-- The functions that act are those of all units of all bytes.
 use Rattle.std.proofs.Common.{◌≡◌, ℕ, List, [], ◌∷◌, ◌++◌, refl, sym, ap, ◌∙◌, subst, append_assoc, append-nil}
 use Rattle.std.proofs.lemmas.List.{map-append}
 use Rattle.std.specs.List.{AllByRecursion}
@@ -40,7 +40,7 @@ rest_stays rest c d same = ap (rest_in rest c) same ∙ by_case rest c
     by_case (b ∷ rest) Utf8 = refl
     by_case (b ∷ rest) Ecma35 = refl
 
--- what a byte gives
+-- what one byte gives
 record IsStep (t : Terminal) (b : ℕ) : Type 0 where
   functions_are : acted_functions (read_byte t b).acts ≡ (functions_of_bytes t (b ∷ [])).0
   unended_is : (read_byte t b).terminal.unended ≡ (functions_of_bytes t (b ∷ [])).1
@@ -65,7 +65,7 @@ step t b h =
           ∙ same_coding t.screen fs (subst (λ (r : Read). AllByRecursion KeepsCoding r.acts) is k);
     }
 
--- the functions of bytes behind others
+-- the functions of bytes after others
 further : (t u : Terminal) (front later : List ℕ) → u.screen.state.coding ≡ t.screen.state.coding
     → u.rest ≡ (units t.screen.state.coding (t.rest ++ front)).1 → u.unended ≡ (functions_of_bytes t front).1
     → functions_of_bytes t (front ++ later) ≡ with_front (functions_of_bytes t front).0 (functions_of_bytes u later)
@@ -120,7 +120,7 @@ whole t (b ∷ later) h k =
       coding_is = next.coding_is ∙ coding;
     }
 
--- The same, where the last byte may change the coding.
+-- One more byte, which may change the coding.
 one_more : (t : Terminal) (b : ℕ)
     → reads t (b ∷ []) ≡ joined (read_byte t b)
     (record { terminal = (read_byte t b).terminal; reports = []; acts = [] })
@@ -148,7 +148,7 @@ whole_piece t bytes b h k =
       ap (λ (z : Read). z.terminal.unended) is ∙ one.unended_is ∙ sym (ap (λ p. p.1) all),
     )
 
--- in another coding no character has begun
+-- in another coding no character is incomplete
 changed_rest : (rest : List ℕ) (c d : Coding) → (d ≡ c → ⊥) → rest_in rest c d ≡ []
 changed_rest [] c d ne = refl
 changed_rest (b ∷ rest) Utf8 Utf8 ne = absurd (ne refl)

@@ -13,7 +13,7 @@ use Rattle.terminal_model.specs.Screen.{Page, Screen}
 use Rattle.terminal_model.specs.Printing.{columns_of, drawn}
 use Rattle.terminal_model.specs.Places.{place}
 
--- a character that is printed as it is, in so many columns (UAX #11)
+-- a character that is printed as itself, in this number of columns (UAX #11)
 pub record IsGlyph (width c : ℕ) : Type 0 where
   pub given : IsGiven (Print c)
   pub columns_are : columns_of c ≡ width
@@ -51,8 +51,8 @@ pub record IsDrawableLine (cells : List Cell) : Type 0 where
 abbrev pub AreDrawableLines : Page → Type 0
 AreDrawableLines lines = (n : ℕ) → IsDrawableLine (line_at lines n)
 
--- each line of the screen, and each that it keeps; and the cell that a mark would join is no right
--- half
+-- each line of the screen and each line that it keeps is drawable; and the cell that the next mark
+-- would join is no right half
 pub record IsDrawableScreen (x : Screen) : Type 0 where
   pub page : AreDrawableLines x.page
   pub kept : AreDrawableLines x.kept

@@ -1,4 +1,4 @@
--- What a frame may hold, and what is known of a terminal that has read it.
+-- What a frame may hold, and what a terminal is after it has read one.
 use Rattle.std.specs.Prelude.{◌≡◌, ℕ, zero, suc, ◌+◌, ◌-◌, ◌<◌, ◌⊎◌, Bool, true, false}
 use Rattle.std.specs.Prelude.{if◌then◌else◌, ◌==◌, ◌&&◌, ◌||◌, not, nat_lt, nat_le, max, List, []}
 use Rattle.std.specs.Prelude.{◌∷◌, ◌++◌, codes, length, Option, Some, None, is_some, MatchOption}
@@ -30,13 +30,13 @@ use Rattle.terminal_model.specs.Table.{effect}
 use Rattle.terminal_model.specs.Reading.{Terminal, ready, Act}
 use Rattle.terminal_model.specs.Shows.{View, seen_at, Shows, IsOfSize}
 
--- what a frame begins with where nothing is known of the terminal: CAN, RIS, ESC % G, CSI ? 7 l
+-- the beginning of a frame if nothing is known of the terminal: CAN, RIS, ESC % G, CSI ? 7 l
 abbrev pub frame_bytes : List ℕ
 frame_bytes =
     0x18 ∷ ((0x1B ∷ codes "c") ++ ((0x1B ∷ codes "%G") ++ (0x1B ∷ codes "[?7l")))
 
--- what they make of a screen: the starting values in UTF-8, but for ?7, which is reset, and a blank
--- page; the scrollback stays
+-- a screen after these bytes: the starting values in UTF-8, but with ?7 reset, and a blank page;
+-- the scrollback stays
 abbrev pub frame_start : Screen → Screen
 frame_start x =
     record x {
@@ -48,12 +48,12 @@ frame_start x =
       page = blank_page x.state.rows x.state.columns;
     }
 
--- how many parameters a sequence has, but for SGR, SM, RM, DECSM and DECRM: CUP, HVP and DECSTBM
--- have two, the others one
+-- the greatest number of parameters, for sequences other than SGR, SM, RM, DECSM and DECRM: two for
+-- CUP, HVP and DECSTBM, one for the others
 abbrev pub most_params : ℕ → ℕ
 most_params last = entry_or 1 ((code "H", 2) ∷ (code "f", 2) ∷ (code "r", 2) ∷ []) last
 
--- DECSTR, CSI ! p, has none: one that is absent is read as 0
+-- DECSTR, CSI ! p, has no parameter; an absent one is read as 0
 abbrev pub has_no_params : List ℕ → ℕ → Bool
 has_no_params [] last = false
 has_no_params (intermediate ∷ more) last = intermediate == code "!" && last == code "p"
@@ -61,7 +61,7 @@ has_no_params (intermediate ∷ more) last = intermediate == code "!" && last ==
 abbrev pub is_absent : ℕ → Bool
 is_absent n = n == 0
 
--- the meaning of each value of DECSM and DECRM
+-- which values of DECSM and DECRM are known, by the final byte
 abbrev pub private_meaning : ℕ → Option (ℕ → Bool)
 private_meaning last =
     entry_at
@@ -69,7 +69,7 @@ private_meaning last =
     ∷ (code "l", λ n. is_some (private_mode_set false n)) ∷ [])
     last
 
--- the meaning of each value of these, and of SGR, SM and RM
+-- which values of DECSM, DECRM, SGR, SM and RM are known
 abbrev pub meaning_of : Option ℕ → List ℕ → ℕ → Option (ℕ → Bool)
 meaning_of None [] last =
     entry_at
@@ -81,7 +81,7 @@ meaning_of (Some mark) [] last =
     if mark == code "?" then private_meaning last else None
 meaning_of mark (x ∷ xs) last = None
 
--- every value is named, or there are no more of them than the row has
+-- every value is known, or there are no more values than the row has
 abbrev pub values_named : Option (ℕ → Bool) → List ℕ → ℕ → Bool
 values_named (Some is_named) params last = list_all is_named params
 values_named None params last = nat_le (length params) (most_params last)
@@ -92,14 +92,14 @@ are_values_named (Csi mark params intermediates last) =
     && (not (has_no_params intermediates last) || list_all is_absent params)
 are_values_named f = true
 
--- On a page of so many lines DECSTBM isn't ignored: its margins have two lines or more.
+-- DECSTBM isn't ignored on a page of this number of lines: its margins have two lines or more.
 abbrev pub are_margins_in_order : ℕ → Func → Bool
 are_margins_in_order rows (Csi None params [] last) =
     not (last == code "r") || nat_lt (first params - 1) (bottom_of rows (last_line (second params)))
 are_margins_in_order rows f = true
 
--- a function that the screen table lists, all its values being named, and that its row doesn't
--- ignore on a page of so many lines
+-- a function of the screen table whose values are all known, and that isn't ignored on a page of
+-- this number of lines
 pub record IsListed (rows : ℕ) (f : Func) : Type 0 where
   pub acts : 0 < length (actions_of f)
   pub named : are_values_named f ≡ true
@@ -117,7 +117,7 @@ HasMark Bare c = ⊥
 HasMark (One a) c = a ≡ c
 HasMark (Two a b) c = (a ≡ c) ⊎ (b ≡ c)
 
--- the cell has this character, or this half of it
+-- the cell has this character, as this part of it
 pub record HasPart (shape : Shape) (c : ℕ) (cell : Cell) : Type 0 where
   pub shape_is : cell.shape ≡ shape
   pub character_is : cell.character ≡ c
@@ -129,8 +129,8 @@ has_room marks = true
 abbrev pub cell_of : Page → Position → Cell
 cell_of page p = cell_at (line_at page p.line) p.column
 
--- A character of so many columns stands at a place: a mark on its cell, one of width 1 in it, and
--- of a wide one the left half in it and the right half beside it.
+-- A character of a width stands at a place: one of width 0 as a mark on its cell, one of width 1 in
+-- it, and one of width 2 with its left half in it and its right half beside it.
 abbrev pub StandsAt : ℕ → Page → Position → ℕ → Type 0
 StandsAt zero page p c = HasMark (cell_of page p).marks c
 StandsAt (suc zero) page p c = HasPart Narrow c (cell_of page p)
@@ -138,23 +138,23 @@ StandsAt (suc (suc more)) page p c =
     HasPart Left c (cell_of page p)
     × HasPart Right c (cell_of page (record p { column = p.column + 1 }))
 
--- the place where a mark joins a cell
+-- the place of the cell that a mark joins
 abbrev pub mark_place : Page → Option Position → Option Position
 mark_place page None = None
 mark_place page (Some p) = if has_room (cell_of page p).marks then Some p else None
 
--- the first place that a printed character takes: the place that marks join afterwards
+-- the first place that a printed character takes; afterwards marks join the cell there
 abbrev pub place_by : ℕ → Act → Option Position
 place_by zero a = mark_place a.before.page a.before.state.joining
 place_by (suc more) a = (effect a.before a.func).state.joining
 
--- what an act prints, and where
+-- an act prints this character at this place
 abbrev pub Prints : Act → ℕ → Position → Type 0
 Prints a c p = MatchOption (unit_of a.func) ⊥ (λ u.
     (mapped a.before.state.shifts u ≡ Some c) × (place_by (columns_of c) a ≡ Some p))
 
--- DISCREET: the act is of a listed function, and a character that it prints stands in the page at
--- the place that it takes.
+-- DISCREET: the act is of a listed function, and if it prints a character, the page has this
+-- character at its place.
 pub record PrintsOf (page : Page) (a : Act) : Type 0 where
   pub character : ℕ
   pub place : Position
@@ -165,7 +165,7 @@ abbrev pub IsDiscreet : Page → Act → Type 0
 IsDiscreet page a =
     MatchOption (unit_of a.func) (IsListed a.before.state.rows a.func) (λ u. PrintsOf page a)
 
--- SPARE: a character that is printed takes some place at which the old page differs.
+-- SPARE: each printed character takes at least one place at which the old page differs.
 abbrev pub Differs : Page → Page → ℕ → ℕ → Type 0
 Differs old page line column = seen_at old line column ≡ seen_at page line column → ⊥
 
@@ -180,8 +180,8 @@ pub record PrintsNew (old page : Page) (a : Act) : Type 0 where
 abbrev pub IsSpare : Page → Page → Act → Type 0
 IsSpare old page a = MatchOption (unit_of a.func) (Prim.Unit {0}) (λ u. PrintsNew old page a)
 
--- the bytes are the spellings of the functions that acted and nothing else: no string, and no byte
--- that does nothing
+-- the bytes are the spellings of the functions that acted and nothing else: there is no string, and
+-- no byte that does nothing
 abbrev pub AreSpelled : List ℕ → List Act → Type 0
 AreSpelled bytes acts = bytes ≡ flat_map (λ a. spelling a.func) acts
 
@@ -190,8 +190,8 @@ pub record Draws (old page : Page) (acts : List Act) : Type 0 where
   pub discreet : AllByRecursion (IsDiscreet page) acts
   pub spare : AllByRecursion (IsSpare old page) acts
 
--- AGREEMENT. What a frame leaves: the starting values in UTF-8, but for ?7, which is reset, and for
--- ?1, keypad, ?25, cursor, rendition and the cell that marks join, which may be any.
+-- AGREEMENT. The state that a frame leaves: the starting values in UTF-8, but with ?7 reset; ?1,
+-- the keypad, ?25, the cursor, the rendition and the cell that marks join may be any.
 abbrev pub drawn_state : State → State
 drawn_state s = record (starting_state s.rows s.columns) {
   line = s.line;
@@ -206,7 +206,8 @@ drawn_state s = record (starting_state s.rows s.columns) {
   };
 }
 
--- the terminal shows the view, has what a frame leaves, and has begun nothing
+-- the terminal shows the view, has the state that a frame leaves, and has no incomplete character,
+-- sequence or string
 pub record IsDrawn (v : View) (t : Terminal) : Type 0 where
   pub shows : Shows v t.screen
   pub state_is : t.screen.state ≡ drawn_state t.screen.state
@@ -214,8 +215,8 @@ pub record IsDrawn (v : View) (t : Terminal) : Type 0 where
   pub none_saved : t.screen.saved ≡ None
   pub ready_is : t ≡ ready t.screen
 
--- a shadow agrees with a terminal: one that knows nothing with each of its size, one that knows a
--- view with each that has it drawn
+-- a shadow agrees with a terminal: a shadow that knows nothing agrees with each terminal of its
+-- size, one that knows a view with each that has it drawn
 abbrev pub Agrees : ℕ → ℕ → Option View → Terminal → Type 0
 Agrees rows columns None t = IsOfSize rows columns t
 Agrees rows columns (Some v) t = IsOfSize rows columns t × IsDrawn v t

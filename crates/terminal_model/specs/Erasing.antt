@@ -10,7 +10,7 @@ use Rattle.terminal_model.specs.declared.action.Part.TheVariants.{ToEnd, ToStart
 use Rattle.terminal_model.specs.Screen.{Page, Screen, line_edited, with_state, with_page}
 use Rattle.terminal_model.specs.Motion.{unpending, moved_to}
 
--- the columns of a part of the cursor's line, from the first one on and below the end
+-- the columns of a part of the cursor's line: the first one, and then the end, which isn't included
 abbrev pub first_column : Part → State → ℕ
 first_column ToEnd s = s.column
 first_column ToStart s = 0
@@ -21,7 +21,7 @@ end_column ToEnd s = s.columns
 end_column ToStart s = s.column + 1
 end_column All s = s.columns
 
--- the other lines of a part of the page, or all lines
+-- the lines of a part of the page without the cursor's line, or all lines
 abbrev pub first_line : Part → State → ℕ
 first_line ToEnd s = s.line + 1
 first_line ToStart s = 0
@@ -40,7 +40,7 @@ line_erased s from end page =
 abbrev pub part_erased : State → Part → Page → Page
 part_erased s part page = line_erased s (first_column part s) (end_column part s) page
 
--- the same, but for protected cells
+-- columns of the cursor's line are blank, but for protected cells
 abbrev pub part_unprotected : State → Part → Page → Page
 part_unprotected s part page =
     line_edited s
@@ -57,8 +57,8 @@ abbrev pub lines_unprotected : State → Part → Page → Page
 lines_unprotected s part page =
     page_from (unprotected_lines page s.columns (first_line part s) (end_line part s)) page
 
--- INSERTING AND DELETING LINES: within the margins, from the cursor's line to the last one of them;
--- no line enters the scrollback
+-- INSERTING AND DELETING LINES: within the margins, from the cursor's line to their last line; no
+-- line enters the scrollback
 abbrev pub is_in_margins : State → Bool
 is_in_margins s = is_between s.top s.bottom s.line
 

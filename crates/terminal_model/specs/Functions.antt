@@ -1,4 +1,4 @@
--- What each control function means: the rows of the screen table by their spelling, with their
+-- The meaning of each control function: the rows of the screen table by their spelling, with their
 -- arguments.
 use Rattle.std.specs.Prelude.{ℕ, ◌+◌, ◌-◌, ◌==◌, max, Bool, true, false, if◌then◌else◌, List, []}
 use Rattle.std.specs.Prelude.{◌∷◌, ◌++◌, map, slice_index_or, Option, Some, None, option_to_list}
@@ -49,14 +49,14 @@ use Rattle.terminal_model.specs.declared.action.Action.TheVariants.{ReportStatus
 use Rattle.terminal_model.specs.declared.action.Action.TheVariants.{ReportPrinter, ReportAttributes}
 use Rattle.terminal_model.specs.declared.action.Action.TheVariants.{ReportSecondaryAttributes}
 
--- an absent parameter is 0
+-- the first parameter; an absent one is 0
 abbrev pub first : List ℕ → ℕ
 first params = slice_index_or params 0 0
 
 abbrev pub second : List ℕ → ℕ
 second params = slice_index_or params 1 0
 
--- a count: absent or 0 is 1 (VT220 manual, chapter 4)
+-- a parameter as a count: absent or 0 is 1 (VT220 manual, chapter 4)
 abbrev pub count : List ℕ → ℕ
 count params = max 1 (first params)
 
@@ -65,7 +65,7 @@ abbrev pub last_line : ℕ → Option ℕ
 last_line n = if n == 0 then None else Some (n - 1)
 
 -- C0 controls (ECMA-48, 8.3; VT220 manual, chapter 2): BS, HT, LF, VT, FF, CR, SO, SI; NUL, ENQ,
--- BEL and the others mean nothing here
+-- BEL and the others are ignored
 abbrev pub control_action : ℕ → Option Action
 control_action c =
     entry_at
@@ -90,7 +90,7 @@ abbrev pub designated_place : ℕ → Option Place
 designated_place intermediate =
     entry_at ((code "(", G0) ∷ (code ")", G1) ∷ (code "*", G2) ∷ (code "+", G3) ∷ []) intermediate
 
--- the set that its final byte names; the last one is this project's own
+-- the set that a designation's final byte names; the last one is this project's own
 abbrev pub designated_set : ℕ → Option CharacterSet
 designated_set last =
     entry_at
@@ -124,7 +124,7 @@ intermediate_action intermediate last =
 abbrev pub part_of : ℕ → Option Part
 part_of n = entry_at ((0, ToEnd) ∷ (1, ToStart) ∷ (2, All) ∷ []) n
 
--- SGR (ECMA-48, 8.3.117). A colour's digit: it ends the colour's values.
+-- SGR (ECMA-48, 8.3.117). The digit of a colour: the last one of its values.
 abbrev pub colour_digit : Colour → ℕ
 colour_digit Black = 0
 colour_digit Red = 1
@@ -140,7 +140,7 @@ abbrev pub all_colours : List Colour
 all_colours =
     Black ∷ Red ∷ Green ∷ Yellow ∷ Blue ∷ Magenta ∷ Cyan ∷ White ∷ Default ∷ []
 
--- the values of the colours, from that of colour 0 on: 30 of the foreground, 40 of the background
+-- the value of colour 0: 30 for the foreground, 40 for the background
 abbrev pub foreground_base : ℕ
 foreground_base = 30
 
@@ -157,7 +157,7 @@ colour_action n =
     entry_at
     (colours_from foreground_base Foreground ++ colours_from background_base Background) n
 
--- a value: 0, what is set and what is reset, the colours; other values are ignored
+-- a value of SGR: 0, attributes to set and to reset, colours; other values are ignored
 abbrev pub rendered : ℕ → Option Action
 rendered n =
     entry_or (colour_action n)
@@ -203,7 +203,7 @@ tab_cleared n = entry_at ((0, ClearTab) ∷ (3, ClearTabs) ∷ []) n
 abbrev pub status_reported : ℕ → Option Action
 status_reported n = entry_at ((5, ReportStatus) ∷ (6, ReportPlace) ∷ []) n
 
--- DA's parameter: 0 alone asks
+-- DA's parameter: only 0 asks for attributes
 abbrev pub asked : Action → ℕ → List Action
 asked report n = if n == 0 then report ∷ [] else []
 
@@ -247,7 +247,7 @@ private_sequence params last =
     ∷ [])
     last
 
--- CSI, perhaps a mark, parameters and a final byte; CSI > c is the secondary DA
+-- CSI, an optional private marker, parameters and a final byte; CSI > c is the secondary DA
 abbrev pub marked_sequence : Option ℕ → List ℕ → ℕ → List Action
 marked_sequence None params last = plain_sequence params last
 marked_sequence (Some mark) params last =
@@ -280,8 +280,8 @@ escape_actions [] last = alone (escape_action last)
 escape_actions (intermediate ∷ []) last = alone (intermediate_action intermediate last)
 escape_actions (intermediate ∷ another ∷ more) last = []
 
--- What a function does: mostly one action; one for each of its values that is named, in turn, for
--- SGR, SM, RM, DECSM and DECRM; none where it is ignored.
+-- The actions of a function: mostly one; for SGR, SM, RM, DECSM and DECRM one for each value that
+-- is known, in turn; none if it is ignored.
 abbrev pub actions_of : Func → List Action
 actions_of (funcs.Print c) = Print (units.Code c) ∷ []
 actions_of (funcs.High b) = Print (units.High b) ∷ []

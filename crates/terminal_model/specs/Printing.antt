@@ -1,5 +1,5 @@
--- What a printed character does (VT220 manual, chapter 4; UAX #11). "Own" marks a choice of this
--- project's.
+-- What printing a character does (VT220 manual, chapter 4; UAX #11). "Own" marks a choice of this
+-- project.
 use Rattle.std.specs.Prelude.{ℕ, zero, suc, ◌+◌, ◌-◌, ◌==◌, Bool, true, false, ◌&&◌, nat_lt, cond}
 use Rattle.std.specs.Prelude.{List, [], ◌∷◌, length, Option, Some, None}
 use Rattle.unicode_width.specs.Width.{char_width}
@@ -12,8 +12,8 @@ use Rattle.terminal_model.specs.declared.state.State.{State}
 use Rattle.terminal_model.specs.Screen.{Screen, line_edited, with_state, with_page}
 use Rattle.terminal_model.specs.Motion.{unjoined, moved_to, indexed}
 
--- the cursor behind so many printed columns; behind the last column the wrap is pending, with ?7
--- set
+-- the cursor after this number of printed columns; after the last column the wrap is pending if ?7
+-- is set
 abbrev pub advanced : State → ℕ → State
 advanced s width =
     let fits : Bool = nat_lt (s.column + width) s.columns in
@@ -23,8 +23,8 @@ advanced s width =
       joining = Some (record { line = s.line; column = s.column });
     }
 
--- the column whose old cell follows so many new ones: with IRM set the one that stood at the cursor
--- (ECMA-48, 7.2.10)
+-- the column whose old cell follows the new ones: the cursor's if IRM is set (ECMA-48, 7.2.10),
+-- else the column after the new cells
 abbrev pub following : State → ℕ → ℕ
 following s width = cond s.modes.inserts s.column (s.column + width)
 
@@ -48,7 +48,7 @@ abbrev pub wrapped : Bool → Screen → Screen
 wrapped true x = indexed (with_state x (moved_to x.state x.state.line 0))
 wrapped false x = x
 
--- in the last column no wide character has room
+-- a wide character has no room in the last column
 abbrev pub lacks_room : State → Bool
 lacks_room s = s.column + 1 == s.columns
 
@@ -57,26 +57,26 @@ abbrev pub wide_or_none : Bool → ℕ → Screen → Screen
 wide_or_none true c x = with_state x (unjoined x.state)
 wide_or_none false c x = placed_wide c x
 
--- with ?7 set it goes to the next line
+-- a wide character without room goes to the next line if ?7 is set
 abbrev pub wide_printed : ℕ → Screen → Screen
 wide_printed c x =
     let w : Screen = wrapped (lacks_room x.state && x.state.modes.wraps) x in
     wide_or_none (lacks_room w.state) c w
 
--- a mark joins the cell that was printed last, where nothing came between and it has fewer than
--- two; else it is dropped (Unicode core specification, 5.13)
+-- a mark joins the cell that was printed last, if nothing came in between and the cell has fewer
+-- than two marks; otherwise it is dropped (Unicode core specification, 5.13)
 abbrev pub marked_at : Option Position → ℕ → Screen → Screen
 marked_at None c x = x
 marked_at (Some p) c x = record x { page = page_marked p.line p.column c x.page }
 
--- a character by its width: 0 is a mark, 2 is wide; a pending wrap is done first (VT220 manual:
--- DECAWM)
+-- a character by its width: 0 is a mark, 2 is wide; a pending wrap is performed first (VT220
+-- manual: DECAWM)
 abbrev pub printed_as : ℕ → ℕ → Screen → Screen
 printed_as zero c x = marked_at x.state.joining c x
 printed_as (suc zero) c x = placed_narrow c (wrapped x.state.is_wrap_pending x)
 printed_as (suc (suc more)) c x = wide_printed c (wrapped x.state.is_wrap_pending x)
 
--- the columns that a character takes, and what is drawn of it (UAX #11)
+-- the number of columns of a character, and what is drawn for it (UAX #11)
 unfoldable pub columns_of : ℕ → ℕ
 columns_of c = glyph_columns (char_width false c)
 

@@ -1,4 +1,4 @@
--- What a terminal makes of bytes.
+-- How a terminal reads bytes.
 use Rattle.std.specs.Prelude.{◌≡◌, ℕ, List, [], ◌∷◌, ◌++◌}
 use Rattle.charsets.specs.declared.unit.Unit.{Unit}
 use Rattle.charsets.specs.declared.unit.Coding.{Coding}
@@ -11,29 +11,30 @@ use Rattle.terminal_model.specs.Screen.{Screen, IsSound}
 use Rattle.terminal_model.specs.Table.{effect}
 use Rattle.terminal_model.specs.Reports.{report}
 
--- A terminal: its screen, the bytes of a character that has begun, and the sequence or string that
--- has begun.
+-- A terminal: its screen, the bytes of an incomplete character, and the incomplete sequence or
+-- string.
 pub record Terminal : Type 0 where
   pub screen : Screen
   pub rest : List ℕ
   pub unended : Rest
 
--- between characters, sequences and strings
+-- a terminal between characters, sequences and strings
 abbrev pub ready : Screen → Terminal
 ready x = record { screen = x; rest = []; unended = nothing }
 
--- its screen is sound, and what has begun is the rest of some bytes and of some units
+-- its screen is sound, its incomplete character is left by some bytes, and its incomplete sequence
+-- or string by some units
 pub record IsTerminal (t : Terminal) : Type 0 where
   pub sound : IsSound t.screen
   pub begun : units t.screen.state.coding t.rest ≡ ([], t.rest)
   pub opened : functions (opening t.unended) ≡ ([], t.unended)
 
--- a function that acted, and the screen that it met
+-- a function that acted, and the screen on which it acted
 pub record Act : Type 0 where
   pub before : Screen
   pub func : Func
 
--- what reading leaves, what the terminal answered, and which functions acted, in their order
+-- the terminal after reading, its answers, and the functions that acted, in their order
 pub record Read : Type 0 where
   pub terminal : Terminal
   pub reports : List ℕ
@@ -42,7 +43,7 @@ pub record Read : Type 0 where
 abbrev pub nothing_read : Terminal → Read
 nothing_read t = record { terminal = t; reports = []; acts = [] }
 
--- one reading behind another
+-- one reading after another
 abbrev pub joined : Read → Read → Read
 joined r later =
     record {
@@ -63,7 +64,7 @@ unfoldable pub act_all : Terminal → List Func → Read
 act_all t [] = nothing_read t
 act_all t (f ∷ later) = joined (act t f) (act_all (act t f).terminal later)
 
--- a unit completes the functions that what has begun and it give
+-- a unit is read: the functions that it completes act
 unfoldable pub read_unit : Terminal → Unit → Read
 read_unit t u =
     let given = functions (opening t.unended ++ u ∷ []) in
@@ -73,14 +74,15 @@ unfoldable pub read_units : Terminal → List Unit → Read
 read_units t [] = nothing_read t
 read_units t (u ∷ later) = joined (read_unit t u) (read_units (read_unit t u).terminal later)
 
--- what has begun of a character, where the coding was one and is another: then nothing has
+-- the incomplete character after a change from the first coding to the second: none, unless they
+-- are equal
 abbrev pub rest_in : List ℕ → Coding → Coding → List ℕ
 rest_in [] before after = []
 rest_in (b ∷ rest) Utf8 Utf8 = b ∷ rest
 rest_in (b ∷ rest) Ecma35 Ecma35 = b ∷ rest
 rest_in (b ∷ rest) before after = []
 
--- what is left in the coding that holds afterwards
+-- the incomplete character after reading, in the coding of the screen
 abbrev pub in_coding : Coding → Read → Read
 in_coding before r =
     record r {
@@ -89,13 +91,13 @@ in_coding before r =
       };
     }
 
--- a byte completes the units that what has begun and it give, in the coding of this moment
+-- a byte is read in the coding of the screen: the units that it completes are read
 unfoldable pub read_byte : Terminal → ℕ → Read
 read_byte t b =
     let given = units t.screen.state.coding (t.rest ++ b ∷ []) in
     in_coding t.screen.state.coding (read_units (record t { rest = given.1 }) given.0)
 
--- what a terminal makes of bytes, one after the other
+-- bytes are read, one after another
 unfoldable pub reads : Terminal → List ℕ → Read
 reads t [] = nothing_read t
 reads t (b ∷ later) = joined (read_byte t b) (reads (read_byte t b).terminal later)

@@ -1,4 +1,4 @@
--- What a terminal answers.
+-- The answers of a terminal.
 use Rattle.std.specs.Prelude.{ℕ, ◌+◌, ◌-◌, codes, cond, List, [], ◌∷◌, ◌++◌}
 use Prim.Native.Char.{code}
 use Rattle.charsets.specs.declared.unit.Coding.{Coding}
@@ -23,7 +23,7 @@ eight_bit_introducer Ecma35 = 0x9B ∷ []
 abbrev pub introducer : State → List ℕ
 introducer s = cond s.has_eight_bit_reports (eight_bit_introducer s.coding) (0x1B ∷ codes "[")
 
--- the cursor's line, from 1, and from the margins with ?6 set
+-- the cursor's line, counted from 1, and from the margins if ?6 is set
 abbrev pub reported_line : State → ℕ
 reported_line s = cond s.modes.counts_from_margin (s.line + 1 - s.top) (s.line + 1)
 
@@ -46,6 +46,6 @@ abbrev pub all_answered : Screen → List Action → List ℕ
 all_answered x [] = []
 all_answered x (a ∷ later) = answer x.state a ++ all_answered (acted x a) later
 
--- what a screen answers to a control function
+-- the answer of a screen to a control function
 abbrev pub report : Screen → Func → List ℕ
 report x f = all_answered x (actions_of f)

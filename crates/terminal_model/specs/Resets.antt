@@ -1,4 +1,4 @@
--- A page that is cleared, RIS and DECSTR. "Own" marks a choice of this project's.
+-- Clearing the page, RIS and DECSTR. "Own" marks a choice of this project.
 use Rattle.std.specs.Prelude.{false, None}
 use Rattle.charsets.specs.Shifts.{starting as starting_shifts}
 use Rattle.cells.specs.Line.{plain}
@@ -7,11 +7,11 @@ use Rattle.terminal_model.specs.Screen.{Screen, starting_modes, starting_state, 
 use Rattle.terminal_model.specs.Screen.{blank_page, with_page}
 use Rattle.terminal_model.specs.Motion.{unpending, home, whole_margins}
 
--- CLEARED: a blank page, whole margins, home
+-- CLEARED: a blank page, the whole page as margins, the cursor home
 abbrev pub cleared : Screen → Screen
 cleared x = with_page x (home (whole_margins x.state)) (blank_page x.state.rows x.state.columns)
 
--- RESET: all starting values, and a blank page; coding and scrollback stay (own)
+-- RESET: all starting values and a blank page; coding and scrollback stay (own)
 abbrev pub reset : Screen → Screen
 reset x =
     record x {

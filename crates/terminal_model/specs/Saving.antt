@@ -1,4 +1,4 @@
--- The saved place (VT220 manual, cursor positioning). "Own" marks a choice of this project's.
+-- The saved place (VT220 manual, cursor positioning). "Own" marks a choice of this project.
 use Rattle.std.specs.Prelude.{ℕ, ◌+◌, ◌-◌, ◌==◌, min, max, false, ◌&&◌, cond, Option, Some, None}
 use Rattle.charsets.specs.Shifts.{starting as starting_shifts}
 use Rattle.cells.specs.Line.{plain}
@@ -16,7 +16,7 @@ saved_of s = record {
   counts_from_margin = s.modes.counts_from_margin;
 }
 
--- what is restored where nothing was saved: the starting values, home
+-- what DECRC restores if nothing was saved: the starting values, with the cursor home
 abbrev pub never_saved : Saved
 never_saved = record {
   line = 0;
@@ -32,12 +32,12 @@ abbrev pub saved_or_none : Option Saved → Saved
 saved_or_none None = never_saved
 saved_or_none (Some p) = p
 
--- a saved line, on the page, and within the margins where ?6 is then set
+-- a saved line: on the page, and within the margins if ?6 is set then
 abbrev pub restored_line : State → Saved → ℕ
 restored_line s p =
     cond p.counts_from_margin (max s.top (min p.line s.bottom)) (min p.line (s.rows - 1))
 
--- the wrap is pending again only in the last column with ?7 set (own)
+-- DECRC: the wrap is pending again only in the last column with ?7 set (own)
 abbrev pub restored : State → Saved → State
 restored s p =
     record s {

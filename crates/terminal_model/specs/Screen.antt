@@ -1,4 +1,4 @@
--- What a terminal's screen is, and how it starts.
+-- A terminal's screen, and how it starts.
 use Rattle.std.specs.Prelude.{◌≡◌, ℕ, ◌-◌, ◌%◌, ◌==◌, ◌<◌, ◌≤◌, Bool, true, false, not, ◌&&◌, List}
 use Rattle.std.specs.Prelude.{[], ◌∷◌, length, map, take, replicate, Option, None, IfSome}
 use Rattle.std.specs.List.{range_with_len}
@@ -11,12 +11,12 @@ use Rattle.terminal_model.specs.declared.state.Modes.{Modes}
 use Rattle.terminal_model.specs.declared.state.State.{State}
 use Rattle.terminal_model.specs.declared.state.Saved.{Saved}
 
--- lines of cells, the first line first
+-- lines of cells, the top line first
 abbrev pub Page : Type 0
 Page = List (List Cell)
 
--- A screen: its state, a tab stop or none for each column, what DECSC saved, its page, and its
--- scrollback: the lines that it keeps, the newest first, and how many it keeps at most.
+-- A screen: its state, for each column whether it has a tab stop, what DECSC saved, its page, and
+-- its scrollback: the kept lines, newest first, and how many it keeps at most.
 pub record Screen : Type 0 where
   pub state : State
   pub tabs : List Bool
@@ -63,7 +63,7 @@ starting_state rows columns = record {
   joining = None;
 }
 
--- each eighth column has a stop, but for the first column (VT220 manual, chapter 4: tab stops)
+-- every eighth column has a stop, except the first column (VT220 manual, chapter 4: tab stops)
 abbrev pub starting_tabs : ℕ → List Bool
 starting_tabs columns =
     map (λ column. not (column == 0) && (column % 8 == 0)) (range_with_len 0 columns)
@@ -71,7 +71,7 @@ starting_tabs columns =
 abbrev pub blank_page : ℕ → ℕ → Page
 blank_page rows columns = replicate rows (replicate columns blank)
 
--- a screen as it starts
+-- a new screen
 abbrev pub starting : ℕ → ℕ → ℕ → Screen
 starting rows columns keep = record {
   state = starting_state rows columns;
@@ -82,7 +82,7 @@ starting rows columns keep = record {
   keep = keep;
 }
 
--- a place of the page
+-- a place on the page
 abbrev pub IsInside : ℕ → ℕ → ℕ → ℕ → Type 0
 IsInside rows columns line column = (line < rows) × (column < columns)
 
@@ -92,7 +92,7 @@ pub record AreKept (columns : ℕ) (kept : Page) : Type 0 where
   pub paired : (n : ℕ) → IsPaired (line_at kept n)
 
 -- The page is well formed and has the screen's size; cursor, margins, saved place and joined cell
--- lie on it; the kept lines are as wide, and no more than they may be.
+-- are on it; the kept lines have its width, and aren't more than they may be.
 pub record IsSound (x : Screen) : Type 0 where
   pub size : IsGridSize x.state.rows x.state.columns
   pub sized : IsPage x.state.rows x.state.columns x.page
@@ -105,13 +105,13 @@ pub record IsSound (x : Screen) : Type 0 where
   pub kept : AreKept x.state.columns x.kept
   pub few : length x.kept ≤ x.keep
 
--- a screen with another state, and another page
+-- a screen with another state, and then with another page too
 abbrev pub with_state : Screen → State → Screen
 with_state x s = record x { state = s }
 
 abbrev pub with_page : Screen → State → Page → Screen
 with_page x s page = record x { state = s; page = page }
 
--- the cursor's line is edited, and the others stay
+-- the cursor's line is edited, and the other lines stay
 abbrev pub line_edited : State → (ℕ → Source) → Page → Page
 line_edited s source page = page_from (edited s.line source) page

@@ -30,7 +30,7 @@ modes_with m modes.Origin on = record m { counts_from_margin = on }
 modes_with m modes.Wrap on = record m { wraps = on }
 modes_with m modes.Cursor on = record m { shows_cursor = on }
 
--- ?6 also goes home
+-- ?6 also sends the cursor home
 abbrev pub homed : Mode → State → State
 homed modes.Origin s = home s
 homed modes.Insert s = unpending s

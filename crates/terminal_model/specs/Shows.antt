@@ -7,15 +7,15 @@ use Rattle.terminal_model.specs.declared.state.Position.{Position}
 use Rattle.terminal_model.specs.Screen.{Page, Screen, blank_page}
 use Rattle.terminal_model.specs.Reading.{Terminal, IsTerminal, reads}
 
--- what a terminal is to show: cells, the cursor's place, or none where it is hidden, and what its
--- keys are to send
+-- what a terminal is to show: cells, the cursor's place or none if it is hidden, and what its keys
+-- are to send
 pub record View : Type 0 where
   pub page : Page
   pub cursor : Option Position
   pub has_application_arrows : Bool
   pub has_application_keypad : Bool
 
--- nothing but blanks, and the cursor in the first place
+-- only blanks, and the cursor in the first place
 abbrev pub blank_view : ℕ → ℕ → View
 blank_view rows columns = record {
   page = blank_page rows columns;
@@ -24,11 +24,11 @@ blank_view rows columns = record {
   has_application_keypad = false;
 }
 
--- what is seen at a place: its cell, protection aside
+-- what is seen at a place: its cell without protection
 abbrev pub seen_at : Page → ℕ → ℕ → Cell
 seen_at page line column = unprotected (cell_at (line_at page line) column)
 
--- two views show the same: protection isn't seen
+-- two views look alike; protection isn't seen
 pub record LooksLike (v w : View) : Type 0 where
   pub cells : (line column : ℕ) → seen_at v.page line column ≡ seen_at w.page line column
   pub cursor : v.cursor ≡ w.cursor
@@ -40,7 +40,7 @@ abbrev pub NeedsDraw : Option View → View → Type 0
 NeedsDraw None v = Prim.Unit {0}
 NeedsDraw (Some known) v = LooksLike known v → ⊥
 
--- it is known to show the same
+-- the terminal is known to show this view already
 abbrev pub NeedsNoDraw : Option View → View → Type 0
 NeedsNoDraw None v = ⊥
 NeedsNoDraw (Some known) v = LooksLike known v
@@ -50,8 +50,7 @@ ShowsCursor None x = x.state.modes.shows_cursor ≡ false
 ShowsCursor (Some p) x =
     (x.state.modes.shows_cursor ≡ true) × (x.state.line ≡ p.line) × (x.state.column ≡ p.column)
 
--- the screen shows the view: its size, its cells, which aren't inverted, its cursor and its two
--- modes
+-- the screen shows the view: it has its size, its cells, not inverted, its cursor and its two modes
 pub record Shows (v : View) (x : Screen) : Type 0 where
   pub size : IsPage x.state.rows x.state.columns v.page
   pub cells : (line column : ℕ) → seen_at x.page line column ≡ seen_at v.page line column
@@ -66,11 +65,11 @@ pub record IsOfSize (rows columns : ℕ) (t : Terminal) : Type 0 where
   pub rows_are : t.screen.state.rows ≡ rows
   pub columns_are : t.screen.state.columns ≡ columns
 
--- the terminal shows the view when it has read the bytes, and has answered nothing
+-- after it has read the bytes, the terminal shows the view, and it has answered nothing
 pub record ShowsFrom (v : View) (bytes : List ℕ) (t : Terminal) : Type 0 where
   pub shows : Shows v (reads t bytes).terminal.screen
   pub quiet : (reads t bytes).reports ≡ []
 
--- so does every terminal of the size
+-- every terminal of the size shows the view after it has read the bytes
 abbrev pub ShowsFromAny : List ℕ → ℕ → ℕ → View → Type 0
 ShowsFromAny bytes rows columns v = (t : Terminal) → IsOfSize rows columns t → ShowsFrom v bytes t

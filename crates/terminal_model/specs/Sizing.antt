@@ -1,13 +1,13 @@
--- A change of size. "Own" marks a choice of this project's.
+-- A change of size. "Own" marks a choice of this project.
 use Rattle.std.specs.Prelude.{ℕ, ◌-◌, min, false, map, None, option_map}
 use Rattle.cells.specs.Resizing.{line_resized, page_resized}
 use Rattle.terminal_model.specs.declared.state.State.{State}
 use Rattle.terminal_model.specs.declared.state.Saved.{Saved}
 use Rattle.terminal_model.specs.Screen.{Screen, starting_tabs}
 
--- A CHANGE OF SIZE keeps the upper left part, of the kept lines too; the cursor and the saved place
--- go to the nearest place; margins and tab stops start anew; no wrap is pending, and no cell is
--- joined (own).
+-- A CHANGE OF SIZE keeps the upper left part of the page and of the kept lines. The cursor and the
+-- saved place go to the nearest place, margins and tab stops start anew, no wrap is pending, and no
+-- cell is there for marks to join (own).
 abbrev pub saved_resized : ℕ → ℕ → Saved → Saved
 saved_resized rows columns p =
     record p { line = min p.line (rows - 1); column = min p.column (columns - 1) }

@@ -1,5 +1,5 @@
 -- The screen table: what each action does to a screen (ECMA-48, fifth edition; VT220 Programmer
--- Reference Manual, chapter 4). "Own" marks a choice of this project's.
+-- Reference Manual, chapter 4). "Own" marks a choice of this project.
 use Rattle.std.specs.Prelude.{◌+◌, ◌-◌, min, true, false, nat_lt, cond, List, [], ◌∷◌, replicate}
 use Rattle.std.specs.Prelude.{slice_set, Some, None}
 use Rattle.charsets.specs.Shifts.{designated, shifted, mapped, spent}
@@ -42,10 +42,10 @@ use Rattle.terminal_model.specs.Erasing.{lines_inserted, lines_deleted}
 use Rattle.terminal_model.specs.Settings.{rendition_with, modes_with, homed}
 use Rattle.terminal_model.specs.Resets.{cleared, reset, softly_reset}
 
--- The table. The first argument is the screen's state.
+-- The table. The first argument is the state of the screen.
 unfoldable pub acted_from : State → Screen → Action → Screen
--- print: a graphic unit, through the sets; a single shift is spent (ECMA-35; VT220 manual, chapter
--- 2)
+-- print: a graphic unit, through the sets; it ends a pending single shift (ECMA-35; VT220 manual,
+-- chapter 2)
 acted_from s x (Print u) =
     printed (mapped s.shifts u) (with_state x (record s { shifts = spent s.shifts u }))
 -- BS, 08 (ECMA-48, 8.3.5)
@@ -109,7 +109,7 @@ acted_from s x (SetMargins top bottom) =
 acted_from s x ClearTab = record x { state = unpending s; tabs = slice_set x.tabs s.column false }
 -- TBC, CSI 3 g
 acted_from s x ClearTabs = record x { state = unpending s; tabs = replicate s.columns false }
--- ED, CSI n J (ECMA-48, 8.3.39): in the cursor's line as EL, and then the other lines
+-- ED, CSI n J (ECMA-48, 8.3.39): EL in the cursor's line, and then the other lines
 acted_from s x (EraseInPage part) =
     with_page x (unpending s)
     (page_from (erased_lines (first_line part s) (end_line part s)) (part_erased s part x.page))

@@ -1,4 +1,4 @@
--- A window's writing: its output, and what happens to its terminal in between.
+-- What happens to a window's terminal: its program's output, changes of size, and commands.
 use Rattle.std.specs.Prelude.{ℕ, codes, List, [], ◌∷◌, ◌++◌}
 use Rattle.charsets.specs.declared.unit.Coding.{Coding}
 use Rattle.charsets.specs.declared.unit.Coding.TheVariants.{Utf8, Ecma35}
@@ -14,7 +14,7 @@ pub data Writing : Type 0 where
   Reset : Writing
   Encoding : Coding → Writing
 
--- changes of size are to sizes of a window
+-- a change of size is to a size that a window can have
 abbrev pub IsWriting : Writing → Type 0
 IsWriting (Size rows columns) = IsGridSize rows columns
 IsWriting w = Unit {0}
@@ -32,11 +32,12 @@ abbrev pub coding_bytes : Coding → List ℕ
 coding_bytes Utf8 = 0x1B ∷ codes "%G"
 coding_bytes Ecma35 = 0x1B ∷ codes "%@"
 
--- as if the program had written these bytes, behind what has begun, which is dropped (own)
+-- reads bytes as if the program had written them; an incomplete character, sequence or string is
+-- dropped first (own)
 abbrev pub reads_anew : Terminal → List ℕ → Read
 reads_anew t bytes = reads (ready t.screen) bytes
 
--- a change of size leaves what has begun
+-- a change of size leaves an incomplete character, sequence or string as it is
 abbrev pub writes : Terminal → Writing → Read
 writes t (Output bytes) = reads t bytes
 writes t (Size rows columns) = nothing_read (record t { screen = resized rows columns t.screen })

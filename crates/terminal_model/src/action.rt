@@ -3,8 +3,8 @@
 use cells::Colour;
 use charsets::{CharacterSet, Coding, Place, Shift, Unit};
 
-/// Which part of a line or of the page an erasure takes: from the cursor on, up to the cursor, or
-/// all.
+/// The part of a line or of the page that an erasure takes: from the cursor on, up to the cursor,
+/// or all of it.
 #[derive(Clone, Copy, Debug)]
 pub enum Part {
     ToEnd,
@@ -12,7 +12,7 @@ pub enum Part {
     All,
 }
 
-/// What one value of SGR changes of the rendition (ECMA-48, 8.3.117).
+/// A change of the rendition by one value of SGR (ECMA-48, 8.3.117).
 #[derive(Clone, Copy, Debug)]
 pub enum Attribute {
     Plain,
@@ -24,7 +24,7 @@ pub enum Attribute {
     Background(Colour),
 }
 
-/// A mode that one value of SM, RM, DECSM or DECRM names.
+/// A mode that a value of SM, RM, DECSM or DECRM names.
 #[derive(Clone, Copy, Debug)]
 pub enum Mode {
     /// 4, IRM.
@@ -43,12 +43,12 @@ pub enum Mode {
     Cursor,
 }
 
-/// What a control function does to a terminal. Most functions are one action; SGR, SM, RM, DECSM
-/// and DECRM are one for each of their values that is named; what is ignored is none. Lines and
-/// columns count from 0, and counts are at least 1.
+/// What a control function does to a terminal. Most functions are one action. SGR, SM, RM, DECSM
+/// and DECRM are one action for each value that is known, and an ignored function has none. Lines
+/// and columns count from 0, and counts are at least 1.
 #[derive(Clone, Copy, Debug)]
 pub enum Action {
-    /// A graphic unit, before the sets.
+    /// A graphic unit, which is printed through the sets.
     Print(Unit),
     /// BS.
     Backspace,
@@ -60,7 +60,7 @@ pub enum Action {
     CarriageReturn,
     /// SI, SO, LS2, LS3, LS1R, LS2R, LS3R, SS2, SS3.
     Shift(Shift),
-    /// Designates a set.
+    /// Designates a set to a place.
     Designate(Place, CharacterSet),
     /// ESC % G, ESC % @.
     SetCoding(Coding),
@@ -76,9 +76,9 @@ pub enum Action {
     Save,
     /// DECRC.
     Restore,
-    /// S7C1T, and S8C1T where true.
+    /// S8C1T if true, S7C1T if false.
     SetEightBitReports(bool),
-    /// DECKPNM, and DECKPAM where true.
+    /// DECKPAM if true, DECKPNM if false.
     SetApplicationKeypad(bool),
     /// RIS.
     Reset,
@@ -92,9 +92,9 @@ pub enum Action {
     Right(usize),
     /// CUB.
     Left(usize),
-    /// CUP, HVP: a line and a column.
+    /// CUP, HVP: the line and the column.
     MoveTo(usize, usize),
-    /// DECSTBM: the first line, and the last one, or none for the page's last.
+    /// DECSTBM: the first line and the last line, which is None for the page's last line.
     SetMargins(usize, Option<usize>),
     /// TBC 0.
     ClearTab,
@@ -118,11 +118,11 @@ pub enum Action {
     InsertLines(usize),
     /// DL.
     DeleteLines(usize),
-    /// DECSCA.
+    /// DECSCA: true protects what is printed from now on.
     Protect(bool),
     /// One value of SGR.
     Render(Attribute),
-    /// One value of SM or DECSM, or of RM or DECRM where false.
+    /// One value of SM or DECSM if true, of RM or DECRM if false.
     SetMode(Mode, bool),
     /// The value ?3 of DECSM or DECRM.
     BlankPage,

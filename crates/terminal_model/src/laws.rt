@@ -44,7 +44,7 @@ ghost use Rattle.terminal_model.specs.Places.{wide_at};
 ghost use Rattle.terminal_model.specs.Places.{PutsOver, PutsMark, mode_final, keypad_final};
 ghost use Rattle.terminal_model.specs.Places.{rendition_values};
 
-/// Reading in two pieces is reading the whole, and so it is with a window's writing.
+/// Bytes read in two pieces give the same as all of them at once, and so does a window's writing.
 pub fn pieces_are_whole()
     ensures bytes { (t : Terminal) (a b : List ℕ)
         → reads t (a ++ b) ≡ joined (reads t a) (reads (reads t a).terminal b) }
@@ -54,10 +54,10 @@ pub fn pieces_are_whole()
         → writes_all t (Output a ∷ Output b ∷ later) ≡ writes_all t (Output (a ++ b) ∷ later) }
 {}
 
-/// What acts while a terminal reads are the functions of the units of all its bytes, as decoder and
-/// parser define them for whole lists, as long as no function changes the coding. Where the last
-/// byte's function does, so it is up to there, and what follows is read in the other coding from
-/// its first byte on.
+/// As long as no function changes the coding, the functions that act while a terminal reads bytes
+/// are those that decoder and parser give for all the bytes at once. If the function of the last
+/// byte changes the coding, this holds up to there, and later bytes are read in the new coding,
+/// from the first of them on.
 pub fn reading_is_of_the_whole()
     ensures one_coding { (t : Terminal) (bytes : List ℕ) → IsTerminal t → KeepsCodingIn t bytes
         → IsWhole t bytes }
@@ -78,8 +78,8 @@ pub fn reading_is_of_the_whole()
         → (reads t (bytes ++ b ∷ [])).terminal.rest ≡ [] }
 {}
 
-/// What the screen table doesn't list, or lists with values that it doesn't name, changes nothing
-/// and answers nothing; so do margins of less than two lines.
+/// A function that the screen table doesn't list, or lists without the given values, changes
+/// nothing and answers nothing. So do margins of fewer than two lines.
 pub fn ignored_ones_change_nothing()
     ensures effect { (x : Screen) (f : Func) → actions_of f ≡ [] → effect x f ≡ x }
     ensures report { (x : Screen) (f : Func) → actions_of f ≡ [] → report x f ≡ [] }
@@ -87,24 +87,24 @@ pub fn ignored_ones_change_nothing()
         → nat_lt top (bottom_of x.state.rows bottom) ≡ false → acted x (SetMargins top bottom) ≡ x }
 {}
 
-/// The bytes that a first frame begins with bring every terminal, in any state and inside any
-/// character, sequence or string, to the cleared screen of its size, without an answer.
+/// The bytes at the beginning of a first frame bring every terminal, in any state and inside any
+/// character, sequence or string, to the cleared screen of its size, and it answers nothing.
 pub fn frames_start_anew()
     ensures terminal { (t : Terminal) → IsTerminal t
         → (reads t frame_bytes).terminal ≡ ready (frame_start t.screen) }
     ensures reports { (t : Terminal) → IsTerminal t → (reads t frame_bytes).reports ≡ [] }
 {}
 
-/// The cleared screen is sound, a printed character goes into the cursor's place, and it has the
-/// blank view drawn.
+/// The cleared screen is sound, it prints a character at the cursor, and it shows the blank view as
+/// a frame leaves it.
 pub fn frames_start_plain()
     ensures plain { (x : Screen) → IsSound x → IsPlain (frame_start x) }
     ensures drawn { (x : Screen) → IsSound x
         → IsDrawn (blank_view x.state.rows x.state.columns) (ready (frame_start x)) }
 {}
 
-/// A spelled function that is read by a terminal between characters and functions is that
-/// function's effect and answer, and no other.
+/// If a terminal reads the spelling of a function between characters and functions, then that
+/// function acts and answers, and no other.
 pub fn spelled_ones_act_alone()
     ensures { (x : Screen) (f : Func) → IsGiven f → x.state.coding ≡ coding_of f
         → reads (ready x) (spelling f) ≡ record {
@@ -114,8 +114,9 @@ pub fn spelled_ones_act_alone()
         } }
 {}
 
-/// A screen starts sound, and every effect and every change of size keeps it so: a well-formed page
-/// of its size, the cursor on it, margins in order, no more kept lines than it may have.
+/// A new screen is sound, and every effect and every change of size keeps a screen sound: a
+/// well-formed page of its size, the cursor on the page, margins in order, and no more kept lines
+/// than it may have.
 pub fn screens_stay_sound()
     ensures starting { (rows columns keep : ℕ) → IsGridSize rows columns
         → IsSound (starting rows columns keep) }
@@ -124,7 +125,7 @@ pub fn screens_stay_sound()
         → IsSound (resized rows columns x) }
 {}
 
-/// Whatever a terminal reads, and whatever its window writes, it stays one.
+/// A terminal stays a terminal, whatever it reads and whatever its window writes.
 pub fn terminals_stay_terminals()
     ensures ready { (x : Screen) → IsSound x → IsTerminal (ready x) }
     ensures reading { (t : Terminal) (bytes : List ℕ) → IsTerminal t
@@ -133,10 +134,10 @@ pub fn terminals_stay_terminals()
         → IsTerminal t → IsTerminal (writes_all t writings).terminal }
 {}
 
-/// Each line of a screen, and each that it keeps, can be shown by a terminal: each cell by printing
-/// what stands in it, and a right half beside its left half. A screen starts so, and every effect
-/// of a function that units can give, every change of size, and whatever a terminal reads and its
-/// window writes keeps it so.
+/// A terminal can show each line of a screen and each line that it keeps: it prints the content of
+/// each cell, and each right half has its left half beside it. A new screen is so. It is kept so by
+/// every effect of a function that units can give, by every change of size, by whatever a terminal
+/// reads, and by whatever its window writes.
 pub fn pages_stay_drawable()
     ensures starting { (rows columns keep : ℕ) → IsDrawableScreen (starting rows columns keep) }
     ensures effect { (x : Screen) (f : Func) → IsGiven f → IsDrawableScreen x
@@ -150,8 +151,8 @@ pub fn pages_stay_drawable()
         → IsDrawableScreen (writes_all t writings).terminal.screen }
 {}
 
-/// A printed character at a place: of width 1 or 2 over the cells at the cursor, of width 0 on the
-/// cell that was printed last.
+/// The cells that a printed character changes: a character of width 1 or 2 goes over the cells at
+/// the cursor, one of width 0 joins the cell that was printed last.
 pub fn printed_ones_stand_at_places()
     ensures narrow { (x : Screen) (c : ℕ) → IsPlain x → is_graphic (Code c) ≡ true
         → columns_of c ≡ 1
@@ -165,7 +166,7 @@ pub fn printed_ones_stand_at_places()
     ensures quiet { (x : Screen) (c : ℕ) → report x (Print c) ≡ [] }
 {}
 
-/// ECH and EL at a place: blanks over the cells at the cursor.
+/// The cells that ECH and EL change: those at the cursor become blank.
 pub fn erased_ones_stand_at_places()
     ensures cells { (x : Screen) (n : ℕ) → IsSound x → 0 < n → x.state.column + n ≤ x.state.columns
         → PutsOver x (replicate n blank) (unpending x.state)
@@ -177,7 +178,8 @@ pub fn erased_ones_stand_at_places()
     ensures line_quiet { (x : Screen) → report x (Csi None (0 ∷ []) [] 0x4B) ≡ [] }
 {}
 
-/// CUP to a place of the page.
+/// With ?6 reset, CUP to a place of the page moves the cursor there, ends the pending wrap and the
+/// joining of marks, and changes nothing else. It answers nothing.
 pub fn moves_change_the_cursor_alone()
     ensures cursor { (x : Screen) (line column : ℕ) → x.state.modes.counts_from_margin ≡ false
         → line < x.state.rows → column < x.state.columns
@@ -186,8 +188,8 @@ pub fn moves_change_the_cursor_alone()
     ensures quiet { (x : Screen) (params : List ℕ) → report x (Csi None params [] 0x48) ≡ [] }
 {}
 
-/// SGR changes the rendition alone, value by value; DECSM, DECRM, DECKPAM and DECKPNM change their
-/// mode.
+/// SGR changes only the rendition, value by value; DECSM, DECRM, DECKPAM and DECKPNM change only
+/// their mode.
 pub fn renditions_and_modes_change_alone()
     ensures turn { (x : Screen) (a b : List ℕ) → effect x (Csi None (a ++ b) [] 0x6D)
         ≡ effect (effect x (Csi None a [] 0x6D)) (Csi None b [] 0x6D) }
@@ -214,7 +216,8 @@ pub fn renditions_and_modes_change_alone()
     ensures keypad_quiet { (x : Screen) (on : Bool) → report x (Esc [] (keypad_final on)) ≡ [] }
 {}
 
-/// A place of a page of which one line got new cells, a mark, or of a blank page.
+/// The cell at each place of a page: after one of its lines got new cells, after a cell got a mark,
+/// and on a blank page.
 pub fn pages_at_places()
     ensures over { (rows columns at from rest : ℕ) (fresh : List Cell) (page : Page)
         → IsPage rows columns page → at < rows → IsPaired fresh → 0 < length fresh
@@ -230,9 +233,8 @@ pub fn pages_at_places()
         → place (blank_page rows columns) line column ≡ blank }
 {}
 
-/// The scrollback of a screen has the last ones of all lines that left its page, the newest first,
-/// through whatever its terminal reads and its window writes; so it is from a fresh terminal on, of
-/// which no line has left.
+/// A screen's scrollback has the last ones of all lines that left its page, newest first, whatever
+/// its terminal reads and its window writes. A fresh terminal begins so: no line has left its page.
 pub fn last_lines_stay()
     ensures reading { (t : Terminal) (bytes : List ℕ) (lines : Page)
         → IsTerminal t → KeepsLast lines t.screen
@@ -248,8 +250,8 @@ pub fn last_lines_stay()
         → IsTerminal t → (writes_all t writings).terminal.screen.keep ≡ t.screen.keep }
 {}
 
-/// Acts that are discreet and spare are so behind each other, and so are bytes that are their
-/// spellings alone.
+/// If two lists of acts are discreet and spare, so is the one after the other; and if their bytes
+/// are nothing but spellings, so are the bytes of both.
 pub fn draws_join()
     ensures spelled { (a b : List ℕ) (first second : List Act) → AreSpelled a first
         → AreSpelled b second → AreSpelled (a ++ b) (first ++ second) }
@@ -259,7 +261,8 @@ pub fn draws_join()
         → Draws old page (a ++ b) }
 {}
 
-/// The functions that frames are made of beside print are listed, with values that are named.
+/// The functions of frames other than print are in the screen table, and all their values are
+/// known.
 pub fn frame_functions_are_listed()
     ensures cursor { (rows line column : ℕ)
         → IsListed rows (Csi None (line ∷ column ∷ []) [] 0x48) }

@@ -1,6 +1,6 @@
-//! A VT220 as this project means it: what a terminal is, what each control function does to it, how
-//! it reads bytes, and when it shows a view. The definitions stand in `specs/`; here are the plain
-//! types that code and definitions share, and the laws.
+//! A VT220 as this project defines it: what a terminal is, what each control function does to it,
+//! how it reads bytes, and when it shows a view. The definitions are in `specs/`. The code has the
+//! plain types that it shares with the definitions, and the laws.
 #![tactic(auto)]
 
 mod action;

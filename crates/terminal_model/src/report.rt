@@ -1,11 +1,11 @@
-//! The bytes with which a terminal answers.
+//! The bytes that a terminal answers.
 
 ghost use Rattle.std.specs.Prelude.{◌≡◌, ◌≤◌, ◌<◌, ◌+◌, ◌==◌, [], ◌∷◌, ◌++◌, length};
 
 use crate::limits::REPORT_BYTES;
 use std::marker::Model;
 
-/// At most 24 bytes.
+/// A report: at most 24 bytes.
 #[derive(Drop)]
 pub struct Report {
     bytes: [u8; REPORT_BYTES],
@@ -23,7 +23,7 @@ impl Model for Report {
 }
 
 impl Report {
-    /// No byte.
+    /// The empty report.
     pub fn none() -> Report
         ensures { result ≡ [] }
     {
@@ -33,21 +33,21 @@ impl Report {
         }
     }
 
-    /// How many bytes.
+    /// The number of bytes.
     pub fn len(&self) -> usize
         ensures { result ≡ length self.now }
     {
         self.as_slice().len()
     }
 
-    /// Whether there is none.
+    /// Whether the report is empty.
     pub fn is_empty(&self) -> bool
         ensures { result ≡ (length self.now == 0) }
     {
         self.count == 0
     }
 
-    /// The bytes.
+    /// The bytes, in their order.
     pub fn as_slice(&self) -> &[u8]
         ensures items { result.now ≡ self.now }
         ensures few { length result.now ≤ 24 }
@@ -55,7 +55,7 @@ impl Report {
         &self.bytes[..self.count]
     }
 
-    /// Appends a byte.
+    /// Appends a byte. The report must have room for it.
     pub fn push(&mut self, byte: u8)
         requires { length self.old < 24 }
         ensures { self.new ≡ self.old ++ byte ∷ [] }
@@ -64,7 +64,7 @@ impl Report {
         self.count += 1;
     }
 
-    /// Appends the bytes.
+    /// Appends bytes. The report must have room for them.
     pub fn extend(&mut self, bytes: &[u8])
         requires { length self.old + length bytes.now ≤ 24 }
         ensures { self.new ≡ self.old ++ bytes.now }

@@ -1,4 +1,4 @@
-//! Worked rows: what a fresh window shows when it has read some bytes, computed from the
+//! Worked rows: what a fresh window shows after it has read some bytes, computed from the
 //! definitions.
 
 ghost use Rattle.std.specs.Prelude.{◌≡◌, true, false, List, [], ◌∷◌, ◌++◌, codes};
@@ -19,7 +19,7 @@ ghost use Rattle.terminal_model.specs.Rows.{shown_keeping, csi, kanji, new_line,
 ghost use Rattle.terminal_model.specs.Rows.{wide_page, printed_beside};
 ghost use Rattle.terminal_model.specs.Scrollback.{all_left};
 
-/// What is printed: the pending wrap, wide characters and their halves, marks.
+/// Printing: the pending wrap, wide characters and their halves, marks.
 pub fn printed_rows()
     ensures fresh { shown 24 80 [] ≡ with_cursor 0 0 (blank_page 24 80) }
     ensures wrap { shown 2 5 (codes "abcdef")
@@ -44,7 +44,7 @@ pub fn printed_rows()
         ≡ with_cursor 0 0 (letters (codes "a    ") ∷ letters (codes "     ") ∷ []) }
 {}
 
-/// What is read: sets, codings, broken characters and sequences.
+/// Reading: sets, codings, broken characters and sequences.
 pub fn coded_rows()
     ensures sets { shown 2 5 (0x1B ∷ codes "(0q" ++ 0x1B ∷ codes "(Bq" ++ 0xE2 ∷ 0x82 ∷ 0x41 ∷ [])
         ≡ with_cursor 0 4
@@ -117,7 +117,7 @@ pub fn edited_rows()
         ≡ letters (codes "abc") ∷ letters (codes "fg ") ∷ [] }
 {}
 
-/// Colours: one after another, with what is saved, on wide characters; blanks have none.
+/// Colours: one after another, saved and restored, on wide characters; blanks have none.
 pub fn coloured_rows()
     ensures in_turn { shown 2 5 (csi (codes "31;44m") ++ codes "a"
         ++ csi (codes "39m") ++ codes "b" ++ csi (codes "0m") ++ codes "c")
@@ -156,8 +156,7 @@ pub fn coloured_rows()
         ((in_colours Blue Default (codes "a") ++ letters (codes "    ")) ∷ blank_page 1 5) }
 {}
 
-/// What a frame may hold: characters at the places where they stand, and functions whose values are
-/// named.
+/// The content of frames: characters at their places, and functions whose values are known.
 pub fn drawn_rows()
     ensures in_place { AllByRecursion (IsDiscreet wide_page)
         (fresh_reads 2 5 0 (kanji ++ codes "x")).acts }

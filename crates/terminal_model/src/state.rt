@@ -1,4 +1,4 @@
-//! What a terminal holds beside its page, its tab stops, its saved place and its scrollback.
+//! The state of a terminal: what it holds beside its page, tab stops, saved place and scrollback.
 
 use cells::Rendition;
 use charsets::{Coding, Shifts};
@@ -14,9 +14,9 @@ pub struct Position {
 /// "Modes").
 #[derive(Clone, Copy, Debug)]
 pub struct Modes {
-    /// IRM: what is printed moves the cells behind it.
+    /// IRM: printing moves the cells after the new ones.
     pub inserts: bool,
-    /// LNM: a line feed also returns to the first column.
+    /// LNM: a line feed also goes to the first column.
     pub starts_lines: bool,
     /// DECCKM (?1): the arrow keys send application sequences.
     pub has_application_arrows: bool,
@@ -24,7 +24,7 @@ pub struct Modes {
     pub is_inverted: bool,
     /// DECOM (?6): lines count from the top margin.
     pub counts_from_margin: bool,
-    /// DECAWM (?7): a character behind the last column goes to the next line.
+    /// DECAWM (?7): after the last column, printing goes on in the next line.
     pub wraps: bool,
     /// DECTCEM (?25): the cursor is shown.
     pub shows_cursor: bool,
@@ -32,7 +32,7 @@ pub struct Modes {
     pub has_application_keypad: bool,
 }
 
-/// Lines and columns count from 0.
+/// The state of a terminal. Lines and columns count from 0.
 #[derive(Clone, Copy, Debug)]
 pub struct State {
     pub rows: usize,
@@ -40,21 +40,22 @@ pub struct State {
     /// The cursor's line and column.
     pub line: usize,
     pub column: usize,
-    /// A character was printed in the last column, and the next one goes to the next line.
+    /// A character was printed in the last column, so the next one goes to the next line.
     pub is_wrap_pending: bool,
     /// The first and the last line of the margins.
     pub top: usize,
     pub bottom: usize,
-    /// The rendition of what is printed.
+    /// The rendition of new characters.
     pub rendition: Rendition,
-    /// What is printed is protected from selective erasing (DECSCA).
+    /// New characters are protected from selective erasing (DECSCA).
     pub is_protecting: bool,
     pub modes: Modes,
     pub shifts: Shifts,
     pub coding: Coding,
     /// Reports begin with the C1 control CSI (S8C1T).
     pub has_eight_bit_reports: bool,
-    /// The cell that a mark joins: the one that was printed last, where nothing came between.
+    /// The cell that the next mark joins: the one that was printed last, if nothing came in
+    /// between.
     pub joining: Option<Position>,
 }
 

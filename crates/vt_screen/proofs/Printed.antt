@@ -1,4 +1,4 @@
--- Characters that are printed one after another.
+-- Characters printed one after another.
 use Rattle.std.proofs.Common.{◌≡◌, ℕ, List, [], ◌∷◌, map, refl}
 use Rattle.charsets.specs.declared.unit.Unit.TheVariants.{Code}
 use Rattle.control_parser.specs.declared.func.Func.TheVariants as funcs

@@ -1,4 +1,4 @@
-//! Laws on where lines are stored.
+//! Laws about the places where lines are stored.
 
 ghost use Rattle.std.specs.Prelude.{◌≡◌, ℕ, ◌+◌, ◌-◌, ◌<◌, ◌≤◌, ◌⊎◌, List, [], None, length};
 ghost use Rattle.std.specs.Prelude.{slice_index};
@@ -10,8 +10,8 @@ ghost use Rattle.vt_screen_rows.specs.Places.{indexed_places, lowered_places, in
 ghost use Rattle.vt_screen_rows.specs.Places.{deleted_places};
 ghost use Rattle.vt_screen.specs.Stored.{effect_places};
 
-/// Where the lines from `top` to `bottom` go up or down by a count, each that stays keeps its
-/// stored line, and so does each line beside them.
+/// If the lines from `top` to `bottom` go up or down by a count, each line that stays keeps its
+/// stored line, and so does each line outside of them.
 pub fn lines_stay_stored()
     ensures up { (top bottom count line : ℕ) (places : List ℕ)
         → top ≤ line → line + count ≤ bottom → bottom < length places
@@ -25,8 +25,8 @@ pub fn lines_stay_stored()
         → slice_index (turned top bottom count places) line ≡ slice_index places line }
 {}
 
-/// LF, IND and NEL let the places of the lines of the margins go round as the lines do, and so do
-/// RI, IL and DL with theirs.
+/// LF, IND and NEL rotate the places of the lines of the margins as they scroll the lines, and so
+/// do RI, IL and DL with the lines that they scroll.
 pub fn scrolls_turn_places()
     ensures line_feed { (x : Screen) (places : List ℕ)
         → effect_places x (Control 0x0A) places ≡ indexed_places x.state places }

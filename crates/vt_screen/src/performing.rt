@@ -1,4 +1,4 @@
-//! All the actions of a control function.
+//! Performs all the actions of a control function.
 
 ghost use Rattle.std.specs.Prelude.{◌≡◌, ◌≤◌, [], None, false, length, IfSome, IsTrue};
 ghost use Rattle.terminal_model.specs.Functions.{alone, control_action, each, sequence_actions};
@@ -14,7 +14,7 @@ use terminal_model::{Action, Report};
 use vt_screen_actions::{Acts, Setting, control_action, sequence_acts};
 use vt_screen_rows::Display;
 
-/// Does the actions of a control function, in turn, and gives what is answered.
+/// Performs the actions of a control function, in turn, and returns the answer.
 #[inline(always)]
 pub fn perform(display: &mut Display, acts: Acts<'_>) -> Report
     requires fit { IsFit display.old }
@@ -35,7 +35,7 @@ pub fn perform(display: &mut Display, acts: Acts<'_>) -> Report
     }
 }
 
-/// Does the action of a control function that has at most one, and is answered by nothing.
+/// Performs the action of a control function that has at most one and isn't answered.
 #[inline(always)]
 pub fn perform_silently(display: &mut Display, action: Option<Action>)
     requires fit { IsFit display.old }
@@ -51,8 +51,8 @@ pub fn perform_silently(display: &mut Display, action: Option<Action>)
     }
 }
 
-/// Does a C0 control; nothing is answered. CR and LF, the commonest, have a case of their own, so
-/// that their rows are found when this is compiled.
+/// Performs a C0 control, which isn't answered. CR and LF, the commonest ones, have a case of their
+/// own, so that the compiler finds their rows.
 #[inline(always)]
 pub fn perform_control(display: &mut Display, control: u8)
     requires { IsFit display.old }
@@ -68,7 +68,7 @@ pub fn perform_control(display: &mut Display, control: u8)
     }
 }
 
-/// The same of any, whose row is found when it is done.
+/// Performs a C0 control, whose row is looked up as the program runs.
 #[inline(never)]
 fn perform_other_control(display: &mut Display, control: u8)
     requires { IsFit display.old }
@@ -80,8 +80,8 @@ fn perform_other_control(display: &mut Display, control: u8)
     perform_silently(display, control_action(control));
 }
 
-/// Does the actions of a control function that isn't answered, in turn. It gives false where it
-/// is answered, and has done nothing then.
+/// Performs the actions of a control function, in turn. If the function is answered, it does
+/// nothing and returns false.
 #[inline(always)]
 pub fn perform_unanswered(display: &mut Display, acts: Acts<'_>) -> bool
     requires fit { IsFit display.old }
@@ -109,8 +109,8 @@ pub fn perform_unanswered(display: &mut Display, acts: Acts<'_>) -> bool
     }
 }
 
-/// Does the actions of a control sequence that isn't answered, in turn. It gives false where it
-/// is answered, and has done nothing then.
+/// Performs the actions of a control sequence, in turn. If the sequence is answered, it does
+/// nothing and returns false.
 #[inline(always)]
 pub fn perform_sequence(
     display: &mut Display,
@@ -136,8 +136,9 @@ pub fn perform_sequence(
     perform_rest(display, mark, params, intermediates, last)
 }
 
-/// The same of one with neither mark nor intermediates. CUP and SGR, the commonest, have a case
-/// of their own, so that their rows are found when this is compiled.
+/// Performs a control sequence without private marker and intermediates. CUP and SGR, the commonest
+/// ones, have a case of their own, so that the compiler finds their rows. If the sequence is
+/// answered, it does nothing and returns false.
 #[inline(always)]
 pub fn perform_plain(display: &mut Display, params: &[u16], last: u8) -> bool
     requires { IsFit display.old }
@@ -158,7 +159,9 @@ pub fn perform_plain(display: &mut Display, params: &[u16], last: u8) -> bool
     }
 }
 
-/// The same, where ICH, DCH, ECH, EL, IL and DL have a case of their own.
+/// Performs a control sequence without private marker and intermediates. ICH, DCH, ECH, EL, IL and
+/// DL have a case of their own, so that the compiler finds their rows. If the sequence is answered,
+/// it does nothing and returns false.
 #[inline(never)]
 fn perform_editing(display: &mut Display, params: &[u16], last: u8) -> bool
     requires { IsFit display.old }
@@ -183,7 +186,8 @@ fn perform_editing(display: &mut Display, params: &[u16], last: u8) -> bool
     }
 }
 
-/// The same of any, whose row is found when it is done.
+/// Performs a control sequence without private marker and intermediates, whose row is looked up as
+/// the program runs. If the sequence is answered, it does nothing and returns false.
 #[inline(never)]
 fn perform_rest(
     display: &mut Display,
@@ -206,7 +210,7 @@ fn perform_rest(
     perform_unanswered(display, sequence_acts(mark, params, intermediates, last))
 }
 
-/// Does the action of each value that is named, in turn; nothing is answered.
+/// Performs the action of each value that is known, in turn. None of them is answered.
 #[inline(always)]
 fn set_each(display: &mut Display, setting: Setting, values: &[u16])
     requires { IsFit display.old }
@@ -222,7 +226,7 @@ fn set_each(display: &mut Display, setting: Setting, values: &[u16])
     }
 }
 
-/// Whether something is answered to an action: to DSR and DA.
+/// Whether an action is answered: only DSR and DA are.
 #[inline(always)]
 fn is_answered(action: &Action) -> bool
     ensures { result ≡ false → IsSilent action.now }

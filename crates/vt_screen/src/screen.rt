@@ -1,4 +1,4 @@
-//! A screen.
+//! The screen of a VT220.
 
 ghost use Rattle.std.specs.Prelude.{◌≡◌, ℕ, ◌<◌, ◌≤◌, ◌↔◌, true, Err, IfOk, OnOk, OnErr, [], false};
 ghost use Rattle.std.specs.Prelude.{IsTrue, length, map, option_copied, slice_get, slice_index};
@@ -28,10 +28,10 @@ use terminal_model::{MAX_KEEP, Modes, Report};
 use vt_screen_actions::{acts_of, plain_escape_action};
 use vt_screen_rows::{Display, prints_ascii};
 
-// Around `Display`, whose rows are methods of another crate: an invariant there would have to be
+// Wraps `Display`, whose rows are methods of another crate: an invariant there would have to be
 // shown after each field that a row sets.
-/// The screen of a VT220: its page with all that control functions change, and its scrollback.
-/// Lines and columns count from 0. Only `new` and changes of size take memory.
+/// The screen of a VT220: its page with everything that control functions change, and its
+/// scrollback. Lines and columns count from 0. Only `new` and changes of size need memory.
 #[derive(Drop)]
 pub struct Screen {
     display: Display,
@@ -49,8 +49,9 @@ impl Model for Screen {
 }
 
 impl Screen {
-    /// A screen as it starts, which keeps at most `keep` of the lines that scroll off its page. It
-    /// is `BadSize` outside 2 to 200 lines by 2 to 300 columns, and above 2,000 lines to keep.
+    /// A new screen, which keeps at most `keep` of the lines that scroll off its page. `BadSize` if
+    /// the size isn't 2 to 200 lines by 2 to 300 columns or `keep` is above 2,000, `NoMemory` if
+    /// memory is refused.
     pub fn new(alloc: Global, rows: usize, columns: usize, keep: usize) -> Result<Screen, GridFault>
         ensures ok { IfOk result (λ screen. screen.screen ≡ starting rows columns keep) }
         ensures places { IfOk result (λ screen. screen.places ≡ range_with_len 0 rows) }
@@ -64,7 +65,7 @@ impl Screen {
         Ok(Screen { display })
     }
 
-    /// Does a control function, as the screen table says, and gives what is answered. It takes no
+    /// Performs a control function, as the screen table says, and returns the answer. It needs no
     /// memory.
     pub fn apply(&mut self, func: &Func) -> Report
         ensures effect { self.new.screen ≡ effect self.old.screen func.now }
@@ -75,15 +76,15 @@ impl Screen {
         perform(&mut self.display, acts_of(func))
     }
 
-    /// Whether characters 20 to 7E are printed as themselves: GL is ASCII, and no single shift
-    /// waits.
+    /// Whether characters 20 to 7E are printed as themselves: GL is ASCII, and no single shift is
+    /// pending.
     pub fn prints_ascii(&self) -> bool
         ensures { IsTrue result ↔ PrintsAscii self.now.screen.state }
     {
         prints_ascii(&self.display.state)
     }
 
-    /// Prints characters 20 to 7E, one after another: `codes` has their code points. It takes no
+    /// Prints characters 20 to 7E, one after another: `codes` has their code points. It needs no
     /// memory.
     pub fn print_run(&mut self, codes: &[u8])
         requires { list_all is_plain codes.now ≡ true }
@@ -95,8 +96,8 @@ impl Screen {
         self.display.print_run(codes);
     }
 
-    /// Does CR and LF, and then prints characters 20 to 7E, one after another: `codes` has their code
-    /// points. It takes no memory.
+    /// Performs CR and LF, and then prints characters 20 to 7E, one after another: `codes` has
+    /// their code points. It needs no memory.
     pub fn print_line(&mut self, codes: &[u8])
         requires { list_all is_plain codes.now ≡ true }
         ensures effect { self.new.screen ≡ effects self.old.screen (line_of codes.now) }
@@ -106,7 +107,8 @@ impl Screen {
         self.display.print_line(codes);
     }
 
-    /// Prints letters, one after another. It takes no memory.
+    /// Prints letters, one after another: 20 to 7E, and U+00A0 to U+02FF without the soft hyphen.
+    /// It needs no memory.
     pub fn print_letters(&mut self, letters: &[char])
         requires { list_all is_letter letters.now ≡ true }
         ensures effect { self.new.screen
@@ -117,7 +119,7 @@ impl Screen {
         self.display.print_letters(letters);
     }
 
-    /// Prints characters from 20 to 7E and from A0 on, one after another. It takes no memory.
+    /// Prints characters from 20 to 7E and from A0 on, one after another. It needs no memory.
     pub fn print_characters(&mut self, characters: &[char])
         ensures effect { self.new.screen
             ≡ effects self.old.screen (map (λ character. Print character) characters.now) }
@@ -127,7 +129,7 @@ impl Screen {
         self.display.print_characters(characters);
     }
 
-    /// Does a C0 control, as `apply` of it; nothing is answered.
+    /// Performs a C0 control, as `apply` does. It isn't answered.
     pub fn control(&mut self, control: u8)
         ensures effect { self.new.screen ≡ effect self.old.screen (Control control) }
         ensures places { MovesPlaces self.old (Control control) self.new }
@@ -136,8 +138,8 @@ impl Screen {
         perform_control(&mut self.display, control);
     }
 
-    /// Does the escape sequence that has no intermediate and this final byte, as `apply` of it;
-    /// nothing is answered.
+    /// Performs the escape sequence without intermediates that has this final byte, as `apply`
+    /// does. It isn't answered.
     pub fn escape(&mut self, last: u8)
         ensures effect { self.new.screen ≡ effect self.old.screen (Esc [] last) }
         ensures places { MovesPlaces self.old (Esc [] last) self.new }
@@ -146,8 +148,8 @@ impl Screen {
         perform_silently(&mut self.display, plain_escape_action(last));
     }
 
-    /// Does a control sequence that isn't answered, as `apply` of it. It gives false where it is
-    /// answered, and has done nothing then.
+    /// Performs a control sequence, as `apply` does. If the sequence is answered, it does nothing
+    /// and returns false.
     pub fn sequence(&mut self, sequence: &Sequence) -> bool
         ensures effect { IsTrue result → self.new.screen ≡ effect self.old.screen sequence.now }
         ensures places { IsTrue result → MovesPlaces self.old sequence.now self.new }
@@ -160,7 +162,8 @@ impl Screen {
         perform_sequence(&mut self.display, mark, params, intermediates, last)
     }
 
-    /// Does a control sequence of digits and semicolons that isn't answered, as `sequence`.
+    /// Performs a control sequence of digits and semicolons, as `apply` does. If the sequence is
+    /// answered, it does nothing and returns false.
     pub fn numerals(&mut self, numerals: &Numerals) -> bool
         ensures effect { IsTrue result → self.new.screen ≡ effect self.old.screen numerals.now }
         ensures places { IsTrue result → MovesPlaces self.old numerals.now self.new }
@@ -173,10 +176,10 @@ impl Screen {
         perform_plain(&mut self.display, params, last)
     }
 
-    /// Takes another size. It keeps the upper left part, of the kept lines too; the cursor and the
-    /// saved place go to the nearest place, no wrap is pending, and margins and tab stops start
-    /// anew. It is `BadSize` outside 2 to 200 lines by 2 to 300 columns; a refusal leaves
-    /// everything as it was.
+    /// Changes the size. The upper left part stays, of the kept lines too; the cursor and the saved
+    /// place go to the nearest place, no wrap is pending, and margins and tab stops start anew.
+    /// `BadSize` if the size isn't 2 to 200 lines by 2 to 300 columns, `NoMemory` if memory is
+    /// refused; everything then stays as it was.
     pub fn resized(&mut self, rows: usize, columns: usize) -> Result<(), GridFault>
         ensures ok { OnOk result (self.new.screen ≡ resized rows columns self.old.screen) }
         ensures places { OnOk result (self.new.places ≡ range_with_len 0 rows) }
@@ -203,7 +206,7 @@ impl Screen {
         self.display.state.columns
     }
 
-    /// The cells of a line of the page.
+    /// The cells of a line of the page, from left to right.
     pub fn row(&self, line: usize) -> &[Cell]
         requires { line < self.now.screen.state.rows }
         ensures cells { result.now ≡ line_at self.now.screen.page line }
@@ -212,8 +215,8 @@ impl Screen {
         self.display.page.row(line)
     }
 
-    /// The stored line that holds a line of the page: one for each. Under index, RI, IL and DL each
-    /// line that stays keeps its stored line.
+    /// The number of the stored line that holds a line of the page; no two lines share one. Under
+    /// index, RI, IL and DL each line that stays keeps its stored line.
     pub fn place(&self, line: usize) -> usize
         requires { line < self.now.screen.state.rows }
         ensures value { result ≡ slice_index self.now.places line }
@@ -223,7 +226,7 @@ impl Screen {
         self.display.page.place(line)
     }
 
-    /// The number of lines that are kept.
+    /// The number of lines in the scrollback.
     pub fn kept_count(&self) -> usize
         ensures value { result ≡ length self.now.screen.kept }
         ensures sound { IsSound self.now.screen }
@@ -231,14 +234,14 @@ impl Screen {
         self.display.ring.len()
     }
 
-    /// The cells of a kept line, of which the newest is line 0.
+    /// The cells of a line of the scrollback; line 0 is the newest. None if it keeps no such line.
     pub fn kept(&self, n: usize) -> Option<&[Cell]>
         ensures { option_copied result ≡ slice_get self.now.screen.kept n }
     {
         self.display.ring.line(n)
     }
 
-    /// The cell of a place of the page.
+    /// The cell at a place of the page.
     pub fn cell(&self, line: usize, column: usize) -> Cell
         requires line_inside { line < self.now.screen.state.rows }
         requires column_inside { column < self.now.screen.state.columns }
@@ -247,21 +250,21 @@ impl Screen {
         self.row(line)[column]
     }
 
-    /// The cursor's line and column.
+    /// The cursor's line and column, counted from 0.
     pub fn cursor(&self) -> (usize, usize)
         ensures { result ≡ (self.now.screen.state.line, self.now.screen.state.column) }
     {
         (self.display.state.line, self.display.state.column)
     }
 
-    /// The modes as they are set.
+    /// The current modes.
     pub fn modes(&self) -> Modes
         ensures { result ≡ self.now.screen.state.modes }
     {
         self.display.state.modes
     }
 
-    /// The coding that the window writes in.
+    /// The coding in which the window writes.
     pub fn coding(&self) -> Coding
         ensures { result ≡ self.now.screen.state.coding }
     {

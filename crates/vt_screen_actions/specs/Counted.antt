@@ -6,14 +6,14 @@ use Rattle.terminal_model.specs.declared.action.Action.TheVariants.{DeleteCells}
 use Rattle.vt_screen_actions.specs.declared.acts.Acts.{Acts}
 use Rattle.vt_screen_actions.specs.declared.acts.Acts.TheVariants.{Nothing, One, Each}
 
--- a number of cells is at least 1
+-- the action's number of cells is at least 1
 abbrev pub IsCounted : Action → Type 0
 IsCounted (EraseCells count) = 0 < count
 IsCounted (InsertCells count) = 0 < count
 IsCounted (DeleteCells count) = 0 < count
 IsCounted _ = Unit {0}
 
--- so is the one of a single action; those with several values have none
+-- a single action has a count of at least 1; actions of several values have no count
 abbrev pub AreCounted : Acts → Type 0
 AreCounted (One action) = IsCounted action
 AreCounted Nothing = Unit {0}

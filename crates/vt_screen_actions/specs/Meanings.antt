@@ -1,4 +1,4 @@
--- What the values of SGR, SM, RM, DECSM and DECRM do.
+-- The actions of the values of SGR, SM, RM, DECSM and DECRM.
 use Rattle.std.specs.Prelude.{ℕ, Option}
 use Rattle.terminal_model.specs.declared.action.Action.{Action}
 use Rattle.terminal_model.specs.Functions.{rendered, mode_set, private_mode_set}
@@ -6,7 +6,7 @@ use Rattle.vt_screen_actions.specs.declared.values.Setting.{Setting}
 use Rattle.vt_screen_actions.specs.declared.values.Setting.TheVariants.{Rendition, Mode}
 use Rattle.vt_screen_actions.specs.declared.values.Setting.TheVariants.{PrivateMode}
 
--- one value
+-- the action of one value
 abbrev pub meaning : Setting → ℕ → Option Action
 meaning Rendition value = rendered value
 meaning (Mode is_set) value = mode_set is_set value

@@ -15,16 +15,16 @@ use terminal_model::Action;
 /// What a control function does.
 #[derive(Clone, Copy)]
 pub enum Acts<'a> {
-    /// Nothing: it is ignored.
+    /// Nothing: the function is ignored.
     Nothing,
     /// One row of the screen table.
     One(Action),
-    /// One action for each value that the setting names, in turn.
+    /// One action for each value that is known for the setting, in turn.
     Each(Setting, &'a [u16]),
 }
 
 impl<'a> Acts<'a> {
-    /// One action, or nothing.
+    /// The actions of a function that has at most one.
     pub fn of(action: Option<Action>) -> Acts<'a>
         ensures value { actions_in result ≡ alone action }
         ensures counted { IfSome action IsCounted → AreCounted result }

@@ -10,8 +10,8 @@ ghost use Rattle.vt_screen_actions.specs.Silent.{IsSilent};
 use charsets::{CharacterSet, Coding, Place, Shift};
 use terminal_model::Action;
 
-/// The action of a C0 control (ECMA-48, 8.3; VT220 Programmer Reference Manual, chapter 2); None
-/// where it is ignored.
+/// The action of a C0 control (ECMA-48, 8.3; VT220 Programmer Reference Manual, chapter 2). None if
+/// it is ignored.
 #[inline(always)]
 pub fn control_action(control: u8) -> Option<Action>
     ensures value { result ≡ control_action control }
@@ -29,7 +29,7 @@ pub fn control_action(control: u8) -> Option<Action>
     }
 }
 
-/// The action of an escape sequence; None where it is ignored.
+/// The action of an escape sequence. None if it is ignored.
 pub fn escape_action(intermediates: &[u8], last: u8) -> Option<Action>
     ensures value { alone result ≡ escape_actions intermediates.now last }
     ensures counted { IfSome result IsCounted }
@@ -41,8 +41,8 @@ pub fn escape_action(intermediates: &[u8], last: u8) -> Option<Action>
     }
 }
 
-/// The action of ESC and a final byte (ECMA-48, 8.3; VT220 Programmer Reference Manual, chapter 4);
-/// None where it is ignored.
+/// The action of ESC and a final byte (ECMA-48, 8.3; VT220 Programmer Reference Manual, chapter 4).
+/// None if it is ignored.
 #[inline(always)]
 pub fn plain_escape_action(last: u8) -> Option<Action>
     ensures value { result ≡ escape_action last }
@@ -70,7 +70,7 @@ pub fn plain_escape_action(last: u8) -> Option<Action>
     }
 }
 
-/// ESC, an intermediate and a final byte.
+/// The action of ESC, one intermediate and a final byte. None if it is ignored.
 fn intermediate_action(intermediate: u8, last: u8) -> Option<Action>
     ensures value { result ≡ intermediate_action intermediate last }
     ensures counted { IfSome result IsCounted }
@@ -89,7 +89,8 @@ fn intermediate_action(intermediate: u8, last: u8) -> Option<Action>
     }
 }
 
-/// The designation of a set by its final byte (ECMA-35; VT220 Programmer Reference Manual, SCS).
+/// The designation of a set to a place, by its final byte (ECMA-35; VT220 Programmer Reference
+/// Manual, SCS). None if no set has this byte.
 fn designation(place: Place, last: u8) -> Option<Action>
     ensures value { result ≡ designation (Some place) (designated_set last) }
     ensures counted { IfSome result IsCounted }

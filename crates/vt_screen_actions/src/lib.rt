@@ -1,4 +1,4 @@
-//! Which rows of the screen table a control function is, with their values.
+//! Translates control functions into rows of the screen table, with their arguments.
 #![tactic(auto)]
 
 mod acts;

@@ -40,7 +40,7 @@ pub fn sequence_acts<'a>(
     }
 }
 
-/// CSI, parameters, an intermediate and a final byte.
+/// The action of CSI, parameters, one intermediate and a final byte. None if it is ignored.
 fn intermediate_action(params: &[u16], intermediate: u8, last: u8) -> Option<Action>
     ensures value { alone result ≡ between_sequence params.now intermediate last }
     ensures counted { IfSome result IsCounted }
@@ -52,7 +52,8 @@ fn intermediate_action(params: &[u16], intermediate: u8, last: u8) -> Option<Act
     }
 }
 
-/// CSI, parameters and a final byte (ECMA-48, 8.3; VT220 Programmer Reference Manual, chapter 4).
+/// The actions of CSI, parameters and a final byte (ECMA-48, 8.3; VT220 Programmer Reference
+/// Manual, chapter 4).
 #[inline(always)]
 #[tactic(auto, unfolding(terminal_model::specs::Functions::plain_sequence))]
 fn plain_acts(params: &[u16], last: u8) -> Acts<'_>
@@ -83,7 +84,8 @@ fn plain_acts(params: &[u16], last: u8) -> Acts<'_>
     }
 }
 
-/// CSI ?, parameters and a final byte (VT220 Programmer Reference Manual, chapter 4).
+/// The actions of CSI ?, parameters and a final byte (VT220 Programmer Reference Manual, chapter
+/// 4).
 #[tactic(auto, unfolding(terminal_model::specs::Functions::private_sequence))]
 fn private_acts(params: &[u16], last: u8) -> Acts<'_>
     ensures value { actions_in result ≡ private_sequence params.now last }
@@ -99,7 +101,7 @@ fn private_acts(params: &[u16], last: u8) -> Acts<'_>
     }
 }
 
-/// A parameter; 0 where it is absent.
+/// The parameter at a place; 0 if it is absent.
 #[inline(always)]
 fn value(params: &[u16], index: usize) -> u16
     ensures { result ≡ slice_index_or params.now index 0 }
@@ -107,7 +109,7 @@ fn value(params: &[u16], index: usize) -> u16
     params.get(index).copied().unwrap_or(0)
 }
 
-/// The first parameter as a count: absent or 0 is 1.
+/// The first parameter as a count: 1 if it is absent or 0.
 #[inline(always)]
 fn count(params: &[u16]) -> usize
     ensures { result ≡ count params.now }
@@ -115,7 +117,7 @@ fn count(params: &[u16]) -> usize
     usize::from(value(params, 0)).max(1)
 }
 
-/// A parameter as a line or column from 0: absent, 0 and 1 are the first.
+/// The parameter at a place as a line or column, counted from 0: absent, 0 and 1 are the first.
 #[inline(always)]
 fn place(params: &[u16], index: usize) -> usize
     ensures { result ≡ slice_index_or params.now index 0 - 1 }
@@ -123,7 +125,7 @@ fn place(params: &[u16], index: usize) -> usize
     usize::from(value(params, index)).saturating_sub(1)
 }
 
-/// Which part an erasure takes.
+/// The part that an erasure takes, by its first parameter. None if the value is ignored.
 fn part(params: &[u16]) -> Option<Part>
     ensures { result ≡ part_of (slice_index_or params.now 0 0) }
 {
@@ -135,7 +137,8 @@ fn part(params: &[u16]) -> Option<Part>
     }
 }
 
-/// DECSTBM (VT220 Programmer Reference Manual): absent or 0 are the first line and the last one.
+/// DECSTBM (VT220 Programmer Reference Manual): if a parameter is absent or 0, it is the first or
+/// the last line of the page.
 fn margins(params: &[u16]) -> Action
     ensures { result ≡ Action.SetMargins (slice_index_or params.now 0 0 - 1)
         (last_line (slice_index_or params.now 1 0)) }
@@ -147,7 +150,7 @@ fn margins(params: &[u16]) -> Action
     Action::SetMargins(place(params, 0), bottom)
 }
 
-/// DSR (ECMA-48, 8.3.35).
+/// DSR by its parameter (ECMA-48, 8.3.35). None if the value is ignored.
 fn status(value: u16) -> Option<Action>
     ensures value { result ≡ status_reported value }
     ensures counted { IfSome result IsCounted }
@@ -159,7 +162,7 @@ fn status(value: u16) -> Option<Action>
     }
 }
 
-/// TBC (ECMA-48, 8.3.154).
+/// TBC by its parameter (ECMA-48, 8.3.154). None if the value is ignored.
 fn tabs(value: u16) -> Option<Action>
     ensures value { result ≡ tab_cleared value }
     ensures counted { IfSome result IsCounted }
@@ -171,7 +174,7 @@ fn tabs(value: u16) -> Option<Action>
     }
 }
 
-/// DECSCA (VT220 Programmer Reference Manual).
+/// DECSCA by its parameter (VT220 Programmer Reference Manual). None if the value is ignored.
 fn protection(value: u16) -> Option<Action>
     ensures value { result ≡ protection value }
     ensures counted { IfSome result IsCounted }

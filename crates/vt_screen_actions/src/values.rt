@@ -1,4 +1,4 @@
-//! The functions that name several values.
+//! The functions with several values.
 
 ghost use Rattle.std.specs.Prelude.{◌≡◌, IfSome};
 ghost use Rattle.terminal_model.specs.Functions.{colour_action, mode_set, private_mode_set};
@@ -10,19 +10,19 @@ ghost use Rattle.vt_screen_actions.specs.Silent.{IsSilent};
 use cells::Colour;
 use terminal_model::{Action, Attribute, Mode};
 
-/// A function that does one action for each of its values that is named.
+/// A function that performs one action for each value that is known.
 #[derive(Clone, Copy, Debug)]
 pub enum Setting {
     /// SGR.
     Rendition,
-    /// SM, or RM where false.
+    /// SM if true, RM if false.
     Mode(bool),
-    /// DECSM, or DECRM where false.
+    /// DECSM if true, DECRM if false.
     PrivateMode(bool),
 }
 
 impl Setting {
-    /// What one value does; None where it isn't named.
+    /// The action of one value. None if the value isn't known.
     pub fn action(self, value: u16) -> Option<Action>
         ensures value { result ≡ meaning self value }
         ensures counted { IfSome result IsCounted }
@@ -36,7 +36,7 @@ impl Setting {
     }
 }
 
-/// A value of SGR (ECMA-48, 8.3.117).
+/// The action of a value of SGR (ECMA-48, 8.3.117). None if the value isn't known.
 fn rendition_action(value: u16) -> Option<Action>
     ensures value { result ≡ rendered value }
     ensures counted { IfSome result IsCounted }
@@ -56,7 +56,7 @@ fn rendition_action(value: u16) -> Option<Action>
     }
 }
 
-/// A value of SGR that names a colour.
+/// The action of a value of SGR that names a colour. None for any other value.
 fn colour_action(value: u16) -> Option<Action>
     ensures value { result ≡ colour_action value }
     ensures counted { IfSome result IsCounted }
@@ -85,7 +85,7 @@ fn colour_action(value: u16) -> Option<Action>
     }
 }
 
-/// A value of SM or RM (ECMA-48, 7.2).
+/// The action of a value of SM or RM (ECMA-48, 7.2). None if the value isn't known.
 fn mode_action(is_set: bool, value: u16) -> Option<Action>
     ensures value { result ≡ mode_set is_set value }
     ensures counted { IfSome result IsCounted }
@@ -98,7 +98,8 @@ fn mode_action(is_set: bool, value: u16) -> Option<Action>
     }
 }
 
-/// A value of DECSM or DECRM (VT220 Programmer Reference Manual, chapter 4).
+/// The action of a value of DECSM or DECRM (VT220 Programmer Reference Manual, chapter 4). None if
+/// the value isn't known.
 fn private_mode_action(is_set: bool, value: u16) -> Option<Action>
     ensures value { result ≡ private_mode_set is_set value }
     ensures counted { IfSome result IsCounted }

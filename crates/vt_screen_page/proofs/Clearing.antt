@@ -1,4 +1,4 @@
--- Lines that are cleared where they are stored.
+-- Lines that are blanked in the store.
 use Rattle.std.proofs.Common.{◌≡◌, ℕ, ◌+◌, ◌-◌, ◌<◌, ◌≤◌, leb, true, false, List, [], length, get_or, set, take, drop}
 use Rattle.std.proofs.Common.{replicate, refl, sym, ap, ◌∙◌, ◌⊎◌, inl, inr, subst, arith, ⊎_elim, length-take}
 use Rattle.std.proofs.Common.{length-drop}
@@ -15,7 +15,7 @@ use Rattle.vt_screen_page.specs.Store.{lines_in_order, ArePlaces, IsStore, AreCl
 use Rattle.vt_screen_page.proofs.Stored.{length-lines_in_order, line_at-lines_in_order, IsStore-is}
 use Rattle.vt_screen_page.proofs.Turning.{Stays, Blanked}
 
--- nothing cleared yet
+-- no line is blanked yet
 pub cleared_none : (stored : List (List Cell)) (places : List ℕ) → AreCleared stored stored (take 0 places)
 cleared_none stored places = record
     { size = refl; width = λ place. refl; cleared = λ k h. absurd (none k h); others = λ place h. refl }
@@ -23,7 +23,7 @@ cleared_none stored places = record
     none : (k : ℕ) → k < 0 → ⊥
     none k h = omega arith
 
--- one more line is cleared
+-- one more line is blanked
 pub cleared_next : (old now : List (List Cell)) (places : List ℕ) (i place : ℕ) (line : List Cell) → i < length places
     → place ≡ get_or places i 0 → place < length now → AreCleared old now (take i places)
     → line ≡ replicate (length (line_at now place)) blank → AreCleared old (set now place line) (take (i + 1) places)
@@ -103,7 +103,7 @@ part_inside size places first end all order inside k h =
     rw (get_or-take (end - first) (drop first places) k 0 small, get_or-drop first places k 0)
     (all (first + k) (omega arith))
 
--- the lines from first on and below end are erased
+-- the lines from `first` up to but not including `end` are erased
 module _ (stored cleared : List (List Cell)) (places : List ℕ) (first end : ℕ) (store : IsStore stored places)
     (size : length cleared ≡ length stored)
     (blanked : (k : ℕ) → first ≤ k → k < end → Blanked stored cleared places k)
@@ -144,7 +144,7 @@ module _ (stored cleared : List (List Cell)) (places : List ℕ) (first end : �
       (subst (λ n. ArePlaces n places) (sym size) store.places_apart) erased_is
       (IsGrid-page_from (erased_lines first end) page store.grid)
 
--- the first line is set aside, and a blank one stands there
+-- the first line is taken out, and a blank one takes its place
 module _ (stored : List (List Cell)) (places : List ℕ) (store : IsStore stored places) (other line : List Cell)
     (some : 0 < length places) (width : length other ≡ length (line_at stored (get_or places 0 0)))
     (is_blank : line ≡ replicate (length other) blank) where

@@ -1,4 +1,4 @@
--- A scroll, and a run of characters in the line that comes in.
+-- A scroll, with a run of characters in the line that comes in.
 use Rattle.std.proofs.Common.{◌≡◌, ℕ, ◌+◌, ◌-◌, ◌<◌, false, List, length, get_or, set, replicate, refl, sym, ap, ◌∙◌}
 use Rattle.std.proofs.Common.{subst, arith}
 use Rattle.std.proofs.lemmas.List.{get_or_default, get_or-set_same, length-set, set-set}
@@ -11,8 +11,8 @@ use Rattle.vt_screen_page.proofs.Stored.{length-lines_in_order, edited_page, edi
 use Rattle.vt_screen_page.proofs.Clearing.{first_blanked, others_stay}
 use Rattle.vt_screen_page.proofs.Turning.{scrolled_up_is, turned_store}
 
--- the first line went, another one that was blanked before the run was put into it came in, and the
--- places went round
+-- the first line left, another one came in, blanked and then with the run, and the places were
+-- rotated
 module _ (stored : List (List Cell)) (places turned : List ℕ) (bottom : ℕ) (store : IsStore stored places)
     (inside : bottom < length places) (other line : List Cell)
     (width : length other ≡ length (line_at stored (get_or places 0 0))) (is_turned : IsTurned 0 bottom 1 places turned)
@@ -48,7 +48,7 @@ module _ (stored : List (List Cell)) (places turned : List ℕ) (bottom : ℕ) (
   bottom_turned : bottom < length turned
   bottom_turned = rw is_turned.size inside
 
-  -- its place is the last one of those that went round
+  -- its place is the last one of those that were rotated
   last_place : place ≡ get_or turned bottom place
   last_place =
       let e : bottom + 1 - (bottom + 1 - 0) ≡ 0 = omega arith in

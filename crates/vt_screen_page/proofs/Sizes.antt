@@ -1,4 +1,4 @@
--- Pages that are new, filled, or of another size.
+-- Pages that are new, filled, or in another size.
 use Rattle.std.proofs.Common.{◌≡◌, ℕ, zero, suc, ◌+◌, ◌<◌, ◌≤◌, List, [], ◌∷◌, ◌++◌, length, get_or, map, take, drop}
 use Rattle.std.proofs.Common.{replicate, refl, sym, ap, ◌∙◌, subst, arith, ⊎_elim, add-one}
 use Rattle.std.specs.List.{range_with_len}
@@ -33,11 +33,11 @@ page_resized_more rows columns page = map-range_with_len_more (λ line. line_fro
     (omega arith)
     ∙ ap (λ (line : List Cell). page_resized rows columns page ++ line ∷ []) (line_from-resized page rows columns)
 
--- nothing in another width is blank
+-- an empty line in another width is blank
 pub line_resized-none : (width : ℕ) → replicate width blank ≡ line_resized width []
 line_resized-none width = sym (map_same _ (λ (_k : ℕ). blank) 0 width (λ column. refl) ∙ map_replicate blank 0 width)
 
--- the lines of a page, which may have fewer, in another width
+-- the lines of a page, which may have fewer lines, in another width
 pub resized_past : (stored : List (List Cell)) (places : List ℕ) (row width : ℕ) → length places ≤ row
     → replicate width blank ≡ line_resized width (line_at (lines_in_order stored places) row)
 resized_past stored places row width h = line_resized-none width
@@ -125,7 +125,7 @@ module _ (stored new : List (List Cell)) (places : List ℕ) (cell : Cell) (stor
         (λ k h. new_line k h ∙ ap (λ w. replicate w cell) (store.grid.well_formed.width k (rw n h))
         ∙ sym (get_or-replicate (length page) k (replicate (length (line_at page 0)) cell) [] (rw n h)))
 
--- the lines after a call on the whole store
+-- the lines after a call on all stored lines
 pub kept_store : (new items : List (List Cell)) (len : ℕ) (places : List ℕ) → length new ≡ len → IsStore new places
     → IsStore (take len (new ++ drop (length new) items)) places
 kept_store new items len places n store = rw (take_at new (drop (length new) items) len n) store

@@ -1,4 +1,4 @@
--- A write to a stored line is a write to its line of the page.
+-- Writing to a stored line writes to its line of the page.
 use Rattle.std.proofs.Common.{◌≡◌, ℕ, ◌<◌, List, [], length, get_or, set, refl, sym, ap, ◌∙◌, subst, ⊎_elim}
 use Rattle.std.proofs.lemmas.List.{ext_get_or, get_or-map, length-map, length-set, get_or-set_same, get_or-set_other}
 use Rattle.std.proofs.lemmas.List.{get_or_default}
@@ -48,7 +48,7 @@ lines_in_order-set stored places k line are within =
     ∙ line_at-lines_in_order stored places j inside))
     (cases_eq j k))
 
--- a store that shows another page
+-- stored lines that make another page
 pub IsStore-is : (stored : List (List Cell)) (places : List ℕ) (page : List (List Cell))
     → ArePlaces (length stored) places → lines_in_order stored places ≡ page → IsGrid page → IsStore stored places
 IsStore-is stored places page are is grid = record { places_apart = are; grid = subst IsGrid (sym is) grid }
@@ -78,7 +78,7 @@ module _ (stored : List (List Cell)) (places : List ℕ) (store : IsStore stored
   places_kept : (line : List Cell) → ArePlaces (length (set stored place line)) places
   places_kept line = subst (λ n. ArePlaces n places) (sym (length-set stored place line)) store.places_apart
 
-  -- an edit of a stored line is an edit of its line
+  -- an edit of a stored line is an edit of its line of the page
   pub edited_page : (source : List Cell → ℕ → Source) (old new : List Cell) → old ≡ get_or stored place old
       → new ≡ cells_from (source old) old
       → lines_in_order (set stored place new) places ≡ page_from (edited k (source (line_at page k))) page

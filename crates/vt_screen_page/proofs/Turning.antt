@@ -1,4 +1,4 @@
--- Scrolls: some stored lines become blank, and the places go round.
+-- Scrolls: some stored lines become blank, and the places are rotated.
 use Rattle.std.proofs.Common.{◌≡◌, ℕ, ◌+◌, ◌-◌, ◌<◌, ◌≤◌, true, false, leb, List, length, get_or, replicate, refl, sym}
 use Rattle.std.proofs.Common.{ap, ◌∙◌, ◌⊎◌, inl, inr, subst, arith, ⊎_elim}
 use Rattle.std.proofs.lemmas.Bool.{cases_lt}
@@ -33,7 +33,7 @@ same_origin top bottom count k j from order room a b = omega arith
 
 module _ (old new : List ℕ) (top bottom count : ℕ) (order : top ≤ bottom) (inside : bottom < length old)
     (room : count ≤ bottom + 1 - top) (turned : IsTurned top bottom count old new) where
-  -- the place in the old list of a new one
+  -- where a place of the new list was in the old one
   record Origins (k : ℕ) : Type 0 where
     from : ℕ
     comes : ComesFrom top bottom count k from
@@ -158,7 +158,7 @@ module _ (stored cleared : List (List Cell)) (places turned : List ℕ) (top bot
         (subst (λ n. ArePlaces n places) (sym size) store.places_apart))
         is (IsGrid-page_from origin page store.grid)
 
-  -- down by a count: the others go up
+  -- down by a count: the other lines go up
   pub scrolled_down_is : (count : ℕ) → count ≤ bottom + 1 - top
       → IsTurned top bottom (bottom + 1 - top - count) places turned
       → ((k : ℕ) → top + (bottom + 1 - top - count) ≤ k → k ≤ bottom → Blanked stored cleared places k)
@@ -193,7 +193,7 @@ module _ (stored cleared : List (List Cell)) (places turned : List ℕ) (top bot
       (cases_lt bottom k))
       (cases_lt k top))
 
--- places that went round, as a list
+-- places that were rotated, as a list
 pub turned_is : (top bottom count : ℕ) (old new : List ℕ) → top ≤ bottom → bottom < length old
     → count ≤ bottom + 1 - top → IsTurned top bottom count old new → new ≡ turned top bottom count old
 turned_is top bottom count old new order inside room is =

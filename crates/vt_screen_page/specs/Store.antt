@@ -1,4 +1,5 @@
--- The lines of a page lie in a store in any order: the places say where each line of the page is.
+-- The lines of a page are stored in any order. The places say which stored line is which line of
+-- the page.
 use Rattle.std.specs.Prelude.{◌≡◌, ◌≢◌, ℕ, ◌+◌, ◌-◌, ◌<◌, ◌≤◌, cond, nat_le, List, map, length}
 use Rattle.std.specs.Prelude.{replicate, slice_index}
 use Rattle.std.specs.List.{range_with_len}
@@ -7,21 +8,21 @@ use Rattle.cells.specs.Moves.{is_between}
 use Rattle.cells.specs.Line.{blank}
 use Rattle.cells.specs.Page.{line_at, IsGrid}
 
--- the lines in the order of their places
+-- the stored lines in the order of the page
 abbrev pub lines_in_order : List (List Cell) → List ℕ → List (List Cell)
 lines_in_order stored places = map (λ place. line_at stored place) places
 
--- the lines of a page, and the stored line that holds each
+-- the lines of a page, and for each the number of its stored line
 pub record Placed : Type 0 where
   pub lines : List (List Cell)
   pub places : List ℕ
 
--- so many lines, stored in their order
+-- lines of a page that are stored in their order
 abbrev pub placed_in_order : ℕ → List (List Cell) → Placed
 placed_in_order rows lines = record { lines = lines; places = range_with_len 0 rows }
 
--- the place that a line's place was before: those from top to bottom went round, the first count of
--- them come last
+-- where a place was before: those from top to bottom were rotated, so that the first count of them
+-- come last
 abbrev pub turned_from : ℕ → ℕ → ℕ → ℕ → ℕ
 turned_from top bottom count line =
     cond (is_between top bottom line)
@@ -33,18 +34,18 @@ turned top bottom count places =
     map (λ line. slice_index places (turned_from top bottom count line))
     (range_with_len 0 (length places))
 
--- places in the store, no two alike
+-- numbers of stored lines, no two alike
 pub record ArePlaces (size : ℕ) (places : List ℕ) : Type 0 where
   pub inside : (k : ℕ) → k < length places → slice_index places k < size
   pub apart : (k j : ℕ) → k < length places → j < length places
       → slice_index places k ≡ slice_index places j → k ≡ j
 
--- a store whose lines make a grid in the order of their places
+-- stored lines that make a grid in the order of their places
 pub record IsStore (stored : List (List Cell)) (places : List ℕ) : Type 0 where
   pub places_apart : ArePlaces (length stored) places
   pub grid : IsGrid (lines_in_order stored places)
 
--- the places from top to bottom went round: the first count of them come last
+-- the places from top to bottom were rotated: the first count of them come last
 pub record IsTurned (top bottom count : ℕ) (old new : List ℕ) : Type 0 where
   pub size : length new ≡ length old
   pub above : (k : ℕ) → k < top → slice_index new k ≡ slice_index old k
@@ -54,7 +55,7 @@ pub record IsTurned (top bottom count : ℕ) (old new : List ℕ) : Type 0 where
       → slice_index new k ≡ slice_index old (k + count - (bottom + 1 - top))
   pub below : (k : ℕ) → bottom < k → slice_index new k ≡ slice_index old k
 
--- the lines at the places are blank, and the others as they were
+-- the stored lines at the places are blank, and the others stay
 pub record AreCleared (old new : List (List Cell)) (places : List ℕ) : Type 0 where
   pub size : length new ≡ length old
   pub width : (place : ℕ) → length (line_at new place) ≡ length (line_at old place)

@@ -1,4 +1,4 @@
-//! The page of a screen: lines that are scrolled by moving their places, and no cells.
+//! The page of a screen. A scroll moves the places of lines and no cells.
 #![tactic(auto)]
 
 mod page;

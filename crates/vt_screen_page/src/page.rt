@@ -17,8 +17,9 @@ use scrollback::Ring;
 use std::alloc::{AllocError, Global};
 use std::marker::Model;
 
-/// A page of 2 to 200 lines of 2 to 300 cells, in which halves of wide characters are paired. Lines
-/// and columns count from 0. A scroll moves no cells. `new` and changes of size alone take memory.
+/// A page of 2 to 200 lines of 2 to 300 cells, in which the halves of wide characters are paired.
+/// Lines and columns count from 0. A scroll moves no cells. Only `new` and changes of size need
+/// memory.
 #[derive(Drop)]
 pub struct Page {
     alloc: Global,
@@ -40,7 +41,8 @@ impl Model for Page {
 }
 
 impl Page {
-    /// A page of blanks. It is `BadSize` outside 2 to 200 lines by 2 to 300 columns.
+    /// Makes a page of blanks. `BadSize` if the size isn't 2 to 200 lines by 2 to 300 columns,
+    /// `NoMemory` if memory is refused.
     pub fn new(alloc: Global, rows: usize, columns: usize) -> Result<Page, GridFault>
         ensures ok { IfOk result
             (λ page. page ≡ placed_in_order rows (replicate rows (replicate columns blank))) }
@@ -70,7 +72,7 @@ impl Page {
         })
     }
 
-    /// The number of its lines.
+    /// The number of lines.
     pub fn rows(&self) -> usize
         ensures value { result ≡ length self.now.lines }
         ensures grid { IsGrid self.now.lines }
@@ -78,14 +80,14 @@ impl Page {
         self.places.len()
     }
 
-    /// The number of cells of each line.
+    /// The number of columns.
     pub fn columns(&self) -> usize
         ensures { result ≡ length (line_at self.now.lines 0) }
     {
         self.stored[self.places[0] as usize].width()
     }
 
-    /// The cells of a line, from the left.
+    /// The cells of a line, from left to right.
     pub fn row(&self, line: usize) -> &[Cell]
         requires { line < length self.now.lines }
         ensures { result.now ≡ line_at self.now.lines line }
@@ -93,7 +95,7 @@ impl Page {
         self.stored[self.places[line] as usize].cells()
     }
 
-    /// The stored line that holds a line of the page. No memory is taken.
+    /// The number of the stored line that holds a line of the page. It needs no memory.
     pub fn place(&self, line: usize) -> usize
         requires { line < length self.now.lines }
         ensures value { result ≡ slice_index self.now.places line }
@@ -103,7 +105,7 @@ impl Page {
         self.places[line] as usize
     }
 
-    /// Puts blanks into a line, and lets its old cells from `rest` on follow them.
+    /// Puts `count` blanks into a line at `at`; its old cells from `rest` on follow them.
     pub fn splice(&mut self, line: usize, at: usize, count: usize, rest: usize)
         requires line_inside { line < length self.old.lines }
         requires order { at ≤ rest }
@@ -118,7 +120,7 @@ impl Page {
         self.stored[place as usize].splice(at, count, rest);
     }
 
-    /// Puts a cell of width 1 into a line, and lets its old cells from `rest` on follow it.
+    /// Puts a cell of width 1 into a line at `at`; its old cells from `rest` on follow it.
     pub fn put_narrow(&mut self, line: usize, at: usize, cell: Cell, rest: usize)
         requires line_inside { line < length self.old.lines }
         requires order { at ≤ rest }
@@ -132,7 +134,8 @@ impl Page {
         self.stored[place as usize].put_narrow(at, cell, rest);
     }
 
-    /// Puts the halves of a wide character into a line; its old cells from `rest` on follow them.
+    /// Puts both halves of a wide character into a line at `at`; its old cells from `rest` on
+    /// follow them.
     pub fn put_wide(&mut self, line: usize, at: usize, left: Cell, right: Cell, rest: usize)
         requires line_inside { line < length self.old.lines }
         requires order { at ≤ rest }
@@ -148,8 +151,8 @@ impl Page {
         self.stored[place as usize].put_wide(at, left, right, rest);
     }
 
-    /// Puts a run of characters of width 1 into a line, in place of as many old cells: `codes` has
-    /// their code points. What is torn at either end becomes blank.
+    /// Puts characters of width 1 over as many old cells of a line. `codes` has their code points.
+    /// An old half that loses its other half becomes blank.
     pub fn put_run(
         &mut self,
         line: usize,
@@ -169,7 +172,8 @@ impl Page {
         self.stored[place as usize].put_run(at, codes, rendition, is_protected);
     }
 
-    /// The same as `put_run`, of characters.
+    /// Puts characters of width 1, from all of Unicode, over as many old cells of a line. An old
+    /// half that loses its other half becomes blank.
     pub fn put_letters(
         &mut self,
         line: usize,
@@ -189,7 +193,8 @@ impl Page {
         self.stored[place as usize].put_letters(at, letters, rendition, is_protected);
     }
 
-    /// The same of characters of width 2, in place of twice as many old cells.
+    /// Puts characters of width 2 over twice as many old cells of a line. An old half that loses
+    /// its other half becomes blank.
     pub fn put_wide_run(
         &mut self,
         line: usize,
@@ -209,7 +214,7 @@ impl Page {
         self.stored[place as usize].put_wide_run(at, characters, rendition, is_protected);
     }
 
-    /// Erases the cells of a line from `from` on and below `end`, but for protected ones.
+    /// Erases the unprotected cells of a line from `from` up to but not including `end`.
     pub fn erase_unprotected(&mut self, line: usize, from: usize, end: usize)
         requires line_inside { line < length self.old.lines }
         requires order { from ≤ end }
@@ -222,7 +227,7 @@ impl Page {
         self.stored[place as usize].erase_unprotected(from, end);
     }
 
-    /// Lets a mark join the cell of a place, which drops it where it has two.
+    /// Adds a mark to the cell at a place. A cell with two marks drops it.
     pub fn mark(&mut self, line: usize, column: usize, mark: char)
         requires line_inside { line < length self.old.lines }
         requires inside { column < length (line_at self.old.lines line) }
@@ -233,7 +238,7 @@ impl Page {
         self.stored[place as usize].mark(column, mark);
     }
 
-    /// Makes the lines from `first` on and below `end` blank.
+    /// Blanks the lines from `first` up to but not including `end`.
     pub fn erase_lines(&mut self, first: usize, end: usize)
         requires order { first ≤ end }
         requires inside { end ≤ length self.old.lines }
@@ -248,7 +253,7 @@ impl Page {
         );
     }
 
-    /// Makes the whole page blank.
+    /// Blanks the whole page.
     pub fn clear(&mut self)
         ensures lines { self.new.lines ≡ replicate (length self.old.lines)
             (replicate (length (line_at self.old.lines 0)) blank) }
@@ -257,7 +262,7 @@ impl Page {
         store::fill_all(self.stored.as_mut_slice(), Cell::BLANK);
     }
 
-    /// Puts the same cell, of width 1, at every place.
+    /// Puts a copy of one cell, of width 1, at every place.
     pub fn fill(&mut self, cell: Cell)
         requires narrow { cell.shape ≡ Shape.Narrow }
         ensures lines { self.new.lines ≡ page_from (filled cell) self.old.lines }
@@ -266,7 +271,8 @@ impl Page {
         store::fill_all(self.stored.as_mut_slice(), cell);
     }
 
-    /// Scrolls the lines from `top` to `bottom` up by `count`.
+    /// Moves the lines from `top` to `bottom` up by `count`. Lines that leave are lost, and blank
+    /// ones come in at the bottom.
     pub fn scroll_up(&mut self, top: usize, bottom: usize, count: usize)
         requires order { top ≤ bottom }
         requires inside { bottom < length self.old.lines }
@@ -283,7 +289,8 @@ impl Page {
         );
     }
 
-    /// Scrolls the lines from `top` to `bottom` down by `count`.
+    /// Moves the lines from `top` to `bottom` down by `count`. Lines that leave are lost, and blank
+    /// ones come in at the top.
     pub fn scroll_down(&mut self, top: usize, bottom: usize, count: usize)
         requires order { top ≤ bottom }
         requires inside { bottom < length self.old.lines }
@@ -301,7 +308,8 @@ impl Page {
         );
     }
 
-    /// Scrolls the lines down to `bottom` up by one. The first line goes into the scrollback.
+    /// Moves the lines from the first one to `bottom` up by one. The first line goes into the
+    /// scrollback, and a blank one comes in at the bottom.
     pub fn scroll_into(&mut self, ring: &mut Ring, bottom: usize)
         requires inside { bottom < length self.old.lines }
         requires width { ring.old.columns ≡ length (line_at self.old.lines 0) }
@@ -318,7 +326,9 @@ impl Page {
         );
     }
 
-    /// The same, with a run of characters of width 1 in the first columns of the new line.
+    /// Moves the lines from the first one to `bottom` up by one. The first line goes into the
+    /// scrollback, and the new line at the bottom begins with characters of width 1: `codes` has
+    /// their code points.
     #[inline(always)]
     pub fn scroll_in_run(&mut self, ring: &mut Ring, bottom: usize, codes: &[u8])
         requires inside { bottom < length self.old.lines }
@@ -341,8 +351,9 @@ impl Page {
         );
     }
 
-    /// The page in another size. It keeps the upper left part: what is added is blank, and so is a
-    /// half that is cut off from its other half. It is `BadSize` as in `new`.
+    /// Copies the page in another size. It keeps the upper left part; new places are blank, and so
+    /// is a half that is cut off from its other half. `BadSize` if the size isn't 2 to 200 lines by
+    /// 2 to 300 columns, `NoMemory` if memory is refused.
     pub fn with_size(&self, rows: usize, columns: usize) -> Result<Page, GridFault>
         ensures ok { IfOk result
             (λ page. page ≡ placed_in_order rows (page_resized rows columns self.now.lines)) }
@@ -378,7 +389,9 @@ impl Page {
         })
     }
 
-    /// Gives the page another size, as `with_size`. A refusal leaves it as it was.
+    /// Changes the size. The page keeps its upper left part; new places are blank, and so is a half
+    /// that is cut off from its other half. `BadSize` if the size isn't 2 to 200 lines by 2 to 300
+    /// columns, `NoMemory` if memory is refused; the page then stays as it was.
     pub fn resized(&mut self, rows: usize, columns: usize) -> Result<(), GridFault>
         ensures ok { OnOk result
             (self.new ≡ placed_in_order rows (page_resized rows columns self.old.lines)) }

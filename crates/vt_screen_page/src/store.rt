@@ -1,4 +1,4 @@
-//! Work on the stored lines of a page and on their places.
+//! The stored lines of a page and their places.
 
 ghost use Rattle.std.specs.Prelude.{◌≡◌, ℕ, ◌+◌, ◌-◌, ◌<◌, ◌≤◌, ◌++◌, length, map, replicate};
 ghost use Rattle.std.specs.Prelude.{IfOk, drop, false, slice_index, take};
@@ -14,7 +14,7 @@ use cells::{Cell, Line, Shape};
 use scrollback::Ring;
 use std::alloc::{AllocError, Global};
 
-/// Lets the places from `top` to `bottom` go round, so that the first `count` of them come last.
+/// Rotates the places from `top` to `bottom`, so that the first `count` of them come last.
 pub fn turn(places: &mut [u8], top: usize, bottom: usize, count: usize)
     requires order { top ≤ bottom }
     requires inside { bottom < length places.old }
@@ -30,8 +30,9 @@ pub fn turn(places: &mut [u8], top: usize, bottom: usize, count: usize)
     rotate(&mut places[top..bottom + 1], count);
 }
 
-// The library's `rotate_left` clears 4 KB of room each time.
-/// Lets the first `count` of some places come last: turned round in two parts, and then as a whole.
+// The library's `rotate_left` clears 4 KB of memory at each call.
+/// Rotates places so that the first `count` of them come last: it reverses two parts, and then the
+/// whole.
 fn rotate(places: &mut [u8], count: usize)
     requires { count ≤ length places.old }
     ensures { places.new ≡ drop count places.old ++ take count places.old }
@@ -41,7 +42,7 @@ fn rotate(places: &mut [u8], count: usize)
     places.reverse();
 }
 
-/// Makes the lines at some places blank.
+/// Blanks the stored lines at some places.
 pub fn clear_lines(stored: &mut [Line], places: &[u8])
     requires { (k : ℕ) → k < length places.now → slice_index places.now k < length stored.old }
     ensures { AreCleared stored.old stored.new places.now }
@@ -51,7 +52,7 @@ pub fn clear_lines(stored: &mut [Line], places: &[u8])
     }
 }
 
-/// Makes the lines of the page from `first` on and below `end` blank.
+/// Blanks the lines of the page from `first` up to but not including `end`.
 pub fn erase_lines(stored: &mut [Line], places: &[u8], first: usize, end: usize)
     requires store { IsStore stored.old places.now }
     requires order { first ≤ end }
@@ -63,7 +64,8 @@ pub fn erase_lines(stored: &mut [Line], places: &[u8], first: usize, end: usize)
     clear_lines(stored, &places[first..end]);
 }
 
-/// Scrolls the lines of the page from `top` to `bottom` up by `count`.
+/// Moves the lines of the page from `top` to `bottom` up by `count`; blank lines come in at the
+/// bottom.
 pub fn scroll_up(stored: &mut [Line], places: &mut [u8], top: usize, bottom: usize, count: usize)
     requires store { IsStore stored.old places.old }
     requires order { top ≤ bottom }
@@ -78,7 +80,8 @@ pub fn scroll_up(stored: &mut [Line], places: &mut [u8], top: usize, bottom: usi
     turn(places, top, bottom, count);
 }
 
-/// Scrolls the lines of the page from `top` to `bottom` down by `count`.
+/// Moves the lines of the page from `top` to `bottom` down by `count`; blank lines come in at the
+/// top.
 pub fn scroll_down(stored: &mut [Line], places: &mut [u8], top: usize, bottom: usize, count: usize)
     requires store { IsStore stored.old places.old }
     requires order { top ≤ bottom }
@@ -94,8 +97,8 @@ pub fn scroll_down(stored: &mut [Line], places: &mut [u8], top: usize, bottom: u
     turn(places, top, bottom, kept);
 }
 
-/// Scrolls the lines of the page from the first one to `bottom` up by one, the first one into a
-/// ring, which hands a line back that becomes the blank one.
+/// Moves the lines of the page from the first one to `bottom` up by one. The first line goes into a
+/// ring, which returns a line for reuse as the blank one at the bottom.
 pub fn scroll_into(stored: &mut [Line], places: &mut [u8], ring: &mut Ring, bottom: usize)
     requires store { IsStore stored.old places.old }
     requires inside { bottom < length places.old }
@@ -115,7 +118,8 @@ pub fn scroll_into(stored: &mut [Line], places: &mut [u8], ring: &mut Ring, bott
     turn(places, 0, bottom, 1);
 }
 
-/// The same, where a run of characters of width 1 takes the first columns of the new line.
+/// Moves the lines of the page from the first one to `bottom` up by one, the first line into a
+/// ring. The new line at the bottom begins with characters of width 1.
 #[inline(always)]
 pub fn scroll_in_run(
     stored: &mut [Line],
@@ -145,7 +149,7 @@ pub fn scroll_in_run(
     turn(places, 0, bottom, 1);
 }
 
-/// Makes every cell of every line the same one, of width 1.
+/// Puts a copy of one cell, of width 1, in every column of every line.
 pub fn fill_all(stored: &mut [Line], cell: Cell)
     requires narrow { cell.shape ≡ Shape.Narrow }
     ensures { stored.new ≡ map (λ line. replicate (length line) cell) stored.old }
@@ -155,7 +159,7 @@ pub fn fill_all(stored: &mut [Line], cell: Cell)
     }
 }
 
-/// The places of so many lines in the order of the store.
+/// The places of `rows` lines that are stored in their order. `NoMemory` if memory is refused.
 pub fn places_in_order(alloc: Global, rows: usize) -> Result<Vec<u8>, AllocError>
     requires { rows ≤ 256 }
     ensures { IfOk result (λ places. places.items ≡ range_with_len 0 rows) }
@@ -167,7 +171,7 @@ pub fn places_in_order(alloc: Global, rows: usize) -> Result<Vec<u8>, AllocError
     Ok(places)
 }
 
-/// A line of a page in another width, or a blank one below the last.
+/// A line of a page in another width, or a blank line below the last one.
 fn resized_line(
     alloc: Global,
     stored: &[Line],
@@ -186,7 +190,7 @@ fn resized_line(
     }
 }
 
-/// The lines of a page of another size, in their order.
+/// The lines of a page in another size, in their order.
 pub fn resized_lines(
     alloc: Global,
     stored: &[Line],

@@ -14,7 +14,7 @@ use Rattle.unicode_width.proofs.KindLemmas.{kind_number_stepped}
 use Rattle.unicode_width.proofs.WidthLemmas.{alone-small}
 use Rattle.vt_screen_rows.specs.Runs.{IsWide}
 
--- the steps give one value between two bounds
+-- the width table gives one value between two bounds
 unfoldable all_are : ℕ → ℕ → ℕ → List (Step ℕ) → Bool
 all_are low high v [] = false
 all_are low high v (s ∷ ss) =

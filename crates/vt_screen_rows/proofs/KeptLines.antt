@@ -1,4 +1,4 @@
--- The scrollback, whose newest line is the last one of a ring and the first one of a screen.
+-- The scrollback: its newest line is the last one of a ring and the first one of a screen.
 use Rattle.std.proofs.Common.{◌≡◌, ℕ, ◌-◌, ◌<◌, ◌≤◌, List, [], ◌∷◌, ◌++◌, length, take, drop, map, reverse, refl, sym}
 use Rattle.std.proofs.Common.{ap, ◌∙◌, arith, ⊎_elim}
 use Rattle.std.proofs.lemmas.List.{map-append, take_all, take-append-le, take-append-drop, reverse-append}
@@ -8,7 +8,7 @@ use Rattle.std.proofs.lemmas.Bool.{cases_lt}
 use Rattle.circular_buffer.specs.Buffer.{keep_last}
 use Rattle.scrollback.proofs.Lasts.{keep_all}
 
--- the last ones come first in reverse
+-- the last items come first in reverse order
 pub reverse-keep_last : {X : Type 0} (n : ℕ) (xs : List X) → reverse (keep_last n xs) ≡ take n (reverse xs)
 reverse-keep_last {X} n xs =
     let k : ℕ = length xs - n in

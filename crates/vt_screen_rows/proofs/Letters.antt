@@ -1,4 +1,5 @@
--- The characters from U+00A0 on stand for themselves; to U+02FF they take one column each, but for the soft hyphen.
+-- The characters from U+00A0 on stand for themselves. Those to U+02FF take one column each, except
+-- for the soft hyphen.
 use Rattle.std.proofs.Common.{◌≡◌, ℕ, zero, suc, ◌+◌, ◌<◌, ◌≤◌, Bool, true, false, ◌&&◌, ◌||◌, Option, Some, None, List}
 use Rattle.std.proofs.Common.{[], ◌∷◌, refl, sym, ap, ◌∙◌, arith, ⊎_elim, eqb, cond}
 use Rattle.std.proofs.lemmas.Bool.{cases_lt, ne_eqb, eqb-true}
@@ -28,7 +29,7 @@ abbrev is_one : Option ℕ → Bool
 is_one None = false
 is_one (Some n) = eqb n 1
 
--- so many characters from one on
+-- a number of characters from one on
 abbrev are_narrow : ℕ → ℕ → Bool
 are_narrow zero c = true
 are_narrow (suc n) c = (eqb c 0xAD || is_one (char_width false c)) && are_narrow n (c + 1)
@@ -37,7 +38,7 @@ one_is : (w : Option ℕ) → is_one w ≡ true → w ≡ Some 1
 one_is None h = cc
 one_is (Some n) h = ap Some (eqb-true n 1 h)
 
--- the characters between two bounds, but for the soft hyphen
+-- the characters between two bounds, without the soft hyphen
 abbrev IsNarrow : ℕ → ℕ → Type 0
 IsNarrow low high = (c : ℕ) → low ≤ c → c < high → (c ≡ 0xAD → ⊥) → char_width false c ≡ Some 1
 
@@ -230,7 +231,7 @@ beyond_places s c places low =
     ap (λ (b : Bool). wrapped_places b s places) (wrapped_still (columns_of c) s (record s.shifts { single = None }))
     ∙ ap (λ (o : Option ℕ). printed_places o s places) (sym (beyond_mapped s.shifts c low))
 
--- letters, those of 20 to 7E among them
+-- letters, also those of 20 to 7E
 pub graphic : (c : ℕ) → is_letter c ≡ true → is_graphic (Code c) ≡ true
 graphic c h = grind (arith, nat_tests)
 

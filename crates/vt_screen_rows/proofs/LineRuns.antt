@@ -1,4 +1,4 @@
--- A run of characters at the beginning of a line.
+-- A run of characters at the start of a line.
 use Rattle.std.proofs.Common.{◌≡◌, ℕ, ◌+◌, ◌-◌, ◌<◌, ◌≤◌, ◌==◌, Bool, true, false, cond, List, [], ◌∷◌, length, get_or}
 use Rattle.std.proofs.Common.{take, drop, refl, sym, ap, ◌∙◌, arith, eq-eqb}
 use Rattle.std.specs.List.{list_all}
@@ -35,7 +35,7 @@ line_begun x = go x.state.modes.starts_lines
     go true = refl
     go false = refl
 
--- where the page scrolls from its first line on, and the characters have neither rendition nor
+-- if the page scrolls from its first line on, and the characters have neither rendition nor
 -- protection
 pub scrolled_run : (x : Screen) (codes : List ℕ) → IsSound x → ScrollsPlain x.state
     → run_placed codes (wrapped true x) ≡ record x {
@@ -107,7 +107,7 @@ places_after x codes n places =
     (sym (map-append (λ (character : ℕ). Print (Code character)) (take n codes) (drop n codes)))
     ∙ ap (λ (v : List ℕ). all_acted_places x (prints v) places) (take-append-drop n codes)
 
--- one character, where no wrap is due
+-- one character, if no wrap is due
 pub one_placed : (x : Screen) (codes : List ℕ) → TakesRuns x.state → x.state.is_wrap_pending ≡ false
     → list_all is_letter codes ≡ true → 0 < length codes
     → placed_narrow (get_or codes 0 0) x ≡ all_acted x (prints (take 1 codes))

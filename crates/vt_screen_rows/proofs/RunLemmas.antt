@@ -1,4 +1,4 @@
--- Letters that are printed one after another are one run.
+-- Letters printed one after another are one run.
 use Rattle.std.proofs.Common.{◌≡◌, ℕ, zero, suc, ◌+◌, ◌-◌, ◌<◌, ◌≤◌, Bool, true, false, cond, ltb, List, [], ◌∷◌, ◌++◌}
 use Rattle.std.proofs.Common.{length, take, drop, Option, Some, refl, sym, ap, ◌∙◌, subst, arith, lt-ltb}
 use Rattle.std.specs.List.{list_all}
@@ -35,7 +35,7 @@ list_all-drop p zero xs h = h
 list_all-drop p (suc n) [] h = refl
 list_all-drop p (suc n) (x ∷ xs) h = list_all-drop p n xs (both (p x) (list_all p xs) h).1
 
--- one character, in the line that a pending wrap leads to
+-- one character, in the line to which a pending wrap leads
 pub print_is : (x : Screen) (c : ℕ) → TakesRuns x.state → is_letter c ≡ true
     → acted x (Print (Code c)) ≡ placed_narrow c (wrapped x.state.is_wrap_pending x)
 unfolding acted_from
@@ -56,7 +56,7 @@ pub settled-wrapped : (x : Screen) (b : Bool) → x.state.is_wrap_pending ≡ b
 settled-wrapped x true e = refl
 settled-wrapped x false e = e
 
--- a wrap that is due may be done first
+-- a wrap that is due may come first
 pub print_wrapped : (x : Screen) (c : ℕ) → TakesRuns x.state → is_letter c ≡ true
     → acted (wrapped x.state.is_wrap_pending x) (Print (Code c)) ≡ acted x (Print (Code c))
 print_wrapped x c t h =
@@ -91,7 +91,7 @@ print_one x c t settled h =
     (edited s.line (spliced s.column (narrow_cells (c ∷ []) s.rendition s.is_protecting) (s.column + 1) s.columns))
     x.page)) e
 
--- the state behind a first character that isn't the last one of the line
+-- the state after a first character that isn't the last one of its line
 abbrev pub behind_first : State → State
 behind_first s = record s
     { column = s.column + 1; is_wrap_pending = false; joining = Some (record { line = s.line; column = s.column }) }
@@ -116,7 +116,7 @@ last_state s n some =
     let e : s.column + 1 + (n - 1) ≡ s.column + (suc n - 1) = omega arith in
     ap (λ (m : ℕ). advanced (record s { column = m }) 1) e
 
--- a run behind a first character is one run
+-- a first character and a run after it are one run
 run_first : (x : Screen) (c : ℕ) (codes : List ℕ) → IsSound x → 0 < length codes
     → x.state.column + suc (length codes) ≤ x.state.columns
     → run_placed codes (run_placed (c ∷ []) x) ≡ run_placed (c ∷ codes) x
@@ -146,7 +146,7 @@ behind_settled v s e = ap (λ (u : State). u.is_wrap_pending) e
 pub behind_room : (v s : State) (n : ℕ) → v ≡ behind_first s → s.column + suc n ≤ s.columns → v.column + n ≤ v.columns
 behind_room v s n e room = rw e (omega arith)
 
--- characters that have room in the line are a run
+-- characters that fit in the line are a run
 pub run_is : (codes : List ℕ) (x : Screen) → TakesRuns x.state → x.state.is_wrap_pending ≡ false → IsSound x
     → list_all is_letter codes ≡ true → 0 < length codes
     → x.state.column + length codes ≤ x.state.columns → all_acted x (prints codes) ≡ run_placed codes x
@@ -180,7 +180,7 @@ all_acted_fit d later actions fit e ring =
     fit_after d later (all_acted (screen_of d) actions) fit e (all_acted_sound (screen_of d) actions fit.sound)
     (all_acted_columns (screen_of d) actions) ring
 
--- actions behind others
+-- actions after others
 pub all_acted-append : (x : Screen) (a b : List Action) → all_acted x (a ++ b) ≡ all_acted (all_acted x a) b
 all_acted-append x [] b = refl
 all_acted-append x (a ∷ as') b = all_acted-append (acted x a) as' b
@@ -189,7 +189,7 @@ all_acted-append x (a ∷ as') b = all_acted-append (acted x a) as' b
 pub rest_is : (codes : List ℕ) (i : ℕ) → take (length codes - i) (drop i codes) ≡ drop i codes
 rest_is codes i = take_all (length codes - i) (drop i codes) (omega (arith, length-drop i codes))
 
--- so many more of them
+-- the next `n` of them
 pub prints_on : (x : Screen) (codes : List ℕ) (i n : ℕ)
     → all_acted (all_acted x (prints (take n (take (length codes - i) (drop i codes))))) (prints (drop (i + n) codes)) ≡
     all_acted x (prints (drop i codes))

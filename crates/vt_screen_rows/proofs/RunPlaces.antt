@@ -1,4 +1,4 @@
--- A run of characters moves no line, but for the wrap before it.
+-- A run of characters moves no line, except by the wrap before it.
 use Rattle.std.proofs.Common.{◌≡◌, ℕ, suc, ◌+◌, ◌-◌, ◌<◌, ◌≤◌, Bool, true, false, List, [], ◌∷◌, ◌++◌, length, take}
 use Rattle.std.proofs.Common.{drop, Option, refl, sym, ap, ◌∙◌, subst, arith}
 use Rattle.std.specs.List.{list_all}
@@ -20,7 +20,7 @@ use Rattle.vt_screen_rows.specs.Runs.{TakesRuns, prints, run_placed}
 use Rattle.vt_screen_rows.proofs.RunLemmas.{print_wrapped, print_one, first_state, behind_first, behind_settled}
 use Rattle.vt_screen_rows.proofs.RunLemmas.{behind_room, settled-wrapped, takes-wrapped, rest_is}
 
--- one character does the wrap that is pending
+-- one character performs the wrap that is pending
 one_place : (s : State) (c : ℕ) (places : List ℕ) → TakesRuns s → is_letter c ≡ true
     → acted_places s (Print (Code c)) places ≡ wrapped_places s.is_wrap_pending s places
 one_place s c places t h =
@@ -51,7 +51,7 @@ run_places (c ∷ d ∷ more) x places t settled sound h room =
     (subst IsSound first (IsSound-acted x (Print (Code c)) sound)) k.1
     (behind_room y.state s (suc (length more)) state_is room)
 
--- so does a run of them
+-- a run of characters does so too
 pub prints_places : (x : Screen) (codes places : List ℕ) → TakesRuns x.state → list_all is_letter codes ≡ true
     → 0 < length codes → IsSound (wrapped x.state.is_wrap_pending x)
     → (wrapped x.state.is_wrap_pending x).state.column + length codes ≤
@@ -71,13 +71,13 @@ prints_places x (c ∷ codes) places t h some sound room =
     (sym (settled_place w.state c after takes settled k.0))
     ∙ run_places (c ∷ codes) w after takes settled sound h room
 
--- actions behind others
+-- actions after others
 pub all_acted_places-append : (x : Screen) (a b : List Action) (places : List ℕ)
     → all_acted_places x (a ++ b) places ≡ all_acted_places (all_acted x a) b (all_acted_places x a places)
 all_acted_places-append x [] b places = refl
 all_acted_places-append x (a ∷ as') b places = all_acted_places-append (acted x a) as' b (acted_places x.state a places)
 
--- so many more of some characters
+-- the next `n` of some characters
 pub places_on : (x : Screen) (codes : List ℕ) (i n : ℕ) (places : List ℕ)
     → all_acted_places (all_acted x (prints (take n (take (length codes - i) (drop i codes)))))
     (prints (drop (i + n) codes))

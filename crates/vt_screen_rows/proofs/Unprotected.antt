@@ -1,4 +1,4 @@
--- Lines that are erased one after the other, but for protected cells.
+-- Lines whose unprotected cells are erased, one line after the other.
 use Rattle.std.proofs.Common.{◌≡◌, ℕ, ◌+◌, ◌<◌, ◌≤◌, true, false, ◌&&◌, cond, nat_lt, nat_le, List, [], length, set}
 use Rattle.std.proofs.Common.{refl, sym, ap, ◌∙◌, arith, ⊎_elim}
 use Rattle.std.proofs.lemmas.List.{length-set, get_or-set_same, get_or-set_other}
@@ -29,7 +29,7 @@ elsewhere first at line ne = ap (λ b. nat_le first line && b) (⊎_elim
     false = grind (arith, nat_tests) in a ∙ sym b)
     (cases_lt line at))
 
--- no line yet
+-- no line is erased yet
 pub unprotected_none : (page : List (List Cell)) (rows columns first : ℕ) → IsPage rows columns page
     → page_from (unprotected_lines page columns first first) page ≡ page
 unprotected_none page rows columns first is_page =
@@ -42,7 +42,7 @@ unprotected_none page rows columns first is_page =
     (is_page.paired line)
     (λ column. rw outside refl))))
 
--- one line more
+-- one more line is erased
 pub unprotected_more : (page now : List (List Cell)) (rows columns first at : ℕ) → IsPage rows columns page → first ≤ at
     → at < rows
     → now ≡ page_from (unprotected_lines page columns first at) page

@@ -1,9 +1,9 @@
--- Print.
+-- Printing a wide character.
 use Rattle.std.proofs.Common.{◌≡◌, ℕ, false, ◌&&◌, sym, ap, ◌∙◌}
 use Rattle.terminal_model.specs.Screen.{Screen}
 use Rattle.terminal_model.specs.Printing.{lacks_room, placed_wide, wide_or_none, wide_printed, wrapped}
 
--- a wide character that has room where the wrap led
+-- a wide character that has room in the line to which the wrap led
 pub widely_is : (c : ℕ) (x w y : Screen) → w ≡ wrapped (lacks_room x.state && x.state.modes.wraps) x
     → lacks_room w.state ≡ false → y ≡ placed_wide c w → y ≡ wide_printed c x
 widely_is c x w y e room p = p ∙ sym (ap (λ b. wide_or_none b c w) room)

@@ -1,4 +1,4 @@
--- Wide characters that are printed one after another, and have room in the line, are one run.
+-- Wide characters that are printed one after another and fit in the line are one run.
 use Rattle.std.proofs.Common.{◌≡◌, ℕ, suc, ◌+◌, ◌*◌, ◌-◌, ◌<◌, ◌≤◌, Bool, true, false, ◌&&◌, ◌||◌, cond, ltb, List, []}
 use Rattle.std.proofs.Common.{◌∷◌, length, take, get_or, Option, Some, refl, sym, ap, ◌∙◌, subst, arith, lt-ltb}
 use Rattle.std.proofs.lemmas.Bool.{ne_eqb}
@@ -54,7 +54,7 @@ wide_one x c t settled w room =
     (edited s.line (spliced s.column (wide_cells (c ∷ []) s.rendition s.is_protecting) (s.column + 2) s.columns))
     x.page)) e
 
--- the state behind a first character that isn't the last one of the line
+-- the state after a first character that isn't the last one of its line
 abbrev behind_wide : State → State
 behind_wide s = record s
     { column = s.column + 2; is_wrap_pending = false; joining = Some (record { line = s.line; column = s.column }) }
@@ -78,7 +78,7 @@ last_state s n some =
     let e : s.column + 2 + (2 * n - 2) ≡ s.column + (2 * suc n - 2) = omega arith in
     ap (λ (m : ℕ). advanced (record s { column = m }) 2) e
 
--- a run behind a first character is one run
+-- a first character and a run after it are one run
 wides_first : (x : Screen) (c : ℕ) (characters : List ℕ) → IsSound x → 0 < length characters
     → x.state.column + 2 * suc (length characters) ≤ x.state.columns
     → wides_placed characters (wides_placed (c ∷ []) x) ≡ wides_placed (c ∷ characters) x
@@ -112,7 +112,7 @@ room_behind v s n e room = rw e (omega arith)
 later_wide : (c : ℕ) (characters : List ℕ) → AreWide (c ∷ characters) → AreWide characters
 later_wide c characters wide = λ k h. wide (suc k) (omega arith)
 
--- wide characters that have room in the line are a run
+-- wide characters that fit in the line are a run
 pub wides_run : (characters : List ℕ) (x : Screen) → TakesRuns x.state → x.state.is_wrap_pending ≡ false → IsSound x
     → AreWide characters → 0 < length characters
     → x.state.column + 2 * length characters ≤ x.state.columns
@@ -131,7 +131,7 @@ wides_run (c ∷ d ∷ more) x t settled sound wide some room =
     (room_behind y.state s (suc (length more)) state_is room)
     ∙ wides_first x c (d ∷ more) sound (omega arith) room
 
--- it moves no line
+-- a wide character moves no line if no wrap is pending
 wide_place : (s : State) (c : ℕ) (places : List ℕ) → s.is_wrap_pending ≡ false → IsWide c → s.column + 2 ≤ s.columns
     → acted_places s (Print (Code c)) places ≡ places
 wide_place s c places settled w room =

@@ -27,7 +27,7 @@ fit_after d later x fit e sound w ring = record {
   columns = ring ∙ fit.columns ∙ sym w ∙ sym (ap (λ (y : Screen). y.state.columns) e);
 }
 
--- so is one that went to the next line
+-- a display that went to the next line is fit
 pub next_line_fit : (d later : Display) → IsFit d
     → screen_of later ≡ indexed (with_state (screen_of d) (moved_to d.state d.state.line 0))
     → later.ring.columns ≡ d.ring.columns → IsFit later
@@ -36,13 +36,13 @@ next_line_fit d later fit e ring = fit_after d later
     (indexed (with_state (screen_of d) (moved_to d.state d.state.line 0))) fit e
     (IsSound-acted (screen_of d) NextLine fit.sound) refl ring
 
--- so is one that did an action
+-- a display that performed an action is fit
 pub acted_fit : (d later : Display) (a : Action) → IsFit d → screen_of later ≡ acted (screen_of d) a
     → later.ring.columns ≡ d.ring.columns → IsFit later
 acted_fit d later a fit e ring = fit_after d later (acted (screen_of d) a) fit e
     (IsSound-acted (screen_of d) a fit.sound) (acted_columns (screen_of d) a) ring
 
--- so is a new one
+-- a new display is fit
 pub starting_fit : (d : Display) (rows columns keep : ℕ) → IsGridSize rows columns
     → screen_of d ≡ starting rows columns keep → d.ring.columns ≡ columns → IsFit d
 starting_fit d rows columns keep size e ring = record {
@@ -50,7 +50,7 @@ starting_fit d rows columns keep size e ring = record {
   columns = ring ∙ sym (ap (λ (y : Screen). y.state.columns) e);
 }
 
--- so is one that took another size
+-- a display that took another size is fit
 pub resized_fit : (later : Display) (x : Screen) (rows columns : ℕ) → IsGridSize rows columns → IsSound x
     → screen_of later ≡ resized rows columns x → later.ring.columns ≡ columns → IsFit later
 unfolding resized

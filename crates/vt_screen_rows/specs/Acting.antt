@@ -1,4 +1,4 @@
--- What actions make of a display.
+-- What actions do to a display.
 use Rattle.std.specs.Prelude.{◌≡◌, ℕ, List, []}
 use Rattle.terminal_model.specs.declared.action.Action.{Action}
 use Rattle.terminal_model.specs.declared.state.State.{State}
@@ -8,19 +8,19 @@ use Rattle.vt_screen_rows.specs.declared.display.Display.{Display}
 use Rattle.vt_screen_rows.specs.Displays.{screen_of}
 use Rattle.vt_screen_rows.specs.Places.{acted_places, all_acted_places}
 
--- actions, in turn, made another screen of it
+-- the display after these actions, in turn, shows the screen after them
 abbrev pub ActsByAll : Display → List Action → Display → Type 0
 ActsByAll old actions new = screen_of new ≡ all_acted (screen_of old) actions
 
--- actions, in turn, are answered by nothing
+-- none of these actions, in turn, is answered
 abbrev pub AreUnanswered : Display → List Action → Type 0
 AreUnanswered old actions = all_answered (screen_of old) actions ≡ []
 
--- the places of the page's lines became others
+-- the places of the page's lines changed in this way
 abbrev pub MovesLines : Display → (State → List ℕ → List ℕ) → Display → Type 0
 MovesLines old change new = new.page.places ≡ change old.state old.page.places
 
--- so they did by an action; by actions, in turn
+-- the places changed as the action says; as the actions say, in turn
 abbrev pub MovesLinesBy : Display → Action → Display → Type 0
 MovesLinesBy old action new = new.page.places ≡ acted_places old.state action old.page.places
 

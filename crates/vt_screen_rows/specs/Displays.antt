@@ -1,4 +1,4 @@
--- The screen that a display is.
+-- The screen that a display shows.
 use Rattle.std.specs.Prelude.{◌≡◌, ◌==◌, reverse}
 use Rattle.cells.specs.Page.{page_from}
 use Rattle.cells.specs.Moves.{scrolled_up}
@@ -7,7 +7,7 @@ use Rattle.terminal_model.specs.Screen.{Screen, IsSound}
 use Rattle.terminal_model.specs.Motion.{scrolled_kept}
 use Rattle.vt_screen_rows.specs.declared.display.Display.{Display}
 
--- the scrollback has its newest line last
+-- a display keeps the newest line of its scrollback last, a screen first
 abbrev pub screen_of : Display → Screen
 screen_of d =
     record {
@@ -19,13 +19,13 @@ screen_of d =
       keep = d.ring.keep;
     }
 
--- a sound screen, whose kept lines are as wide as the page
+-- its screen is sound, and its kept lines are as wide as the page
 pub record IsFit (d : Display) : Type 0 where
   pub sound : IsSound (screen_of d)
   pub columns : d.ring.columns ≡ d.state.columns
 
--- the lines of the margins went up by one; a line that goes out at the first line of the page
--- enters the scrollback
+-- the lines of the margins went up by one; a line that leaves at the first line of the page enters
+-- the scrollback
 abbrev pub scrolled : Screen → Screen
 scrolled x =
     let s : State = x.state in

@@ -1,6 +1,5 @@
--- What becomes of the places of a page's lines: index, reverse index, IL and DL let those of the
--- lines that they scroll go round, and so does a wrap; nothing else moves a line to another stored
--- line.
+-- Where the lines of a page are stored afterwards. Index, reverse index, IL, DL and a wrap rotate
+-- the places of the lines that they scroll. Nothing else moves a line to another stored line.
 use Rattle.std.specs.Prelude.{ℕ, ◌+◌, ◌-◌, ◌==◌, min, cond, Bool, List, [], ◌∷◌, Option, Some, None}
 use Rattle.charsets.specs.Shifts.{mapped}
 use Rattle.terminal_model.specs.declared.state.State.{State}
@@ -15,7 +14,8 @@ use Rattle.terminal_model.specs.Erasing.{is_in_margins}
 use Rattle.terminal_model.specs.Table.{acted}
 use Rattle.vt_screen_page.specs.Store.{turned}
 
--- the lines of the margins go up by one in the last of them, and down by one in the first
+-- the places after an index: the lines of the margins go up by one in the last of them; and after a
+-- reverse index: they go down by one in the first of them
 abbrev pub indexed_places : State → List ℕ → List ℕ
 indexed_places s places = cond (s.line == s.bottom) (turned s.top s.bottom 1 places) places
 
@@ -23,7 +23,7 @@ abbrev pub lowered_places : State → List ℕ → List ℕ
 lowered_places s places =
     cond (s.line == s.top) (turned s.top s.bottom (s.bottom + 1 - s.top - 1) places) places
 
--- a wrap that is due
+-- the places after a wrap that is due
 abbrev pub wrapped_places : Bool → State → List ℕ → List ℕ
 wrapped_places is_due s places = cond is_due (indexed_places s places) places
 
@@ -31,7 +31,8 @@ abbrev pub printed_places : Option ℕ → State → List ℕ → List ℕ
 printed_places None s places = places
 printed_places (Some c) s places = wrapped_places (is_wrapped (columns_of c) s) s places
 
--- IL and DL: within the margins the lines from the cursor's to the last one of the margins
+-- the places after IL and DL: within the margins, from the cursor's line to the last line of the
+-- margins
 abbrev pub inserted_places : ℕ → State → List ℕ → List ℕ
 inserted_places n s places =
     cond (is_in_margins s)

@@ -1,4 +1,4 @@
--- Characters that are put one behind another with one edit.
+-- Characters that are put one after another by one edit.
 use Rattle.std.specs.Prelude.{◌≡◌, ℕ, ◌+◌, ◌*◌, ◌-◌, ◌<◌, ◌≤◌, false, List, length, map, None}
 use Rattle.std.specs.Prelude.{slice_index}
 use Rattle.charsets.specs.declared.sets.CharacterSet.TheVariants.{Ascii}
@@ -21,14 +21,13 @@ pub record PrintsAscii (s : State) : Type 0 where
   pub ascii : set_at s.shifts s.shifts.gl ≡ Ascii
   pub unshifted : s.shifts.single ≡ None
 
--- 20 to 7E stand for themselves, and each takes the place of an old cell
+-- 20 to 7E stand for themselves, and each is put over an old cell
 pub record TakesRuns (s : State) : Type 0 where
   pub ascii : set_at s.shifts s.shifts.gl ≡ Ascii
   pub unshifted : s.shifts.single ≡ None
   pub replaces : s.modes.inserts ≡ false
 
--- characters of width 1 take the places of as many cells from the cursor on, which goes behind the
--- last of them
+-- characters of width 1 over as many cells from the cursor on, which goes behind the last of them
 abbrev pub run_placed : List ℕ → Screen → Screen
 run_placed characters x =
     let s : State = x.state in
@@ -40,7 +39,7 @@ run_placed characters x =
           x.page;
     }
 
--- a character of two columns, in no set
+-- a character of two columns that is in no set
 pub record IsWide (character : ℕ) : Type 0 where
   pub beyond : 0xA0 ≤ character
   pub columns : columns_of character ≡ 2
@@ -49,8 +48,8 @@ pub record IsWide (character : ℕ) : Type 0 where
 abbrev pub AreWide : List ℕ → Type 0
 AreWide characters = (k : ℕ) → k < length characters → IsWide (slice_index characters k)
 
--- characters of width 2 take the places of twice as many cells from the cursor on, which goes behind
--- the last of them
+-- characters of width 2 over twice as many cells from the cursor on, which goes behind the last of
+-- them
 abbrev pub wides_placed : List ℕ → Screen → Screen
 wides_placed characters x =
     let s : State = x.state in
@@ -62,7 +61,7 @@ wides_placed characters x =
           x.page;
     }
 
--- an index scrolls the page from its first line on, and what is printed has neither rendition nor
+-- an index scrolls the page from its first line on, and new characters have neither rendition nor
 -- protection
 pub record ScrollsPlain (s : State) : Type 0 where
   pub last : s.line ≡ s.bottom

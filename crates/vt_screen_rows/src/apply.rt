@@ -16,7 +16,7 @@ use vt_screen_state::{
 };
 
 impl Display {
-    /// Does one action, and gives what is answered.
+    /// Performs one action and returns the answer.
     #[inline(always)]
     pub fn apply(&mut self, action: Action) -> Report
         requires fit { IsFit self.old }
@@ -32,7 +32,7 @@ impl Display {
         report
     }
 
-    /// Does one action: one row of the screen table.
+    /// Performs one action, which is one row of the screen table.
     #[inline(always)]
     pub fn apply_row(&mut self, action: Action)
         requires fit { IsFit self.old }

@@ -1,4 +1,4 @@
-//! A page with all that control functions change beside it.
+//! A page with the other parts of a screen that control functions change.
 
 use scrollback::Ring;
 use terminal_model::{Saved, State};

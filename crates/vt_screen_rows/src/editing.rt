@@ -12,7 +12,7 @@ use crate::display::Display;
 use vt_screen_state::{end_after, go_to_first_column, is_in_margins, settle};
 
 impl Display {
-    /// ICH (ECMA-48, 8.3.64): as many blanks come in as there is room for.
+    /// ICH (ECMA-48, 8.3.64): inserts as many blanks at the cursor as there is room for.
     pub fn insert_cells(&mut self, count: usize)
         requires fit { IsFit self.old }
         requires some { 0 < count }
@@ -26,7 +26,7 @@ impl Display {
         settle(&mut self.state);
     }
 
-    /// DCH (ECMA-48, 8.3.26): as many cells go out as there are.
+    /// DCH (ECMA-48, 8.3.26): deletes as many cells at the cursor as there are.
     pub fn delete_cells(&mut self, count: usize)
         requires fit { IsFit self.old }
         requires some { 0 < count }
@@ -40,8 +40,8 @@ impl Display {
         settle(&mut self.state);
     }
 
-    /// IL (ECMA-48, 8.3.67): within the margins blank lines come in at the cursor, which goes to
-    /// the first column; else nothing moves.
+    /// IL (ECMA-48, 8.3.67): within the margins, blank lines come in at the cursor, which goes to
+    /// the first column. Outside of them no line and no cursor moves.
     pub fn insert_lines(&mut self, count: usize)
         requires { IsFit self.old }
         ensures screen { screen_of self.new ≡ acted (screen_of self.old) (InsertLines count) }
@@ -59,8 +59,8 @@ impl Display {
         }
     }
 
-    /// DL (ECMA-48, 8.3.32): within the margins lines go out at the cursor, which goes to the first
-    /// column; else nothing moves.
+    /// DL (ECMA-48, 8.3.32): within the margins, lines go out at the cursor, which goes to the
+    /// first column. Outside of them no line and no cursor moves.
     pub fn delete_lines(&mut self, count: usize)
         requires { IsFit self.old }
         ensures screen { screen_of self.new ≡ acted (screen_of self.old) (DeleteLines count) }

@@ -18,7 +18,7 @@ use vt_screen_page::Page;
 use vt_screen_state::{end_after, end_column, end_line, first_column, first_line, settle};
 
 impl Display {
-    /// EL.
+    /// EL: erases a part of the cursor's line.
     pub fn erase_in_line(&mut self, part: Part)
         requires { IsFit self.old }
         ensures screen { screen_of self.new ≡ acted (screen_of self.old) (EraseInLine part) }
@@ -29,7 +29,7 @@ impl Display {
         settle(&mut self.state);
     }
 
-    /// ED: in the cursor's line as EL, and then the other lines.
+    /// ED: erases a part of the page, in the cursor's line as EL does.
     pub fn erase_in_page(&mut self, part: Part)
         requires { IsFit self.old }
         ensures screen { screen_of self.new ≡ acted (screen_of self.old) (EraseInPage part) }
@@ -43,7 +43,7 @@ impl Display {
         settle(&mut self.state);
     }
 
-    /// ECH.
+    /// ECH: erases `count` cells of the cursor's line from the cursor on, or all that there are.
     pub fn erase_cells(&mut self, count: usize)
         requires fit { IsFit self.old }
         requires some { 0 < count }
@@ -57,7 +57,7 @@ impl Display {
         settle(&mut self.state);
     }
 
-    /// DECSEL.
+    /// DECSEL: erases the unprotected cells of a part of the cursor's line.
     pub fn erase_unprotected_in_line(&mut self, part: Part)
         requires { IsFit self.old }
         ensures screen { screen_of self.new
@@ -69,7 +69,8 @@ impl Display {
         settle(&mut self.state);
     }
 
-    /// DECSED: in the cursor's line as DECSEL, and then the other lines.
+    /// DECSED: erases the unprotected cells of a part of the page, in the cursor's line as DECSEL
+    /// does.
     pub fn erase_unprotected_in_page(&mut self, part: Part)
         requires { IsFit self.old }
         ensures screen { screen_of self.new
@@ -85,7 +86,7 @@ impl Display {
     }
 }
 
-/// Makes the columns from `from` on and below `end` of the cursor's line blank.
+/// Blanks the columns of the cursor's line from `from` up to but not including `end`.
 fn erase_columns(page: &mut Page, state: &State, from: usize, end: usize)
     requires page { IsPage state.now.rows state.now.columns page.old.lines }
     requires line_inside { state.now.line < state.now.rows }
@@ -97,7 +98,7 @@ fn erase_columns(page: &mut Page, state: &State, from: usize, end: usize)
     page.splice(state.line, from, end - from, end);
 }
 
-/// Makes a part of the cursor's line blank.
+/// Blanks a part of the cursor's line.
 fn erase_part(page: &mut Page, state: &State, part: Part)
     requires page { IsPage state.now.rows state.now.columns page.old.lines }
     requires line_inside { state.now.line < state.now.rows }
@@ -111,7 +112,7 @@ fn erase_part(page: &mut Page, state: &State, part: Part)
     erase_columns(page, state, from, end);
 }
 
-/// Makes a part of the cursor's line blank, but for protected cells.
+/// Blanks the unprotected cells of a part of the cursor's line.
 fn erase_unprotected_part(page: &mut Page, state: &State, part: Part)
     requires page { IsPage state.now.rows state.now.columns page.old.lines }
     requires line_inside { state.now.line < state.now.rows }
@@ -125,7 +126,7 @@ fn erase_unprotected_part(page: &mut Page, state: &State, part: Part)
     page.erase_unprotected(state.line, from, end);
 }
 
-/// Makes the lines from `first` on and below `end` blank, but for protected cells.
+/// Blanks the unprotected cells of the lines from `first` up to but not including `end`.
 fn erase_unprotected_lines(page: &mut Page, state: &State, first: usize, end: usize)
     requires page { IsPage state.now.rows state.now.columns page.old.lines }
     requires order { first ≤ end }

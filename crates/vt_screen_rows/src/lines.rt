@@ -1,4 +1,4 @@
-//! Runs of characters at the beginning of a line.
+//! Runs of characters at the start of a line.
 
 ghost use Rattle.std.specs.Prelude.{◌≡◌, ◌<◌, ◌≤◌, ◌∷◌, true, length, take, IsTrue};
 ghost use Rattle.std.specs.List.{list_all};
@@ -17,7 +17,7 @@ use terminal_model::State;
 use vt_screen_state::{advance, go_to_first_column};
 
 impl Display {
-    /// Does CR and LF, and prints characters 20 to 7E: `codes` has their code points.
+    /// Performs CR and LF, and prints the characters 20 to 7E of `codes`.
     pub fn print_line(&mut self, codes: &[u8])
         requires fit { IsFit self.old }
         requires plain { list_all is_plain codes.now ≡ true }
@@ -33,7 +33,8 @@ impl Display {
         }
     }
 
-    /// The same of as many of them as have room in a line, or of none. It gives how many.
+    /// Performs CR and LF, and prints as many of the characters 20 to 7E as there is room for in a
+    /// line, or none of them. Returns how many it printed.
     fn begin_line(&mut self, codes: &[u8]) -> usize
         requires fit { IsFit self.old }
         requires plain { list_all is_plain codes.now ≡ true }
@@ -54,7 +55,7 @@ impl Display {
         count
     }
 
-    /// Goes to the next line, as a wrap does, and puts characters of width 1 at its beginning.
+    /// Goes to the next line, as a wrap does, and puts characters of width 1 at its start.
     #[inline(always)]
     pub fn place_run_below(&mut self, codes: &[u8])
         requires fit { IsFit self.old }
@@ -73,7 +74,8 @@ impl Display {
         }
     }
 
-    /// The same where `scrolls_plain` holds.
+    /// Goes to the next line, as a wrap does, and puts characters of width 1 at its start, if
+    /// `scrolls_plain` holds.
     #[inline(always)]
     fn scroll_in_run(&mut self, codes: &[u8])
         requires fit { IsFit self.old }
@@ -92,7 +94,7 @@ impl Display {
     }
 }
 
-/// Whether an index scrolls the page from its first line on, and what is printed has neither
+/// Whether an index scrolls the page from its first line on, and new characters have neither
 /// rendition nor protection.
 fn scrolls_plain(state: &State) -> bool
     ensures { IsTrue result → ScrollsPlain state.now }

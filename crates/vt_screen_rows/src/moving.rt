@@ -1,4 +1,4 @@
-//! Rows that go to another line, and may scroll.
+//! Rows that go to another line and may scroll.
 
 ghost use Rattle.std.specs.Prelude.{◌≡◌};
 ghost use Rattle.terminal_model.specs.Screen.{with_state};
@@ -14,8 +14,9 @@ use crate::display::Display;
 use vt_screen_state::{go_to_first_column, settle};
 
 impl Display {
-    /// IND (VT220 Programmer Reference Manual, cursor positioning): in the last line of the margins
-    /// the lines of the margins go up by one; else the cursor goes down within the page.
+    /// IND (VT220 Programmer Reference Manual, cursor positioning): in the last line of the
+    /// margins, the lines of the margins go up by one; elsewhere the cursor goes down, within the
+    /// page.
     #[inline(always)]
     pub fn index(&mut self)
         requires { IsFit self.old }
@@ -31,8 +32,8 @@ impl Display {
         settle(&mut self.state);
     }
 
-    /// Scrolls the lines of the margins up by one. A line that goes out at the first line of the
-    /// page enters the scrollback.
+    /// Moves the lines of the margins up by one. A line that leaves at the first line of the page
+    /// enters the scrollback.
     #[inline(never)]
     fn scroll(&mut self)
         requires { IsFit self.old }
@@ -48,7 +49,7 @@ impl Display {
         }
     }
 
-    /// NEL (ECMA-48, 8.3.86): the first column, and an index.
+    /// NEL (ECMA-48, 8.3.86): goes to the first column and performs an index.
     pub fn go_to_next_line(&mut self)
         requires { IsFit self.old }
         ensures screen { screen_of self.new
@@ -61,7 +62,8 @@ impl Display {
         self.index();
     }
 
-    /// LF, VT and FF (ECMA-48, 8.3.74): an index, and with LNM set also the first column.
+    /// LF, VT and FF (ECMA-48, 8.3.74): performs an index, and with LNM set goes to the first
+    /// column too.
     pub fn feed_line(&mut self)
         requires { IsFit self.old }
         ensures screen { screen_of self.new ≡ acted (screen_of self.old) LineFeed }
@@ -75,8 +77,8 @@ impl Display {
         }
     }
 
-    /// RI (ECMA-48, 8.3.104): in the first line of the margins the lines of the margins go down by
-    /// one; else the cursor goes up within the page.
+    /// RI (ECMA-48, 8.3.104): in the first line of the margins, the lines of the margins go down by
+    /// one; elsewhere the cursor goes up, within the page.
     pub fn index_back(&mut self)
         requires { IsFit self.old }
         ensures screen { screen_of self.new ≡ reverse_indexed (screen_of self.old) }

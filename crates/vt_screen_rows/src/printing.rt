@@ -1,4 +1,4 @@
-//! Print.
+//! Printing of single characters.
 
 ghost use Rattle.std.specs.Prelude.{◌≡◌, ◌<◌, ◌+◌, ◌&&◌, Some, IsTrue};
 ghost use Rattle.charsets.specs.declared.unit.Unit.TheVariants.{Code};
@@ -18,11 +18,11 @@ use charsets::Unit;
 use unicode_width::UnicodeWidthChar;
 use vt_screen_state::{advance, following, lacks_room, needs_line, separate};
 
-/// A character of width 0.
+/// A character of width 0 among the letters.
 const SOFT_HYPHEN: char = '\u{AD}';
 
 impl Display {
-    /// Prints a graphic unit, through the sets; a single shift is spent.
+    /// Prints a graphic unit, through the sets; it ends a pending single shift.
     #[inline(always)]
     pub fn print(&mut self, unit: Unit)
         requires { IsFit self.old }
@@ -35,7 +35,7 @@ impl Display {
         }
     }
 
-    /// Prints a character, as `print` of it.
+    /// Prints a character: does what `print` does with it as a unit.
     #[inline(always)]
     pub fn print_code(&mut self, character: char)
         requires { IsFit self.old }
@@ -52,7 +52,7 @@ impl Display {
         }
     }
 
-    /// Prints a character that is in no set: one of width 1, mostly, whose width needn't be looked
+    /// Prints a character that is in no set. Most have width 1, which is known without looking it
     /// up.
     #[inline(always)]
     fn print_beyond(&mut self, character: char)
@@ -84,7 +84,7 @@ impl Display {
         }
     }
 
-    /// Prints a character in two columns.
+    /// Prints a wide character, in two columns.
     #[inline(always)]
     fn print_broad(&mut self, character: char)
         requires { IsFit self.old }
@@ -110,7 +110,7 @@ impl Display {
         self.place_narrow(character);
     }
 
-    /// Prints a character in so many columns: none for a mark.
+    /// Prints a character in `columns` columns; 0 means that it is a mark.
     #[inline(never)]
     fn print_as(&mut self, columns: u8, character: char)
         requires { IsFit self.old }
@@ -131,7 +131,8 @@ impl Display {
         }
     }
 
-    /// A mark joins the cell that was printed last, where nothing came between; else it is dropped.
+    /// Lets a mark join the cell that was printed last. If anything came in between, the mark is
+    /// dropped.
     fn join(&mut self, mark: char)
         requires { IsFit self.old }
         ensures screen { screen_of self.new
@@ -144,7 +145,7 @@ impl Display {
         }
     }
 
-    /// Does a wrap that is due: the first column, and an index.
+    /// Performs a wrap that is due: goes to the first column and performs an index.
     pub fn wrap(&mut self, is_due: bool)
         requires { IsFit self.old }
         ensures screen { screen_of self.new ≡ wrapped is_due (screen_of self.old) }
@@ -172,8 +173,8 @@ impl Display {
         advance(&mut self.state, 1);
     }
 
-    /// A wide character in the last column goes to the next line with ?7 set, and isn't printed
-    /// with ?7 reset.
+    /// Prints a wide character. In the last column it goes to the next line first with ?7 set, and
+    /// isn't printed with ?7 reset.
     #[inline(always)]
     fn print_wide(&mut self, character: char)
         requires { IsFit self.old }
@@ -212,8 +213,8 @@ impl Display {
     }
 }
 
-/// Whether a character is one of U+00A0 to U+02FF, which take one column each, but for the soft
-/// hyphen.
+/// Whether a character is one of U+00A0 to U+02FF without the soft hyphen, which take one column
+/// each.
 #[inline(always)]
 fn is_letter(character: char) -> bool
     ensures columns { IsTrue result → columns_of character ≡ 1 }

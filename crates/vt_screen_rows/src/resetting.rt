@@ -1,4 +1,4 @@
-//! Tab stops, saved places, and rows that make the page anew.
+//! Tab stops, saved places, and rows that reset the page.
 
 ghost use Rattle.std.specs.Prelude.{◌≡◌};
 ghost use Rattle.terminal_model.specs.Table.{acted};
@@ -15,7 +15,8 @@ use vt_screen_state::{
 };
 
 impl Display {
-    /// HT (ECMA-48, 8.3.60): the next tab stop behind the cursor, or else the last column.
+    /// HT (ECMA-48, 8.3.60): moves the cursor to the next tab stop, or to the last column if there
+    /// is none.
     pub fn tab(&mut self)
         requires { IsFit self.old }
         ensures screen { screen_of self.new ≡ acted (screen_of self.old) Tab }
@@ -27,7 +28,7 @@ impl Display {
         move_to(&mut self.state, line, column);
     }
 
-    /// HTS (ECMA-48, 8.3.62): a stop at the cursor's column.
+    /// HTS (ECMA-48, 8.3.62): sets a stop at the cursor's column.
     pub fn set_tab(&mut self)
         requires { IsFit self.old }
         ensures screen { screen_of self.new ≡ acted (screen_of self.old) SetTab }
@@ -38,7 +39,7 @@ impl Display {
         settle(&mut self.state);
     }
 
-    /// TBC 0 (ECMA-48, 8.3.154): no stop at the cursor's column.
+    /// TBC 0 (ECMA-48, 8.3.154): removes the stop at the cursor's column.
     pub fn clear_tab(&mut self)
         requires { IsFit self.old }
         ensures screen { screen_of self.new ≡ acted (screen_of self.old) ClearTab }
@@ -49,7 +50,7 @@ impl Display {
         settle(&mut self.state);
     }
 
-    /// TBC 3 (ECMA-48, 8.3.154): no stop anywhere.
+    /// TBC 3 (ECMA-48, 8.3.154): removes all stops.
     pub fn clear_tabs(&mut self)
         requires { IsFit self.old }
         ensures screen { screen_of self.new ≡ acted (screen_of self.old) ClearTabs }
@@ -60,8 +61,8 @@ impl Display {
         settle(&mut self.state);
     }
 
-    /// DECSC (VT220 Programmer Reference Manual, cursor positioning): the pending wrap is saved,
-    /// and then cleared.
+    /// DECSC (VT220 Programmer Reference Manual, cursor positioning): saves the cursor and its
+    /// settings with the pending wrap, which is then cleared.
     pub fn save(&mut self)
         ensures screen { screen_of self.new ≡ acted (screen_of self.old) Save }
         ensures width { self.new.ring.columns ≡ self.old.ring.columns }
@@ -71,7 +72,7 @@ impl Display {
         settle(&mut self.state);
     }
 
-    /// DECRC (VT220 Programmer Reference Manual, cursor positioning).
+    /// DECRC (VT220 Programmer Reference Manual, cursor positioning): restores what was saved.
     pub fn restore(&mut self)
         requires { IsFit self.old }
         ensures screen { screen_of self.new ≡ acted (screen_of self.old) Restore }
@@ -81,7 +82,8 @@ impl Display {
         restore(&mut self.state, self.saved);
     }
 
-    /// RIS (ECMA-48, 8.3.105): all starting values, and a blank page; coding and scrollback stay.
+    /// RIS (ECMA-48, 8.3.105): sets all starting values and blanks the page; coding and scrollback
+    /// stay.
     pub fn reset(&mut self)
         requires { IsFit self.old }
         ensures screen { screen_of self.new ≡ acted (screen_of self.old) Reset }
@@ -94,7 +96,8 @@ impl Display {
         self.page.clear();
     }
 
-    /// DECSTR (VT220 Programmer Reference Manual, terminal reset).
+    /// DECSTR (VT220 Programmer Reference Manual, terminal reset): resets modes and settings; the
+    /// page and the cursor stay.
     pub fn soft_reset(&mut self)
         requires { IsFit self.old }
         ensures screen { screen_of self.new ≡ acted (screen_of self.old) SoftReset }
@@ -105,7 +108,7 @@ impl Display {
         self.saved = None;
     }
 
-    /// DECALN (VT220 Programmer Reference Manual, tests): every cell is an `E`.
+    /// DECALN (VT220 Programmer Reference Manual, tests): puts an `E` at every place.
     pub fn align(&mut self)
         requires { IsFit self.old }
         ensures screen { screen_of self.new ≡ acted (screen_of self.old) Align }
@@ -117,8 +120,8 @@ impl Display {
         go_home(&mut self.state);
     }
 
-    /// The value ?3 of DECSM and DECRM (VT220 Programmer Reference Manual, DECCOLM): the page is
-    /// blank, and its width stays.
+    /// The value ?3 of DECSM and DECRM (VT220 Programmer Reference Manual, DECCOLM): blanks the
+    /// page, whose width stays.
     pub fn blank_page(&mut self)
         requires { IsFit self.old }
         ensures screen { screen_of self.new ≡ acted (screen_of self.old) BlankPage }

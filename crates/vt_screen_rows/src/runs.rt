@@ -31,7 +31,8 @@ impl Display {
         }
     }
 
-    /// Prints one of some characters 20 to 7E, or as many as have room in a line. It gives how many.
+    /// Prints the first of some characters 20 to 7E, or as many as there is room for in the line.
+    /// Returns how many, at least 1.
     fn print_some(&mut self, codes: &[u8]) -> usize
         requires fit { IsFit self.old }
         requires plain { list_all is_plain codes.now ≡ true }
@@ -73,7 +74,8 @@ impl Display {
         }
     }
 
-    /// Prints one of some characters, or as many wide ones as have room. It gives how many.
+    /// Prints the first of some characters, or as many wide ones as there is room for in the line.
+    /// Returns how many, at least 1.
     fn print_some_characters(&mut self, characters: &[char]) -> usize
         requires fit { IsFit self.old }
         requires some { 0 < length characters.now }
@@ -92,8 +94,8 @@ impl Display {
         count
     }
 
-    /// How many wide characters at the front have room in the cursor's line, where they can be put in
-    /// it as they are.
+    /// The number of wide characters at the front that fit in the cursor's line and can be put
+    /// there as they are; 0 if a wrap is due or the old cells move.
     fn wide_count(&self, characters: &[char]) -> usize
         requires { IsFit self.now }
         ensures runs { 0 < result → TakesRuns self.now.state }
@@ -108,7 +110,7 @@ impl Display {
         wide_front(characters, (self.state.columns - self.state.column) / 2)
     }
 
-    /// Puts characters of width 2 in the cursor's line, in place of twice as many old cells.
+    /// Puts characters of width 2 in the cursor's line, over twice as many old cells.
     fn place_wide_run(&mut self, characters: &[char])
         requires fit { IsFit self.old }
         requires some { 0 < length characters.now }
@@ -142,7 +144,8 @@ impl Display {
         }
     }
 
-    /// The same as `print_some`, of letters.
+    /// Prints the first of some letters, or as many as there is room for in the line. Returns how
+    /// many, at least 1.
     fn print_some_letters(&mut self, letters: &[char]) -> usize
         requires fit { IsFit self.old }
         requires letters { list_all is_letter letters.now ≡ true }
@@ -164,7 +167,7 @@ impl Display {
         count
     }
 
-    /// The same as `place_run`, of letters.
+    /// Puts letters, which have width 1, in the cursor's line, over as many old cells.
     fn place_letters(&mut self, letters: &[char])
         requires fit { IsFit self.old }
         requires some { 0 < length letters.now }
@@ -184,7 +187,8 @@ impl Display {
         advance(&mut self.state, 1);
     }
 
-    /// Puts characters of width 1 in the cursor's line, in place of as many old cells.
+    /// Puts characters of width 1 in the cursor's line, over as many old cells: `codes` has their
+    /// code points.
     pub fn place_run(&mut self, codes: &[u8])
         requires fit { IsFit self.old }
         requires some { 0 < length codes.now }
@@ -205,7 +209,7 @@ impl Display {
     }
 }
 
-/// How many characters at the front are wide, at most so many.
+/// The number of wide characters at the front, at most `most`.
 fn wide_front(characters: &[char], most: usize) -> usize
     ensures wide { (k : ℕ) → k < result → IsWide (slice_index characters.now k) }
     ensures few { result ≤ length characters.now }
@@ -222,8 +226,8 @@ fn wide_front(characters: &[char], most: usize) -> usize
     count
 }
 
-/// Whether a character takes two columns, and goes through no set. Most are ideographs, whose width
-/// needn't be looked up.
+/// Whether a character takes two columns and is in no set. Most are ideographs, which are known
+/// without looking up the width.
 #[inline(always)]
 fn is_wide(character: char) -> bool
     ensures { IsTrue result → IsWide character }
@@ -239,7 +243,7 @@ fn is_ideograph(character: char) -> bool
     '\u{3400}' <= character && character < '\u{A000}'
 }
 
-/// The same as `is_wide`, by the character's width.
+/// Whether a character takes two columns and is in no set, by looking up its width.
 #[inline(never)]
 #[tactic(auto, // its columns, and what is drawn
 unfolding(terminal_model::specs::Printing::columns_of, terminal_model::specs::Printing::drawn))]
@@ -249,21 +253,21 @@ fn is_broad(character: char) -> bool
     '\u{A0}' <= character && character.width() == Some(2)
 }
 
-/// Whether 20 to 7E stand for themselves: GL is ASCII, and no single shift waits.
+/// Whether characters 20 to 7E stand for themselves: GL is ASCII, and no single shift is pending.
 pub fn prints_ascii(state: &State) -> bool
     ensures { IsTrue result ↔ PrintsAscii state.now }
 {
     matches!(set_in_use(&state.shifts), CharacterSet::Ascii) && state.shifts.single.is_none()
 }
 
-/// Whether 20 to 7E stand for themselves, and each takes the place of an old cell.
+/// Whether characters 20 to 7E stand for themselves, and each is put over an old cell.
 pub fn takes_runs(state: &State) -> bool
     ensures { IsTrue result ↔ TakesRuns state.now }
 {
     prints_ascii(state) && !state.modes.inserts
 }
 
-/// The set that 21 to 7E go through, where no single shift waits: mostly that of G0.
+/// The set that 21 to 7E go through if no single shift is pending: mostly that of G0.
 fn set_in_use(shifts: &Shifts) -> CharacterSet
     ensures { result ≡ set_at shifts.now shifts.now.gl }
 {
@@ -273,7 +277,7 @@ fn set_in_use(shifts: &Shifts) -> CharacterSet
     }
 }
 
-/// The same, wherever it is.
+/// The set that 21 to 7E go through if no single shift is pending, in any of the four places.
 #[inline(never)]
 fn other_set(shifts: &Shifts) -> CharacterSet
     ensures { result ≡ set_at shifts.now shifts.now.gl }

@@ -1,4 +1,4 @@
-//! A new display, and a change of size.
+//! New displays, and changes of size.
 
 ghost use Rattle.std.specs.Prelude.{◌≡◌, ◌↔◌, Err, IfOk, OnOk, OnErr};
 ghost use Rattle.std.specs.List.{range_with_len};
@@ -16,7 +16,8 @@ use vt_screen_page::Page;
 use vt_screen_state::{Tabs, fit, fit_saved, starting_state};
 
 impl Display {
-    /// A display as it starts. It is `BadSize` outside 2 to 200 lines by 2 to 300 columns.
+    /// A new display. `BadSize` if the size isn't 2 to 200 lines by 2 to 300 columns, `NoMemory` if
+    /// memory is refused.
     pub fn new(
         alloc: Global,
         rows: usize,
@@ -42,9 +43,10 @@ impl Display {
         }
     }
 
-    /// Takes another size. It keeps the upper left part; the cursor and the saved place go to the
-    /// nearest place, no wrap is pending, and margins and tab stops start anew. It is `BadSize` as
-    /// in `new`; a refusal leaves everything as it was.
+    /// Changes the size. The upper left part stays, the cursor and the saved place go to the
+    /// nearest place, no wrap is pending, and margins and tab stops start anew. `BadSize` if the
+    /// size isn't 2 to 200 lines by 2 to 300 columns, `NoMemory` if memory is refused; everything
+    /// then stays as it was.
     pub fn resized(&mut self, rows: usize, columns: usize) -> Result<(), GridFault>
         ensures ok { OnOk result (screen_of self.new ≡ resized rows columns (screen_of self.old)) }
         ensures width { OnOk result (self.new.ring.columns ≡ columns) }

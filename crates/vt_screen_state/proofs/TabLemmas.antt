@@ -20,7 +20,7 @@ pub taken-clear : (n m : ℕ) (stops tabs : List Bool) → take n stops ≡ tabs
 taken-clear n m stops tabs e h few = take-replicate n m false few
     ∙ ap (λ k. replicate k false) (sym (length-taken n stops tabs e h))
 
--- stops that are the starting ones column by column
+-- stops that are the starting ones, column by column
 pub starting_tabs-is : (n : ℕ) (stops : List Bool) → length stops ≡ n
     → ((k : ℕ) → k < n → get_or stops k false ≡ (not (k == 0) && (k % 8 == 0))) → stops ≡ starting_tabs n
 starting_tabs-is n stops size same =

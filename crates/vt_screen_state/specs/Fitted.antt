@@ -2,8 +2,8 @@
 use Rattle.std.specs.Prelude.{ℕ, ◌-◌, min, false, None}
 use Rattle.terminal_model.specs.declared.state.State.{State}
 
--- the state of a page of another size: the cursor goes to the nearest place, margins start anew, no
--- wrap is pending
+-- the state on a page of another size: the cursor goes to the nearest place, margins start anew, no
+-- wrap is pending, and no cell is there for marks to join
 abbrev pub fitted : ℕ → ℕ → State → State
 fitted rows columns s = record s {
   rows = rows;

@@ -7,15 +7,16 @@ ghost use Rattle.terminal_model.specs.Printing.{advanced, following, lacks_room}
 
 use terminal_model::{Position, State};
 
-/// No mark joins what was printed: so after every function other than print.
+/// Ends the joining of marks: no mark joins the character that was printed last. Every function but
+/// print does this.
 pub fn separate(state: &mut State)
     ensures { state.new ≡ unjoined state.old }
 {
     state.joining = None;
 }
 
-/// No mark joins what was printed, and no wrap is pending: so after every function other than
-/// print, SGR, the shifts and the designations.
+/// Ends the joining of marks and the pending wrap. Every function but print, SGR, the shifts and
+/// the designations does this.
 pub fn settle(state: &mut State)
     ensures { state.new ≡ unpending state.old }
 {
@@ -23,7 +24,7 @@ pub fn settle(state: &mut State)
     state.joining = None;
 }
 
-/// The cursor goes to a place.
+/// Moves the cursor to a place of the page.
 pub fn move_to(state: &mut State, line: usize, column: usize)
     ensures { state.new ≡ moved_to state.old line column }
 {
@@ -32,7 +33,7 @@ pub fn move_to(state: &mut State, line: usize, column: usize)
     settle(state);
 }
 
-/// CR (ECMA-48, 8.3.15): the cursor goes to the first column.
+/// CR (ECMA-48, 8.3.15): moves the cursor to the first column.
 pub fn go_to_first_column(state: &mut State)
     ensures { state.new ≡ moved_to state.old state.old.line 0 }
 {
@@ -40,7 +41,7 @@ pub fn go_to_first_column(state: &mut State)
     move_to(state, line, 0);
 }
 
-/// The cursor goes home: to the page's first place, or to that of the margins with ?6 set (VT220
+/// Moves the cursor home: to the first place of the page, or with ?6 set of the margins (VT220
 /// Programmer Reference Manual, DECOM).
 pub fn go_home(state: &mut State)
     ensures { state.new ≡ home state.old }
@@ -53,8 +54,8 @@ pub fn go_home(state: &mut State)
     move_to(state, line, 0);
 }
 
-/// CUU (ECMA-48, 8.3.22): from within or below the margins at most to their first line, else to the
-/// page's.
+/// CUU (ECMA-48, 8.3.22): moves the cursor up; from within or below the margins at most to their
+/// first line, else at most to the page's.
 pub fn go_up(state: &mut State, count: usize)
     ensures { state.new ≡ moved_to state.old (line_up state.old count) state.old.column }
 {
@@ -68,8 +69,8 @@ pub fn go_up(state: &mut State, count: usize)
     move_to(state, line, column);
 }
 
-/// CUD (ECMA-48, 8.3.19): from within or above the margins at most to their last line, else to the
-/// page's.
+/// CUD (ECMA-48, 8.3.19): moves the cursor down; from within or above the margins at most to their
+/// last line, else at most to the page's.
 pub fn go_down(state: &mut State, count: usize)
     requires line_inside { state.old.line < state.old.rows }
     requires bottom_inside { state.old.bottom < state.old.rows }
@@ -85,7 +86,7 @@ pub fn go_down(state: &mut State, count: usize)
     move_to(state, line, column);
 }
 
-/// CUF (ECMA-48, 8.3.20): at most to the last column.
+/// CUF (ECMA-48, 8.3.20): moves the cursor right, at most to the last column.
 pub fn go_right(state: &mut State, count: usize)
     requires { state.old.column < state.old.columns }
     ensures { state.new ≡ moved_to state.old state.old.line
@@ -96,7 +97,8 @@ pub fn go_right(state: &mut State, count: usize)
     move_to(state, line, column);
 }
 
-/// CUB (ECMA-48, 8.3.18), and BS (8.3.5) by one: at most to the first column.
+/// CUB (ECMA-48, 8.3.18), and BS (8.3.5) with a count of 1: moves the cursor left, at most to the
+/// first column.
 pub fn go_left(state: &mut State, count: usize)
     ensures { state.new ≡ moved_to state.old state.old.line (state.old.column - count) }
 {
@@ -105,8 +107,8 @@ pub fn go_left(state: &mut State, count: usize)
     move_to(state, line, column);
 }
 
-/// CUP (ECMA-48, 8.3.21) and HVP (8.3.63): a place of the page, or with ?6 set of the margins'
-/// lines.
+/// CUP (ECMA-48, 8.3.21) and HVP (8.3.63): moves the cursor to a place of the page. With ?6 set the
+/// line counts from the top margin, and the last line is that of the margins.
 pub fn go_to(state: &mut State, line: usize, column: usize)
     requires line_inside { state.old.line < state.old.rows }
     requires column_inside { state.old.column < state.old.columns }
@@ -123,7 +125,7 @@ pub fn go_to(state: &mut State, line: usize, column: usize)
     move_to(state, line, column);
 }
 
-/// Whether a wide character has no room at the cursor.
+/// Whether a wide character doesn't fit in at the cursor: it is in the last column.
 pub fn lacks_room(state: &State) -> bool
     requires { state.now.column < state.now.columns }
     ensures { result ≡ lacks_room state.now }
@@ -131,7 +133,8 @@ pub fn lacks_room(state: &State) -> bool
     state.column + 1 == state.columns
 }
 
-/// Whether a wide character goes to the next line first: with ?7 set, where it has no room.
+/// Whether a wide character goes to the next line first: ?7 is set, and it doesn't fit in at the
+/// cursor.
 pub fn needs_line(state: &State) -> bool
     requires { state.now.column < state.now.columns }
     ensures { result ≡ (lacks_room state.now && state.now.modes.wraps) }
@@ -139,8 +142,8 @@ pub fn needs_line(state: &State) -> bool
     lacks_room(state) && state.modes.wraps
 }
 
-/// The column whose old cell follows so many new ones at the cursor: with IRM set the one that
-/// stood there (ECMA-48, 7.2.10).
+/// The column whose old cell follows `width` new cells at the cursor: the cursor's with IRM set
+/// (ECMA-48, 7.2.10), else the column after the new cells.
 pub fn following(state: &State, width: usize) -> usize
     requires inside { state.now.column + width ≤ state.now.columns }
     requires few { state.now.columns ≤ 300 }
@@ -153,8 +156,8 @@ pub fn following(state: &State, width: usize) -> usize
     }
 }
 
-/// The cursor behind so many printed columns, which marks join; behind the last column the wrap is
-/// pending, with ?7 set.
+/// Moves the cursor right after `width` printed columns, whose character marks join. After the last
+/// column the wrap is pending if ?7 is set.
 pub fn advance(state: &mut State, width: usize)
     requires some { 0 < width }
     requires inside { state.old.column + width ≤ state.old.columns }

@@ -15,7 +15,7 @@ pub fn first_column(part: Part, state: &State) -> usize
     }
 }
 
-/// The column behind a part of the cursor's line.
+/// The end of a part of the cursor's line: the column after its last one.
 pub fn end_column(part: Part, state: &State) -> usize
     requires { state.now.column < state.now.columns }
     ensures { result ≡ end_column part state.now }
@@ -26,7 +26,7 @@ pub fn end_column(part: Part, state: &State) -> usize
     }
 }
 
-/// The first one of the lines that a part of the page has beside the cursor's, or of all lines.
+/// The first line of a part of the page without the cursor's line; with `Part::All`, of all lines.
 pub fn first_line(part: Part, state: &State) -> usize
     requires inside { state.now.line < state.now.rows }
     requires few { state.now.rows ≤ 200 }
@@ -38,7 +38,7 @@ pub fn first_line(part: Part, state: &State) -> usize
     }
 }
 
-/// The line behind these.
+/// The end of a part of the page without the cursor's line: the line after its last one.
 pub fn end_line(part: Part, state: &State) -> usize
     ensures { result ≡ end_line part state.now }
 {
@@ -48,7 +48,7 @@ pub fn end_line(part: Part, state: &State) -> usize
     }
 }
 
-/// The column behind so many from the cursor on, or the end of the line.
+/// The end of `count` columns from the cursor on: the column after them, but at most the width.
 pub fn end_after(state: &State, count: usize) -> usize
     ensures { result ≡ min (state.now.column + count) state.now.columns }
 {

@@ -1,4 +1,4 @@
-//! What a terminal holds beside its page, and how control functions change it. Lines and columns
+//! The state of a terminal beside its page, and how control functions change it. Lines and columns
 //! count from 0.
 #![tactic(auto)]
 

@@ -13,7 +13,7 @@ use cells::Rendition;
 use charsets::{CharacterSet, Coding, Place, Shift, Shifts};
 use terminal_model::{Attribute, Mode, Modes, State};
 
-/// The modes as they start (VT220 Programmer Reference Manual, chapter 4).
+/// The starting values of the modes (VT220 Programmer Reference Manual, chapter 4).
 fn starting_modes() -> Modes
     ensures { result ≡ starting_modes }
 {
@@ -29,7 +29,7 @@ fn starting_modes() -> Modes
     }
 }
 
-/// The starting values, in a coding.
+/// The starting values of the state, in a coding.
 pub fn starting_state(rows: usize, columns: usize, coding: Coding) -> State
     requires { 0 < rows }
     ensures { result ≡ record (starting_state rows columns) { coding = coding } }
@@ -52,8 +52,8 @@ pub fn starting_state(rows: usize, columns: usize, coding: Coding) -> State
     }
 }
 
-/// SM, RM, DECSM or DECRM of a mode (ECMA-48, 7.2; VT220 Programmer Reference Manual, chapter 4);
-/// ?6 also goes home.
+/// SM, RM, DECSM or DECRM of a mode (ECMA-48, 7.2; VT220 Programmer Reference Manual, chapter 4).
+/// ?6 also moves the cursor home.
 pub fn set_mode(state: &mut State, mode: Mode, is_set: bool)
     ensures { state.new
         ≡ homed mode (record state.old { modes = modes_with state.old.modes mode is_set }) }
@@ -73,7 +73,7 @@ pub fn set_mode(state: &mut State, mode: Mode, is_set: bool)
     settle(state);
 }
 
-/// One value of SGR changes the rendition.
+/// Changes a rendition by one value of SGR.
 fn change_rendition(rendition: &mut Rendition, attribute: Attribute)
     ensures { rendition.new ≡ rendition_with rendition.old attribute }
 {
@@ -88,7 +88,7 @@ fn change_rendition(rendition: &mut Rendition, attribute: Attribute)
     }
 }
 
-/// One value of SGR (ECMA-48, 8.3.117).
+/// Changes the rendition of new characters by one value of SGR (ECMA-48, 8.3.117).
 pub fn render(state: &mut State, attribute: Attribute)
     ensures { state.new
         ≡ unjoined (record state.old { rendition = rendition_with state.old.rendition attribute }) }
@@ -97,7 +97,7 @@ pub fn render(state: &mut State, attribute: Attribute)
     separate(state);
 }
 
-/// A shift function (ECMA-48, 8.3.75 to 8.3.81, 8.3.141 and 8.3.142).
+/// Performs a shift function (ECMA-48, 8.3.75 to 8.3.81, 8.3.141 and 8.3.142).
 pub fn shift(state: &mut State, shift: Shift)
     ensures { state.new ≡ unjoined (record state.old { shifts = shifted state.old.shifts shift }) }
 {
@@ -114,7 +114,7 @@ pub fn designate(state: &mut State, place: Place, set: CharacterSet)
     separate(state);
 }
 
-/// The coding that the window writes in from here on (ECMA-35, other coding systems).
+/// Sets the coding in which the window writes from here on (ECMA-35, other coding systems).
 pub fn set_coding(state: &mut State, coding: Coding)
     ensures { state.new ≡ unpending (record state.old { coding = coding }) }
 {
@@ -122,7 +122,7 @@ pub fn set_coding(state: &mut State, coding: Coding)
     settle(state);
 }
 
-/// S8C1T, or S7C1T where false (VT220 Programmer Reference Manual, C1 control transmission).
+/// S8C1T if `is_set`, S7C1T if not (VT220 Programmer Reference Manual, C1 control transmission).
 pub fn set_eight_bit_reports(state: &mut State, is_set: bool)
     ensures { state.new ≡ unpending (record state.old { has_eight_bit_reports = is_set }) }
 {
@@ -130,7 +130,7 @@ pub fn set_eight_bit_reports(state: &mut State, is_set: bool)
     settle(state);
 }
 
-/// DECKPAM, or DECKPNM where false (VT220 Programmer Reference Manual, modes).
+/// DECKPAM if `is_set`, DECKPNM if not (VT220 Programmer Reference Manual, modes).
 pub fn set_application_keypad(state: &mut State, is_set: bool)
     ensures { state.new ≡ unpending
         (record state.old { modes = record state.old.modes { has_application_keypad = is_set } }) }
@@ -139,7 +139,8 @@ pub fn set_application_keypad(state: &mut State, is_set: bool)
     settle(state);
 }
 
-/// DECSCA (VT220 Programmer Reference Manual, character attributes).
+/// DECSCA (VT220 Programmer Reference Manual, character attributes): whether new characters are
+/// protected from selective erasing.
 pub fn protect(state: &mut State, is_set: bool)
     ensures { state.new ≡ unpending (record state.old { is_protecting = is_set }) }
 {
@@ -147,8 +148,8 @@ pub fn protect(state: &mut State, is_set: bool)
     settle(state);
 }
 
-/// DECSTR (VT220 Programmer Reference Manual, terminal reset), but for what is saved: the cursor,
-/// LNM, ?5, the coding and the form of reports stay.
+/// DECSTR without its effect on the saved place (VT220 Programmer Reference Manual, terminal
+/// reset): the cursor, LNM, ?5, the coding and the form of reports stay.
 pub fn soft_reset(state: &mut State)
     requires { state.old.line < state.old.rows }
     ensures { state.new ≡ softly_reset state.old }

@@ -7,7 +7,7 @@ ghost use Rattle.terminal_model.specs.Reports.{answer, introducer};
 use charsets::Coding;
 use terminal_model::{Action, Report, State};
 
-/// What is answered to an action: something to DSR and DA alone.
+/// The answer to an action. Only DSR and DA are answered.
 pub fn report_of(state: &State, action: Action) -> Report
     requires line_inside { state.now.line < 200 }
     requires column_inside { state.now.column < 300 }
@@ -24,7 +24,7 @@ pub fn report_of(state: &State, action: Action) -> Report
     }
 }
 
-/// CSI, in the form that the window asked for.
+/// The CSI of answers, in the form that the window asked for.
 fn introducer(state: &State) -> Report
     ensures value { result ≡ introducer state.now }
     ensures few { length result ≤ 2 }
@@ -38,7 +38,7 @@ fn introducer(state: &State) -> Report
     report
 }
 
-/// A control sequence with these bytes behind CSI.
+/// A control sequence: CSI and these bytes.
 fn answer(state: &State, bytes: &[u8]) -> Report
     requires { length bytes.now ≤ 10 }
     ensures value { result ≡ introducer state.now ++ bytes.now }
@@ -49,7 +49,8 @@ fn answer(state: &State, bytes: &[u8]) -> Report
     report
 }
 
-/// CPR: the cursor's line, counted from the top margin with ?6 set, and its column, from 1.
+/// CPR: the line and the column of the cursor, counted from 1. With ?6 set the line counts from the
+/// top margin.
 fn place_report(state: &State) -> Report
     requires line_inside { state.now.line < 200 }
     requires column_inside { state.now.column < 300 }

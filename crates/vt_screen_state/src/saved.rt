@@ -10,7 +10,7 @@ use cells::Rendition;
 use charsets::Shifts;
 use terminal_model::{Saved, State};
 
-/// What DECSC saves: the cursor, and how is printed there.
+/// What DECSC saves: the cursor, and the settings for new characters.
 pub fn saved_of(state: &State) -> Saved
     ensures { result ≡ saved_of state.now }
 {
@@ -25,7 +25,7 @@ pub fn saved_of(state: &State) -> Saved
     }
 }
 
-/// What is restored where nothing was saved.
+/// What DECRC restores if nothing was saved.
 fn never_saved() -> Saved
     ensures { result ≡ never_saved }
 {
@@ -40,8 +40,8 @@ fn never_saved() -> Saved
     }
 }
 
-/// Restores what was saved, or its starting values where nothing was, at a place of the page, and
-/// of the margins with ?6 set.
+/// DECRC: restores what was saved, or the starting values if nothing was. The cursor goes to the
+/// nearest place of the page, and with ?6 set of the margins.
 pub fn restore(state: &mut State, saved: Option<Saved>)
     requires line_inside { state.old.line < state.old.rows }
     requires column_inside { state.old.column < state.old.columns }
@@ -70,7 +70,7 @@ fn restore_from(state: &mut State, saved: Saved)
     state.joining = None;
 }
 
-/// A saved line, on the page, and within the margins where ?6 was saved.
+/// The saved line: on the page, and within the margins if ?6 was saved as set.
 fn restored_line(state: &State, saved: Saved) -> usize
     requires { state.now.line < state.now.rows }
     ensures { result ≡ restored_line state.now saved }
@@ -82,7 +82,7 @@ fn restored_line(state: &State, saved: Saved) -> usize
     }
 }
 
-/// What was saved, at the nearest place of a page of another size.
+/// Fits what was saved to a page of another size: its place becomes the nearest one.
 pub fn fit_saved(saved: Option<Saved>, rows: usize, columns: usize) -> Option<Saved>
     requires { IsGridSize rows columns }
     ensures { result ≡ option_map (saved_resized rows columns) saved }

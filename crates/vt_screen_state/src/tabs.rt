@@ -7,7 +7,8 @@ ghost use Rattle.terminal_model.specs.Motion.{next_stop};
 use std::marker::Model;
 use terminal_model::MAX_COLUMNS;
 
-/// The columns of a page, from 0, that have a tab stop (ECMA-48, 8.3.62, HTS; 8.3.154, TBC).
+/// The tab stops of a page: for each column, counted from 0, whether it has one (ECMA-48, 8.3.62,
+/// HTS; 8.3.154, TBC).
 #[derive(Drop)]
 pub struct Tabs {
     stops: [bool; MAX_COLUMNS],
@@ -25,7 +26,7 @@ impl Model for Tabs {
 }
 
 impl Tabs {
-    /// The stops as they start.
+    /// The stops at the start: one in every eighth column, except the first.
     pub fn new(columns: usize) -> Tabs
         requires { columns ≤ 300 }
         ensures { result ≡ starting_tabs columns }
@@ -38,14 +39,14 @@ impl Tabs {
         tabs
     }
 
-    /// The stops start anew: in each eighth column behind the first.
+    /// Resets the stops: one in every eighth column, except the first.
     pub fn start(&mut self)
         ensures { self.new ≡ starting_tabs (length self.old) }
     {
         start_stops(&mut self.stops[0..self.columns]);
     }
 
-    /// HTS: a stop in a column.
+    /// HTS: sets a stop in a column.
     pub fn set(&mut self, column: usize)
         requires { column < length self.old }
         ensures { self.new ≡ slice_set self.old column true }
@@ -53,7 +54,7 @@ impl Tabs {
         self.stops[column] = true;
     }
 
-    /// TBC 0: no stop in a column.
+    /// TBC 0: removes the stop in a column.
     pub fn clear(&mut self, column: usize)
         requires { column < length self.old }
         ensures { self.new ≡ slice_set self.old column false }
@@ -61,14 +62,14 @@ impl Tabs {
         self.stops[column] = false;
     }
 
-    /// TBC 3: no stop anywhere.
+    /// TBC 3: removes all stops.
     pub fn clear_all(&mut self)
         ensures { self.new ≡ replicate (length self.old) false }
     {
         self.stops = [false; MAX_COLUMNS];
     }
 
-    /// HT (ECMA-48, 8.3.60): the next stop behind a column, or else the last column.
+    /// HT (ECMA-48, 8.3.60): the next stop after a column, or the last column if there is none.
     pub fn next(&self, column: usize) -> usize
         requires { column < length self.now }
         ensures { result ≡ next_stop self.now (length self.now) column }
@@ -77,7 +78,7 @@ impl Tabs {
     }
 }
 
-/// A stop in each eighth column behind the first.
+/// Sets a stop in every eighth column, except the first, and removes the others.
 fn start_stops(stops: &mut [bool])
     ensures { stops.new ≡ starting_tabs (length stops.old) }
 {
@@ -86,7 +87,7 @@ fn start_stops(stops: &mut [bool])
     }
 }
 
-/// The next stop behind a column, or else the last column.
+/// The next stop after a column, or the last column if there is none.
 fn next_stop(stops: &[bool], column: usize) -> usize
     requires { column < length stops.now }
     ensures { result ≡ next_stop stops.now (length stops.now) column }

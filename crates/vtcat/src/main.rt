@@ -1,5 +1,4 @@
-//! `vtcat --rows N --cols N [--keep N]`: shows the page that a VT220 has when it has read standard
-//! input.
+//! `vtcat --rows N --cols N [--keep N]`: prints the page of a VT220 that has read standard input.
 #![tactic(auto)]
 
 use program_words::{given, not_given};

@@ -1,39 +1,78 @@
-//! What `vtcat` does: the page that a VT220 has when it has read some bytes.
+//! The program `vtcat`: prints the page of a VT220 that has read some bytes.
 #![tactic(auto)]
 
 use cells::{Cell, GridFault, Marks, Shape};
 use clap::ArgMatches;
 use emulator::{Emulator, MovedPage};
 use program_words::of_cat;
-use std::alloc::Global;
+use std::alloc::{AllocError, AllocFailed, Global};
 use std::io::{self, BufWriter, Read, Write};
 
-/// How many bytes are read at once.
+/// The number of bytes that are read at once.
 const CHUNK: usize = 65_536;
+
+/// Why no page was printed.
+#[derive(Clone, Copy)]
+enum Fault {
+    /// The lines, the columns and the kept lines that were asked for.
+    BadSize(usize, usize, usize),
+    NoMemory,
+    /// Standard input can't be read.
+    Input(io::Error),
+    /// Standard output can't be written.
+    Output(io::Error),
+}
+
+impl From<AllocError> for Fault {
+    fn from(_e: AllocError) -> Fault {
+        Fault::NoMemory
+    }
+}
+
+impl<T: Drop> From<AllocFailed<T>> for Fault {
+    fn from(_e: AllocFailed<T>) -> Fault {
+        Fault::NoMemory
+    }
+}
+
+// What happened, to what, and what to do about it.
+fn write_fault<E: Write>(fault: Fault, errors: &mut E) -> io::Result<()> {
+    match fault {
+        Fault::BadSize(rows, columns, keep) => writeln!(
+            errors,
+            "vtcat: bad size: --rows {rows} --cols {columns} --keep {keep} (set 2 to 200, 2 to 300, 0 to 2000)",
+        ),
+        Fault::NoMemory => writeln!(
+            errors,
+            "vtcat: out of memory: the page (set fewer rows, columns or kept lines)",
+        ),
+        Fault::Input(error) => writeln!(errors, "vtcat: can't read standard input: {error}"),
+        Fault::Output(error) => writeln!(errors, "vtcat: can't write to standard output: {error}"),
+    }
+}
 
 fn number(found: &ArgMatches, name: &str) -> usize {
     found.get_one::<u16>(name).map_or(0, usize::from)
 }
 
-fn fault(text: &'static str) -> io::Error {
-    io::Error::new(io::ErrorKind::Other, text)
-}
-
-/// Reads all bytes; what is answered goes nowhere.
+/// Feeds all bytes to the emulator; its reports are dropped.
 fn read_all<R: Read + Drop>(
     alloc: Global,
     mut reader: R,
     emulator: &mut Emulator,
-) -> io::Result<()> {
+) -> Result<(), Fault> {
     let mut buffer = vec![in alloc; 0; CHUNK]?;
     let mut reports = Vec::new(alloc);
     for _ in 0..u64::MAX {
-        let count = reader.read(buffer.as_mut_slice())?;
+        let count = match reader.read(buffer.as_mut_slice()) {
+            Ok(count) => count,
+            Err(error) => return Err(Fault::Input(error)),
+        };
         if count == 0 {
             return Ok(());
         }
         if emulator.feed_all(&buffer[..count], &mut reports).is_err() {
-            return Err(fault("out of memory"));
+            return Err(Fault::NoMemory);
         }
         reports.clear();
     }
@@ -63,21 +102,8 @@ fn write_page<W: Write>(page: MovedPage<'_>, writer: &mut W) -> io::Result<()> {
     Ok(())
 }
 
-fn show<R: Read + Drop, W: Write>(
-    alloc: Global,
-    found: &ArgMatches,
-    reader: R,
-    writer: &mut W,
-) -> io::Result<()> {
-    let rows = number(found, "rows");
-    let columns = number(found, "cols");
-    let made = Emulator::new(alloc, rows, columns, number(found, "keep"));
-    let mut emulator = match made {
-        Ok(emulator) => emulator,
-        Err(GridFault::BadSize) => return Err(fault("bad size")),
-        Err(GridFault::NoMemory) => return Err(fault("out of memory")),
-    };
-    read_all(alloc, reader, &mut emulator)?;
+// The page, a line each, and the cursor, counted from 1.
+fn write_screen<W: Write>(alloc: Global, emulator: &Emulator, writer: &mut W) -> io::Result<()> {
     let mut writer = BufWriter::new(alloc, writer)?;
     write_page(emulator.page(0), &mut writer)?;
     let (line, column) = emulator.cursor();
@@ -87,9 +113,31 @@ fn show<R: Read + Drop, W: Write>(
     writer.flush()
 }
 
-/// Reads all bytes into a VT220 of the size that the words name, of which the first is the
-/// program's name, and writes its page, a line each between `|`, and `cursor L C`. Gives the status
-/// to exit with: 0; 1 for a fault; 2 where the words aren't understood.
+fn show<R: Read + Drop, W: Write>(
+    alloc: Global,
+    found: &ArgMatches,
+    reader: R,
+    writer: &mut W,
+) -> Result<(), Fault> {
+    let rows = number(found, "rows");
+    let columns = number(found, "cols");
+    let keep = number(found, "keep");
+    let mut emulator = match Emulator::new(alloc, rows, columns, keep) {
+        Ok(emulator) => emulator,
+        Err(GridFault::BadSize) => return Err(Fault::BadSize(rows, columns, keep)),
+        Err(GridFault::NoMemory) => return Err(Fault::NoMemory),
+    };
+    read_all(alloc, reader, &mut emulator)?;
+    match write_screen(alloc, &emulator, writer) {
+        Ok(()) => Ok(()),
+        Err(error) => Err(Fault::Output(error)),
+    }
+}
+
+/// Parses `words`, of which the first is the program's name, feeds all bytes of `reader` to a VT220
+/// of the size that they set, and prints its page, each line between two `|`, and then `cursor L C`,
+/// counted from 1. Returns the exit status: 0; 1 for a bad size, a failed read or write, or no
+/// memory, with a message in `errors`; 2 for invalid arguments.
 pub fn cat<R: Read + Drop, W: Write, E: Write>(
     alloc: Global,
     words: &[String],
@@ -110,8 +158,8 @@ pub fn cat<R: Read + Drop, W: Write, E: Write>(
     };
     match show(alloc, &found, reader, writer) {
         Ok(()) => 0,
-        Err(error) => {
-            let _ = writeln!(errors, "vtcat: {error}");
+        Err(fault) => {
+            let _ = write_fault(fault, errors);
             1
         }
     }

@@ -4,7 +4,7 @@ use Rattle.std.proofs.lemmas.List.{take-append-drop, drop-drop}
 use Rattle.cells.specs.declared.cell.Cell.{Cell}
 use Rattle.cells.proofs.edits.copy_to.Goals as goal
 
--- cells that are copied to where they stand
+-- cells copied to their own place stay
 stays : (cells : List Cell) (from end : ℕ) → copy_within cells from end from ≡ cells
 stays cells from end =
     let count : ℕ = end - from in

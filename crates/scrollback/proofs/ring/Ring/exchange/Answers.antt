@@ -75,7 +75,7 @@ returns-in-Some-clause-width c =
     ∙ c.self.invariant.width 0 (head_inside items c.in-Some.spare c.in-Some.ensures.value)
     ∙ ap (λ (k : Kept). k.columns) c.self.view_is
 
--- a buffer without room
+-- a buffer that keeps no line
 none_kept : (popped : Buffer (List Cell)) (items : List (List Cell)) (keep count columns : ℕ) (line : List Cell)
     → length items ≡ keep → None ≡ slice_get items 0 → popped ≡ buffer (drop 1 items) keep
     → kept_of popped count columns ≡ with_line (kept_with keep columns (keep_last count items)) line

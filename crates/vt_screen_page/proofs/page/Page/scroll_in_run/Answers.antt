@@ -8,7 +8,7 @@ use Rattle.vt_screen_page.specs.Store.{Placed, turned, lines_in_order}
 use Rattle.vt_screen_page.proofs.Sizes.{kept_both, kept_page}
 use Rattle.vt_screen_page.proofs.page.Page.scroll_in_run.Goals as goal
 
--- a page that was scrolled, with a run in its new line
+-- a page after a scroll, with a run in its new line
 abbrev behind : ℕ → List ℕ → List (List Cell) → List (List Cell)
 behind bottom codes page = page_spliced bottom 0 (narrow_cells codes plain false) (length codes)
     (page_from (scrolled_up 0 bottom 1) page)

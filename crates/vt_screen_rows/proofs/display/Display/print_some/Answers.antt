@@ -21,7 +21,7 @@ pub returns-then-not-takes_runs-clause-fit : goal.returns-then-not-takes_runs-cl
 returns-then-not-takes_runs-clause-fit c = acted_fit c.args.self.now c.print.new.self (Print (Code _)) c.requires.fit
     c.print.ensures.screen c.print.ensures.width
 
--- what the run is, where a wrap is due first
+-- what the run is if a wrap is due first
 pub returns-then-self-clause-screen : goal.returns-then-self-clause-screen
 returns-then-self-clause-screen c =
     let x : Screen = screen_of c.args.self.now in
