@@ -20,8 +20,12 @@ mod fresh;
 #[cfg(test)]
 mod many;
 #[cfg(test)]
+mod refusing;
+#[cfg(test)]
 mod steps;
 #[cfg(test)]
 mod stops;
 #[cfg(test)]
 mod totals;
+#[cfg(test)]
+mod turns;

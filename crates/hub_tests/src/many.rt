@@ -7,6 +7,7 @@ ghost use Rattle.session_model.specs.Trace.{begun};
 ghost use Rattle.hub_ledger.specs.Seats.{StandsFor};
 
 use crate::compare::{are_same, is_same_reply, parts_of};
+use crate::turns::{STEPS, Turn, seat_of};
 use acl::UserId;
 use hub::{Begun, Hub, Seat, Session};
 use session_model::{Effect, Event, Reply};
@@ -17,97 +18,6 @@ use std::sync::ledger::Blank;
 
 /// How many turns there are.
 const TURNS: u32 = 50;
-
-/// How many steps a turn has.
-const STEPS: u32 = 23;
-
-/// A line of a user.
-fn told(user: UserId, line: &'static [u8]) -> Event<'static> {
-    Event::Command {
-        user,
-        window: None,
-        line,
-    }
-}
-
-/// A step of a turn. Its window has the turn's serial, and its clients have twice that and one
-/// more.
-fn event_at(turn: u32, step: u32, owner: UserId, bob: UserId) -> Event<'static>
-    requires { turn ≤ 50 }
-{
-    let window = turn;
-    let client = turn * 2;
-    let other = client + 1;
-    match step {
-        0 => told(owner, b"multiuser on"),
-        1 => told(owner, b"acladd bob"),
-        2 => Event::Open {
-            user: owner,
-            rows: 24,
-            columns: 80,
-            keep: 10,
-            title: "sh",
-        },
-        3 => Event::Attach {
-            user: owner,
-            rows: 24,
-            columns: 80,
-        },
-        4 => Event::Attach {
-            user: bob,
-            rows: 10,
-            columns: 40,
-        },
-        5 => Event::Output {
-            window,
-            bytes: b"hi\r\n\x1b[6n",
-        },
-        6 => Event::Keys {
-            client,
-            bytes: b"a\x01n",
-        },
-        7 | 14 | 18 => Event::Draw { client },
-        8 | 15 => Event::Draw { client: other },
-        9 => Event::Resize {
-            client: other,
-            rows: 12,
-            columns: 50,
-        },
-        10 => Event::Keys {
-            client: other,
-            bytes: b"x\x01:version\r",
-        },
-        11 => told(owner, b"wall hi"),
-        12 => told(owner, b"aclchg bob -w 0"),
-        13 => Event::Keys {
-            client: other,
-            bytes: b"y",
-        },
-        16 => told(owner, b"aclchg bob +w 0"),
-        17 => Event::Output {
-            window: 0,
-            bytes: b"there",
-        },
-        19 => Event::Keys {
-            client,
-            bytes: b"\x01:fit\r",
-        },
-        20 => Event::Closed { window },
-        21 => Event::Detach { client },
-        _ => Event::Detach { client: other },
-    }
-}
-
-/// The seat that submits a step: the second attaches bob, and opens the windows of odd serials.
-fn seat_of(turn: u32, step: u32) -> usize {
-    let is_second = match step {
-        2 => turn % 2 == 1,
-        3 => false,
-        4 => true,
-        _ => step % 3 == 0,
-    };
-    if is_second { 1 } else { 0 }
-}
 
 /// The kinds of effects that a seat took, if they are those that the session made for its peers, in
 /// their order: the second seat's have odd serials.
@@ -231,7 +141,7 @@ fn all_steps<L: Begun, R: Wait>(
     };
     for turn in 0..TURNS {
         for place in 0..STEPS {
-            let event = event_at(turn, place, owner, bob);
+            let event = Turn::new(turn, owner, bob).event(place);
             let more = step(rt, alloc, pair, event, seat_of(turn, place))?;
             counted.entries = counted.entries.checked_add(more.entries)?;
             counted.kinds |= more.kinds;
