@@ -7,4 +7,4 @@ pub mod Pieces
 pub mod Shifted
 pub mod Scalars
 pub mod Fronts
-pub mod Letters
+pub mod Characters

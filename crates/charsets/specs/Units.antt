@@ -1,6 +1,6 @@
 -- The units of a list of bytes: codes in UTF-8 (Unicode core specification, 3.9), single bytes in
 -- ECMA-35.
-use Rattle.std.specs.Prelude.{◌≡◌, ℕ, ◌≤◌, Bool, ◌&&◌, ◌||◌, ◌==◌, not, nat_lt, if◌then◌else◌, List}
+use Rattle.std.specs.Prelude.{◌≡◌, ℕ, ◌≤◌, Bool, ◌&&◌, ◌||◌, nat_lt, if◌then◌else◌, List}
 use Rattle.std.specs.Prelude.{[], ◌∷◌, ◌++◌, map}
 use Rattle.std.specs.Char.{IsScalar}
 use Rattle.charsets.specs.declared.unit.Coding.{Coding}
@@ -59,10 +59,6 @@ units_of_pieces coding rest (piece ∷ pieces) =
 abbrev pub is_plain : ℕ → Bool
 is_plain b = nat_lt 0x1F b && nat_lt b 0x7F
 
--- 20 to 7E, and the letters from A0 to 2FF that take one column (UAX #11): all but the soft hyphen
-abbrev pub is_letter : ℕ → Bool
-is_letter c = is_plain c || (nat_lt 0x9F c && nat_lt c 0x300 && not (c == 0xAD))
-
--- a code that no set and no shift changes
-abbrev pub is_beyond : ℕ → Bool
-is_beyond c = nat_lt 0x9F c
+-- graphic characters: 20 to 7E, and all from A0 on
+abbrev pub is_character : ℕ → Bool
+is_character c = is_plain c || nat_lt 0x9F c

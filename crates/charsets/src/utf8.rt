@@ -72,7 +72,7 @@ pub fn char_of_3(a: u8, b: u8, c: u8) -> char
     char::from_u32(code).unwrap()
 }
 
-fn char_of_4(a: u8, b: u8, c: u8, d: u8) -> char
+pub fn char_of_4(a: u8, b: u8, c: u8, d: u8) -> char
     requires lead { is_lead a ≡ true }
     requires long { 0xF0 ≤ a }
     requires second { follows a b ≡ true }

@@ -33,6 +33,7 @@ pub fn control_action(control: u8) -> Option<Action>
 pub fn escape_action(intermediates: &[u8], last: u8) -> Option<Action>
     ensures value { alone result ≡ escape_actions intermediates.now last }
     ensures counted { IfSome result IsCounted }
+    ensures silent { IfSome result IsSilent }
 {
     match intermediates {
         [] => plain_escape_action(last),
@@ -74,6 +75,7 @@ pub fn plain_escape_action(last: u8) -> Option<Action>
 fn intermediate_action(intermediate: u8, last: u8) -> Option<Action>
     ensures value { result ≡ intermediate_action intermediate last }
     ensures counted { IfSome result IsCounted }
+    ensures silent { IfSome result IsSilent }
 {
     match (intermediate, last) {
         (b' ', b'F') => Some(Action::SetEightBitReports(false)),
@@ -94,6 +96,7 @@ fn intermediate_action(intermediate: u8, last: u8) -> Option<Action>
 fn designation(place: Place, last: u8) -> Option<Action>
     ensures value { result ≡ designation (Some place) (designated_set last) }
     ensures counted { IfSome result IsCounted }
+    ensures silent { IfSome result IsSilent }
 {
     match last {
         b'B' => Some(Action::Designate(place, CharacterSet::Ascii)),

@@ -7,5 +7,5 @@ pub mod RunLemmas
 pub mod RunPlaces
 pub mod Letters
 pub mod WideRuns
-pub mod Ideographs
+pub mod KnownWidths
 pub mod LineRuns

@@ -1,9 +1,10 @@
 -- Characters that are put one after another by one edit.
 use Rattle.std.specs.Prelude.{◌≡◌, ℕ, ◌+◌, ◌*◌, ◌-◌, ◌<◌, ◌≤◌, false, List, length, map, None}
-use Rattle.std.specs.Prelude.{slice_index}
+use Rattle.std.specs.Prelude.{slice_index, Bool, ◌&&◌, ◌||◌, ◌==◌, not, nat_lt}
 use Rattle.charsets.specs.declared.sets.CharacterSet.TheVariants.{Ascii}
 use Rattle.charsets.specs.declared.unit.Unit.TheVariants.{Code}
 use Rattle.charsets.specs.Shifts.{set_at}
+use Rattle.charsets.specs.Units.{is_plain}
 use Rattle.cells.specs.Line.{spliced, narrow_cells, plain}
 use Rattle.cells.specs.Wide.{wide_cells}
 use Rattle.terminal_model.specs.declared.action.Action.{Action}
@@ -11,6 +12,13 @@ use Rattle.terminal_model.specs.declared.action.Action.TheVariants.{Print}
 use Rattle.terminal_model.specs.declared.state.State.{State}
 use Rattle.terminal_model.specs.Screen.{Screen, line_edited}
 use Rattle.terminal_model.specs.Printing.{advanced, columns_of, drawn}
+
+-- Characters that take one column each (UAX #11) and that no set changes while GL is ASCII: 20 to 7E,
+-- Latin letters and signs from A0 on without the soft hyphen, Greek, Cyrillic and Armenian.
+abbrev pub is_letter : ℕ → Bool
+is_letter c =
+    is_plain c || (nat_lt 0x9F c && nat_lt c 0x300 && not (c == 0xAD))
+    || (nat_lt 0x36F c && nat_lt c 0x483) || (nat_lt 0x489 c && nat_lt c 0x590)
 
 -- characters are printed, one after another
 abbrev pub prints : List ℕ → List Action

@@ -10,6 +10,7 @@ ghost use Rattle.terminal_model.specs.declared.action.Action.TheVariants.{Print}
 ghost use Rattle.vt_screen_rows.specs.Acting.{MovesLines, MovesLinesBy};
 ghost use Rattle.vt_screen_rows.specs.Displays.{IsFit, screen_of};
 ghost use Rattle.vt_screen_rows.specs.Places.{printed_places, wrapped_places};
+ghost use Rattle.vt_screen_rows.specs.Runs.{is_letter};
 ghost use Rattle.terminal_model.specs.Scrollback.{is_wrapped};
 
 use crate::display::Display;
@@ -20,6 +21,9 @@ use vt_screen_state::{advance, following, lacks_room, needs_line, separate};
 
 /// A character of width 0 among the letters.
 const SOFT_HYPHEN: char = '\u{AD}';
+
+/// The long solidus overlay, whose width has a rule of its own.
+const OVERLAY: char = '\u{338}';
 
 impl Display {
     /// Prints a graphic unit, through the sets; it ends a pending single shift.
@@ -63,6 +67,8 @@ impl Display {
     {
         if is_letter(character) {
             self.print_narrow(character);
+        } else if is_mark(character) {
+            self.join(character);
         } else {
             self.print_character(character);
         }
@@ -213,12 +219,27 @@ impl Display {
     }
 }
 
-/// Whether a character is one of U+00A0 to U+02FF without the soft hyphen, which take one column
-/// each.
+/// Whether a character is a letter of one column: one of 20 to 7E, of U+00A0 to U+02FF without the
+/// soft hyphen, or a Greek, Cyrillic or Armenian one up to U+058F.
 #[inline(always)]
-fn is_letter(character: char) -> bool
-    ensures columns { IsTrue result → columns_of character ≡ 1 }
+pub fn is_letter(character: char) -> bool
+    ensures { result ≡ is_letter character }
+{
+    if character < '\u{300}' {
+        (' ' <= character && character < '\u{7F}')
+            || ('\u{A0}' <= character && character != SOFT_HYPHEN)
+    } else {
+        ('\u{370}' <= character && character < '\u{483}')
+            || ('\u{48A}' <= character && character < '\u{590}')
+    }
+}
+
+/// Whether a character is a combining diacritical mark: one of U+0300 to U+036F, which take no
+/// column. U+0338 is looked up instead.
+#[inline(always)]
+pub fn is_mark(character: char) -> bool
+    ensures columns { IsTrue result → columns_of character ≡ 0 }
     ensures drawn { IsTrue result → drawn character ≡ character }
 {
-    '\u{A0}' <= character && character < '\u{300}' && character != SOFT_HYPHEN
+    '\u{300}' <= character && character < '\u{370}' && character != OVERLAY
 }

@@ -4,13 +4,14 @@ ghost use Rattle.std.specs.Prelude.{◌≡◌, ◌↔◌, ℕ, ◌+◌, ◌*◌,
 ghost use Rattle.std.specs.Prelude.{IsTrue, slice_index};
 ghost use Rattle.std.specs.List.{list_all};
 ghost use Rattle.charsets.specs.Shifts.{set_at};
-ghost use Rattle.charsets.specs.Units.{is_letter, is_plain};
+ghost use Rattle.charsets.specs.Units.{is_plain};
 ghost use Rattle.vt_screen_rows.specs.Acting.{ActsByAll, MovesLinesByAll};
 ghost use Rattle.vt_screen_rows.specs.Displays.{IsFit, screen_of};
 ghost use Rattle.vt_screen_rows.specs.Runs.{PrintsAscii, TakesRuns, prints, run_placed};
-ghost use Rattle.vt_screen_rows.specs.Runs.{IsWide, wides_placed};
+ghost use Rattle.vt_screen_rows.specs.Runs.{IsWide, is_letter, wides_placed};
 
 use crate::display::Display;
+use crate::printing::{is_letter, is_mark};
 use charsets::{CharacterSet, Place, Shifts, Unit};
 use terminal_model::State;
 use unicode_width::UnicodeWidthChar;
@@ -74,9 +75,27 @@ impl Display {
         }
     }
 
+    /// Prints the first of some characters, or as many letters or wide ones as there is room for in
+    /// the line. Returns how many, at least 1.
+    fn print_some_characters(&mut self, characters: &[char]) -> usize
+        requires fit { IsFit self.old }
+        requires some { 0 < length characters.now }
+        ensures screen { ActsByAll self.old (prints (take result characters.now)) self.new }
+        ensures fit { IsFit self.new }
+        ensures places { MovesLinesByAll self.old (prints (take result characters.now)) self.new }
+        ensures some { 0 < result }
+        ensures few { result ≤ length characters.now }
+    {
+        let count = letters_front(characters);
+        if count == 0 {
+            return self.print_some_others(characters);
+        }
+        self.print_some_letters(&characters[..count])
+    }
+
     /// Prints the first of some characters, or as many wide ones as there is room for in the line.
     /// Returns how many, at least 1.
-    fn print_some_characters(&mut self, characters: &[char]) -> usize
+    fn print_some_others(&mut self, characters: &[char]) -> usize
         requires fit { IsFit self.old }
         requires some { 0 < length characters.now }
         ensures screen { ActsByAll self.old (prints (take result characters.now)) self.new }
@@ -128,20 +147,6 @@ impl Display {
         );
         self.state.column += 2 * characters.len() - 2;
         advance(&mut self.state, 2);
-    }
-
-    /// Prints letters, one after another.
-    pub fn print_letters(&mut self, letters: &[char])
-        requires fit { IsFit self.old }
-        requires letters { list_all is_letter letters.now ≡ true }
-        ensures screen { ActsByAll self.old (prints letters.now) self.new }
-        ensures fit { IsFit self.new }
-        ensures places { MovesLinesByAll self.old (prints letters.now) self.new }
-    {
-        let mut printed = 0;
-        while printed < letters.len() {
-            printed += self.print_some_letters(&letters[printed..]);
-        }
     }
 
     /// Prints the first of some letters, or as many as there is room for in the line. Returns how
@@ -209,6 +214,21 @@ impl Display {
     }
 }
 
+/// How many characters at the front are letters.
+fn letters_front(characters: &[char]) -> usize
+    ensures letters { list_all is_letter (take result characters.now) ≡ true }
+    ensures few { result ≤ length characters.now }
+{
+    let mut count = 0;
+    while count < characters.len() {
+        if !is_letter(characters[count]) {
+            return count;
+        }
+        count += 1;
+    }
+    count
+}
+
 /// The number of wide characters at the front, at most `most`.
 fn wide_front(characters: &[char], most: usize) -> usize
     ensures wide { (k : ℕ) → k < result → IsWide (slice_index characters.now k) }
@@ -232,7 +252,7 @@ fn wide_front(characters: &[char], most: usize) -> usize
 fn is_wide(character: char) -> bool
     ensures { IsTrue result → IsWide character }
 {
-    is_ideograph(character) || is_broad(character)
+    is_ideograph(character) || (!is_mark(character) && is_broad(character))
 }
 
 /// Whether a character is one of U+3400 to U+9FFF, which take two columns each.

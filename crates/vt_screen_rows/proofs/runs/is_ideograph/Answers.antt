@@ -1,6 +1,6 @@
 use Rattle.std.proofs.Common.{IsTrue, nat_lt}
 use Rattle.std.proofs.lemmas.Bool.{ltb-true}
-use Rattle.vt_screen_rows.proofs.Ideographs.{ideograph_wide}
+use Rattle.vt_screen_rows.proofs.KnownWidths.{ideograph_wide}
 use Rattle.vt_screen_rows.proofs.runs.is_ideograph.Goals as goal
 
 pub returns-then-character-ge13312 : goal.returns-then-character-ge13312

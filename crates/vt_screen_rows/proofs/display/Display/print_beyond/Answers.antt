@@ -1,13 +1,24 @@
-use Rattle.std.proofs.Common.{ℕ, refl, sym, ap, ◌∙◌}
+use Rattle.std.proofs.Common.{◌≡◌, true, ℕ, refl, sym, ap, ◌∙◌}
 use Rattle.terminal_model.specs.Screen.{Screen}
 use Rattle.terminal_model.specs.Printing.{drawn, printed_as}
 use Rattle.vt_screen_rows.specs.Displays.{screen_of}
+use Rattle.vt_screen_rows.specs.Runs.{is_letter}
+use Rattle.vt_screen_rows.proofs.Letters.{columns-letter, drawn-letter}
 use Rattle.vt_screen_rows.proofs.display.Display.print_beyond.Goals as goal
 
 pub returns-then-is_letter-clause-screen : goal.returns-then-is_letter-clause-screen
 returns-then-is_letter-clause-screen c =
     let x : Screen = screen_of c.args.self.now in
+    let is : is_letter c.args.character ≡ true = sym c.if-is_letter.ensures in
     c.print_narrow.ensures.screen
     ∙ sym
-    (ap (λ (n : ℕ). printed_as n (drawn c.args.character) x) (c.if-is_letter.ensures.columns refl)
-    ∙ ap (λ (d : ℕ). printed_as 1 d x) (c.if-is_letter.ensures.drawn refl))
+    (ap (λ (n : ℕ). printed_as n (drawn c.args.character) x) (columns-letter c.args.character is)
+    ∙ ap (λ (d : ℕ). printed_as 1 d x) (drawn-letter c.args.character is))
+
+pub returns-then-is_mark-clause-screen : goal.returns-then-is_mark-clause-screen
+returns-then-is_mark-clause-screen c =
+    let x : Screen = screen_of c.args.self.now in
+    c.join.ensures.screen
+    ∙ sym
+    (ap (λ (n : ℕ). printed_as n (drawn c.args.character) x) (c.if-is_mark.ensures.columns refl)
+    ∙ ap (λ (d : ℕ). printed_as 0 d x) (c.if-is_mark.ensures.drawn refl))

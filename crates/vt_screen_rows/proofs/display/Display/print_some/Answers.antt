@@ -1,7 +1,7 @@
 use Rattle.std.proofs.Common.{◌≡◌, ◌<◌, Bool, true, length, take, ℕ, List, refl, sym, ap, ◌∙◌, subst, arith}
 use Rattle.std.proofs.Common.{length-take, min}
 use Rattle.std.specs.List.{list_all}
-use Rattle.charsets.specs.Units.{is_letter}
+use Rattle.vt_screen_rows.specs.Runs.{is_letter}
 use Rattle.charsets.specs.declared.unit.Unit.TheVariants.{Code}
 use Rattle.terminal_model.specs.declared.action.Action.TheVariants.{Print}
 use Rattle.terminal_model.specs.Screen.{Screen, IsSound}

@@ -1,6 +1,6 @@
 use Rattle.std.proofs.Common.{◌≡◌, ◌<◌, true, length, take, ℕ, List, refl, sym, ap, ◌∙◌, subst, arith, length-take, min}
 use Rattle.std.specs.List.{list_all}
-use Rattle.charsets.specs.Units.{is_letter}
+use Rattle.vt_screen_rows.specs.Runs.{is_letter}
 use Rattle.terminal_model.specs.Screen.{Screen, IsSound}
 use Rattle.terminal_model.specs.Printing.{wrapped}
 use Rattle.vt_screen_rows.specs.Displays.{screen_of}

@@ -1,0 +1,147 @@
+-- Widths of ranges of characters, read off the steps of the width table.
+use Rattle.std.proofs.Common.{◌≡◌, ℕ, ◌<◌, ◌≤◌, Bool, true, false, ◌&&◌, nat_le, ltb, Option, Some, List, [], ◌∷◌, refl}
+use Rattle.std.proofs.Common.{sym, ap, ◌∙◌, arith, inl, inr, eqb, cond, eqb-true, le-leb}
+use Rattle.std.specs.Prelude.{slice_index_or}
+use Rattle.std.proofs.lemmas.Bool.{and_parts, cases_lt, cond-true, cond-false, lt-leb}
+use Rattle.std.proofs.lemmas.Bool.Decides.{nat_tests}
+use Rattle.cells.specs.Glyph.{drawn_as, glyph_columns}
+use Rattle.terminal_model.specs.Printing.{columns_of, drawn}
+use Rattle.ucd_table.specs.Steps.{Step, step_value}
+use Rattle.ucd_table.proofs.Computing.{tables}
+use Rattle.ucd_table.proofs.StepsLemmas.{step_value-here, step_value-later}
+use Rattle.unicode_width.specs.declared.kind.Kind.{Kind}
+use Rattle.unicode_width.specs.declared.kind.Kind.TheVariants as kinds
+use Rattle.unicode_width.specs.Kind.{kind, kind_number, number_of_kind}
+use Rattle.unicode_width.specs.Width.{alone, char_width, of_kind}
+use Rattle.unicode_width.proofs.KindLemmas.{kind_number_stepped}
+use Rattle.vt_screen_rows.specs.Runs.{IsWide}
+
+-- the width of each kind by its number, outside of East Asian contexts; 9 for the last one, whose characters differ
+abbrev width_of : ℕ → ℕ
+width_of n = slice_index_or (0 ∷ 1 ∷ 2 ∷ 1 ∷ 1 ∷ 1 ∷ 1 ∷ 1 ∷ 1 ∷ 2 ∷ 2 ∷ []) n 9
+
+of_kind-width : (c : ℕ) (k : Kind) (w : ℕ) → eqb (width_of (number_of_kind k)) w ≡ true → w < 9
+    → (of_kind false c k).0 ≡ w
+of_kind-width c kinds.Zero w h small = eqb-true 0 w h
+of_kind-width c kinds.Narrow w h small = eqb-true 1 w h
+of_kind-width c kinds.Wide w h small = eqb-true 2 w h
+of_kind-width c kinds.Ambiguous w h small = eqb-true 1 w h
+of_kind-width c kinds.Alef w h small = eqb-true 1 w h
+of_kind-width c kinds.KhmerLetter w h small = eqb-true 1 w h
+of_kind-width c kinds.TifinaghConsonant w h small = eqb-true 1 w h
+of_kind-width c kinds.LisuTone w h small = eqb-true 1 w h
+of_kind-width c kinds.RegionalIndicator w h small = eqb-true 1 w h
+of_kind-width c kinds.EmojiModifier w h small = eqb-true 2 w h
+of_kind-width c kinds.Emoji w h small = eqb-true 2 w h
+of_kind-width c kinds.Single w h small = let e : 9 ≡ w = eqb-true 9 w h in absurd (omega arith)
+
+-- all characters between two bounds have this width
+unfoldable all_are : ℕ → ℕ → ℕ → List (Step ℕ) → Bool
+all_are w low high [] = false
+all_are w low high (s ∷ ss) =
+    cond (nat_le s.0 low) (all_are w low high ss)
+    (eqb (width_of s.1) w && cond (nat_le high s.0) true (all_are w s.0 high ss))
+
+all_are-true : (d w low high : ℕ) (ss : List (Step ℕ)) (c : ℕ) → all_are w low high ss ≡ true → low ≤ c → c < high
+    → eqb (width_of (step_value d ss c)) w ≡ true
+unfolding all_are
+all_are-true d w low high [] c h above below = absurd (cc)
+all_are-true d w low high (s ∷ ss) c h above below =
+    elim (cases_lt low s.0) [
+      | inl begun ↦
+          let ends : nat_le s.0 low ≡ false = lt-leb s.0 low begun in
+          let parts = and_parts (eqb (width_of s.1) w) (cond (nat_le high s.0) true (all_are w s.0 high ss))
+          (sym (cond-false _ _ _ ends) ∙ h) in
+          elim (cases_lt c s.0) [
+            | inl here ↦ ap (λ (n : ℕ). eqb (width_of n) w) (step_value-here d s ss c here) ∙ parts.0
+            | inr later ↦
+                let goes : nat_le high s.0 ≡ false = lt-leb high s.0 (omega arith) in
+                ap (λ (n : ℕ). eqb (width_of n) w) (step_value-later d s ss c later)
+                ∙ all_are-true d w s.0 high ss c (sym (cond-false _ _ _ goes) ∙ parts.1) later below
+          ]
+      | inr ended ↦
+          ap (λ (n : ℕ). eqb (width_of n) w) (step_value-later d s ss c (omega arith))
+          ∙ all_are-true d w low high ss c (sym (cond-true _ _ _ (le-leb s.0 low ended)) ∙ h) above below
+    ]
+
+known : (w low high c : ℕ) → all_are w low high kind_number_stepped.steps ≡ true → w < 9 → 0xA0 ≤ low → low ≤ c
+    → c < high → char_width false c ≡ Some w
+unfolding char_width alone kind_number
+known w low high c h small beyond above below =
+    let is : eqb (width_of (kind_number c)) w ≡ true = ap (λ (n : ℕ). eqb (width_of n) w) (kind_number_stepped.gives c)
+    ∙ all_are-true kind_number_stepped.default w low high kind_number_stepped.steps c h above below in
+    let late : nat_le 0xA0 c ≡ true = le-leb 0xA0 c (omega arith) in
+    let few : ltb c 0x7F ≡ false = grind (arith, nat_tests) in
+    rw (few, late) (ap Some (of_kind-width c (kind c) w is small))
+
+latin_are : all_are 1 0xA0 0xAD kind_number_stepped.steps ≡ true
+unfolding tables kind_number_stepped all_are
+latin_are = refl
+
+more_latin_are : all_are 1 0xAE 0x300 kind_number_stepped.steps ≡ true
+unfolding tables kind_number_stepped all_are
+more_latin_are = refl
+
+greek_are : all_are 1 0x370 0x483 kind_number_stepped.steps ≡ true
+unfolding tables kind_number_stepped all_are
+greek_are = refl
+
+cyrillic_are : all_are 1 0x48A 0x590 kind_number_stepped.steps ≡ true
+unfolding tables kind_number_stepped all_are
+cyrillic_are = refl
+
+marks_are : all_are 0 0x300 0x338 kind_number_stepped.steps ≡ true
+unfolding tables kind_number_stepped all_are
+marks_are = refl
+
+more_marks_are : all_are 0 0x339 0x370 kind_number_stepped.steps ≡ true
+unfolding tables kind_number_stepped all_are
+more_marks_are = refl
+
+ideographs_are : all_are 2 0x3400 0xA000 kind_number_stepped.steps ≡ true
+unfolding tables kind_number_stepped all_are
+ideographs_are = refl
+
+pub latin_width : (c : ℕ) → 0xA0 ≤ c → c < 0xAD → char_width false c ≡ Some 1
+latin_width c low high = known 1 0xA0 0xAD c latin_are (omega arith) (omega arith) low high
+
+pub more_latin_width : (c : ℕ) → 0xAE ≤ c → c < 0x300 → char_width false c ≡ Some 1
+more_latin_width c low high = known 1 0xAE 0x300 c more_latin_are (omega arith) (omega arith) low high
+
+pub greek_width : (c : ℕ) → 0x370 ≤ c → c < 0x483 → char_width false c ≡ Some 1
+greek_width c low high = known 1 0x370 0x483 c greek_are (omega arith) (omega arith) low high
+
+pub cyrillic_width : (c : ℕ) → 0x48A ≤ c → c < 0x590 → char_width false c ≡ Some 1
+cyrillic_width c low high = known 1 0x48A 0x590 c cyrillic_are (omega arith) (omega arith) low high
+
+mark_width : (c : ℕ) → 0x300 ≤ c → c < 0x370 → (c ≡ 0x338 → ⊥) → char_width false c ≡ Some 0
+mark_width c low high other =
+    elim (cases_lt c 0x338) [
+      | inl before ↦ known 0 0x300 0x338 c marks_are (omega arith) (omega arith) low before
+      | inr from ↦
+          known 0 0x339 0x370 c more_marks_are (omega arith) (omega arith)
+          (elim (cases_lt c 0x339) [
+            | inl at ↦ absurd (other (omega arith))
+            | inr behind ↦ behind
+          ])
+          high
+    ]
+
+pub mark_columns : (c : ℕ) → 0x300 ≤ c → c < 0x370 → (c ≡ 0x338 → ⊥) → columns_of c ≡ 0
+unfolding columns_of
+mark_columns c low high other = ap glyph_columns (mark_width c low high other)
+
+pub mark_drawn : (c : ℕ) → 0x300 ≤ c → c < 0x370 → (c ≡ 0x338 → ⊥) → drawn c ≡ c
+unfolding drawn
+mark_drawn c low high other = ap (λ (w : Option ℕ). drawn_as w c) (mark_width c low high other)
+
+ideograph_width : (c : ℕ) → 0x3400 ≤ c → c < 0xA000 → char_width false c ≡ Some 2
+ideograph_width c low high = known 2 0x3400 0xA000 c ideographs_are (omega arith) (omega arith) low high
+
+pub ideograph_wide : (c : ℕ) → 0x3400 ≤ c → c < 0xA000 → IsWide c
+unfolding columns_of drawn
+ideograph_wide c low high = record {
+  beyond = omega arith;
+  columns = ap glyph_columns (ideograph_width c low high);
+  drawn = ap (λ (w : Option ℕ). drawn_as w c) (ideograph_width c low high);
+}
