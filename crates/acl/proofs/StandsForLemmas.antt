@@ -217,13 +217,15 @@ module _ (t : Table) (edition : Edition) (owner : UserId) (h : History) (s : Sta
 
         stranger : (b : Bit) (place : Object) (q : UserId) (c : Bool) → same_user u q ≡ c
             → is_some (if c then Some row' else row_of t q) ≡ false
-            → unwrap_or (decided (c && same_bit bit b && same_object object place) value) (has owner h q b place) ≡ false
+            → unwrap_or (decided (c && same_bit bit b && same_object object place) value) (has owner h q b place) ≡
+            false
         stranger b place q true e none = absurd (true≢false none)
         stranger b place q false e none = s.strangers q b place none
 
         led_same : (c : Bool) (q : UserId) → same_user u q ≡ c
             → leaders_at (if c then Some row' else row_of t q) ≡ leaders_of edition h q
-        led_same true q e = leaders ∙ sym (ap leaders_at had) ∙ s.led u ∙ ap (leaders_of edition h) (same_user-true u q e)
+        led_same true q e = leaders ∙ sym (ap leaders_at had) ∙ s.led u
+            ∙ ap (leaders_of edition h) (same_user-true u q e)
         led_same false q e = s.led q
 
     -- a known user gets a leader, or none
@@ -293,7 +295,8 @@ module _ (t : Table) (edition : Edition) (owner : UserId) (h : History) (s : Sta
       rights = s.rights;
       strangers = s.strangers;
       led = s.led;
-      masks = λ by q b. ap (mask_at b) (masks (by, q)) ∙ masked_now by q b (same_user u by) (same_user named q) refl refl;
+      masks = λ by q b. ap (mask_at b) (masks (by, q))
+          ∙ masked_now by q b (same_user u by) (same_user named q) refl refl;
       presets = s.presets;
     }
       where

@@ -110,7 +110,8 @@ item_asks t v c d same (Some (bound order)) = (
   (
     may_in v d.user Execute (object.Command (name_of order)),
     ap
-        (λ u. right u Execute (object.Command (name_of order)) (may_in v d.user Execute (object.Command (name_of order))))
+        (λ u. right u Execute (object.Command (name_of order))
+        (may_in v d.user Execute (object.Command (name_of order))))
         same,
   ),
   tt,
@@ -125,7 +126,8 @@ item_asks t v c d same (Some (line (b ∷ bytes))) = on (read_line (b ∷ bytes)
     (
       may_in v d.user Execute (object.Command (name_of order)),
       ap
-          (λ u. right u Execute (object.Command (name_of order)) (may_in v d.user Execute (object.Command (name_of order))))
+          (λ u. right u Execute (object.Command (name_of order))
+          (may_in v d.user Execute (object.Command (name_of order))))
           same,
     ),
     tt,

@@ -32,7 +32,8 @@ read_rules t u r = λ i. (r.owner i, r.edition i, r.next_window i, r.next_client
 pub told_rules : (t : Tables) (client : ℕ) (m : Message) → rules (told t client m) ≡ rules t
 told_rules t client m = read_rules t (told t client m) (told_read t t client m (same_tables t))
 
-pub listed_rules : (client : ℕ) (m : List ℕ → Message) (o : Option (List ℕ)) (d : Deed) → rules (with_listed client m o d).tables ≡ rules d.tables
+pub listed_rules : (client : ℕ) (m : List ℕ → Message) (o : Option (List ℕ)) (d : Deed)
+    → rules (with_listed client m o d).tables ≡ rules d.tables
 listed_rules client m None d = refl
 listed_rules client m (Some bytes) d = told_rules d.tables client (m bytes)
 

@@ -82,7 +82,8 @@ module _ (rows columns : ℕ) (old new : Page) (pen_line pen_column : ℕ) (know
         k.0,
         k.1,
         subst
-            (λ sh. Writes rows columns (behind 1) pen_line pen_column 1 (row_of (record cell { shape = sh }) pen_column) x
+            (λ sh. Writes rows columns (behind 1) pen_line pen_column 1 (row_of (record cell { shape = sh }) pen_column)
+            x
             k.0) (sym shape) (k.2).writes,
       )
 
@@ -110,7 +111,8 @@ module _ (rows columns : ℕ) (old new : Page) (pen_line pen_column : ℕ) (know
         k.0,
         k.1,
         subst
-            (λ sh. Writes rows columns (behind 2) pen_line pen_column 2 (row_of (record cell { shape = sh }) pen_column) x
+            (λ sh. Writes rows columns (behind 2) pen_line pen_column 2 (row_of (record cell { shape = sh }) pen_column)
+            x
             k.0) (sym shape) (k.2).writes,
       )
 

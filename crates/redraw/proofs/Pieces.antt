@@ -185,7 +185,8 @@ module _ (old new : Page) (rows : ℕ) (line : ℕ) (before after : List Cell) (
           (λ x y h w. record {
             drawing = w.drawing;
             here = λ c hc. w.here c hc
-                ∙ mixed_same (seen_at old line) (seen_at new line) k j c old_paired new_paired order d.whole whole alike;
+                ∙ mixed_same (seen_at old line) (seen_at new line) k j c old_paired new_paired order d.whole whole
+                alike;
             elsewhere = w.elsewhere;
             modes = w.modes;
           });
@@ -212,23 +213,27 @@ module _ (old new : Page) (rows : ℕ) (line : ℕ) (before after : List Cell) (
         (cases_eq k (suc i))
       where
         new_half : (c : ℕ) → is_left (seen_at new line c).shape ≡ true
-            → (seen_at new line) (suc c) ≡ right_cell (seen_at new line c).character (seen_at new line c).rendition false
+            → (seen_at new line) (suc c) ≡ right_cell (seen_at new line c).character (seen_at new line c).rendition
+            false
         new_half c l = rw lines.new_is (lines.new_drawable.halves c (rw lines.new_is at l))
 
         old_half : (c : ℕ) → is_left (seen_at old line c).shape ≡ true
-            → (seen_at old line) (suc c) ≡ right_cell (seen_at old line c).character (seen_at old line c).rendition false
+            → (seen_at old line) (suc c) ≡ right_cell (seen_at old line c).character (seen_at old line c).rendition
+            false
         old_half c l = rw lines.old_is (lines.old_halves c (rw lines.old_is at l))
 
     pub start_whole : (p q : Pen) (k i : ℕ) (a b : List ℕ) → DrawsUpTo old new rows columns p q line k a b → k ≤ i
         → ((c : ℕ) → k ≤ c → c < i → unprotected (cell_at before c) ≡ unprotected (cell_at after c))
-        → (unprotected (cell_at before i) ≡ unprotected (cell_at after i) → ⊥) → is_right (cell_at after i).shape ≡ false
+        → (unprotected (cell_at before i) ≡ unprotected (cell_at after i) → ⊥)
+        → is_right (cell_at after i).shape ≡ false
     start_whole p q k i a b d order alike differs =
         let z : is_right (seen_at new line i).shape ≡ false = whole_start k i order d.whole
         (λ c h g. rw (lines.old_is, lines.new_is) (alike c h g)) (λ e. differs (rw (lines.old_is, lines.new_is) at e))
         in
         rw lines.new_is at z
 
-    pub line_piece : (p q r : Pen) (k i next : ℕ) (a b c : List ℕ) → DrawsUpTo old new rows columns p q line k a b → k ≤ i
+    pub line_piece : (p q r : Pen) (k i next : ℕ) (a b c : List ℕ) → DrawsUpTo old new rows columns p q line k a b
+        → k ≤ i
         → i < next → i ≤ columns → is_right (cell_at after i).shape ≡ false
         → ((j : ℕ) → k ≤ j → j < i → unprotected (cell_at before j) ≡ unprotected (cell_at after j))
         → DrawsPiece old new rows columns q r line i next b c → DrawsUpTo old new rows columns p r line next a c
@@ -249,7 +254,8 @@ module _ (old new : Page) (rows : ℕ) (line : ℕ) (before after : List Cell) (
                 drawing = v.drawing;
                 here = λ j hj. v.here j hj
                     ∙ mixed_over (seen_at old line) (seen_at new line) (seen y line) i (next - i) j new_paired
-                    (omega arith) at_i.whole (w.here j hj) ∙ ap (λ m. mixed (seen_at old line) (seen_at new line) m j) e;
+                    (omega arith) at_i.whole (w.here j hj)
+                    ∙ ap (λ m. mixed (seen_at old line) (seen_at new line) m j) e;
                 elsewhere = λ l j ne. v.elsewhere l j ne ∙ w.elsewhere l j ne;
                 modes = v.modes ∙ w.modes;
               });

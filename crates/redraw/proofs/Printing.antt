@@ -272,7 +272,8 @@ module _ (rows columns : ℕ) (old new : Page) (pen_line pen_column : ℕ) (know
     placed_page : (fresh : List Cell) → (placed fresh x).page ≡ written pen_line pen_column columns fresh x.page
     placed_page fresh =
         let s : State = x.state in
-        let goes : following s (length fresh) ≡ s.column + length fresh = rw (no_insert rows columns placed_pen x d) refl
+        let goes : following s (length fresh) ≡ s.column + length fresh = rw (no_insert rows columns placed_pen x d)
+        refl
         in
         ap (λ j. page_from (edited s.line (spliced s.column fresh j s.columns)) x.page) goes
         ∙ ap (λ j. page_from (edited j (spliced s.column fresh (s.column + length fresh) s.columns)) x.page) d.line_is
@@ -286,7 +287,8 @@ module _ (rows columns : ℕ) (old new : Page) (pen_line pen_column : ℕ) (know
 
     placed_writes : (fresh : List Cell) (f : Row) → IsSound (placed fresh x) → 0 < length fresh
         → pen_column + length fresh ≤ columns
-        → ((c : ℕ) → pen_column ≤ c → c < pen_column + length fresh → unprotected (fresh_at fresh (c - pen_column)) ≡ f c)
+        → ((c : ℕ) → pen_column ≤ c → c < pen_column + length fresh
+        → unprotected (fresh_at fresh (c - pen_column)) ≡ f c)
         → Writes rows columns (pen_behind columns pen_line pen_column known (length fresh)) pen_line pen_column
         (length fresh) f x (placed fresh x)
     placed_writes fresh f sound some room is =
@@ -346,7 +348,8 @@ module _ (rows columns : ℕ) (old new : Page) (pen_line pen_column : ℕ) (know
 
     wide_is : (c : ℕ) → IsGlyph 2 c → pen_column + 2 ≤ columns
         → effect x (Print c) ≡ placed
-        (left_cell c x.state.rendition x.state.is_protecting ∷ right_cell c x.state.rendition x.state.is_protecting ∷ [])
+        (left_cell c x.state.rendition x.state.is_protecting ∷ right_cell c x.state.rendition x.state.is_protecting ∷
+        [])
         x
     wide_is c g room =
         let some : eqb (x.state.column + 1) x.state.columns ≡ false = ne_eqb (x.state.column + 1) x.state.columns
@@ -360,7 +363,8 @@ module _ (rows columns : ℕ) (old new : Page) (pen_line pen_column : ℕ) (know
         (Inked rows columns pen_line pen_column known (left_cell c x.state.rendition false) 2 x)
     wide_leads c g room stands differs =
         let s : State = x.state in
-        let fresh : List Cell = left_cell c s.rendition s.is_protecting ∷ right_cell c s.rendition s.is_protecting ∷ [] in
+        let fresh : List Cell = left_cell c s.rendition s.is_protecting ∷ right_cell c s.rendition s.is_protecting ∷ []
+        in
         let is = wide_is c g room in
         let sound : IsSound (placed fresh x) = subst IsSound is (IsSound-effect x (Print c) d.sound) in (
           placed fresh x,

@@ -78,7 +78,8 @@ module _ (edition : Edition) (owner : UserId) (P : UserId → Type 0) (base : Hi
   now h a acts w x g = (
     g.own,
     ⊎_elim
-        (λ (opened : opens_window w a ≡ true). inl (or_before (opens_window w a) (list_any (opens_window w) acts) opened))
+        (λ (opened : opens_window w a ≡ true). inl
+        (or_before (opens_window w a) (list_any (opens_window w) acts) opened))
         (λ (may : writes base x w ≡ true). inr may) g.had,
   )
 

@@ -161,7 +161,8 @@ module _ (t : Tables) (k : Caller) (row : (w : Window) → k.window ≡ Some w �
     deed_kept c d (shapes.told bytes is) = inl refl
     deed_kept c d (shapes.removed word is clear) = removal c (named_by word)
     deed_kept c d (shapes.fitted w rows columns is here) = inl
-        (written_label t w (record w { writing = w.writing ++ written.Size rows columns ∷ [] }) at (row w here) refl refl)
+        (written_label t w (record w { writing = w.writing ++ written.Size rows columns ∷ [] }) at (row w here) refl
+        refl)
     deed_kept c d (shapes.titled w bytes is here) =
         own c (names_it c _ is refl) w here (with_window t (record w { title = bytes })).windows
         (elsewhere t.windows w.serial (record w { title = bytes }) at refl)

@@ -76,11 +76,14 @@ among_filter client gone (p ∷ ps) other is = on (p.0 == gone) refl (p.0 == cli
           (if not a then p ∷ filter (λ (p : ℕ × UserId). not (p.0 == gone)) ps else filter
           (λ (p : ℕ × UserId). not (p.0 == gone)) ps) ≡ true
       on true at true here is more = absurd
-          (let same : p.0 ≡ gone = equal p.0 gone at in let f : (gone == client) ≡ true = ap (λ n. n == client) (sym same)
+          (let same : p.0 ≡ gone = equal p.0 gone at in let f : (gone == client) ≡ true = ap (λ n. n == client)
+          (sym same)
           ∙ here in cc (f, other))
       on true at false here is more = more is
-      on false at true here is more = ap (λ b. b || among client (filter (λ (p : ℕ × UserId). not (p.0 == gone)) ps)) here
-      on false at false here is more = ap (λ b. b || among client (filter (λ (p : ℕ × UserId). not (p.0 == gone)) ps)) here
+      on false at true here is more = ap (λ b. b || among client (filter (λ (p : ℕ × UserId). not (p.0 == gone)) ps))
+          here
+      on false at false here is more = ap (λ b. b || among client (filter (λ (p : ℕ × UserId). not (p.0 == gone)) ps))
+          here
           ∙ more is
 
 or_second : (a b : Bool) → b ≡ true → (a || b) ≡ true

@@ -195,7 +195,8 @@ module _ (t : Tables) (fit : AreFit t) (able : HoldersMayWrite t) (w : ℕ) (use
             sides : (b : Bool) → same_user x user ≡ b → b ≡ false
             sides false e = refl
             sides true e = contradicts (may_in t user Write (object.Window w))
-                (ap (λ y. may_in t y Write (object.Window w)) (sym (same_user-true x user e)) ∙ able w x held) weak.write
+                (ap (λ y. may_in t y Write (object.Window w)) (sym (same_user-true x user e)) ∙ able w x held)
+                weak.write
     locked Auto here passed = contradicts (may_in t user Write (object.Window w))
         (ap (λ y. may_in t y Write (object.Window w)) (sym is)
         ∙ Rattle.session_guests.proofs.Holding.write_on t k.user k.window w here passed) weak.write
@@ -436,7 +437,9 @@ module _ (t : Tables) (fit : AreFit t) (able : HoldersMayWrite t) (w : ℕ) (use
 pub holders_stay : Below → (t : Tables) (e : Entry) → AreFit t → HoldersMayWrite t → IsStep t e → HoldersStayIn t e
 holders_stay laws t e fit able step w user x is weak old held = on
     (still t fit able w user x weak old held laws e step is) where
-      on : (holder t.edition t.owner (followed_by t.acts e.acts) w ≡ Some x) ⊎ SomeOf (MayFree t) (commands_of t e.event)
+      on : (holder t.edition t.owner (followed_by t.acts e.acts) w ≡ Some x) ⊎ SomeOf (MayFree t)
+          (commands_of t e.event)
           → (holder_in (after t e) w ≡ Some x) ⊎ SomeOf (MayFree t) (commands_of t e.event)
-      on (inl there) = inl (by_acts (λ edition owner h. holder edition owner h w ≡ Some x) t e (kept laws t e step) there)
+      on (inl there) = inl
+          (by_acts (λ edition owner h. holder edition owner h w ≡ Some x) t e (kept laws t e step) there)
       on (inr some) = inr some

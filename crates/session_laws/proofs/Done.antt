@@ -79,7 +79,8 @@ removal_done t k word (Some u) is = record {
       (λ c goes some. (
         some_weaken (λ (d : Client). (d.serial ≡ c.serial) × (is_of u d ≡ true))
             (λ (d : Client). (d.serial ≡ c.serial) × (is_named word d ≡ true)) t.clients
-            (λ d here. (here.0, ap (λ o. option_map_or (Rattle.acl.specs.Same.same_user d.user) o false) is ∙ here.1)) some,
+            (λ d here. (here.0, ap (λ o. option_map_or (Rattle.acl.specs.Same.same_user d.user) o false) is ∙ here.1))
+            some,
         refl,
       ));
   lists = λ bytes is. none_listed bytes is;

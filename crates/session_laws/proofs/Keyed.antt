@@ -251,7 +251,8 @@ module _ (t : Tables) (client : ℕ) (bytes : List ℕ) (reply : Reply) (acts : 
       on (Ok order) is = tt
       on (Err f) is = refused_by (Line f)
           (subst
-          (λ (x : Option Item). Said t before.tables c.serial (Line f) (ordered before.tables (reading read c) x).deed) at
+          (λ (x : Option Item). Said t before.tables c.serial (Line f) (ordered before.tables (reading read c) x).deed)
+          at
           is)
 
     answered : KeysAreAnswered t e c bytes
@@ -267,7 +268,8 @@ module _ (t : Tables) (client : ℕ) (bytes : List ℕ) (reply : Reply) (acts : 
           client c (reading read c) (typed_bytes (step_items c bytes)) is refl refl
           (λ cs same. by_item t c read cs item same)));
       no_command = fault_by item refl
-          (typing_clients (λ v. Faulty t c read v item) t client c (reading read c) (typed_bytes (step_items c bytes)) is
+          (typing_clients (λ v. Faulty t c read v item) t client c (reading read c) (typed_bytes (step_items c bytes))
+          is
           refl refl (λ cs same. by_fault t c read cs item same));
     }
 

@@ -110,7 +110,8 @@ unsaid_apart said es = all_weaken (λ s. SomeOf (λ y. y ≡ s) said) (λ s. IsS
           all_passed (λ g. g ≡ Say to text → ⊥) (λ g. not (list_any (says_same g) said)) es
           (all_of (λ g. not (list_any (says_same g) said) ≡ true → g ≡ Say to text → ⊥) es
           (λ g passes same. contradicts (list_any (says_same g) said)
-          (any_true (says_same g) said (Say to text) some (ap (λ x. says_same x (Say to text)) same ∙ same_itself to text))
+          (any_true (says_same g) said (Say to text) some
+          (ap (λ x. says_same x (Say to text)) same ∙ same_itself to text))
           (negated (list_any (says_same g) said) passes)))
       one f some = tt
 

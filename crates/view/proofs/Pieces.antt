@@ -288,7 +288,8 @@ module _ (r : Rects) (ps : List Part) (text : List ℕ) (s : Shape) (rows column
         → (rect.columns ≡ 1 → IsFree rect old.page → Lays (separator_piece rect) old new)
         → Stage r ps text (length r.boxes.items + (n + 1)) new
     separator_stage n rect d old new lt re stage lays =
-        let inside : length r.boxes.items + n < length (pieces r ps text) = omega (arith, lt, pieces_length r ps text) in
+        let inside : length r.boxes.items + n < length (pieces r ps text) = omega (arith, lt, pieces_length r ps text)
+        in
         let one : rect.columns ≡ 1 = ap (λ (x : Rect). x.columns) re
         ∙ separator_narrow r ps text s rows columns is n d lt in
         let more : length r.boxes.items + n + 1 ≡ length r.boxes.items + (n + 1) = omega arith in
@@ -302,7 +303,8 @@ module _ (r : Rects) (ps : List Part) (text : List ℕ) (s : Shape) (rows column
         → Stage r ps text (length (pieces r ps text)) new
     status_stage n old new e stage lays =
         let inside : length r.boxes.items + n < length (pieces r ps text) = omega (arith, e, pieces_length r ps text) in
-        let more : length r.boxes.items + n + 1 ≡ length (pieces r ps text) = omega (arith, e, pieces_length r ps text) in
+        let more : length r.boxes.items + n + 1 ≡ length (pieces r ps text) = omega (arith, e, pieces_length r ps text)
+        in
         subst (λ (k : ℕ). Stage r ps text k new) more
         (next (length r.boxes.items + n) inside (status_piece r.status text) old new
         (ap (λ (k : ℕ). piece_at (pieces r ps text) (length r.boxes.items + k)) e ∙ status_at r ps text)
@@ -334,7 +336,8 @@ module _ (r : Rects) (ps : List Part) (text : List ℕ) (s : Shape) (rows column
           cursor = cursor_of (box_at r r.focus) (part_at ps r.focus);
           has_application_arrows = arrows_of (part_at ps r.focus);
           has_application_keypad = keypad_of (part_at ps r.focus);
-        }) (page-is (pieces r ps text) old (r.status.line + 1) r.status.columns grid size.rows_are size.columns_are holds)
+        }) (page-is (pieces r ps text) old (r.status.line + 1) r.status.columns grid size.rows_are size.columns_are
+        holds)
 
 -- ---- pages on which all pieces are free
 
