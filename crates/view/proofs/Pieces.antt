@@ -210,7 +210,7 @@ page-is ps v rows columns grid high wide_is holds =
     holds.cells_are l c ∙ sym (get_or-map-range_with_len (cell l) 0 columns c c blank inside (omega arith)))
     ∙ sym (get_or-map-range_with_len (λ n. map (cell n) (range_with_len 0 columns)) 0 rows l l [] lt (omega arith)))
 
--- ---- so many pieces are laid over a page
+-- ---- the first n pieces are laid over a page
 
 pub record Stage (r : Rects) (ps : List Part) (text : List ℕ) (n : ℕ) (v : View) : Type 0 where
   pub covers : Covers (take n (pieces r ps text)) v
@@ -365,7 +365,7 @@ module _ (r : Rects) (ps : List Part) (text : List ℕ) (s : Shape) (rows column
   broad_page : length (line_at v.page 0) ≡ columns
   broad_page = size.columns_are ∙ status_columns r ps text s rows columns is
 
-  -- a blank one
+  -- on a blank page all pieces are free
   pub blank_free : ((l c : ℕ) → place v.page l c ≡ blank) → AreFree (pieces r ps text) v.page
   blank_free blanks n lt = free_on_blanks (pieces r ps text) rows columns (pieces_tile r ps text s rows columns is) n lt
       v high_page broad_page some blanks
@@ -389,7 +389,7 @@ module _ (r : Rects) (ps : List Part) (text : List ℕ) (s : Shape) (rows column
           (cases_lt (n - length r.boxes.items) (length r.separators.items)))
           (cases_lt n (length r.boxes.items))
 
-  -- any one, where a region has it alone
+  -- on any page all pieces are free, if one region has the page to itself
   pub lone_free : length r.boxes.items ≡ 1 → IsGrid v.page → AreFree (pieces r ps text) v.page
   lone_free one grid n lt = ⊎_elim
       (λ (h : n < length r.boxes.items).
