@@ -1,4 +1,4 @@
--- A line, one piece after another; and a page, one line after another.
+-- A line is drawn piece by piece, and a page line by line.
 use Rattle.std.proofs.Common.{◌≡◌, ℕ, zero, suc, ◌+◌, ◌-◌, ◌<◌, ◌≤◌, true, false, List, length, refl, sym, ap, ◌∙◌}
 use Rattle.std.proofs.Common.{subst, arith, ⊎_elim, eq-eqb}
 use Rattle.std.proofs.lemmas.Bool.{cases_lt, cases_eq, cases_Bool, ne_eqb}
@@ -21,7 +21,7 @@ use Rattle.redraw.proofs.Takings.{takes_nothing, takes_then, takes_weaker}
 pub paired_row : (cells : List Cell) → IsPaired cells → IsPairedRow (λ c. unprotected (cell_at cells c))
 paired_row cells p = record { first = p.first; next = λ column. p.next column }
 
--- what was written is the new page's
+-- what was written is what the new page has there
 pub writes_new : (old new : Page) (rows columns : ℕ) (p q : Pen) (line column n next : ℕ) (f : Row) (a b : List ℕ)
     → next ≡ column + n → ((c : ℕ) → column ≤ c → c < column + n → f c ≡ seen_at new line c)
     → Takes old new (Drawing rows columns p) (Writes rows columns q line column n f) a b
@@ -39,7 +39,7 @@ writes_new old new rows columns p q line column n next f a b e same t =
       modes = w.modes;
     }))
 
--- blanks that were erased
+-- a piece of blanks was erased
 pub blank_piece : (old new : Page) (rows columns : ℕ) (p q : Pen) (line column n next : ℕ) (cells : List Cell)
     (a b : List ℕ) → line_at new line ≡ cells → IsPaired cells → next ≡ column + n → 0 < n → column + n ≤ columns
     → ((c : ℕ) → column ≤ c → c < column + n → cell_at cells c ≡ blank)
@@ -75,7 +75,7 @@ right_not_left Narrow h = refl
 right_not_left Left h = absurd cc
 right_not_left Right h = refl
 
--- a cell that was printed
+-- a piece of one cell was printed
 pub put_piece : (old new : Page) (rows : ℕ) (p q : Pen) (line column next : ℕ) (cells : List Cell) (a b : List ℕ)
     → line_at new line ≡ cells → IsPaired cells → IsDrawableLine cells → is_right (cell_at cells column).shape ≡ false
     → column < length cells → next ≡ column + width_of (cell_at cells column).shape
@@ -129,7 +129,7 @@ cell_piece old new rows p q line column next cell cells a b here is paired drawa
     (λ (z : Cell). Takes old new (Drawing rows (length cells) p)
     (Writes rows (length cells) q line column (width_of z.shape) (row_of z column)) a b) here t)
 
--- a cell of a line stands in the page
+-- a cell of a line stands at its place in the page
 pub cell_stands : (old new : Page) (line : ℕ) (before after : List Cell) → AreLines old new line before after
     → (column : ℕ) (cell : Cell) → cell ≡ cell_at after column → Stands new line column cell
 cell_stands old new line before after lines column cell here = record {
@@ -192,7 +192,7 @@ module _ (old new : Page) (rows : ℕ) (line : ℕ) (before after : List Cell) (
           });
     }
 
-    -- where lines begin to differ, no right half stands
+    -- at the column from which lines differ, there is no right half
     whole_start : (k i : ℕ) → k ≤ i → is_right (seen_at new line k).shape ≡ false
         → ((c : ℕ) → k ≤ c → c < i → seen_at old line c ≡ seen_at new line c)
         → ((seen_at old line) i ≡ (seen_at new line) i → ⊥) → is_right (seen_at new line i).shape ≡ false

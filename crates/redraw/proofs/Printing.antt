@@ -1,4 +1,4 @@
--- Characters, marks and erasures on a screen on which a frame is drawn.
+-- What characters, marks and erasures do to a screen on which a frame is drawn.
 use Rattle.std.proofs.Common.{◌≡◌, ℕ, ◌+◌, ◌-◌, ◌<◌, ◌≤◌, min, max, Bool, true, false, ◌&&◌, cond, eqb, ltb, List, []}
 use Rattle.std.proofs.Common.{◌∷◌, length, set, replicate, Option, Some, refl, sym, ap, ◌∙◌, subst, arith, ⊎_elim}
 use Rattle.std.proofs.Common.{eq-eqb}
@@ -200,7 +200,7 @@ advanced_drawn s w e =
     ∙ ap (λ (b : Bool). record (drawn_state (advanced s w)) { is_wrap_pending = b })
     (both_false (ltb (s.column + w) s.columns))
 
--- the column behind a character, where the page has one
+-- the column after a character, if the page has one
 abbrev pub column_behind : ℕ → ℕ → Option ℕ
 column_behind columns next = then_some (ltb next columns) next
 
@@ -210,7 +210,7 @@ knows_behind columns next at is = ⊎_elim
     (λ (h : columns ≤ next). rw (le-ltb next columns h) tt)
     (cases_lt next columns)
 
--- a pen that has written n columns from a place on
+-- a pen after it wrote n columns from a place on
 abbrev pub pen_behind : ℕ → ℕ → ℕ → Option Rendition → ℕ → Pen
 pen_behind columns line column known n = record
     { line = Some line; column = column_behind columns (column + n); rendition = known }
@@ -238,7 +238,8 @@ module _ (rows columns : ℕ) (old new : Page) (pen : Pen) (x : Screen) (d : Dra
       ∙ ap (λ n. printed_as n (drawn c) x) g.columns_are
       ∙ ap (λ n. printed_as w n x) g.stays
 
-  -- what is printed takes a place where it stands, and where the old page differs
+  -- printing a character that has room, at a place at which the old page differs, leads to its
+  -- effect
   pub printed_leads : (w c line column : ℕ) (y : Screen) → IsGlyph w c → effect x (Print c) ≡ y
       → place_by w (record { before = x; func = Print c }) ≡ Some (record { line = line; column = column })
       → StandsAt w new (record { line = line; column = column }) c → Differs old new line column
