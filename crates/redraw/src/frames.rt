@@ -22,7 +22,7 @@ use view::{Cursor, View};
 /// column the cursor stays when a character is printed there.
 const RESET: &[u8] = b"\x18\x1bc\x1b%G\x1b[?7l";
 
-/// Whether the cursor is shown.
+/// Whether a cursor is shown.
 fn is_shown(cursor: Cursor) -> bool
     ensures { result ≡ is_some (place_of cursor) }
 {
