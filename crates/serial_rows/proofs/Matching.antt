@@ -1,11 +1,11 @@
--- Two tables, row by row.
+-- Facts of two tables whose rows belong together in pairs.
 use Rattle.std.proofs.Common.{◌≡◌, ℕ, suc, Bool, true, false, List, [], ◌∷◌, ◌++◌, Option, Some, None, map, filter}
 use Rattle.std.proofs.Common.{length, refl, ap, sym, subst, is_some}
 use Rattle.std.specs.Prelude.{if◌then◌else◌, ◌==◌, find, not}
 use Rattle.serial_rows.specs.Finding.{row_of, with_row}
 use Rattle.serial_rows.specs.Matched.{Matched, BothOrNone}
 
--- ---- two rows that were looked for
+-- ---- two rows that were looked up
 
 module _ {A B : Type 0} (R : A → B → Type 0) where
   pub both_there : (o : Option A) (p : Option B) (a : A) → BothOrNone R o p → o ≡ Some a → (b : B) × (p ≡ Some b)
@@ -60,7 +60,7 @@ module _ {A B : Type 0} (R : A → B → Type 0) where
   length_match [] (y ∷ ys) m = absurd m
   length_match (x ∷ xs) [] m = absurd m
 
-  -- every row is changed
+  -- both tables stay matched if each of their rows is changed
   pub map_match : (S : A → B → Type 0) (f : A → A) (g : B → B) → ((a : A) (b : B) → R a b → S (f a) (g b))
       → (xs : List A) (ys : List B) → Matched R xs ys → Matched S (map f xs) (map g ys)
   map_match S f g on [] [] m = tt
@@ -68,7 +68,7 @@ module _ {A B : Type 0} (R : A → B → Type 0) where
   map_match S f g on [] (y ∷ ys) m = absurd m
   map_match S f g on (x ∷ xs) [] m = absurd m
 
-  -- the rows stand in another relation too
+  -- tables matched by one relation are matched by a weaker one
   pub weaker_match : (S : A → B → Type 0) → ((a : A) (b : B) → R a b → S a b) → (xs : List A) (ys : List B)
       → Matched R xs ys → Matched S xs ys
   weaker_match S on [] [] m = tt
@@ -76,7 +76,7 @@ module _ {A B : Type 0} (R : A → B → Type 0) where
   weaker_match S on [] (y ∷ ys) m = absurd m
   weaker_match S on (x ∷ xs) [] m = absurd m
 
-  -- the same of each
+  -- if a function of each pair of rows has equal values, the tables have equal lists of them
   pub mapped_match : {X : Type 0} (f : A → X) (g : B → X) → ((a : A) (b : B) → R a b → g b ≡ f a)
       → (xs : List A) (ys : List B) → Matched R xs ys → map g ys ≡ map f xs
   mapped_match f g same [] [] m = refl
@@ -92,7 +92,7 @@ module _ {A B : Type 0} (R : A → B → Type 0) where
   append_match [] more (y ∷ ys) others m n = absurd m
   append_match (x ∷ xs) more [] others m n = absurd m
 
-  -- one more row
+  -- both tables stay matched if a row is added to each
   pub push_match : (xs : List A) (x : A) (ys : List B) (y : B) → Matched R xs ys → R x y
       → Matched R (xs ++ x ∷ []) (ys ++ y ∷ [])
   push_match xs x ys y m r = append_match xs (x ∷ []) ys (y ∷ []) m (r, tt)
@@ -106,7 +106,7 @@ module _ {A B : Type 0} (R : A → B → Type 0) where
     filter_match [] (y ∷ ys) m = absurd m
     filter_match (x ∷ xs) [] m = absurd m
 
-    -- the first row that passes a test
+    -- the first rows that pass a test match
     pub find_match : (xs : List A) (ys : List B) → Matched R xs ys → BothOrNone R (find p xs) (find q ys)
     find_match [] [] m = tt
     find_match (x ∷ xs) (y ∷ ys) m =
@@ -144,7 +144,7 @@ module _ {A B : Type 0} (R : A → B → Type 0) where
         × (row_of f xs s ≡ Some a) × R a b
     row_back xs ys s b m at = both_back R (row_of f xs s) (row_of g ys s) b (rows_match xs ys s m) at
 
-    -- the rows but those of a serial
+    -- both tables stay matched if the rows of a serial are removed
     pub without_match : (xs : List A) (ys : List B) (s : ℕ) → Matched R xs ys
         → Matched R (filter (λ a. not (f a == s)) xs) (filter (λ b. not (g b == s)) ys)
     without_match xs ys s m = filter_match (λ a. not (f a == s)) (λ b. not (g b == s))

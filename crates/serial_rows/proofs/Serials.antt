@@ -1,4 +1,4 @@
--- Tables whose rows have serials, and tests.
+-- Facts of tables whose rows have serials, and of searches in them.
 use Rattle.std.proofs.Common.{◌≡◌, ◌≢◌, ℕ, zero, suc, ◌<◌, ◌≤◌, Bool, true, false, List, [], ◌∷◌, length, Some, None}
 use Rattle.std.proofs.Common.{Ok, Err, set, map, get_or, refl, ap, sym, ◌∙◌, arith, Option}
 use Rattle.std.specs.Prelude.{if◌then◌else◌, ◌==◌, slice_get, Result, OnOk, OnErr, IfOk, is_err}
@@ -54,14 +54,14 @@ pub on_error : {A E P Q : Type 0} (r : Result A E) → (P → Q) → OnErr r P �
 on_error (Ok a) f p = tt
 on_error (Err e) f p = f p
 
--- a row that is put back
+-- putting back a row where it was changes nothing
 pub set_back : {A : Type 0} (rows : List A) (i : ℕ) (row : A) → row ≡ get_or rows i row → set rows i row ≡ rows
 set_back [] i row is = refl
 set_back (r ∷ rows) zero row is = ap (λ x. x ∷ rows) is
 set_back (r ∷ rows) (suc i) row is = ap (λ rs. r ∷ rs) (set_back rows i row is)
 
 module _ {A : Type 0} (f : A → ℕ) where
-  -- the row at the first place of a serial
+  -- the row at the first place of a serial is the row of the serial
   pub row_at : (rows : List A) (s i : ℕ) (d : A) → i < length rows → (f (get_or rows i d) == s) ≡ true
       → ((k : ℕ) → k < i → (f (get_or rows k d) == s) ≡ false) → row_of f rows s ≡ slice_get rows i
   row_at [] s i d lt here before = absurd (omega arith)
@@ -78,14 +78,14 @@ module _ {A : Type 0} (f : A → ℕ) where
       ap (λ rs. row ∷ rs) (set_at rows s i d new (omega arith) here (λ k below. before (suc k) (omega arith)))
       ∙ sym (if_false (f row == s) _ _ (before 0 (omega arith)))
 
-  -- no row of the serial
+  -- if no place has the serial, there is no row of it
   pub none_at : (rows : List A) (s : ℕ) (d : A) → ((k : ℕ) → k < length rows → (f (get_or rows k d) == s) ≡ false)
       → row_of f rows s ≡ None
   none_at [] s d none = refl
   none_at (row ∷ rows) s d none = if_false (f row == s) _ _ (none 0 (omega arith))
       ∙ none_at rows s d (λ k below. none (suc k) (omega arith))
 
-  -- the same by what `position` finds
+  -- the row at the place that `position` finds is the row of the serial
   pub found : (rows : List A) (s i : ℕ) → position (λ row. f row == s) rows ≡ Some i
       → row_of f rows s ≡ slice_get rows i
   found [] s i at = absurd (cc (at))
@@ -120,7 +120,7 @@ module _ {A : Type 0} (f : A → ℕ) where
   serial_is [] s row at = absurd (cc (at))
   serial_is (r ∷ rs) s row at = found_by (f r == s) row r s (row_of f rs s) refl at (serial_is rs s row)
 
-  -- the new row stands at its serial
+  -- the new row is found at its serial
   same_by : (b : Bool) (r : A) (rs changed : List A) (s : ℕ) (old new : A) → (f r == s) ≡ b → f new ≡ s
       → (if b then Some r else row_of f rs s) ≡ Some old
       → (row_of f rs s ≡ Some old → row_of f changed s ≡ Some new)
@@ -134,7 +134,7 @@ module _ {A : Type 0} (f : A → ℕ) where
   with_same (r ∷ rs) s old new at serial = same_by (f r == s) r rs (with_row f rs s new) s old new refl serial at
       (λ on. with_same rs s old new on serial)
 
-  -- the others stay
+  -- rows of other serials are unchanged
   other_by : (b : Bool) (r : A) (rs changed : List A) (s t : ℕ) (new : A) → (f r == s) ≡ b → f new ≡ s → t ≢ s
       → row_of f changed t ≡ row_of f rs t
       → row_of f (if b then new ∷ rs else r ∷ changed) t ≡ row_of f (r ∷ rs) t
@@ -149,7 +149,7 @@ module _ {A : Type 0} (f : A → ℕ) where
   with_other (r ∷ rs) s t new serial differ = other_by (f r == s) r rs (with_row f rs s new) s t new refl serial differ
       (with_other rs s t new serial differ)
 
-  -- the serials stay
+  -- the serials are unchanged
   serials_by : (b : Bool) (r : A) (rs changed : List A) (s : ℕ) (new : A) → (f r == s) ≡ b → f new ≡ s
       → map f changed ≡ map f rs → map f (if b then new ∷ rs else r ∷ changed) ≡ map f (r ∷ rs)
   serials_by true r rs changed s new is serial on = ap (λ n. n ∷ map f rs) (serial ∙ sym (is_equal (f r) s is))
@@ -160,7 +160,7 @@ module _ {A : Type 0} (f : A → ℕ) where
   serials_stay (r ∷ rs) s new serial = serials_by (f r == s) r rs (with_row f rs s new) s new refl serial
       (serials_stay rs s new serial)
 
-  -- a row that is put where it was
+  -- putting back the row that was found changes nothing
   pub with_back : (rows : List A) (s : ℕ) (row : A) → row_of f rows s ≡ Some row → with_row f rows s row ≡ rows
   with_back [] s row at = refl
   with_back (r ∷ rs) s row at = back_by (f r == s) at (with_back rs s row) where
@@ -170,7 +170,7 @@ module _ {A : Type 0} (f : A → ℕ) where
     back_by true at on = let e : r ≡ row = cc (at) in ap (λ x. x ∷ rs) (sym e)
     back_by false at on = ap (λ xs. r ∷ xs) (on at)
 
-  -- the last one that is put there stays
+  -- of two rows put at one serial, the last one stays
   pub with_twice : (rows : List A) (s : ℕ) (once twice : A) → f once ≡ s
       → with_row f (with_row f rows s once) s twice ≡ with_row f rows s twice
   with_twice [] s once twice serial = refl
