@@ -1,4 +1,4 @@
--- A command that keys complete does its row, or it is said why not.
+-- A command that keys complete does its row, or its client is told why not.
 use Rattle.std.proofs.Common.{◌≡◌, ℕ, true, List, [], ◌∷◌, ◌++◌, Option, Some, None, Ok, Err, Result, refl, ap, sym}
 use Rattle.std.proofs.Common.{◌∙◌, subst, map, take}
 use Rattle.std.specs.List.{AllByRecursion}
@@ -39,7 +39,7 @@ use Rattle.session_laws.proofs.Unread.{SameClients, typing_clients, nobody_left,
 use Rattle.session_laws.proofs.Granting.{told_read, same_tables}
 use Rattle.session_laws.proofs.Telling.{unsaid_listed}
 
--- ---- what stands in the deed of an answer
+-- ---- the parts of an answer's deed
 
 record Done (t : Tables) (client : ℕ) (order : Order) (d e : Deed) : Type 0 where
   acts : e.acts ≡ d.acts

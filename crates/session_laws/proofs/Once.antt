@@ -1,4 +1,4 @@
--- No client is told the same twice in a step.
+-- No client is told the same text twice in a step.
 use Rattle.std.proofs.Common.{◌≡◌, ℕ, ◌<◌, Bool, true, false, not, List, [], ◌∷◌, ◌++◌, Option, Some, None, Ok, Err}
 use Rattle.std.proofs.Common.{Result, refl, ap, sym, ◌∙◌, subst, map, filter, length, take, arith, ⊎_elim}
 use Rattle.std.specs.Prelude.{if◌then◌else◌, ◌==◌, ◌||◌, MatchOption, codes}
@@ -68,7 +68,7 @@ said_filter p (x ∷ xs) all = on (p x) (said_filter p xs all.1) where
   on true rest = (once_filter x p xs all.0, rest)
   on false rest = rest
 
--- nothing is said
+-- a list in which nothing is said
 silent : (xs : List Effect) → AllByRecursion (λ f. is_say f ≡ false) xs → AreSaidOnce xs
 silent [] all = tt
 silent (x ∷ xs) all = (one x all.0, silent xs all.1) where
@@ -76,12 +76,12 @@ silent (x ∷ xs) all = (one x all.0, silent xs all.1) where
   one (Say to said) is = absurd (cc (is))
   one f is = tt
 
--- one effect
+-- a list of one effect
 single : (f : Effect) → AreSaidOnce (f ∷ [])
 single (Say to said) = (tt, tt)
 single f = (tt, tt)
 
--- ---- what was said before isn't said again
+-- ---- what was said before in the step isn't said again
 
 any_true : (p : Effect → Bool) (xs : List Effect) (x : Effect) → SomeOf (λ y. y ≡ x) xs → p x ≡ true
     → list_any p xs ≡ true
@@ -118,7 +118,7 @@ unsaid_apart said es = all_weaken (λ s. SomeOf (λ y. y ≡ s) said) (λ s. IsS
 pub unsaid_once : (said es : List Effect) → AreSaidOnce said → AreSaidOnce es → AreSaidOnce (said ++ unsaid said es)
 unsaid_once said es p q = said_append said (unsaid said es) p (said_filter _ es q) (unsaid_apart said es)
 
--- ---- wall: each client once
+-- ---- wall tells each client once
 
 later_clients : (n : ℕ) (text : List ℕ) (cs : List Client) → AllByRecursion (λ m. n < m) (client_serials cs)
     → AllByRecursion (λ g. g ≡ Say n text → ⊥) (map (λ (c : Client). Say c.serial text) cs)
@@ -147,7 +147,7 @@ mute_done t k (command.Multiuser false) other (Say to said) is = absurd is
 mute_done t k c other (Say to said) is = absurd is
 mute_done t k c other f is = refl
 
--- a deed says each thing once, and lists only where it says nothing
+-- a deed says each text to a client once, and lists something only if it says nothing
 pub record SaysOnce (d : Deed) : Type 0 where
   pub effects : AreSaidOnce d.effects
   pub listed : (client : ℕ) (m : List ℕ → Message) → AreSaidOnce (with_listed client m d.lists d).effects

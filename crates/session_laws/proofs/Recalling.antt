@@ -1,4 +1,4 @@
--- The windows of a run have just what its entries wrote.
+-- The windows of a run have had exactly those writings that its entries say.
 use Rattle.std.proofs.Common.{◌≡◌, ℕ, ◌≤◌, Bool, true, false, not, List, [], ◌∷◌, ◌++◌, Option, Some, None, Ok, Err}
 use Rattle.std.proofs.Common.{Result, refl, ap, sym, ◌∙◌, subst, take, filter, inr, ⊎_elim, arith}
 use Rattle.std.specs.Prelude.{if◌then◌else◌, ◌==◌, MatchOption, length}
@@ -60,7 +60,7 @@ use Rattle.session_laws.proofs.Outcomes as outcomes
 
 -- ---- answers of commands
 
--- what a command writes whose checks have passed, or failed
+-- what a command writes, by whether its checks passed
 abbrev ruled_writing : Caller → Order → Option Refusal → ℕ → List Writing
 ruled_writing k c o n = elim o as (λ _. List Writing) [ Some r ↦ [] | None ↦ row_writing k c n ] ++ []
 
@@ -307,7 +307,7 @@ step_wrote t (Draw client) effects s is =
 step_wrote t event effects s is = by_effects t event effects (outcome t event).tables.windows is refl
     (outcome_wrote t event s)
 
--- ---- serials that come next
+-- ---- the next serials
 
 same_next : (a b : ℕ) → a ≡ b → b ≤ a
 same_next a b is = omega (arith, is)

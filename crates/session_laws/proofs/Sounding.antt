@@ -1,4 +1,4 @@
--- Tables stay sound.
+-- After each event, the tables are sound.
 use Rattle.std.proofs.Common.{◌≡◌, ℕ, ◌+◌, ◌<◌, ◌≤◌, ◌^◌, Bool, true, List, [], ◌∷◌, ◌++◌, Option, Some, None, refl, ap}
 use Rattle.std.proofs.Common.{sym, ◌∙◌, subst, map, length, arith}
 use Rattle.std.specs.Prelude.{◌&&◌, nat_lt, is_some}
@@ -45,7 +45,7 @@ one_more xs x most less =
     let lt : length xs < most = grind (arith, nat_tests, less) in
     omega (arith, sum, lt)
 
--- where a list of checks passes, so does the last of some
+-- if a list of checks passes, so does each fact in it
 pub check_passed : (t : Tables) (cs ds : List Check) (b : Bool)
     (r : Rattle.session_model.specs.declared.refusal.Refusal.Refusal) → first_fault t (cs ++ must b r ∷ ds) ≡ None
     → b ≡ true

@@ -1,4 +1,4 @@
--- Tables stay fit.
+-- After each event, the tables are fit.
 use Rattle.std.proofs.Common.{◌≡◌, ℕ, zero, suc, ◌+◌, ◌<◌, Bool, true, false, List, [], ◌∷◌, ◌++◌, Option, Some, None}
 use Rattle.std.proofs.Common.{Ok, Err, Result, refl, ap, sym, ◌∙◌, subst, map, take, find, arith}
 use Rattle.std.specs.Prelude.{if◌then◌else◌, ◌==◌, ◌||◌, MatchOption, unwrap_or, not}
@@ -88,7 +88,7 @@ item_holds v d (Some (line [])) small h = h
 item_holds v d (Some (line (b ∷ bs))) small h = read_holds v d (read_line (b ∷ bs))
     (λ order is. read_small (b ∷ bs) order is) h
 
--- the same clients, but for keys and messages, have the same pages
+-- the same clients, keys and messages aside, have the same pages
 pages_read : (ns : List ℕ) (cs : List Client) → AllByRecursion (PageIn ns) (map unread cs)
     → AllByRecursion (PageIn ns) cs
 pages_read ns [] all = tt
@@ -149,7 +149,7 @@ opened t user w below h = record {
 abbrev HoldsIn : Outcome → Type 0
 HoldsIn o = Holds o.tables
 
--- whatever the acts are
+-- the facts hold for any acts
 by_deed : (u v : Tables) → v.windows ≡ u.windows → v.clients ≡ u.clients → Holds u → Holds v
 by_deed u v windows clients h = record {
   numbers = subst (AllByRecursion IsBelow) (sym windows) h.numbers;
