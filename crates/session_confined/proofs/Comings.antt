@@ -1,4 +1,4 @@
--- Which windows come in a step.
+-- Which windows a step opens, and what users have on them.
 use Rattle.std.proofs.Common.{subst, ◌≡◌, ℕ, ◌+◌, Bool, true, false, List, [], ◌∷◌, Some, None, Ok, Err, refl, ap, sym}
 use Rattle.std.proofs.Common.{◌∙◌, inl, inr}
 use Rattle.std.specs.Prelude.{◌==◌, ◌||◌, ◌⊎◌, is_ok, Option}
@@ -105,7 +105,7 @@ other_next t event not other = changed_next t event _ (changes event _ refl)
 
 -- ---- every step
 
--- the window that a step opens, and who has what on it
+-- the window that a step opens, and what users have on it
 pub record Opens (t : Tables) (e : Entry) : Type 0 where
   pub opener : UserId
   pub may : may_open t opener ≡ true

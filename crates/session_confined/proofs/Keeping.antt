@@ -1,4 +1,4 @@
--- Whoever holds a lock keeps it in steps of others, but for the ways that the law lists.
+-- The holder of a lock keeps it in the steps of others, except for the ways that the law lists.
 use Rattle.std.proofs.Common.{◌≡◌, ℕ, Bool, true, false, List, [], ◌∷◌, ◌++◌, Some, None, Ok, Err, refl, ap, sym, ◌∙◌}
 use Rattle.std.proofs.Common.{subst, inl, inr}
 use Rattle.std.specs.Prelude.{◌⊎◌}

@@ -1,4 +1,4 @@
--- Guests are contained.
+-- Guests are contained: they can't change rights, in any run.
 use Rattle.std.proofs.Common.{◌≡◌, ◌≤◌, ℕ, Bool, true, false, List, [], ◌∷◌, refl, ap, sym, ◌∙◌, subst, inl, inr, arith}
 use Rattle.std.specs.Prelude.{◌==◌, ◌||◌, nat_lt}
 use Rattle.std.specs.List.{AllByRecursion, list_any}
@@ -80,7 +80,7 @@ grows laws t e step = on (steps_of laws t e step) where
   }
   on (inr (inr some)) = some_grows t e (commands_of t e.event) some
 
--- what stood before isn't opened
+-- a window that was there before isn't opened again
 pub not_opened : (n w : ℕ) (acts : List Act) → AllByRecursion (IsNew n) acts → nat_lt w n ≡ true
     → list_any (opens_window w) acts ≡ false
 not_opened n w [] all before = refl

@@ -1,4 +1,4 @@
--- The mode changes, and others' clients part, by granted commands alone.
+-- The mode changes only by granted commands, and so do other users' clients part.
 use Rattle.std.proofs.Common.{◌≡◌, ℕ, Bool, true, false, not, List, [], ◌∷◌, ◌++◌, Some, refl, ap, sym, ◌∙◌, subst, inl}
 use Rattle.std.proofs.Common.{inr, ⊎_elim, map, filter, reverse}
 use Rattle.std.specs.Prelude.{if◌then◌else◌, ◌==◌, ◌||◌, ◌⊎◌, is_some}
@@ -56,7 +56,7 @@ mode_gated laws t e step = on (steps_of laws t e step) where
   on (inr (inl rests)) = inl rests.tables.multiuser
   on (inr (inr some)) = some_mode t e (commands_of t e.event) some
 
--- ---- who is attached, by acts
+-- ---- which clients are attached, by the acts
 
 abbrev pub parts_it : ℕ → Act → Bool
 parts_it client (act.Parted c) = c == client
@@ -101,7 +101,7 @@ attached_all : (client : ℕ) (acts : List Act) (h : History) → AllByRecursion
 attached_all client [] h none is = is
 attached_all client (a ∷ acts) h none is = attached_all client acts (a ∷ h) none.1 (attached_one client a h none.0 is)
 
--- ---- and by the tables
+-- ---- which clients are attached, by the tables
 
 any_append : {A : Type 0} (p : A → Bool) (xs ys : List A) → list_any p (xs ++ ys) ≡ (list_any p xs || list_any p ys)
 any_append p [] ys = refl
@@ -159,7 +159,7 @@ not_equal m n other = on (m == n) refl where
   on true is = absurd (other (equal m n is))
   on false is = refl
 
--- a list whose elements each pass the test, or an element that doesn't
+-- each element of a list passes the test, or one of them doesn't
 search_act : (p : Act → Bool) (acts : List Act) → AllByRecursion (λ a. p a ≡ false) acts ⊎ SomeOf (λ a. p a ≡ true) acts
 search_act p [] = inl tt
 search_act p (a ∷ acts) = on (p a) refl (search_act p acts) where

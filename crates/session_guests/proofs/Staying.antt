@@ -1,4 +1,4 @@
--- Holders stay in steps of users without rights.
+-- The holder of a lock keeps it in the steps of users without rights.
 use Rattle.std.proofs.Common.{◌≡◌, ◌<◌, ℕ, Bool, true, false, not, List, [], ◌∷◌, ◌++◌, Option, Some, None, Ok, Err}
 use Rattle.std.proofs.Common.{refl, ap, sym, ◌∙◌, subst, map, filter, reverse, arith, inl, inr}
 use Rattle.std.specs.Prelude.{if◌then◌else◌, ◌==◌, ◌||◌, ◌&&◌, ◌⊎◌}
@@ -59,7 +59,7 @@ use Rattle.session_guests.proofs.Focusing.{IsMine, focus_stays, NotHis, nobody_e
 use Rattle.session_guests.proofs.Holding.{kept, by_acts, givers}
 use Rattle.session_guests.proofs.Parting.{did_x}
 
--- ---- serials of clients are their own
+-- ---- each client has a serial of its own
 
 abbrev pub Own : ℕ → UserId → Client → Type 0
 Own s user d = (d.serial == s) ≡ true → d.user ≡ user
@@ -104,7 +104,7 @@ pub focus_read : (cs : List Client) (x : UserId) (w : ℕ) → is_in_focus cs x 
 focus_read [] x w = refl
 focus_read (c ∷ cs) x w = ap (λ b. shows x w c || b) (focus_read cs x w)
 
--- who gives a command by a client
+-- the user whose client gives a command
 abbrev pub IsOf : Tables → Caller → Type 0
 IsOf t k = (s : ℕ) → k.client ≡ Some s → (c : Client) × (client_at t s ≡ Some c) × (c.user ≡ k.user)
 
@@ -159,7 +159,7 @@ module _ (t : Tables) (fit : AreFit t) (able : HoldersMayWrite t) (w : ℕ) (use
     on true same = contradicts (may_in t user Write (object.Window w))
         (ap (λ v. may_in t v Write (object.Window w)) (sym is ∙ same_user-true u x same) ∙ able w x held) weak.write
 
-  -- the user's own clients
+  -- the serials of the user's own clients
   none_of : (s : ℕ) (u : UserId) → u ≡ user → AllByRecursion (Own s u) t.clients → NoneOf x s (clients_of t.acts)
   none_of s u is all =
       subst (NoneOf x s) (sym fit.agree.clients_are)
