@@ -1,4 +1,4 @@
--- The answers of a table.
+-- What a call on the table answers, from what it did to the rows.
 use Rattle.std.proofs.Common.{◌≡◌, ℕ, List, [], ◌∷◌, ◌++◌, Option, Some, None, Ok, Err, filter, not, refl, ap, sym}
 use Rattle.std.proofs.Common.{subst, ◌∙◌, true, false, inl, inr, MutBor}
 use Rattle.std.specs.Prelude.{Result, OnSome, OnOk, OnErr, IfErr, ◌==◌, if◌then◌else◌}

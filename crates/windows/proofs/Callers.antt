@@ -1,4 +1,4 @@
--- What a caller knows of an answer, whose row is there.
+-- What a caller knows of the answer of a call on a row that is there.
 use Rattle.std.proofs.Common.{◌≡◌, ℕ, List, Some, Ok, Err, refl, ap, sym, subst, ◌∙◌}
 use Rattle.std.specs.Prelude.{Result}
 use Rattle.windows_model.specs.declared.windows_fault.WindowsFault.{WindowsFault}
@@ -22,13 +22,13 @@ module _ (rows : List model.Window) (s : ℕ) (change : Change) (m : model.Windo
     refused_by (Ok n) is why same = absurd (cc (same))
     refused_by (Err r) is why same = is ∙ ap (λ e. Err e) (cc (same))
 
-    -- where it was done, the change allows it, and the row alone is what the change makes of it
+    -- if the call was done, the change allows it, and only this row changed, as the change says
     pub row_done : {A : Type 0} (a : A) (new : List Window) → Answered (changed s change rows) (Ok a) new
         → (n : model.Window) × (change m ≡ Ok n) × StandFor (with_row serial rows s n) new
     row_done a new answer =
         let did = done_by (change m) refl answer.0 (sym answer_is ∙ answer.1) in
         (did.0, did.1, subst (λ after. StandFor after new) did.2 answer.2)
 
-    -- where it was refused, the change refuses it so
+    -- if the call was refused, the change refuses it for this reason
     pub row_refused_as : (why : WindowsFault) → changed s change rows ≡ Err why → change m ≡ Err why
     row_refused_as why answer = refused_by (change m) refl why (sym answer_is ∙ answer)

@@ -1,4 +1,4 @@
--- The window of the lowest or the highest number.
+-- The windows with the lowest and the highest number among others.
 use Rattle.std.proofs.Common.{◌≡◌, ℕ, suc, ◌-◌, ◌<◌, ◌≤◌, Bool, true, false, List, [], ◌∷◌, Option, Some, None, length}
 use Rattle.std.proofs.Common.{filter, get_or, drop, refl, ap, sym, subst, ◌∙◌, arith}
 use Rattle.std.specs.Prelude.{if◌then◌else◌, nat_lt, ◌==◌, not, ◌||◌, ◌&&◌, find, option_copied}
@@ -25,7 +25,7 @@ use Rattle.windows.specs.Asking.{number}
 use Rattle.windows.specs.Standing.{WindowStands, StandFor, is_taken}
 use Rattle.windows.specs.Standing as standing
 
--- ---- one window more, from the last one on
+-- ---- one window more, from the last window to the first
 
 one_more : (rows : List Window) (place : ℕ) (row : Window) → 0 < place → place ≤ length rows
     → row ≡ get_or rows (place - 1) row → drop (place - 1) rows ≡ row ∷ drop place rows
@@ -49,7 +49,7 @@ module _ (end : End) (among : Among) (rows : List Window) (place : ℕ) (row : W
   one_other is = ap (λ ws. nearest end (filter (is_among among) ws)) (one_more rows place row some within at)
       ∙ ap (nearest end) (if_false (is_among among row) _ _ is)
 
--- ---- in both tables
+-- ---- in both tables: the definitions' and the code's
 
 both_by : (b : Bool) (o : Option model.Window) (p : Option Window) (u : Option model.Window) (v : Option Window)
     → BothOrNone WindowStands o p → BothOrNone WindowStands u v
@@ -184,12 +184,12 @@ before_both (Some n) rows ws (Some w) m is =
 before_both None rows ws (Some w) m is = absurd (cc (is))
 before_both (Some n) rows ws None m is = absurd (cc (is))
 
--- what was found in a slice of the table
+-- the window that was found in a slice of the table
 pub seen : (f : List Window → Option Window) (ws slice : List Window) (o : Option model.Window) (r : Option Window)
     → r ≡ f slice → slice ≡ ws → BothOrNone WindowStands o (f ws) → BothOrNone WindowStands o r
 seen f ws slice o r is view both = subst (λ p. BothOrNone WindowStands o p) (sym (is ∙ ap f view)) both
 
--- what is copied of one of two
+-- the copy of the first value if there is one, else of the second
 copied_or : {A : Type 0} (a b : Option (Bor A))
     → option_copied (option_or a b) ≡ option_or (option_copied a) (option_copied b)
 copied_or None b = refl

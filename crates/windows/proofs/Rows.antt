@@ -1,4 +1,4 @@
--- What keeps the rows of a table of windows: serials rise, and numbers differ.
+-- What keeps the rows of a table of windows sound: serials rise, and numbers differ.
 use Rattle.std.proofs.Common.{◌≡◌, ◌≢◌, ℕ, zero, suc, ◌<◌, Bool, true, false, List, [], ◌∷◌, ◌++◌, Some, None, length}
 use Rattle.std.proofs.Common.{map, filter, not, inl, inr, get_or, refl, ap, sym, subst, ◌∙◌, arith, ⊎_elim}
 use Rattle.std.specs.Prelude.{◌⊎◌, ◌==◌, ◌&&◌, ◌||◌, ◌+◌, nat_lt, if◌then◌else◌, AllPairs, find}
@@ -35,7 +35,7 @@ rows_kept p ws are = record {
   differ = AllPairs-filter Apart p ws are.differ;
 }
 
--- the row of a serial goes
+-- the row with the serial goes
 abbrev stays_without : ℕ → Window → Bool
 stays_without s w = not (w.serial == s)
 
@@ -77,7 +77,7 @@ none_lost old s none = row_lost old old s (sym (none_goes old s none))
 -- ---- a row that changes at its place
 
 module _ (g : Window → ℕ) where
-  -- what no change of a row changes
+  -- what a row's change leaves, the list of rows leaves
   by_first : (b : Bool) (w : Window) (ws changed : List Window) (s : ℕ) (old new : Window)
       → (if b then Some w else row_of serial_of ws s) ≡ Some old → g new ≡ g old
       → (row_of serial_of ws s ≡ Some old → map g changed ≡ map g ws)
@@ -92,7 +92,7 @@ module _ (g : Window → ℕ) where
   stays (w ∷ ws) s old new at same = by_first (w.serial == s) w ws (with_row serial_of ws s new) s old new at same
       (λ on. stays ws s old new on same)
 
-  -- it is the same at each place
+  -- the value is the same at each place
   pub same_at : (old new : List Window) (i : ℕ) (d : Window) → map g new ≡ map g old → i < length new
       → g (get_or new i d) ≡ g (get_or old i d)
   same_at old new i d same inside =
@@ -119,7 +119,7 @@ differ_stays old new same differ i j d before inside e =
     differ i j d before (omega arith)
     (sym (same_at number_of old new i d same (omega arith)) ∙ e ∙ same_at number_of old new j d same inside)
 
--- a row that keeps its name
+-- a row that keeps its serial and its number
 module _ (old new : List Window) (s : ℕ) (w made : Window) (at : row_of serial_of old s ≡ Some w)
     (is : new ≡ with_row serial_of old s made) where
   pub row_changes : made.serial ≡ w.serial → ChangesRow s old new
@@ -142,19 +142,19 @@ rows_written old new s written are = record {
   differ = differ_stays old new written.numbers are.differ;
 }
 
--- nothing changes
+-- a call that changes nothing
 pub none_changes : (s : ℕ) (ws : List Window) → ChangesRow s ws ws
 none_changes s ws = record { serials = refl; others = λ t other. refl }
 
 pub none_writes : (s : ℕ) (ws : List Window) → WritesRow s ws ws
 none_writes s ws = record { row = none_changes s ws; numbers = refl }
 
--- ---- another number
+-- ---- a row that gets another number
 
 tail : (R : Window → Window → Type 0) (w : Window) (ws : List Window) → AllPairs R (w ∷ ws) → AllPairs R ws
 tail R w ws are i j d before inside = are (suc i) (suc j) d (omega arith) (omega arith)
 
--- the row at a place is the new one or the old one
+-- the row at a place is the new row or an old one
 at_place : (ws : List Window) (s : ℕ) (made : Window) (k : ℕ) (d : Window)
     → (get_or (with_row serial_of ws s made) k d ≡ made) ⊎ (get_or (with_row serial_of ws s made) k d ≡ get_or ws k d)
 at_place [] s made k d = inr refl
@@ -176,7 +176,7 @@ not_false : (b : Bool) → not b ≡ false → b ≡ true
 not_false true is = refl
 not_false false is = absurd (cc is)
 
--- no window of another serial has a number that isn't taken
+-- no window with another serial has a number that isn't taken
 free_of : (ws : List Window) (s n : ℕ) → AllPairs Apart ws → taken_by_other ws s n ≡ false → (k : ℕ) (d : Window)
     → k < length ws → (get_or ws k d).serial ≢ s → (get_or ws k d).number ≢ n
 free_of [] s n differ free k d inside other = λ e. absurd (omega (arith, inside))
@@ -239,7 +239,7 @@ rows_renumbered old new s n w made at serial number free is are = subst AreRows 
 
 -- ---- one row more
 
--- a number that is found in a range
+-- a number that is found in a range lies in it
 found_in_range : (p : ℕ → Bool) (start count n : ℕ) → find p (range_with_len start count) ≡ Some n → (p n ≡ true)
     × (n < start + count)
 found_in_range p start zero n is = absurd (cc is)

@@ -1,4 +1,4 @@
--- What is written to one window.
+-- What is written to a window's terminal.
 use Rattle.std.proofs.Common.{◌≡◌, ℕ, true, false, List, [], ◌∷◌, refl, ap, sym, subst, ◌∙◌, Ok, Err}
 use Rattle.std.specs.String.{string_bytes}
 use Rattle.terminal_model.specs.Screen.{starting}
@@ -27,7 +27,7 @@ no_writing : (t : Terminal) → writes_all t [] ≡ nothing_read t
 unfolding writes_all
 no_writing t = refl
 
--- one more writing is read behind those before it
+-- the terminal reads one more writing after those before it
 terminal_then : (m : model.Window) (what : Writing)
     → terminal_of (written_to what m) ≡ (writes (terminal_of m) what).terminal
 terminal_then m what =
@@ -39,7 +39,7 @@ stays_drawable : (t : Terminal) (what : Writing) → IsWriting what → IsTermin
 stays_drawable t what is k h = subst (λ (u : Terminal). IsDrawableScreen u.screen) (one_writing t what)
     (drawable-writes_all t (what ∷ []) (is, tt) k h)
 
--- an emulator whose terminal has read it stands for the window to which it was written
+-- an emulator whose terminal has read a writing stands for the window to which it was written
 pub stands_written : (m : model.Window) (w : Window) (e : Parts) (what : Writing) → IsWriting what → WindowStands m w
     → emulator.StandsFor e (writes (terminal_of m) what).terminal
     → WindowStands (written_to what m) (record w { emulator = e })
@@ -60,7 +60,7 @@ fed w e bytes before after reading = record {
   reports = λ m st. (reading (terminal_of m) st.stands).reports;
 }
 
--- a new one has read nothing
+-- the emulator of a new window has read nothing
 pub stands_new : (s number rows columns keep : ℕ) (title : List ℕ) (w : Window) → w.serial ≡ s → w.number ≡ number
     → string_bytes w.title ≡ title
     → emulator.StandsFor w.emulator (ready (starting rows columns keep))
@@ -78,7 +78,7 @@ stands_new s number rows columns keep title w serial_is number_is title_is on =
           (drawable-starting rows columns keep);
     }
 
--- another title
+-- a window gets another title
 pub retitled_ok : (m : model.Window) (title : List ℕ) → is_title title ≡ true
     → retitled title m ≡ Ok (record m { title = title })
 retitled_ok m title good = if_true (is_title title) _ _ good
