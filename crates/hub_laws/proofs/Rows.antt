@@ -1,4 +1,4 @@
--- The acts of commands follow those of the tables.
+-- The acts of a command can follow those of the tables.
 use Rattle.std.proofs.Common.{◌≡◌, ◌∙◌, ℕ, Bool, true, false, ◌||◌, List, [], ◌∷◌, Option, Some, None, map, refl, ap}
 use Rattle.std.proofs.Common.{subst}
 use Rattle.std.specs.Prelude.{if◌then◌else◌, MatchOption}
@@ -51,7 +51,7 @@ Follows t acts = CanFollow t.edition t.owner t.acts acts
 
 -- ---- checks
 
--- where there is no fault, each check passes
+-- if there is no fault, each check passes
 pub each_passes : (t : Tables) (cs : List Check) → first_fault t cs ≡ None → AllByRecursion (λ c. passes t c ≡ true) cs
 each_passes t [] none = tt
 each_passes t (c ∷ cs) none = on (passes t c) none (each_passes t cs) where
@@ -137,7 +137,7 @@ module _ (t : Tables) (agree : OpenIs t) (k : Caller) (h : Holds t)
   abbrev pub Is : Deed → Type 0
   Is d = Follows t d.acts
 
-  -- a client that shows another window, or another region, shows what the tables have
+  -- a client that turns to another window or region shows one that is in the tables
   page_follows : (c : Client) (l : Arrangement) → caller_client t k ≡ Some c → ShowsNoOther t c l → Is (enters t c l)
   page_follows c l at shows =
       let d : Client = with_layout l c in

@@ -1,4 +1,4 @@
--- The laws of steps, as values.
+-- The laws of steps on which the proofs of this crate stand, put together as one value.
 use Rattle.session_laws.proofs.Keyed.{rows_keyed}
 use Rattle.session_laws.proofs.Promising.{step_keeps}
 use Rattle.session_laws.proofs.Rowing.{rows_done, refused_so}

@@ -1,4 +1,4 @@
--- Effects are for clients and windows that came.
+-- The effects of a step are for clients and windows that came before.
 use Rattle.std.proofs.Common.{◌≡◌, ◌∙◌, ℕ, ◌<◌, Bool, true, false, List, [], ◌∷◌, Option, Some, None, map, refl, ap}
 use Rattle.std.proofs.Common.{subst, sym, ⊎_elim, take}
 use Rattle.std.specs.Prelude.{◌==◌, if◌then◌else◌, MatchOption}
@@ -33,7 +33,7 @@ use Rattle.hub_trail.specs.Peers.{HasCome}
 
 -- ---- rows
 
--- a serial of the table is below the next one
+-- a serial in the table is below the next serial
 some_below : {A : Type 0} (f : A → ℕ) (rows : List A) (next n : ℕ) → Rises (map f rows) next
     → SomeOf (λ x. f x ≡ n) rows → n < next
 some_below f [] next n rises some = absurd some
@@ -69,7 +69,7 @@ module _ (t : Tables) (s : AreSound t) where
 
   -- ---- commands
 
-  -- who gives a command: his client is attached, and his window open
+  -- the client that gives a command is attached, and its window is open
   record IsThere (k : Caller) : Type 0 where
     client : (n : ℕ) → k.client ≡ Some n → n < t.next_client
     window : (w : Window) → k.window ≡ Some w → w.serial < t.next_window
@@ -205,7 +205,7 @@ module _ (t : Tables) (s : AreSound t) where
   draw_comes n c is (GoneWindow at why) of = absurd of
   draw_comes n c is (GoneClient to why) of = absurd of
 
-  -- where nobody is there, there is no effect
+  -- if the peer isn't there, there is no effect
   come : (event : EventValue) (effects : List Effect) → HasEffects t event effects
       → AllByRecursion (IsEffectOf t event) effects → AllByRecursion (HasCome t) effects
   come (Command user number bytes) effects has all = all_weaken (IsEffectOf t (Command user number bytes)) (HasCome t)

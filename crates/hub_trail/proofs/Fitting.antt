@@ -69,7 +69,7 @@ all_true : {A : Type 0} (p : A → Bool) (xs : List A) → AllByRecursion (λ x.
 all_true p [] all = refl
 all_true p (x ∷ xs) all = both_true (p x) (list_all p xs) all.0 (all_true p xs all.1)
 
--- ---- which command verdicts ask for
+-- ---- the command that verdicts ask for
 
 made_from : (client : Option ℕ) (user : UserId) (name : CommandName) (vs : List Verdict) (acts : List Act)
     → AsksFirst user name vs → AllByRecursion (λ a. makes client user name a ≡ true) acts
@@ -163,7 +163,7 @@ asks t (Keys client bytes) = on (client_at t client) where
   on (Some c) = keys_ask t c bytes
 asks t event = tt
 
--- which client gives a command
+-- the client that gives a command
 abbrev giving : EventValue → Option ℕ
 giving (Keys client bytes) = Some client
 giving event = None

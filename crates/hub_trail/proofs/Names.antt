@@ -1,4 +1,4 @@
--- A done list command has an act of each name in its first word.
+-- A list command that was done has an act for each name in its first word.
 use Rattle.std.proofs.Common.{◌≡◌, true, List, [], ◌∷◌, ◌++◌, Option, Some, None, Ok, Err, map, filter, refl}
 use Rattle.std.specs.List.{AllByRecursion, list_any}
 use Rattle.std.specs.Option.{option_or}
@@ -33,7 +33,7 @@ use Rattle.hub_trail.proofs.Sights.{any_behind, any_before}
 abbrev pub HasEach : List Act → List (Option UserId) → Type 0
 HasEach acts names = AllByRecursion (λ name. has_act_of acts name ≡ true) names
 
--- more acts before and behind
+-- more acts come before and after
 each_more : (before acts : List Act) (names : List (Option UserId)) → HasEach acts names
     → HasEach (before ++ acts) names
 each_more before acts [] has = tt
@@ -49,7 +49,7 @@ each_then acts more (Some u ∷ names) has = (any_before (is_act_of u) acts more
 
 -- ---- acladd
 
--- there is an object
+-- there is an object at least
 abbrev IsSome : List Object → Type 0
 IsSome [] = ⊥
 IsSome (o ∷ objects) = Unit {0}
@@ -81,7 +81,7 @@ each_set owner known (Some u ∷ names) objects some none = (
 
 -- ---- done commands
 
--- with what is known where there is no fault
+-- a command is done with what is known if there is no fault
 done_unless : {F : Type 0} (P : Deed → Type 0) (of : F → Refusal) (o : Option F) (d : Deed) → (o ≡ None → P d)
     → Of P (unless of o d)
 unfolding unless

@@ -1,4 +1,5 @@
--- What a step makes of the owner, the edition and the serials that come next.
+-- Each step leaves the owner and the edition, and gives the next serials to what it attaches and
+-- opens.
 use Rattle.std.proofs.Common.{◌≡◌, ◌∙◌, List, [], Option, Some, None, Ok, refl, ap, subst, sym, take}
 use Rattle.command_lang.specs.command.Command.{Command as Order}
 use Rattle.session_model.specs.declared.event.Effect.{Effect}
@@ -19,7 +20,7 @@ use Rattle.hub_trail.specs.Peers as peers
 use Rattle.hub_trail.proofs.Rules.{Rules, rules, Still, stills}
 use Rattle.hub_trail.proofs.Entries.{keys_ordered}
 
--- the serials of those that come are given
+-- the next serials, after what a step attached or opened got one
 abbrev pub grown : Tables → EventValue → Reply → Rules
 grown t event reply = (
   t.owner,
@@ -35,7 +36,7 @@ Grows t event o = (rules o.tables ≡ grown t event o.reply) × MakesNext t even
 deed_still : (t : Tables) (k : Caller) (c : Order) (d : Deed) → does t k c ≡ Ok d → rules d.tables ≡ rules t
 deed_still t k c d is = subst (Either (Still t)) is (stills t k c)
 
--- nothing comes by what is refused, and by a change of one row
+-- a refused step, and one that changes one row, attach and open nothing
 none_come : (t : Tables) (event : EventValue) (r : Refusal) → Grows t event (refused t [] r)
 none_come t (Attach user rows columns) r = (refl, tt)
 none_come t event r = (refl, tt)

@@ -1,4 +1,5 @@
--- What clients show in focus, and that nobody leaves a window where it stays; what goes, and who is attached.
+-- A user leaves a window only if none of their clients has it in focus; what goes has its act, and
+-- clients of the tables are attached.
 use Rattle.std.proofs.Common.{◌≡◌, ◌∙◌, ℕ, Bool, true, false, ◌&&◌, ◌||◌, List, [], ◌∷◌, ◌++◌, Option, Some, None, map}
 use Rattle.std.proofs.Common.{filter, reverse, refl, ap, sym}
 use Rattle.std.specs.Prelude.{◌==◌, if◌then◌else◌}
@@ -17,7 +18,7 @@ use Rattle.session_model.specs.Outcomes.{left_acts_of, left_acts}
 use Rattle.session_laws.proofs.Lists.{row_serial}
 use Rattle.hub_trail.specs.Legal.{is_client_of, is_parted, is_closed}
 
--- ---- somebody among more
+-- ---- a list with more elements
 
 pub any_behind : {A : Type 0} (p : A → Bool) (xs ys : List A) → list_any p ys ≡ true → list_any p (xs ++ ys) ≡ true
 any_behind p [] ys e = e
@@ -41,7 +42,7 @@ any_reverse p (x ∷ xs) e = ap (list_any p) (reverse-append (x ∷ []) xs) ∙ 
 
 -- ---- what clients show
 
--- who a client is, and what it shows in focus
+-- a client's user, and the window in its focus
 abbrev pub Sight : Type 0
 Sight = UserId × Option ℕ
 
@@ -56,7 +57,7 @@ unfolding seen_in
 focus_by [] u w = refl
 focus_by (c ∷ cs) u w = ap (λ b. (same_user c.user u && is_window w (focused c)) || b) (focus_by cs u w)
 
--- whatever is in focus before is so after
+-- what is in focus of some clients is in focus of the others, too
 abbrev pub Stays : List Client → List Client → Type 0
 Stays before after = (u : UserId) (w : ℕ) → is_in_focus before u w ≡ true → is_in_focus after u w ≡ true
 

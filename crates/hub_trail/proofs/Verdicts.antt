@@ -1,4 +1,4 @@
--- The verdicts of checks, and the first one that fails.
+-- Facts of the verdicts of checks, and of the first check that fails.
 use Rattle.std.proofs.Common.{◌≡◌, ℕ, Bool, true, false, not, List, [], ◌∷◌, Option, Some, None, Err, refl, subst, sym}
 use Rattle.std.specs.Prelude.{if◌then◌else◌}
 use Rattle.std.specs.List.{AllByRecursion, list_all}
@@ -33,7 +33,7 @@ use Rattle.hub_trail.specs.declared.kept.Kept.TheVariants as kept
 use Rattle.hub_trail.specs.Trails.{Ending}
 use Rattle.hub_trail.specs.Legal.{IsTrue, passes, failed, user_of, is_denial, is_named, is_of, CarriesFailed, IsDenied}
 
--- each verdict of checks tells the truth
+-- each verdict of checks is true
 abbrev pub AreTrue : Tables → List Verdict → Type 0
 AreTrue t vs = AllByRecursion (IsTrue t.edition t.owner t.acts) vs
 
@@ -53,7 +53,7 @@ true_verdicts t (unlocked u w ∷ cs) = (
 )
 true_verdicts t (must b r ∷ cs) = all_if (IsTrue t.edition t.owner t.acts) b (verdicts t cs) (true_verdicts t cs)
 
--- ---- whose they are
+-- ---- on which user they are
 
 abbrev pub IsCheckOf : UserId → Check → Type 0
 IsCheckOf user (right u b o) = u ≡ user
@@ -76,7 +76,7 @@ own_verdicts t user (unlocked u w ∷ cs) all = (
 own_verdicts t user (must b r ∷ cs) all = all_if (λ v. user_of v ≡ user) b (verdicts t cs)
     (own_verdicts t user cs all.1)
 
--- ---- where there is no fault, all pass
+-- ---- if there is no fault, all checks pass
 
 pass_step : (v : Verdict) (b : Bool) (f : Option Refusal) (r : Refusal) (vs : List Verdict) → passes v ≡ b
     → (f ≡ None → list_all passes vs ≡ true)
@@ -99,7 +99,7 @@ all_pass t (unlocked u w ∷ cs) none =
     (lock_denial t w (holder_in t w)) (verdicts t cs) refl (all_pass t cs) none
 all_pass t (must b r ∷ cs) none = must_step b (first_fault t cs) r (verdicts t cs) (all_pass t cs) none
 
--- ---- what the first fault says of the verdict that failed
+-- ---- what the first fault says of the first verdict that fails
 
 abbrev pub Tells : Option Refusal → Option Verdict → Type 0
 Tells None None = Unit {0}
@@ -107,7 +107,7 @@ Tells None (Some v) = ⊥
 Tells (Some r) None = is_denial r ≡ false
 Tells (Some r) (Some v) = (is_denial r ≡ true) × (is_of r v ≡ true)
 
--- the absence of a fact is no denial
+-- a fact that doesn't hold is refused without a denial
 abbrev pub IsPlain : Check → Type 0
 IsPlain (must b r) = is_denial r ≡ false
 IsPlain c = Unit {0}
@@ -164,7 +164,7 @@ tells t (must b r ∷ cs) plain = must_tells b r (first_fault t cs) (verdicts t 
 
 -- ---- replies
 
--- a refusal of a command's own is no denial
+-- a refusal that is a command's own is no denial
 pub plain_refusal : (r : Refusal) → is_plain r ≡ true → is_denial r ≡ false
 plain_refusal (EntryDenied d) is = absurd (cc (is))
 plain_refusal (LockDenied d) is = absurd (cc (is))
