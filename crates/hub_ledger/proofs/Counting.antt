@@ -1,4 +1,5 @@
--- Where there are as many receipts as entries, no place is wrong exactly where all receipts stand.
+-- If there are as many receipts as entries, no place is wrong exactly if each receipt has its
+-- entry.
 use Rattle.std.proofs.Common.{◌≡◌, ℕ, zero, suc, ◌<◌, ◌≤◌, ◌+◌, Bool, true, false, List, [], ◌∷◌, length, Option, Some}
 use Rattle.std.proofs.Common.{None, refl, ap, sym, ◌∙◌, subst, arith, cond, add-one, inl, inr}
 use Rattle.std.specs.Prelude.{◌↔◌, ◌⊎◌, ◌==◌, nat_lt, slice_get}
@@ -12,7 +13,7 @@ use Rattle.hub_ledger.specs.Seats.{AllBelow}
 use Rattle.hub_ledger.specs.Closing.{AreOf, AreThere, AreTold, IsFirstWrong, IsOf, IsThere, times}
 use Rattle.hub_seats.proofs.Rising.{others_below, times_cons, times_none}
 
--- ---- how many name a place below one
+-- ---- how many receipts name a place below one
 
 abbrev one : Bool → ℕ
 one b = cond b 1 0

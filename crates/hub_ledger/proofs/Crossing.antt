@@ -1,5 +1,5 @@
--- What lies under the hub's lock may go to another thread.
--- Type by type: the search for the whole at once ends at a limit.
+-- What lies under the hub's lock may be sent to another thread. This is proved type by type: the
+-- search for the whole at once ends at a limit.
 use denote.RattleType.{RattleType}
 use denote.Param.Send.{IsSend, view_send}
 use denote.Param.SendFields.{declared_send}

@@ -1,4 +1,4 @@
--- One step more under the lock.
+-- What one more step does to the trail under the lock, and what is handed out of it.
 use Rattle.std.proofs.Common.{◌≡◌, ℕ, ◌+◌, Bool, true, false, List, [], ◌∷◌, ◌++◌, length, map, Option, Some, None}
 use Rattle.std.proofs.Common.{refl, ap, sym, ◌∙◌, subst, arith, length-append}
 use Rattle.std.specs.Prelude.{IfOk, IfSome, Result, Ok, Err, is_some, slice_get, if◌then◌else◌}
@@ -50,7 +50,7 @@ pub seats_stay : (seat : ℕ) (event : EventValue) (reply : Reply) (old new : St
 seats_stay seat event reply old new takes =
     (takes.2.waiting.seats, ap length takes.2.marks ∙ marks_stay event old.marks)
 
--- the trail stays that of the session that the hub began with
+-- the trail is still that of the session with which the hub began
 pub begins_stay : (seat : ℕ) (event : EventValue) (reply : Reply) (old new : State) → Takes seat event reply old new
     → (new.trail.edition ≡ old.trail.edition) × (new.trail.owner ≡ old.trail.owner)
 begins_stay seat event reply old new takes =
@@ -83,7 +83,7 @@ placed_some (Some k) n is = refl
 
 -- ---- an entry that is handed out
 
--- a copy of the entry at a place, for one who asks
+-- a copy of the entry at a place, for a seat that asks for entries
 abbrev pub IsCopied : Bool → List trails.Entry → ℕ → trails.Entry → Type 0
 IsCopied asks entries place e = (asks ≡ true) × (slice_get entries place ≡ Some e)
 
@@ -100,7 +100,7 @@ behind : (es : List trails.Entry) (x : trails.Entry) → slice_get (es ++ x ∷ 
 behind [] x = refl
 behind (e ∷ es) x = behind es x
 
--- what stands behind the entries of before is the step's entry
+-- what follows the earlier entries is the step's entry
 step_behind : (o : Option Kept) (step : Entry) (es : List trails.Entry) (e : trails.Entry) → is_some o ≡ true
     → slice_get (es ++ filing.entry_of o step) (length es) ≡ Some e
     → (filing.entry_of o step ≡ e ∷ []) × (o ≡ Some e.event) × (e.reply ≡ ending_of step.reply)
@@ -127,7 +127,7 @@ filed_behind seat event reply old new place e takes writes last at =
     let s = step_behind (kept_of event) step es e writes here in
     (more ∙ ap (λ (x : List trails.Entry). es ++ x) s.0, s.1, s.2)
 
--- the copy of the entry at the place of the step's
+-- the copy is of the entry at the place of the step's entry
 pub stands_last : (asks : Bool) (seat : ℕ) (event : EventValue) (reply : Reply) (old new : State) (place : ℕ)
     (entry : Option trails.Entry) → Takes seat event reply old new → is_some (kept_of event) ≡ true
     → place ≡ length old.trail.entries

@@ -1,4 +1,4 @@
--- What is kept under the lock says of the trail.
+-- What is kept under the lock says that the trail is legal, and has the acts of the tables.
 use Rattle.std.proofs.Common.{◌≡◌, ap, ◌∙◌, subst, sym, []}
 use Rattle.session_model.specs.Trace.{Trace}
 use Rattle.session_model.specs.Run.{tables_of}

@@ -1,4 +1,4 @@
--- A step of the session keeps what is kept under the lock.
+-- A step of the session keeps the facts of what lies under the lock.
 use Rattle.std.proofs.Common.{◌≡◌, ℕ, ◌<◌, ◌≤◌, Bool, true, false, List, [], ◌∷◌, ◌++◌, length, refl, ap, sym, ◌∙◌}
 use Rattle.std.proofs.Common.{subst, arith, length-append, Option, Some, None}
 use Rattle.std.specs.List.{AllByRecursion}
@@ -62,7 +62,7 @@ peers_there h old step s stood st =
     (come (tables_of h) old.owners stood.clients stood.windows)
     (peers_came (tables_of h) step (sound h) (step_of h step s st))
 
--- what a step that wasn't refused for memory made
+-- what was made by a step for which memory wasn't refused
 pub made_by : (old : Session) (event : EventValue) (noted : Noted) (before after : List Effect) (reply : Reply)
     (new : Session) → wants_memory reply ≡ false → before ≡ []
     → IfTaken reply (Takes old event noted before after reply new) → (h : Trace) → StandsFor h old

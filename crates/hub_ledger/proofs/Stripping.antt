@@ -1,4 +1,4 @@
--- Receipts of all seats, from the last place downwards.
+-- The receipts of all seats are removed, from the last place downwards.
 use Rattle.std.proofs.Common.{◌≡◌, ℕ, zero, suc, ◌<◌, ◌≤◌, ◌+◌, Bool, true, false, List, [], ◌∷◌, ◌++◌, length, Option}
 use Rattle.std.proofs.Common.{Some, None, refl, ap, sym, ◌∙◌, subst, arith, take, set, length-append, append_assoc}
 use Rattle.std.proofs.Common.{add-one, inl, inr}
@@ -14,7 +14,7 @@ use Rattle.hub_ledger.specs.Closing.{AreOf, IsFirstWrong, IsOf, IsTold, before, 
 use Rattle.hub_seats.proofs.Rising.{all_parts, are_of_before, before_append, before_are_of, before_before, times_append}
 use Rattle.hub_seats.proofs.Rising.{times_before}
 
--- the first wrong place from one on
+-- the first wrong place, from a given one on
 abbrev pub IsWrongFrom : List Entry → List Receipt → ℕ → Option ℕ → Type 0
 IsWrongFrom entries rs from None = (k : ℕ) (e : Entry) → from ≤ k → slice_get entries k ≡ Some e → IsTold k e rs
 IsWrongFrom entries rs from (Some wrong) =
@@ -170,7 +170,7 @@ both_right a b c is same = same ∙ sym (and_true a b is)
 pub not_right : (a b c : Bool) → a ≡ false → c ≡ a → c ≡ (a && b)
 not_right a b c is same = same ∙ is ∙ sym (and_false a b is)
 
--- after the last seat
+-- what holds after the last seat
 pub record AreStripped (orig cur : List Sitting) (p : ℕ) (e : Entry) (named : ℕ) (is : Bool) : Type 0 where
   pub rest : receipts_of cur ≡ before p (receipts_of orig)
   pub times : named ≡ times p (receipts_of orig)

@@ -1,4 +1,4 @@
--- One seat more.
+-- What a list of seats was told, with one more seat.
 use Rattle.std.proofs.Common.{◌≡◌, ℕ, zero, suc, ◌+◌, List, [], ◌∷◌, ◌++◌, Some, false, length, take, drop, ap, sym}
 use Rattle.std.proofs.Common.{◌∙◌, arith, length-append}
 use Rattle.std.specs.Prelude.{◌||◌, slice_get}
@@ -20,7 +20,7 @@ pushed all rest s is =
           (arith, more, length-append (receipts_of rest) (s.receipts ++ []), length-append s.receipts []),
     )
 
--- a slice of all seats that was written back
+-- the slice of all seats, after it was written back
 pub written : (new old : List Sitting) (n : ℕ) → n ≡ length old → length new ≡ length old
     → take n (new ++ drop (length new) old) ≡ new
 written new old n is same =
@@ -37,7 +37,7 @@ none_asks all rest s is none here =
     ap (list_any (λ (x : Sitting). x.asks)) is ∙ list_any-append (λ (x : Sitting). x.asks) rest (s ∷ [])
     ∙ (λ i. none i || (here i || false))
 
--- a seat behind those of the numbers from n on
+-- a seat after those with numbers from n on
 number_at : (rest : List Sitting) (s t : Sitting) (n k : ℕ)
     → ((j : ℕ) (u : Sitting) → slice_get rest j ≡ Some u → u.number ≡ n + j) → s.number ≡ n + length rest
     → slice_get (rest ++ s ∷ []) k ≡ Some t → t.number ≡ n + k

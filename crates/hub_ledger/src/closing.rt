@@ -1,4 +1,4 @@
-//! Receipts against the trail.
+//! Compares the receipts of seats with the trail.
 
 ghost use Rattle.std.specs.Prelude.{◌≡◌, ◌↔◌, ◌+◌, ◌<◌, ◌≤◌, true, length};
 ghost use Rattle.hub_ledger.specs.Closing.{IsFirstWrong, IsTold, before, receipts_of};
@@ -8,8 +8,8 @@ use crate::seat::Seat;
 use hub_record::{Filed, Roll as Entries};
 use std::sync::ledger::{Book, Ledger as Roll};
 
-/// Takes away the receipts of this place and above from all seats. Whether one of them alone names
-/// it, and has the event and the reply of the entry.
+/// Removes the receipts with this place or a higher one from all seats. Returns whether exactly one
+/// of them names the place, and has the event and the reply of the entry.
 fn strip_all<L: Roll>(
     book: &mut Book<L>,
     seats: &mut [Seat<L>],
@@ -33,8 +33,8 @@ fn strip_all<L: Roll>(
     named == 1 && right
 }
 
-/// The least place that isn't, with its event and reply, in just one receipt of these seats, which
-/// are taken away.
+/// The lowest place for which the receipts of these seats aren't exactly one, with the event and
+/// the reply of the trail's entry there; `None` if there is none. The receipts are removed.
 pub fn first_wrong<L: Roll>(
     book: &mut Book<L>,
     seats: &mut [Seat<L>],
@@ -56,7 +56,7 @@ pub fn first_wrong<L: Roll>(
     wrong
 }
 
-/// Merges the shares of all seats: then the book's total is the number of their receipts.
+/// Merges the shares of all seats; then the book's total is the number of their receipts.
 pub fn count<L: Roll>(book: &mut Book<L>, seats: Vec<Seat<L>>)
     requires { 0 < L.parts }
     ensures { length seats.items ≡ L.parts → book.old.total ≡ length (receipts_of seats.items) }

@@ -1,4 +1,4 @@
-//! Seats, and what they hold.
+//! Seats, and the receipts that they hold.
 
 ghost use Rattle.std.specs.Prelude.{◌≡◌, ◌↔◌, ◌+◌, ◌≤◌, ◌<◌, true, length};
 ghost use Rattle.hub_ledger.specs.Closing.{AreOf, before, times};
@@ -8,7 +8,7 @@ use hub_seats::strip;
 use std::marker::Model;
 use std::sync::ledger::{Book, Ledger as Roll, Share};
 
-/// One of those that submit. It holds what it was told.
+/// A seat submits events, and holds a receipt of each entry that they wrote.
 #[derive(Drop)]
 pub struct Seat<L: Roll> {
     pub(crate) number: usize,
@@ -30,29 +30,29 @@ impl<L: Roll> Model for Seat<L> {
 }
 
 impl<L: Roll> Seat<L> {
-    /// Its number, counted from 0.
+    /// The seat's number, counted from 0.
     pub fn number(&self) -> usize
         ensures { result ≡ self.now.number }
     {
         self.number
     }
 
-    /// From now on an answer to it has the entry that was written.
+    /// From now on, an answer to this seat has the entry that was written.
     pub fn ask_for_entries(&mut self)
         ensures { self.new ≡ record self.old { asks = true } }
     {
         self.asks = true;
     }
 
-    /// What it was told, the oldest first.
+    /// The seat's receipts, the oldest first.
     pub fn receipts(&self) -> &Receipts
         ensures { result.now.receipts ≡ self.now.receipts }
     {
         &self.told
     }
 
-    /// Takes away the receipts of this place and above. How many of them name it, and whether these
-    /// have the event and the reply of the entry.
+    /// Removes the receipts with this place or a higher one. Returns how many of them name the
+    /// place, and whether these have the event and the reply of the entry.
     pub(crate) fn strip(&mut self, book: &mut Book<L>, place: usize, entry: &Filed) -> (usize, bool)
         requires { place < 4294967296 }
         ensures rest { self.new.receipts ≡ before place self.old.receipts }

@@ -1,4 +1,4 @@
--- Codes and the forms that they name.
+-- Facts of codes, and of the stored forms that they name.
 use Rattle.std.proofs.Common.{◌≡◌, ℕ, zero, suc, ◌<◌, ◌≤◌, List, [], ◌∷◌, ◌++◌, length, Option, Some, refl, ap, ◌∙◌}
 use Rattle.std.proofs.Common.{arith}
 use Rattle.std.specs.Prelude.{option_to_list, slice_get}
@@ -45,7 +45,7 @@ pub last_form : (forms : List Entry) (e : Entry) → slice_get (forms ++ e ∷ [
 last_form [] e = refl
 last_form (f ∷ forms) e = last_form forms e
 
--- a form behind the others changes no entry
+-- a form that is stored after the others changes no entry
 pub with_form : (forms more : List Entry) (codes : List ℕ) → Below (length forms) codes
     → listed (forms ++ more) codes ≡ listed forms codes
 with_form forms more [] all = refl
@@ -53,7 +53,7 @@ with_form forms more (c ∷ codes) all =
     ap (λ (o : Option Entry). option_to_list o ++ listed (forms ++ more) codes) (same_at forms more c all.0)
     ∙ ap (λ (rest : List Entry). option_to_list (slice_get forms c) ++ rest) (with_form forms more codes all.1)
 
--- a code behind the others is its form behind the entries
+-- a code after the others is an entry after the others: the form of the code
 pub with_code : (forms : List Entry) (codes : List ℕ) (c : ℕ) (e : Entry) → slice_get forms c ≡ Some e
     → listed forms (codes ++ c ∷ []) ≡ listed forms codes ++ e ∷ []
 with_code forms codes c e at =

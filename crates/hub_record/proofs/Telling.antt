@@ -1,4 +1,4 @@
--- Places with codes, and the forms that they name.
+-- Facts of places with codes, and of the stored forms that the codes name.
 use Rattle.std.proofs.Common.{◌≡◌, ℕ, zero, suc, ◌<◌, ◌≤◌, List, [], ◌∷◌, ◌++◌, length, Option, Some, None, refl, ap}
 use Rattle.std.proofs.Common.{subst, ◌∙◌, arith}
 use Rattle.std.specs.Prelude.{IsSome, option_map, option_to_list, slice_get}
@@ -47,7 +47,7 @@ same_at [] more c l = absurd (omega (arith, l))
 same_at (f ∷ forms) more zero l = refl
 same_at (f ∷ forms) more (suc c) l = same_at forms more c (omega (arith, l))
 
--- a form behind the others changes no receipt
+-- a form that is stored after the others changes no receipt
 pub with_form : (forms more : List Form) (told : List Told) → Below (length forms) told
     → told_by (forms ++ more) told ≡ told_by forms told
 with_form forms more [] all = refl
@@ -57,7 +57,7 @@ with_form forms more (t ∷ told) all =
     ∙ ap (λ (rest : List Receipt). option_to_list (option_map (receipt_of t.place) (slice_get forms t.code)) ++ rest)
     (with_form forms more told all.1)
 
--- a place and a code behind the others are a receipt behind the others
+-- a place and a code after the others are a receipt after the others
 pub with_told : (forms : List Form) (told : List Told) (t : Told) (f : Form) → slice_get forms t.code ≡ Some f
     → told_by forms (told ++ t ∷ []) ≡ told_by forms told ++ receipt_of t.place f ∷ []
 with_told forms told t f at =
@@ -80,7 +80,7 @@ receipt_at forms (x ∷ told) (suc k) t f all is at =
     ap (λ (o : Option Form). slice_get (option_to_list (option_map (receipt_of x.place) o) ++ told_by forms told)
     (suc k)) here.1 ∙ receipt_at forms told k t f all.1 is at
 
--- the last place and code taken away are the last receipt taken away
+-- removing the last place and code removes the last receipt
 pub popped : (forms : List Form) (told new : List Told) (o : Option Told) → Below (length forms) told
     → told ≡ new ++ option_to_list o → IsSome o → LosesLast (told_by forms told) (told_by forms new)
 popped forms told new None all is some = absurd (cc (some))

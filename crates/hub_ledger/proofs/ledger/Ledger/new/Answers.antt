@@ -10,7 +10,7 @@ use Rattle.session_core.specs.declared.session.Session.{Session}
 use Rattle.hub_ledger.specs.States.{State, StandsFor, begun_with}
 use Rattle.hub_ledger.proofs.ledger.Ledger.new.Goals as goal
 
--- what the session tells is what it began with
+-- the session has the edition and the owner with which the ledger began
 so_begun : (session : Session) (e edition : Edition) (o owner : UserId) → e ≡ edition → o ≡ owner
     → StandsFor (begun edition owner) session → StandsFor (begun e o) session
 so_begun session e edition o owner same own st =
