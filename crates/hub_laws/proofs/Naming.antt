@@ -18,9 +18,9 @@ use Rattle.session_model.specs.Tables.{Tables, Window, Client, window_at, focuse
 use Rattle.session_model.specs.Naming.{with_number, lowest, window_named, is_wide, wide_objects, item_objects}
 use Rattle.session_model.specs.Naming.{objects_of, every_window, every_command}
 use Rattle.session_model.specs.Promises.{unread}
-use Rattle.session_laws.proofs.Agreeing.{has, has_row}
+use Rattle.session_laws.proofs.ActsOfMoves.{has, has_row}
 use Rattle.session_laws.proofs.Showing.{IsThere, lowest_there, number_there, get_all}
-use Rattle.session_laws.proofs.Fitting.{has_there, ShowsIn, PageIn, Holds}
+use Rattle.session_laws.proofs.FitCommands.{has_there, ShowsIn, PageIn, Holds}
 use Rattle.session_laws.proofs.Lists.{all_append, all_map, all_of, all_weaken, members}
 use Rattle.session_laws.proofs.Moving.{serials}
 use Rattle.session_laws.proofs.Unread.{SameClients}

@@ -33,12 +33,12 @@ use Rattle.session_model.specs.Checks.{passes, refusal_of, first_fault, checks, 
 use Rattle.session_model.specs.Deeds.{Deed, parts, removes, is_of, closes, entering, enters}
 use Rattle.session_model.specs.Commands.{does, caller_client, mask_entries}
 use Rattle.session_laws.proofs.Doing.{Either}
-use Rattle.session_laws.proofs.Agreeing.{has}
+use Rattle.session_laws.proofs.ActsOfMoves.{has}
 use Rattle.session_laws.proofs.Moving.{serials}
 use Rattle.session_laws.proofs.Showing.{IsThere, ShowsNoOther}
 use Rattle.session_laws.proofs.Shapes as shapes
 use Rattle.session_laws.proofs.Shapes.{Acted, Shape, by_shape}
-use Rattle.session_laws.proofs.Fitting.{Holds, page_of, has_there}
+use Rattle.session_laws.proofs.FitCommands.{Holds, page_of, has_there}
 use Rattle.session_laws.proofs.Lists.{all_append}
 use Rattle.session_laws.proofs.Unread.{row_at}
 use Rattle.hub_trail.specs.Judging.{CanFollow}

@@ -38,10 +38,10 @@ use Rattle.session_model.specs.Comings.{attaches, new_client, open_checks, opens
 use Rattle.session_model.specs.Answering.{typing_verdicts, keyed, with_listed, message_of, by_line, ordered, Ordered}
 use Rattle.session_model.specs.Answering.{reading, types, unsaid, keys_outcome}
 use Rattle.session_model.specs.Run.{IsStep, IsRun, IsRunFrom, tables_from}
-use Rattle.session_laws.proofs.Agreeing.{has, has_row}
+use Rattle.session_laws.proofs.ActsOfMoves.{has, has_row}
 use Rattle.session_laws.proofs.Doing.{Either}
 use Rattle.session_laws.proofs.Showing.{at_there, number_there, lowest_there}
-use Rattle.session_laws.proofs.Fitting.{Holds}
+use Rattle.session_laws.proofs.FitCommands.{Holds}
 use Rattle.session_laws.proofs.Lists.{all_append, and_first}
 use Rattle.session_laws.proofs.Moving.{serials}
 use Rattle.session_laws.proofs.Staying.{run_fit, fresh_fit}

@@ -3,7 +3,7 @@ use Rattle.std.proofs.Common.{◌≡◌, ℕ, ◌<◌, ◌≤◌, Bool, true, fa
 use Rattle.std.proofs.Common.{subst, arith, length-append, Option, Some, None}
 use Rattle.std.specs.List.{AllByRecursion}
 use Rattle.session_laws.proofs.Lists.{all_append, all_weaken}
-use Rattle.session_laws.proofs.Counting.{step_few}
+use Rattle.session_laws.proofs.FewEffects.{step_few}
 use Rattle.session_laws.proofs.Sounding.{fresh_sound, run_sound}
 use Rattle.session_model.specs.declared.event.Effect.{Effect}
 use Rattle.session_model.specs.declared.event.Effect.TheVariants.{Input, Deliver, Say, Size, GoneWindow, GoneClient}

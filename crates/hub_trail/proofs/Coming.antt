@@ -28,7 +28,7 @@ use Rattle.session_model.specs.Run.{IsStep, IsDraw, HasEffects}
 use Rattle.session_laws.proofs.Asking.{keys_given, line_listed, focus_listed}
 use Rattle.session_laws.proofs.Denying.{IsListed}
 use Rattle.session_laws.proofs.Lists.{all_weaken, some_weaken, some_row, row_serial}
-use Rattle.session_laws.proofs.Saying.{never_delivers, no_other}
+use Rattle.session_laws.proofs.EffectsCaused.{never_delivers, no_other}
 use Rattle.hub_trail.specs.Peers.{HasCome}
 
 -- ---- rows

@@ -37,7 +37,7 @@ use Rattle.session_laws.proofs.Unread.{nobody_left}
 use Rattle.session_laws.proofs.Lists.{equal, itself, all_weaken, all_append, all_map, all_of, all_passed}
 use Rattle.session_guests.proofs.Events.{all_left}
 use Rattle.session_guests.proofs.Focusing.{IsMine}
-use Rattle.session_guests.proofs.Rows.{IsCaller}
+use Rattle.session_guests.proofs.CommandActs.{IsCaller}
 use Rattle.hub_trail.specs.Fitting.{makes, is_client}
 use Rattle.session_guests.proofs.Leaving.{LeftBy, left_where, parted, turned}
 use Rattle.hub_trail.proofs.Listed.{change_all, add_all, group_all, mask_all}

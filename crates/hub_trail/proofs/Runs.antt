@@ -14,7 +14,7 @@ use Rattle.session_model.specs.Sound.{AreFit}
 use Rattle.session_model.specs.Tables.{Tables, fresh}
 use Rattle.session_model.specs.Events.{outcome}
 use Rattle.session_model.specs.Run.{IsStep, IsRun, IsRunFrom, after, drawn, tables_from, tables_of}
-use Rattle.session_laws.proofs.Noting.{after_acts}
+use Rattle.session_laws.proofs.ActsOfRuns.{after_acts}
 use Rattle.session_laws.proofs.Staying.{run_fit, fresh_fit}
 use Rattle.hub_trail.specs.declared.kept.Kept.{Kept}
 use Rattle.hub_trail.specs.Trails.{Entry}

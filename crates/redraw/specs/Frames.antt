@@ -106,7 +106,7 @@ pub record DrawsFrame (old : Knowledge) (v : View) (new : Knowledge) (bytes : Li
   pub redraws : CanBeShown old.known → IsDrawable v → Redraws old.rows old.columns old.known v bytes
   pub known : new ≡ record old { known = Some v }
 
--- ---- where a frame was made
+-- ---- results that may have a frame
 
 -- If a terminal can show both views, the bytes lead from the one to the other.
 abbrev pub DrawsNext : View → View → Bytes → Bytes → Type 0
@@ -144,7 +144,7 @@ pub record IsFrameFor (before : Knowledge) (v : View) (bytes : List ℕ) : Type 
   pub size : HasSize before.rows before.columns v
   pub draws : DrawsFrame before v (record before { known = Some v }) bytes
 
--- ---- where a frame is appended
+-- ---- frames that are appended to bytes
 
 -- the terminal was known to show the view: nothing is appended, and nothing changes
 pub record AppendsNothing (old : Knowledge) (v : View) (new : Knowledge) (before after : List ℕ)

@@ -28,7 +28,7 @@ use Rattle.session_model.specs.Trace.{Entry}
 use Rattle.session_laws.proofs.Lists.{both_true}
 use Rattle.session_laws.proofs.Outcomes as outcomes
 use Rattle.session_laws.proofs.Outcomes.{Change, Changes, changes}
-use Rattle.session_guests.proofs.Rows.{IsRow}
+use Rattle.session_guests.proofs.CommandActs.{IsRow}
 use Rattle.session_guests.proofs.Steps.{Did, with_clients}
 use Rattle.session_guests.proofs.Events.{gives_commands, is_open}
 use Rattle.session_guests.proofs.Gating.{Below, Steps, steps_of, row_did, first_passed, then_passed}

@@ -21,7 +21,7 @@ use Rattle.session_laws.proofs.Lists.{contradicts, all_weaken, all_append}
 use Rattle.session_guests.specs.Changing.{changes_rights, opens_window, opened_by, SameLists, SameRights}
 use Rattle.session_guests.specs.Changing.{MayChangeRights, RightsAreGated}
 use Rattle.session_guests.specs.Contained.{AllSteps, AreGuests, ChangesAreTheirs, stood, AreContained}
-use Rattle.session_guests.proofs.Rows.{IsActOf, IsRow}
+use Rattle.session_guests.proofs.CommandActs.{IsActOf, IsRow}
 use Rattle.session_guests.proofs.Steps.{Did, with_clients}
 use Rattle.session_guests.proofs.Events.{IsActIn, all_left}
 use Rattle.session_guests.proofs.Gating.{Below, Steps, steps_of, row_did, gated}

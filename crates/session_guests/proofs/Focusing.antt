@@ -22,7 +22,7 @@ use Rattle.session_laws.proofs.Lists.{itself, row_serial, contradicts, all_appen
 use Rattle.session_laws.proofs.Doing.{Either, caller_is}
 use Rattle.session_guests.specs.Changing.{changes_rights}
 use Rattle.session_guests.specs.Locking.{may_free}
-use Rattle.session_guests.proofs.Rows.{IsCaller}
+use Rattle.session_guests.proofs.CommandActs.{IsCaller}
 use Rattle.session_laws.proofs.Shapes as shapes
 
 -- ---- lists

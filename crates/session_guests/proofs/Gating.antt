@@ -35,7 +35,7 @@ use Rattle.session_laws.proofs.Doing.{Either}
 use Rattle.session_guests.specs.Changing.{changes_rights, SameRights, MayChangeRights, RightsAreGated}
 use Rattle.session_guests.proofs.Listing.{is_listing}
 use Rattle.session_guests.proofs.Histories.{NoListing, same_rights}
-use Rattle.session_guests.proofs.Rows.{IsActOf, IsRow, row_of}
+use Rattle.session_guests.proofs.CommandActs.{IsActOf, IsRow, row_of}
 use Rattle.session_guests.proofs.Steps.{Did, Rests, Obeys, with_clients, keys_obeys, command_obeys}
 use Rattle.session_guests.proofs.Events.{Plain, IsActIn, gives_commands, all_left, step_plain}
 

@@ -33,7 +33,7 @@ use Rattle.session_model.specs.Trace.{EventValue, Attach, Detach, Keys, Command,
 use Rattle.session_laws.proofs.Lists.{contradicts, all_weaken, all_append}
 use Rattle.session_guests.specs.Changing.{changes_rights}
 use Rattle.session_guests.specs.Locking.{user_of, HoldersMayWrite, TakesIt}
-use Rattle.session_guests.proofs.Rows.{IsActOf, IsRow}
+use Rattle.session_guests.proofs.CommandActs.{IsActOf, IsRow}
 use Rattle.session_guests.proofs.Steps.{Did, with_clients}
 use Rattle.session_guests.proofs.Events.{IsActIn, all_left}
 use Rattle.session_guests.proofs.Gating.{Below, Steps, steps_of, row_did, first_passed, then_passed}

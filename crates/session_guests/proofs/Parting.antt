@@ -23,7 +23,7 @@ use Rattle.session_laws.specs.Fit.{TablesStayFit}
 use Rattle.session_laws.proofs.Lists.{equal, all_weaken, all_append}
 use Rattle.session_laws.proofs.Passing.{passed_has_x}
 use Rattle.session_guests.specs.Gates.{IsGranted, sets_mode, ModeIsGated, parts_others, DetachesItself, IsParted}
-use Rattle.session_guests.proofs.Rows.{IsActOf, is_mode}
+use Rattle.session_guests.proofs.CommandActs.{IsActOf, is_mode}
 use Rattle.session_guests.proofs.Steps.{Did}
 use Rattle.session_guests.proofs.Events.{IsActIn, all_left}
 use Rattle.session_guests.proofs.Gating.{Below, Steps, steps_of, row_did}

@@ -35,7 +35,7 @@ use Rattle.session_laws.specs.Laws.{DidItsRow, LineDidItsRow, refusal_in, why_re
 use Rattle.session_laws.proofs.Unread.{SameClients, typing_clients}
 use Rattle.session_laws.proofs.Granting.{told_read, same_tables}
 use Rattle.session_laws.proofs.Asking.{keys_given}
-use Rattle.session_guests.proofs.Rows.{IsCaller}
+use Rattle.session_guests.proofs.CommandActs.{IsCaller}
 
 -- tables whose clients have read keys
 abbrev pub with_clients : Tables → List Client → Tables

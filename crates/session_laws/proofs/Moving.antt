@@ -21,7 +21,7 @@ use Rattle.session_model.specs.Tables.{Tables, Client, row_of, with_row}
 use Rattle.session_model.specs.Deeds.{Deed, acting, listing}
 use Rattle.session_model.specs.Sound.{NumbersDiffer}
 use Rattle.session_laws.proofs.Lists.{filter_all, all_weaken}
-use Rattle.session_laws.proofs.Numbers.{serial_of, Differ}
+use Rattle.session_laws.proofs.DifferentNumbers.{serial_of, Differ}
 
 -- ---- acts aside: these say nothing of which windows and clients there are
 

@@ -27,7 +27,7 @@ use Rattle.session_laws.specs.Entries.{keys_read, is_resize, delivered_by}
 use Rattle.session_laws.proofs.Inputs.{append_nil}
 use Rattle.session_laws.proofs.Lists.{all_weaken, some_weaken, equal}
 use Rattle.session_laws.proofs.Doing.{Either}
-use Rattle.session_laws.proofs.Saying.{never_delivers}
+use Rattle.session_laws.proofs.EffectsCaused.{never_delivers}
 use Rattle.session_laws.proofs.Settling.{told_same}
 use Rattle.session_laws.proofs.Unread.{typing_told}
 use Rattle.session_laws.proofs.Keeping.{core, Keeps, keeps_same, keeps_client, keeps_then, keeps}

@@ -37,13 +37,13 @@ use Rattle.session_model.specs.Deeds.{input_of}
 use Rattle.session_model.specs.Events.{outcome}
 use Rattle.session_model.specs.Sound.{AreSound}
 use Rattle.session_laws.proofs.Lists.{row_serial, itself, equal}
-use Rattle.session_laws.proofs.Numbers.{serial_of, Differ}
+use Rattle.session_laws.proofs.DifferentNumbers.{serial_of, Differ}
 use Rattle.session_laws.proofs.Doing.{Either}
 use Rattle.session_laws.proofs.Moving.{AllAside, Moves, DeedMoves, id_of, ids, serials, closed, parted, stays}
 use Rattle.session_laws.proofs.Moving.{aside_append}
-use Rattle.session_laws.proofs.Rows.{client_ids, moves, only_parts, closes_moves, same_window, input_few}
+use Rattle.session_laws.proofs.CommandMoves.{client_ids, moves, only_parts, closes_moves, same_window, input_few}
 use Rattle.session_laws.proofs.Unread.{SameClients, typing_clients, row_at}
-use Rattle.session_laws.proofs.Lasting.{differ}
+use Rattle.session_laws.proofs.SoundMoves.{differ}
 use Rattle.session_laws.proofs.Outcomes as outcomes
 
 -- ---- leaving a window is an act aside

@@ -12,7 +12,7 @@ use Rattle.session_model.specs.Naming.{with_number, lower, lowest, higher, highe
 use Rattle.session_model.specs.Naming.{window_before}
 use Rattle.session_model.specs.Promises.{SomeOf}
 use Rattle.session_laws.proofs.Lists.{all_append, some_row}
-use Rattle.session_laws.proofs.Numbers.{serial_of}
+use Rattle.session_laws.proofs.DifferentNumbers.{serial_of}
 
 -- ---- lists
 

@@ -26,11 +26,11 @@ use Rattle.session_model.specs.Granted.{granted_view}
 use Rattle.session_model.specs.Run.{drawn, drawn_on, with_drawn, tables_from}
 use Rattle.session_model.specs.Sound.{Rises, AreSound, client_serials, window_serials}
 use Rattle.session_laws.proofs.Lists.{and_first}
-use Rattle.session_laws.proofs.Numbers.{more_numbers, number_free}
+use Rattle.session_laws.proofs.DifferentNumbers.{more_numbers, number_free}
 use Rattle.session_laws.proofs.Passing.{behind, first_passes}
 use Rattle.session_laws.proofs.Moving.{id_of, ids}
-use Rattle.session_laws.proofs.Rows.{length_append, client_ids, length_ids}
-use Rattle.session_laws.proofs.Lasting.{rise_next, moved_sound, client_firsts, firsts}
+use Rattle.session_laws.proofs.CommandMoves.{length_append, client_ids, length_ids}
+use Rattle.session_laws.proofs.SoundMoves.{rise_next, moved_sound, client_firsts, firsts}
 use Rattle.session_laws.proofs.Settling.{moving}
 use Rattle.session_laws.proofs.Unread.{row_at}
 use Rattle.session_laws.proofs.Outcomes as outcomes

@@ -33,18 +33,18 @@ use Rattle.session_model.specs.Run.{drawn, drawn_on, with_drawn, after, tables_f
 use Rattle.session_model.specs.Promises.{unread}
 use Rattle.session_model.specs.Sound.{IsOpen, ShowsOpen, AreFit}
 use Rattle.session_laws.proofs.Lists.{all_weaken, all_append, all_map, all_filter}
-use Rattle.session_laws.proofs.Numbers.{serial_of}
+use Rattle.session_laws.proofs.DifferentNumbers.{serial_of}
 use Rattle.session_laws.proofs.Doing.{Either}
 use Rattle.session_laws.proofs.Moving.{serials}
 use Rattle.session_laws.proofs.Unread.{SameClients, typing_clients}
 use Rattle.session_laws.proofs.Settling.{told_same}
-use Rattle.session_laws.proofs.Agreeing.{has, has_row, has_append}
+use Rattle.session_laws.proofs.ActsOfMoves.{has, has_row, has_append}
 use Rattle.session_laws.proofs.Sounding.{lasting, map_append, fresh_sound}
-use Rattle.session_laws.proofs.Noting.{acts_agree, fresh_agrees}
-use Rattle.session_laws.proofs.Small.{is_small, is_small_order, read_small, keys_small}
+use Rattle.session_laws.proofs.ActsOfRuns.{acts_agree, fresh_agrees}
+use Rattle.session_laws.proofs.SmallNumbers.{is_small, is_small_order, read_small, keys_small}
 use Rattle.session_laws.proofs.Showing.{lowest_there, number_there, at_there, some_has}
-use Rattle.session_laws.proofs.Fitting.{ShowsIn, PageIn, IsBelow, Holds, holds_client, holds_window, holds_closed}
-use Rattle.session_laws.proofs.Fitting.{holds, page_of, has_there}
+use Rattle.session_laws.proofs.FitCommands.{ShowsIn, PageIn, IsBelow, Holds, holds_client, holds_window, holds_closed}
+use Rattle.session_laws.proofs.FitCommands.{holds, page_of, has_there}
 use Rattle.session_laws.proofs.Outcomes as outcomes
 
 -- ---- messages

@@ -75,7 +75,7 @@ ClientList =
     listed (ordered (several Second) own None command.Displays)
     ≡ Some (codes "0 own 0  1 ann 0  2 bob 2  3 eve 2")
 
--- `a`, C-a n, `b`: bytes go where the focus is
+-- `a`, C-a n, `b`: bytes go to the window in focus
 abbrev pub KeysInSteps : Type 0
 KeysInSteps =
     (typed (several Second) 0 (0x61 ∷ 0x01 ∷ 0x6E ∷ 0x62 ∷ []) ≡ Input 0 (codes "a") ∷ [])

@@ -4,7 +4,7 @@ use Rattle.std.proofs.lemmas.Option.{slice_get-get_or}
 use Rattle.hub_record.specs.declared.receipts.Told.{Told}
 use Rattle.hub_record.specs.declared.receipts.Form.{Form}
 use Rattle.hub_record.specs.Receipts.{Receipted, told_by}
-use Rattle.hub_record.proofs.Telling.{as_many, below_at, receipt_at}
+use Rattle.hub_record.proofs.ReceiptForms.{as_many, below_at, receipt_at}
 use Rattle.hub_record.proofs.receipts.Receipts.at.Goals as goal
 
 pub index-told-requires : goal.index-told-requires

@@ -1,6 +1,6 @@
 use Rattle.std.proofs.Common.{◌≡◌, ap, length, arith}
 use Rattle.hub_record.specs.Receipts.{Receipted, told_by}
-use Rattle.hub_record.proofs.Telling.{as_many}
+use Rattle.hub_record.proofs.ReceiptForms.{as_many}
 use Rattle.hub_record.proofs.receipts.Receipts.len.Goals as goal
 
 pub returns : goal.returns

@@ -1,7 +1,7 @@
 use Rattle.std.proofs.Common.{◌≡◌, ◌∙◌, ◌<◌, ap, sym, length, arith}
 use Rattle.std.specs.Prelude.{vec_len}
 use Rattle.hub_record.specs.Receipts.{Receipted, told_by}
-use Rattle.hub_record.proofs.Telling.{as_many, popped}
+use Rattle.hub_record.proofs.ReceiptForms.{as_many, popped}
 use Rattle.hub_record.proofs.receipts.Receipts.pop.Goals as goal
 
 pub returns : goal.returns

@@ -2,7 +2,7 @@ use Rattle.std.proofs.Common.{◌≡◌, ◌∙◌, ◌<◌, ◌∷◌, ◌++◌
 use Rattle.std.proofs.lemmas.Option.{slice_get_within}
 use Rattle.hub_record.specs.declared.receipts.Form.{Form}
 use Rattle.hub_record.specs.Receipts.{Receipt, Receipted, receipt_of, told_by}
-use Rattle.hub_record.proofs.Telling.{Below, as_many, below_more, below_push, with_form, with_told}
+use Rattle.hub_record.proofs.ReceiptForms.{Below, as_many, below_more, below_push, with_form, with_told}
 use Rattle.hub_record.proofs.receipts.Receipts.push.Goals as goal
 
 pub push_reserved-requires : goal.push_reserved-requires

@@ -1,6 +1,6 @@
 use Rattle.std.proofs.Common.{◌≡◌, ◌∙◌, length, arith}
 use Rattle.hub_record.specs.Receipts.{told_by}
-use Rattle.hub_record.proofs.Telling.{as_many}
+use Rattle.hub_record.proofs.ReceiptForms.{as_many}
 use Rattle.hub_record.proofs.receipts.Receipts.reserve.Goals as goal
 
 pub returns-clause-room : goal.returns-clause-room

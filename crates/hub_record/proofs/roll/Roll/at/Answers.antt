@@ -3,7 +3,7 @@ use Rattle.std.specs.Prelude.{slice_get}
 use Rattle.std.proofs.lemmas.Option.{slice_get-get_or}
 use Rattle.hub_trail.specs.Trails.{Entry}
 use Rattle.hub_record.specs.Rolls.{Rolled, listed}
-use Rattle.hub_record.proofs.Listing.{as_many, below_at, entry_at}
+use Rattle.hub_record.proofs.EntryForms.{as_many, below_at, entry_at}
 use Rattle.hub_record.proofs.roll.Roll.at.Goals as goal
 
 pub index-requires : goal.index-requires

@@ -1,6 +1,6 @@
 use Rattle.std.proofs.Common.{◌≡◌, ap, length, arith}
 use Rattle.hub_record.specs.Rolls.{Rolled, listed}
-use Rattle.hub_record.proofs.Listing.{as_many}
+use Rattle.hub_record.proofs.EntryForms.{as_many}
 use Rattle.hub_record.proofs.roll.Roll.len.Goals as goal
 
 pub returns : goal.returns

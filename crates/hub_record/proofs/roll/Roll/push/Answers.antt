@@ -2,7 +2,7 @@ use Rattle.std.proofs.Common.{◌≡◌, ◌∙◌, ◌<◌, ◌+◌, ◌∷◌,
 use Rattle.std.proofs.lemmas.Option.{slice_get_within}
 use Rattle.hub_trail.specs.Trails.{Entry}
 use Rattle.hub_record.specs.Rolls.{Rolled, entry_in, listed}
-use Rattle.hub_record.proofs.Listing.{Below, as_many, below_more, below_push, with_code, with_form}
+use Rattle.hub_record.proofs.EntryForms.{Below, as_many, below_more, below_push, with_code, with_form}
 use Rattle.hub_record.proofs.roll.Roll.push.Goals as goal
 
 pub store-code-requires-clause-few : goal.store-code-requires-clause-few

@@ -1,6 +1,6 @@
 use Rattle.std.proofs.Common.{◌≡◌, ◌∙◌, length, arith}
 use Rattle.hub_record.specs.Rolls.{listed}
-use Rattle.hub_record.proofs.Listing.{as_many}
+use Rattle.hub_record.proofs.EntryForms.{as_many}
 use Rattle.hub_record.proofs.roll.Roll.reserve.Goals as goal
 
 pub returns-clause-room : goal.returns-clause-room

@@ -27,7 +27,7 @@ use Rattle.session_model.specs.Sound.{Rises}
 use Rattle.session_laws.specs.Written.{order_writing, is_own, sizes_of}
 use Rattle.session_laws.proofs.Inputs.{append_nil}
 use Rattle.session_laws.proofs.Lists.{all_weaken, all_filter, members, some_weaken, some_row, equal, itself}
-use Rattle.session_laws.proofs.Numbers.{serial_of}
+use Rattle.session_laws.proofs.DifferentNumbers.{serial_of}
 use Rattle.session_laws.proofs.Doing.{Either}
 use Rattle.session_laws.proofs.Moving.{serials}
 use Rattle.session_laws.proofs.Shapes as shapes

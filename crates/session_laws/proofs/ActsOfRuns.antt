@@ -17,12 +17,12 @@ use Rattle.session_model.specs.Outcomes.{Outcome, left_acts, reply_of}
 use Rattle.session_model.specs.Comings.{attach_checks, attaches, new_client, open_checks, opens, new_window}
 use Rattle.session_model.specs.Run.{after, drawn, drawn_on, tables_from}
 use Rattle.session_model.specs.Sound.{AreSound, ActsAgree}
-use Rattle.session_laws.proofs.Numbers.{serial_of}
+use Rattle.session_laws.proofs.DifferentNumbers.{serial_of}
 use Rattle.session_laws.proofs.Moving.{AllAside, aside_append, id_of, ids, serials}
-use Rattle.session_laws.proofs.Rows.{length_append}
+use Rattle.session_laws.proofs.CommandMoves.{length_append}
 use Rattle.session_laws.proofs.Settling.{moving, left_aside, is_new}
 use Rattle.session_laws.proofs.Sounding.{drawn_ids, run_sound, map_append}
-use Rattle.session_laws.proofs.Agreeing.{Says, SaysOf, has, has_append, aside_all, moved_says, agrees, says_of}
+use Rattle.session_laws.proofs.ActsOfMoves.{Says, SaysOf, has, has_append, aside_all, moved_says, agrees, says_of}
 use Rattle.session_laws.proofs.Outcomes as outcomes
 
 -- ---- windows and clients that come

@@ -27,11 +27,11 @@ use Rattle.session_laws.proofs.Unread.{row_at}
 use Rattle.session_guests.specs.Contained.{stood}
 use Rattle.session_guests.specs.Locking.{user_of, client_user}
 use Rattle.session_guests.proofs.Events.{gives_commands, all_left, changed_by}
-use Rattle.session_guests.proofs.Staying.{Own, unique}
+use Rattle.session_guests.proofs.KeptLocks.{Own, unique}
 use Rattle.session_guests.proofs.Leaving.{left_where, nobody, parted, turned, appended, shut}
-use Rattle.session_confined.proofs.Calming.{moves, IsCalm}
-use Rattle.session_confined.proofs.Sparing.{both_all, Alone, alone, Silent, Others, Elsewhere, others_part, calm_left}
-use Rattle.session_confined.proofs.Sparing.{others_left, elsewhere_left}
+use Rattle.session_confined.proofs.HolderActs.{moves, IsCalm}
+use Rattle.session_confined.proofs.OthersActs.{both_all, Alone, alone, Silent, Others, Elsewhere, others_part, calm_left}
+use Rattle.session_confined.proofs.OthersActs.{others_left, elsewhere_left}
 
 -- what such an event does to the lock: it leaves it to its holder, or the window's program ended
 module _ (t : Tables) (w : ℕ) (x : UserId) where

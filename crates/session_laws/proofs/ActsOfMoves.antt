@@ -15,10 +15,10 @@ use Rattle.session_model.specs.Tables.{Tables, Window, row_of}
 use Rattle.session_model.specs.Sound.{Rises, AreSound, ActsAgree}
 use Rattle.session_laws.proofs.Lists.{equal, itself}
 use Rattle.session_laws.proofs.Inputs.{append_nil}
-use Rattle.session_laws.proofs.Numbers.{serial_of}
+use Rattle.session_laws.proofs.DifferentNumbers.{serial_of}
 use Rattle.session_laws.proofs.Moving.{AllAside, is_aside, Moves, ids, serials, closed, parted}
-use Rattle.session_laws.proofs.Rows.{length_append, length_map}
-use Rattle.session_laws.proofs.Lasting.{client_firsts, firsts}
+use Rattle.session_laws.proofs.CommandMoves.{length_append, length_map}
+use Rattle.session_laws.proofs.SoundMoves.{client_firsts, firsts}
 
 -- ---- membership of numbers
 

@@ -42,7 +42,7 @@ use Rattle.session_model.specs.Denying.{Asks}
 use Rattle.session_laws.proofs.Lists.{all_append, all_map, all_filter, all_of, all_weaken, all_passed, equal}
 use Rattle.session_laws.proofs.Lists.{row_serial}
 use Rattle.session_laws.proofs.Doing.{giving, Either}
-use Rattle.session_laws.proofs.Done.{HasDone, done_by}
+use Rattle.session_laws.proofs.CommandEffects.{HasDone, done_by}
 use Rattle.session_laws.proofs.Denying.{OnFault, plain_names}
 use Rattle.session_laws.proofs.Passing.{passed_has_x}
 use Rattle.session_laws.proofs.Unread.{SameClients, typing_clients, told_in, done_in}

@@ -50,7 +50,7 @@ use Rattle.session_guests.specs.Changing.{changes_rights}
 use Rattle.session_guests.specs.Contained.{stood}
 use Rattle.session_guests.specs.Locking.{user_of, client_user, HoldersMayWrite, may_free, MayFree, IsPowerless}
 use Rattle.session_guests.specs.Locking.{HoldersStayIn}
-use Rattle.session_guests.proofs.Rows.{IsActOf}
+use Rattle.session_guests.proofs.CommandActs.{IsActOf}
 use Rattle.session_guests.proofs.Steps.{Did, Rests, Obeys, with_clients}
 use Rattle.session_guests.proofs.Events.{gives_commands, changed_by}
 use Rattle.session_guests.proofs.Gating.{Below, obeys_of, row_did, first_passed, then_passed, had_x}

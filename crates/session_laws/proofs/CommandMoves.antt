@@ -27,7 +27,7 @@ use Rattle.session_model.specs.Commands.{does, caller_client, is_taken}
 use Rattle.session_model.specs.Sound.{NumbersDiffer}
 use Rattle.session_laws.proofs.Inputs.{append_nil}
 use Rattle.session_laws.proofs.Lists.{equal, filter_all, row_serial}
-use Rattle.session_laws.proofs.Numbers.{serial_of, IsFree, with_numbers, fewer_numbers, own_number}
+use Rattle.session_laws.proofs.DifferentNumbers.{serial_of, IsFree, with_numbers, fewer_numbers, own_number}
 use Rattle.session_laws.proofs.Doing.{Either}
 use Rattle.session_laws.proofs.Unread.{row_at}
 use Rattle.session_laws.proofs.Moving.{AllAside, DeedMoves, id_of, ids, serials, closed, parted, filter_map, stays}

@@ -18,12 +18,12 @@ use Rattle.session_model.specs.Lines.{Caller}
 use Rattle.session_model.specs.Deeds.{Deed, removes, closes, without_window, without_windows, hearing}
 use Rattle.session_model.specs.Commands.{does, caller_client}
 use Rattle.session_laws.proofs.Lists.{all_weaken, all_map, all_filter, some_row}
-use Rattle.session_laws.proofs.Numbers.{serial_of}
+use Rattle.session_laws.proofs.DifferentNumbers.{serial_of}
 use Rattle.session_laws.proofs.Doing.{Either}
 use Rattle.session_laws.proofs.Moving.{serials}
-use Rattle.session_laws.proofs.Rows.{window_serials}
-use Rattle.session_laws.proofs.Agreeing.{has}
-use Rattle.session_laws.proofs.Small.{is_small, small_below}
+use Rattle.session_laws.proofs.CommandMoves.{window_serials}
+use Rattle.session_laws.proofs.ActsOfMoves.{has}
+use Rattle.session_laws.proofs.SmallNumbers.{is_small, small_below}
 use Rattle.session_laws.proofs.Showing.{IsThere, ShowsNoOther, some_has, all_row}
 use Rattle.session_laws.proofs.Shapes as shapes
 

@@ -34,9 +34,9 @@ use Rattle.session_model.specs.Tables.{Tables, Window, Client}
 use Rattle.session_laws.proofs.Lists.{contradicts, equal, all_weaken, all_append, all_map}
 use Rattle.session_guests.proofs.Listing.{is_listing}
 use Rattle.session_guests.proofs.Harmless.{NoneOf}
-use Rattle.session_guests.proofs.Staying.{Own, above, all_reverse, all_mapped}
+use Rattle.session_guests.proofs.KeptLocks.{Own, above, all_reverse, all_mapped}
 use Rattle.session_guests.proofs.Leaving.{LeftBy}
-use Rattle.session_confined.proofs.Calming.{IsCalm}
+use Rattle.session_confined.proofs.HolderActs.{IsCalm}
 
 -- ---- lists
 

@@ -29,9 +29,9 @@ use Rattle.session_model.specs.Run.{IsStep, HasEffects, IsDraw, DrawsWhereNeeded
 use Rattle.session_model.specs.Sound.{AreSound}
 use Rattle.session_laws.proofs.Doing.{Either}
 use Rattle.session_laws.proofs.Moving.{DeedMoves}
-use Rattle.session_laws.proofs.Rows.{moves, only_parts, closes_moves, input_few, length_append, length_filter}
-use Rattle.session_laws.proofs.Rows.{length_ids}
-use Rattle.session_laws.proofs.Lasting.{differ}
+use Rattle.session_laws.proofs.CommandMoves.{moves, only_parts, closes_moves, input_few, length_append, length_filter}
+use Rattle.session_laws.proofs.CommandMoves.{length_ids}
+use Rattle.session_laws.proofs.SoundMoves.{differ}
 use Rattle.session_laws.proofs.Settling.{focus_row, line_row, deed_moves, ids_same}
 use Rattle.session_laws.proofs.Unread.{typing_clients}
 use Rattle.session_laws.proofs.Outcomes as outcomes

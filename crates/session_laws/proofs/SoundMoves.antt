@@ -8,9 +8,9 @@ use Rattle.acl.specs.declared.user_id.UserId.{UserId}
 use Rattle.acl.specs.declared.act.Act.{Act}
 use Rattle.session_model.specs.Tables.{Tables, Window, Client, row_of}
 use Rattle.session_model.specs.Sound.{Rises, AreSound, AreSoundRows, client_serials}
-use Rattle.session_laws.proofs.Numbers.{serial_of, Differ}
+use Rattle.session_laws.proofs.DifferentNumbers.{serial_of, Differ}
 use Rattle.session_laws.proofs.Moving.{Moves, id_of, ids, serials}
-use Rattle.session_laws.proofs.Rows.{length_map, length_filter}
+use Rattle.session_laws.proofs.CommandMoves.{length_map, length_filter}
 
 -- ---- rising serials
 

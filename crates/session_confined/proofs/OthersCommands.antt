@@ -38,16 +38,16 @@ use Rattle.session_laws.proofs.Leaving.{none_left}
 use Rattle.session_laws.proofs.Shapes as shapes
 use Rattle.session_laws.proofs.Unread.{SameClients, nobody_left}
 use Rattle.session_guests.proofs.Listing.{is_listing, AllListing, change_list, add_list, group_list}
-use Rattle.session_guests.proofs.Rows.{IsCaller}
+use Rattle.session_guests.proofs.CommandActs.{IsCaller}
 use Rattle.session_guests.proofs.Steps.{with_clients}
 use Rattle.session_guests.proofs.Events.{all_left}
-use Rattle.session_guests.proofs.Staying.{Own, IsOf, unique, all_mapped, own_read}
+use Rattle.session_guests.proofs.KeptLocks.{Own, IsOf, unique, all_mapped, own_read}
 use Rattle.session_confined.specs.Keeping.{FreesBy}
 use Rattle.session_guests.proofs.Leaving.{Leaves, left_where, parted, turned, shut}
-use Rattle.session_confined.proofs.Calming.{moves, IsCalm, KeepsWindow}
-use Rattle.session_confined.proofs.Sparing.{split_all, both_all, Alone, alone, takes_rights, mask_all, Silent}
-use Rattle.session_confined.proofs.Sparing.{listing_silent, any_window, not_true, Others, Elsewhere, others_part}
-use Rattle.session_confined.proofs.Sparing.{calm_left, others_left, elsewhere_left, listing_calm, lock_free}
+use Rattle.session_confined.proofs.HolderActs.{moves, IsCalm, KeepsWindow}
+use Rattle.session_confined.proofs.OthersActs.{split_all, both_all, Alone, alone, takes_rights, mask_all, Silent}
+use Rattle.session_confined.proofs.OthersActs.{listing_silent, any_window, not_true, Others, Elsewhere, others_part}
+use Rattle.session_confined.proofs.OthersActs.{calm_left, others_left, elsewhere_left, listing_calm, lock_free}
 
 module _ (t : Tables) (w : ℕ) (x : UserId) where
   abbrev CalmActs : List Act → Type 0

@@ -40,8 +40,8 @@ use Rattle.session_laws.proofs.Inputs.{is_say}
 use Rattle.session_laws.proofs.Lists.{all_of, all_weaken, all_append, all_filter, all_passed, members, both_true}
 use Rattle.session_laws.proofs.Lists.{itself, contradicts}
 use Rattle.session_laws.proofs.Doing.{Either, giving}
-use Rattle.session_laws.proofs.Done.{HasDone, done_by}
-use Rattle.session_laws.proofs.Lasting.{client_firsts, firsts}
+use Rattle.session_laws.proofs.CommandEffects.{HasDone, done_by}
+use Rattle.session_laws.proofs.SoundMoves.{client_firsts, firsts}
 use Rattle.session_laws.proofs.Settling.{ids_same}
 use Rattle.session_laws.proofs.Unread.{typing_clients}
 use Rattle.session_laws.proofs.Outcomes as outcomes

@@ -37,7 +37,7 @@ use Rattle.session_laws.proofs.Passing.{passed_has_x}
 use Rattle.session_laws.proofs.Asking.{keys_given}
 use Rattle.session_laws.proofs.Unread.{SameClients, typing_clients, nobody_left, left_unread}
 use Rattle.session_laws.proofs.Granting.{told_read, same_tables}
-use Rattle.session_laws.proofs.Telling.{unsaid_listed}
+use Rattle.session_laws.proofs.DenialsTold.{unsaid_listed}
 
 -- ---- the parts of an answer's deed
 

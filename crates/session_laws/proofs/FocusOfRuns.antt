@@ -42,12 +42,12 @@ use Rattle.session_laws.proofs.Lists.{all_weaken, all_append, some_map, some_map
 use Rattle.session_laws.proofs.Doing.{Either}
 use Rattle.session_laws.proofs.Unread.{SameClients, typing_clients, row_at}
 use Rattle.session_laws.proofs.Settling.{told_same, ids_same}
-use Rattle.session_laws.proofs.Lasting.{client_firsts, firsts}
+use Rattle.session_laws.proofs.SoundMoves.{client_firsts, firsts}
 use Rattle.session_laws.proofs.Sounding.{run_sound, fresh_sound}
-use Rattle.session_laws.proofs.Remembering.{some_elim}
+use Rattle.session_laws.proofs.ClientsOfRuns.{some_elim}
 use Rattle.session_laws.proofs.Showing.{some_has, all_row}
-use Rattle.session_laws.proofs.Focusing.{GoesOn, AllGoOn, alike, Same, Kept, kept_same, kept_fewer, kept_go}
-use Rattle.session_laws.proofs.Focusing.{without_kept, row_goes, entered_of, HasGone, none_if, gone}
+use Rattle.session_laws.proofs.CommandFocus.{GoesOn, AllGoOn, alike, Same, Kept, kept_same, kept_fewer, kept_go}
+use Rattle.session_laws.proofs.CommandFocus.{without_kept, row_goes, entered_of, HasGone, none_if, gone}
 use Rattle.session_laws.proofs.Outcomes as outcomes
 
 -- ---- a user who leaves a window enters none

@@ -30,7 +30,7 @@ use Rattle.session_laws.specs.Entries.{keys_read, is_resize, delivered_by, all_k
 use Rattle.session_laws.proofs.Inputs.{append_nil}
 use Rattle.session_laws.proofs.Lists.{all_weaken, all_append, equal, itself, row_serial}
 use Rattle.session_laws.proofs.Doing.{Either}
-use Rattle.session_laws.proofs.Saying.{Fits, step_fits}
+use Rattle.session_laws.proofs.EffectsCaused.{Fits, step_fits}
 use Rattle.session_laws.proofs.Unread.{row_at}
 use Rattle.session_laws.proofs.Keeping.{core, Keeps, keeps_same, keeps, keeps_filter, without_keeps}
 use Rattle.session_laws.proofs.Past.{GoesOn, AllGoOn, goes_on, all_go_on, changed_row, is_draw, undelivered, keys_keep}

@@ -44,18 +44,18 @@ use Rattle.session_model.specs.Sound.{AreSound}
 use Rattle.session_laws.specs.Written.{given_writing, sizes_of, step_writing, all_written}
 use Rattle.session_laws.proofs.Inputs.{append_nil}
 use Rattle.session_laws.proofs.Lists.{all_weaken, all_append, row_serial, itself, some_row}
-use Rattle.session_laws.proofs.Numbers.{serial_of}
+use Rattle.session_laws.proofs.DifferentNumbers.{serial_of}
 use Rattle.session_laws.proofs.Doing.{Either}
 use Rattle.session_laws.proofs.Unread.{typing_clients}
 use Rattle.session_laws.proofs.Settling.{told_same, focus_row, line_row, moving}
-use Rattle.session_laws.proofs.Lasting.{differ}
+use Rattle.session_laws.proofs.SoundMoves.{differ}
 use Rattle.session_laws.proofs.Asking.{keys_given}
 use Rattle.session_laws.proofs.Sounding.{run_sound, fresh_sound}
-use Rattle.session_laws.proofs.Remembering.{some_elim}
+use Rattle.session_laws.proofs.ClientsOfRuns.{some_elim}
 use Rattle.session_laws.proofs.Showing.{some_has}
-use Rattle.session_laws.proofs.Written.{GoesOn, Row, Wrote, alike, kept_same, kept_fewer, kept_wrote, row_wrote}
-use Rattle.session_laws.proofs.Written.{sizes_append, sizes_unsaid, sizes_gone, sizes_closed, sizes_input, row_writing}
-use Rattle.session_laws.proofs.Written.{HasWrote, wrote, refused_writes}
+use Rattle.session_laws.proofs.CommandWritings.{GoesOn, Row, Wrote, alike, kept_same, kept_fewer, kept_wrote, row_wrote}
+use Rattle.session_laws.proofs.CommandWritings.{sizes_append, sizes_unsaid, sizes_gone, sizes_closed, sizes_input, row_writing}
+use Rattle.session_laws.proofs.CommandWritings.{HasWrote, wrote, refused_writes}
 use Rattle.session_laws.proofs.Outcomes as outcomes
 
 -- ---- answers of commands
