@@ -54,7 +54,8 @@ use Rattle.session_laws.proofs.Sounding.{run_sound, fresh_sound}
 use Rattle.session_laws.proofs.ClientsOfRuns.{some_elim}
 use Rattle.session_laws.proofs.Showing.{some_has}
 use Rattle.session_laws.proofs.CommandWritings.{GoesOn, Row, Wrote, alike, kept_same, kept_fewer, kept_wrote, row_wrote}
-use Rattle.session_laws.proofs.CommandWritings.{sizes_append, sizes_unsaid, sizes_gone, sizes_closed, sizes_input, row_writing}
+use Rattle.session_laws.proofs.CommandWritings.{sizes_append, sizes_unsaid, sizes_gone, sizes_closed, sizes_input}
+use Rattle.session_laws.proofs.CommandWritings.{row_writing}
 use Rattle.session_laws.proofs.CommandWritings.{HasWrote, wrote, refused_writes}
 use Rattle.session_laws.proofs.Outcomes as outcomes
 
