@@ -50,6 +50,7 @@ impl Model for Filed {
 }
 
 impl Filed {
+    /// The entry with these parts.
     pub fn new(event: KeptEvent, verdicts: Vec<Verdict>, acts: Vec<Act>, reply: KeptReply) -> Filed
         ensures { result ≡ record {
           event = event;
@@ -83,6 +84,7 @@ impl Filed {
         })
     }
 
+    /// The event of the entry.
     pub fn event(&self) -> &KeptEvent
         ensures { result.now ≡ self.now.event }
     {

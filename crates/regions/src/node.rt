@@ -46,6 +46,7 @@ impl Node {
         }
     }
 
+    /// The number of regions.
     pub fn regions(&self) -> usize
         requires { regions (shape self.now) ≤ 16 }
         ensures { result ≡ regions (shape self.now) }

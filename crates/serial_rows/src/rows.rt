@@ -49,6 +49,7 @@ impl<R: Serial + Drop> Rows<R> {
         }
     }
 
+    /// The number of rows.
     pub fn len(&self) -> usize
         ensures { result ≡ length self.now }
     {

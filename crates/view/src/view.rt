@@ -116,6 +116,7 @@ impl View {
         self.grid.row(line)
     }
 
+    /// The place of the cursor, or that it is hidden.
     pub fn cursor(&self) -> Cursor
         ensures cursor { place_of result ≡ self.now.cursor }
         ensures grid { IsGrid self.now.page }
@@ -124,6 +125,7 @@ impl View {
         self.cursor
     }
 
+    /// The modes of the keyboard.
     pub fn modes(&self) -> KeyModes
         ensures { result ≡ key_modes self.now }
     {

@@ -61,6 +61,7 @@ impl Windows {
         }
     }
 
+    /// The number of windows.
     pub fn len(&self) -> usize
         ensures { result ≡ length self.now }
     {
