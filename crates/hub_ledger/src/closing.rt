@@ -5,12 +5,12 @@ ghost use Rattle.hub_ledger.specs.Closing.{IsFirstWrong, IsTold, before, receipt
 ghost use Rattle.hub_ledger.specs.declared.ledger.TheConstants.{FULL};
 
 use crate::seat::Seat;
-use hub_record::{Filed, Roll as Entries};
-use std::sync::ledger::{Book, Ledger as Roll};
+use hub_record::{Filed, Roll};
+use std::sync::ledger::{Book, Ledger as ShareLedger};
 
 /// Removes the receipts with this place or a higher one from all seats. Returns whether exactly one
 /// of them names the place, and has the event and the reply of the entry.
-fn strip_all<L: Roll>(
+fn strip_all<L: ShareLedger>(
     book: &mut Book<L>,
     seats: &mut [Seat<L>],
     place: usize,
@@ -35,10 +35,10 @@ fn strip_all<L: Roll>(
 
 /// The lowest place for which the receipts of these seats aren't exactly one, with the event and
 /// the reply of the trail's entry there; `None` if there is none. The receipts are removed.
-pub fn first_wrong<L: Roll>(
+pub fn first_wrong<L: ShareLedger>(
     book: &mut Book<L>,
     seats: &mut [Seat<L>],
-    entries: &Entries,
+    entries: &Roll,
 ) -> Option<usize>
     requires { length entries.now.entries ≤ FULL }
     ensures wrong { IsFirstWrong entries.now.entries (receipts_of seats.old) result }
@@ -57,7 +57,7 @@ pub fn first_wrong<L: Roll>(
 }
 
 /// Merges the shares of all seats; then the book's total is the number of their receipts.
-pub fn count<L: Roll>(book: &mut Book<L>, seats: Vec<Seat<L>>)
+pub fn count<L: ShareLedger>(book: &mut Book<L>, seats: Vec<Seat<L>>)
     requires { 0 < L.parts }
     ensures { length seats.items ≡ L.parts → book.old.total ≡ length (receipts_of seats.items) }
 {

@@ -25,7 +25,7 @@ use session_core::Session;
 use session_model::{Effect, Event};
 use std::alloc::{AllocError, Global};
 use std::marker::Model;
-use std::sync::ledger::{Blank, Book, Ledger as Roll, Share};
+use std::sync::ledger::{Blank, Book, Ledger as ShareLedger, Share};
 
 /// The most entries that a trail may have.
 pub const FULL: usize = 4_194_304;
@@ -77,7 +77,7 @@ fn writes_entry(event: Event) -> bool
 }
 
 /// A seat with this number and without receipts.
-fn make_seat<L: Roll>(alloc: Global, number: usize, share: Share<L>) -> Seat<L>
+fn make_seat<L: ShareLedger>(alloc: Global, number: usize, share: Share<L>) -> Seat<L>
     requires number { number < L.parts }
     requires share { (share.parts ≡ 1) × (share.amount ≡ 0) }
     ensures { result ≡ record { number = number; asks = false; receipts = [] } }
@@ -91,7 +91,7 @@ fn make_seat<L: Roll>(alloc: Global, number: usize, share: Share<L>) -> Seat<L>
 }
 
 /// One seat for each part of the share; each seat has one part and no receipts.
-fn make_seats<L: Roll>(
+fn make_seats<L: ShareLedger>(
     alloc: Global,
     share: Share<L>,
     seats: usize,

@@ -6,18 +6,18 @@ ghost use Rattle.hub_ledger.specs.Closing.{AreOf, before, times};
 use hub_record::{Filed, Receipts};
 use hub_seats::strip;
 use std::marker::Model;
-use std::sync::ledger::{Book, Ledger as Roll, Share};
+use std::sync::ledger::{Book, Ledger as ShareLedger, Share};
 
 /// A seat submits events, and holds a receipt of each entry that they wrote.
 #[derive(Drop)]
-pub struct Seat<L: Roll> {
+pub struct Seat<L: ShareLedger> {
     pub(crate) number: usize,
     pub(crate) asks: bool,
     pub(crate) told: Receipts,
     pub(crate) share: Share<L>,
 }
 
-impl<L: Roll> Model for Seat<L> {
+impl<L: ShareLedger> Model for Seat<L> {
     ghost use Rattle.std.specs.Prelude.{◌≡◌, ◌<◌, length};
     ghost use Rattle.hub_ledger.specs.Seats.{Sitting, Rise};
 
@@ -29,7 +29,7 @@ impl<L: Roll> Model for Seat<L> {
         × (s.share.amount ≡ length s.told.receipts) × Rise s.told.receipts };
 }
 
-impl<L: Roll> Seat<L> {
+impl<L: ShareLedger> Seat<L> {
     /// The seat's number, counted from 0.
     pub fn number(&self) -> usize
         ensures { result ≡ self.now.number }

@@ -30,10 +30,10 @@ impl Drop for Trail {
 
 impl Model for Trail {
     ghost use Rattle.std.specs.Prelude.{[]};
-    ghost use Rattle.hub_trail.specs.Trails.{Trail as Kept};
+    ghost use Rattle.hub_trail.specs.Trails.{Trail as TrailValue};
     ghost use Rattle.hub_trail.specs.Judging.{AreJudgeable};
 
-    ghost Value = { Kept };
+    ghost Value = { TrailValue };
 
     ghost view = { λ t. record { edition = t.edition; owner = t.owner; entries = t.entries.entries } };
 
