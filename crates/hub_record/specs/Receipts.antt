@@ -2,7 +2,7 @@
 use Rattle.std.specs.Prelude.{ℕ, ◌<◌, ◌≡◌, ◌++◌, ◌∷◌, [], List, length, flat_map, option_map, option_to_list, slice_get}
 use Rattle.hub_trail.specs.declared.kept.Kept.{Kept}
 use Rattle.hub_trail.specs.Trails.{Ending, Entry}
-use Rattle.hub_record.specs.declared.receipts.Coded.{Coded}
+use Rattle.hub_record.specs.declared.receipts.PlaceCode.{PlaceCode}
 use Rattle.hub_record.specs.declared.receipts.Form.{Form}
 
 -- a receipt says that an entry with this event and this reply stands at a place
@@ -32,9 +32,9 @@ abbrev pub receipt_of : ℕ → Form → Receipt
 receipt_of place f = record { place = place; event = f.event; reply = f.reply }
 
 -- the receipts of the places, each with the form that its code names
-abbrev pub told_by : List Form → List Coded → List Receipt
+abbrev pub told_by : List Form → List PlaceCode → List Receipt
 told_by forms told =
-    flat_map (λ (t : Coded). option_to_list (option_map (receipt_of t.place) (slice_get forms t.code))) told
+    flat_map (λ (t : PlaceCode). option_to_list (option_map (receipt_of t.place) (slice_get forms t.code))) told
 
 -- the last receipt is removed
 abbrev pub LosesLast : List Receipt → List Receipt → Type 0

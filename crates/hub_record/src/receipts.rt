@@ -16,12 +16,12 @@ use std::mem::size_of;
 
 /// The place of an entry, and the code of a form. It takes 8 bytes.
 #[derive(Clone, Copy)]
-struct Coded {
+struct PlaceCode {
     place: u32,
     code: u32,
 }
 
-const _: () = prove!(size_of::<Coded>() <= 8);
+const _: () = prove!(size_of::<PlaceCode>() <= 8);
 
 /// The event and the reply that receipts share.
 #[derive(Drop)]
@@ -78,7 +78,7 @@ impl<'a> Receipt<'a> {
 /// A list of receipts, the oldest first. Receipts with equal events and replies share one stored
 /// form, if a search among a few codes finds it.
 pub struct Receipts {
-    told: Vec<Coded>,
+    told: Vec<PlaceCode>,
     forms: Vec<Form>,
     kept: Vec<u32>,
 }
@@ -206,7 +206,7 @@ impl Receipts {
     {
         let form = Form { event, reply };
         let code = store(&mut self.forms, self.kept.as_mut_slice(), form);
-        self.told.push_reserved(Coded {
+        self.told.push_reserved(PlaceCode {
             place: place as u32,
             code,
         });

@@ -1,7 +1,7 @@
 use Rattle.std.proofs.Common.{◌≡◌, ◌∙◌, ◌<◌, ap, sym, length, arith, Some}
 use Rattle.std.specs.Prelude.{slice_get}
 use Rattle.std.proofs.lemmas.Option.{slice_get-get_or}
-use Rattle.hub_record.specs.declared.receipts.Coded.{Coded}
+use Rattle.hub_record.specs.declared.receipts.PlaceCode.{PlaceCode}
 use Rattle.hub_record.specs.declared.receipts.Form.{Form}
 use Rattle.hub_record.specs.Receipts.{Receipted, told_by}
 use Rattle.hub_record.proofs.ReceiptForms.{as_many, below_at, receipt_at}
@@ -23,7 +23,7 @@ index-requires c =
     (λ (r : Receipted). length r.receipts) c.self.view_is in
     let within : c.args.number < length told = (let l = c.requires in omega (arith, l, many, seen)) in
     let at : slice_get told c.args.number ≡ Some c.index-told.result.now = slice_get-get_or told c.args.number
-    c.index-told.result.now within ∙ ap (λ (t : Coded). Some t) (sym c.index-told.ensures) in
+    c.index-told.result.now within ∙ ap (λ (t : PlaceCode). Some t) (sym c.index-told.ensures) in
     let below = below_at (length c.self.inside.forms.items) told c.args.number c.index-told.result.now c.self.invariant
     at in
     omega (arith, below, c.self.inside.forms.ok.0)
@@ -38,7 +38,7 @@ returns c =
     let within : c.args.number < length told = (let l = c.requires in omega (arith, l, many, seen)) in
     let t = c.index-told.result.now in
     let at : slice_get told c.args.number ≡ Some t = slice_get-get_or told c.args.number t within
-    ∙ ap (λ (x : Coded). Some x) (sym c.index-told.ensures) in
+    ∙ ap (λ (x : PlaceCode). Some x) (sym c.index-told.ensures) in
     let below = below_at (length forms) told c.args.number t c.self.invariant at in
     let f = c.index.result.now in
     let form : slice_get forms t.code ≡ Some f = slice_get-get_or forms t.code f below
