@@ -1,4 +1,5 @@
--- Acts of clients and locks leave what the lists stand for, and acts of list commands the open windows.
+-- Acts of clients and locks leave what the lists stand for unchanged; acts of list commands leave
+-- the open windows unchanged.
 use Rattle.std.proofs.Common.{◌≡◌, ◌∙◌, ℕ, refl, [], ◌∷◌, List}
 use Rattle.std.specs.List.{AllByRecursion}
 use Rattle.acl_words.specs.declared.edition.Edition.{Edition}
@@ -99,7 +100,7 @@ StandsFor-all_aside t edition owner h [] aside s = s
 StandsFor-all_aside t edition owner h (a ∷ acts) aside s = StandsFor-all_aside t edition owner (a ∷ h) acts aside.1
     (StandsFor-aside t edition owner h a aside.0 s)
 
--- an act of a list command leaves the open windows
+-- an act of a list command leaves the open windows unchanged
 open-same : (edition : Edition) (owner : UserId) (h : History) (a : Act) → MayFollow edition owner h a → (w : ℕ)
     → is_open (a ∷ h) w ≡ is_open h w
 open-same edition owner h (Known v) m w = refl

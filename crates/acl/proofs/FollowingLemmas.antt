@@ -1,4 +1,4 @@
--- The acts of a command that isn't refused may come, each after the ones before it.
+-- The acts of a command that isn't refused may follow the history, each after the ones before it.
 use Rattle.std.proofs.Common.{◌≡◌, ◌∙◌, ◌≤◌, ◌&&◌, not, nat_le, sym, ℕ, ap, Bool, true, false, ◌||◌, List, [], ◌∷◌}
 use Rattle.std.proofs.Common.{◌++◌, Option, Some, None, unwrap_or, All, suc, arith, slice_index_or, length, drop, refl}
 use Rattle.std.proofs.Common.{Result, Ok, Err, OnOk, subst}
@@ -55,7 +55,7 @@ or-false : (c : Bool) → (c || false) ≡ c
 or-false true = refl
 or-false false = refl
 
--- a set leaves what is there
+-- a set leaves the objects that are there
 there-Set : (h : History) (u : UserId) (bit : Bit) (place : Object) (value : Bool) (object : Object)
     → there (Set u bit place value ∷ h) object ≡ there h object
 there-Set h u bit place value (Window w) = refl
@@ -66,7 +66,7 @@ there-Known h u (Window w) = refl
 there-Known h u (Command c) = refl
 
 module _ (edition : Edition) (owner : UserId) (u : UserId) (changes : List BitChange) where
-  -- sets make nobody known, and leave what is there
+  -- sets make nobody known, and leave the objects that are there
   known-sets_on : (v : UserId) (h : History) (cs : List BitChange) (object : Object)
       → is_known owner (followed_by h (sets_on u cs object)) v ≡ is_known owner h v
   known-sets_on v h [] object = refl
@@ -101,7 +101,7 @@ module _ (edition : Edition) (owner : UserId) (u : UserId) (changes : List BitCh
         (there-Set h u c.bit object c.value object ∙ here),
   )
 
-  -- what is there stays there
+  -- if the same objects are there in two histories, a list's objects are there in both
   all_there : (g h : History) (objects : List Object) → ((place : Object) → there g place ≡ there h place)
       → All (λ object. there h object ≡ true) objects → All (λ object. there g object ≡ true) objects
   all_there g h objects same all = λ k d below. same (slice_index_or objects k d) ∙ all k d below
@@ -116,7 +116,7 @@ module _ (edition : Edition) (owner : UserId) (u : UserId) (changes : List BitCh
       (all_there (followed_by h (sets_on u changes object)) h objects (λ place. there-sets_on place h changes object)
       (λ k d below. all (suc k) d (omega arith))))
 
-  -- who is known after a user's acts
+  -- the users who are known after one user's acts
   known-user_acts : (v : UserId) (h : History) (objects : List Object) (b : Bool) → is_known owner h u ≡ b
       → is_known owner (followed_by h (user_acts b u changes objects)) v ≡ (is_known owner h v || same_user u v)
   known-user_acts v h objects true e = known-sets v h objects ∙ by (same_user u v) refl
@@ -148,7 +148,7 @@ module _ (edition : Edition) (owner : UserId) (u : UserId) (changes : List BitCh
       now = ap (λ c. same_user owner u || unwrap_or (decided c true) (latest (decides_known u) false h))
           (same_user-refl u) ∙ or-true (same_user owner u)
 
--- a change of bits, where these are the known users
+-- the acts of a change of bits may follow, if these are the known users
 pub allowed-change_acts : (edition : Edition) (owner : UserId) (h : History) (users : List UserId)
     (names : List (Option UserId)) (changes : List BitChange) (objects : List Object)
     → ((v : UserId) → is_known owner h v ≡ among users v) → All (λ object. there h object ≡ true) objects
@@ -173,7 +173,7 @@ AreKnown owner h (None ∷ names) = AreKnown owner h names
 AreKnown owner h (Some u ∷ names) = (is_known owner h u ≡ true) × AreKnown owner h names
 
 module _ (edition : Edition) (owner : UserId) where
-  -- names that become known
+  -- the users who are known after the acts by which a name becomes known
   known-new_acts : (v : UserId) (h : History) (users : List UserId) (name : Option UserId)
       → ((w : UserId) → is_known owner h w ≡ among users w)
       → is_known owner (followed_by h (new_acts users name)) v ≡ among (with_name users name) v
@@ -236,7 +236,7 @@ module _ (edition : Edition) (owner : UserId) where
       (allowed-known_acts (followed_by h (new_acts users name)) (with_name users name) names
       (λ w. known-new_acts w h users name agrees))
 
-  -- and the sets of names that are known
+  -- if the same users are known in two histories, a list's names are known in both
   are_known : (g h : History) (names : List (Option UserId)) → ((v : UserId) → is_known owner g v ≡ is_known owner h v)
       → AreKnown owner h names → AreKnown owner g names
   are_known g h [] same all = tt
@@ -255,7 +255,7 @@ module _ (edition : Edition) (owner : UserId) where
       (are_known after h names (λ v. known-sets edition owner u added v h objects) known.1)
       (all_there edition owner u added after h objects (λ place. there-sets edition owner u added place h objects) all))
 
--- each of the names is among the users that they leave known
+-- each of the names is among the users who are known after them
 named : (owner : UserId) (g : History) (users : List UserId) (names : List (Option UserId))
     → ((v : UserId) → is_known owner g v ≡ among (with_names users names) v) → AreKnown owner g names
 named owner g users [] known = tt
@@ -270,7 +270,7 @@ named owner g users (Some u ∷ names) known = (
     here u = among-with_name users (Some u) u ∙ ap (λ c. among users u || c) (same_user-refl u)
         ∙ or-true (among users u)
 
--- an addition of names, where these are the known users
+-- the acts of an addition of names may follow, if these are the known users
 pub allowed-add_acts : (edition : Edition) (owner : UserId) (h : History) (users : List UserId)
     (names : List (Option UserId)) (objects : List Object)
     → ((v : UserId) → is_known owner h v ≡ among users v) → All (λ object. there h object ≡ true) objects
@@ -284,7 +284,7 @@ allowed-add_acts edition owner h users names objects agrees all =
     (all_there edition owner owner added after h objects (λ place. there-known_acts edition owner place h users names)
     all))
 
--- a mask or a preset may always be set
+-- the act that sets a mask or a preset may always follow
 pub allowed-mask_acts : (edition : Edition) (owner : UserId) (h : History) (by : UserId) (entries : List MaskEntry)
     → AllMayFollow edition owner h (mask_acts by entries)
 allowed-mask_acts edition owner h by [] = tt
@@ -296,13 +296,13 @@ allowed-mask_acts edition owner h by (e ∷ entries) = at e.scope (λ g. allowed
     at (scope.User None) rest = rest h
     at (scope.User (Some u)) rest = (tt, rest _)
 
--- the users of a table are those who are known
+-- the users of a table are the known users
 pub known-among : (t : Table) (edition : Edition) (owner : UserId) (h : History) → StandsFor t edition owner h
     → (v : UserId) → is_known owner h v ≡ among (users_of owner h) v
 known-among t edition owner h s v = sym (s.known v) ∙ is_some-lookup (same_user v) t.rows
     ∙ ap (λ users. among users v) s.users
 
--- a known name is a known user
+-- the user whom a known name names is known
 known_name : (owner : UserId) (users : List UserId) (u : UserId) → known_name_fault owner users (Some u) ≡ None
     → among users u ≡ true
 known_name owner users u e = by (same_user owner u) (among users u) e
@@ -312,7 +312,7 @@ known_name owner users u e = by (same_user owner u) (among users u) e
     by false true e = refl
     by false false e = cc
 
--- a known user who isn't the owner may be gone
+-- the act that removes a known user, not the owner, may follow
 pub allowed-removal_acts : (edition : Edition) (owner : UserId) (h : History) (users : List UserId)
     (name : Option UserId) → known_name_fault owner users name ≡ None → AllMayFollow edition owner h (removal_acts name)
 allowed-removal_acts edition owner h users None e = tt
@@ -322,7 +322,7 @@ allowed-removal_acts edition owner h users (Some u) e = (by (same_user owner u) 
     by true d e = cc
     by false d e = refl
 
--- a leader or none is given to a known user, whom no more than eight lead then
+-- the act that gives a known user a leader or none may follow, if then at most eight lead the user
 pub allowed-group_acts : (edition : Edition) (owner : UserId) (h : History) (users : List UserId) (name : Option UserId)
     (leader : NewLeader)
     → ((v : UserId) → is_known owner h v ≡ among users v)
@@ -366,12 +366,12 @@ allowed-group_acts edition owner h users (Some u) leader agrees e = (
         (among users l && not (same_user u l))
         (nat_le (length (leaders_with edition (Some l) (leaders_of edition h u))) 8) refl f
 
--- where the answer is Ok there is no fault
+-- a result that is Ok has no fault
 pub at_ok : {X : Type 0} {x : X} (r : Result X AclFault) (fault : Option AclFault) → r ≡ Ok x → Answers r fault
     → fault ≡ None
 at_ok r fault e a = subst (λ o. Answers o fault) e a
 
--- what holds of several calls' answers together
+-- facts about the Ok results of several calls, put together
 pub on_ok_all : {T E P Q R S X : Type 0} (r : Result T E) → OnOk r P → OnOk r Q → OnOk r R → OnOk r S
     → (P → Q → R → S → X) → OnOk r X
 on_ok_all (Ok x) p q r s f = f p q r s

@@ -1,4 +1,4 @@
--- Who is among the users that a list of names leaves known.
+-- Who is among the users that are known after a list of names.
 use Rattle.std.proofs.Common.{◌≡◌, ◌∙◌, ap, sym, refl, Bool, true, false, ◌||◌, List, [], ◌∷◌, ◌++◌, Option, Some, None}
 use Rattle.std.proofs.Common.{if◌then◌else◌, ℕ, ◌+◌, ◌<◌, take, length, slice_index_or, add-one}
 use Rattle.std.proofs.Math.Seq.{take-suc}
@@ -18,7 +18,7 @@ or-assoc : (a b c : Bool) → ((a || b) || c) ≡ (a || (b || c))
 or-assoc true b c = refl
 or-assoc false b c = refl
 
--- one name more
+-- who is among the users after one more name
 pub among-with_name : (users : List UserId) (name : Option UserId) (u : UserId)
     → among (with_name users name) u ≡ (among users u || names_user u name)
 among-with_name users None u = sym (or-false (among users u))
@@ -37,7 +37,7 @@ among-with_name users (Some v) u = by (among users v) refl
     by true k = there (same_user u v) refl k
     by false k = list_any-append (same_user u) users (v ∷ []) ∙ ap (λ c. among users u || c) (or-false (same_user u v))
 
--- and a list of names more
+-- who is among the users after a list of names
 pub among-with_names : (users : List UserId) (names : List (Option UserId)) (u : UserId)
     → among (with_names users names) u ≡ (among users u || list_any (names_user u) names)
 among-with_names users [] u = sym (or-false (among users u))
@@ -46,7 +46,7 @@ among-with_names users (name ∷ names) u =
     ∙ ap (λ c. c || list_any (names_user u) names) (among-with_name users name u)
     ∙ or-assoc (among users u) (names_user u name) (list_any (names_user u) names)
 
--- the last name comes last
+-- adding the users of a longer list of names is adding those of its last name last
 pub with_names-push : (users : List UserId) (names : List (Option UserId)) (name : Option UserId)
     → with_names users (names ++ name ∷ []) ≡ with_name (with_names users names) name
 with_names-push users [] name = refl

@@ -81,7 +81,7 @@ set_bit bit b value xs i j below = by (i == j) refl
         ∙ skipped-and (same_bit bit b) value (allows b (slice_index_or xs j no_bits))
 
 module _ (t : Table) (bit : Bit) (value : Bool) (row : Row) where
-  -- what a set right says of each place
+  -- what a row allows after a right is set, at each object
   pub allows-with_right : (object : Object) (b : Bit) (place : Object) → length row.commands ≡ COUNT
       → length row.windows ≡ length t.windows → is_there t object ≡ true
       → allows b (bits_on t.windows place (with_right t.windows object bit value row)) ≡
@@ -130,7 +130,7 @@ module _ (t : Table) (bit : Bit) (value : Bool) (row : Row) where
           ∙ ap (λ c. if same_bit bit b && c then value else allows b (slice_index_or row.windows k no_bits))
           (same_test s k e f)
 
--- a look-up among entries whose values change with their keys
+-- a look-up among entries whose values change
 pub lookup-revalued : (g : UserId → Row → Row) (q : UserId) (es : List (UserId × Row))
     → lookup (same_user q) (map (λ e. (e.0, g e.0 e.1)) es) ≡ option_map (g q) (lookup (same_user q) es)
 lookup-revalued g q [] = refl
@@ -143,7 +143,7 @@ lookup-revalued g q (e ∷ es) = by (same_user q e.0) refl (lookup-revalued g q 
     by true p rest = ap (λ k. Some (g k e.1)) (sym (same_user-true q e.0 p))
     by false p rest = rest
 
--- a look-up among masks, once a user's are gone
+-- a look-up among masks, after those of a user are removed
 pub lookup-without_user : (u : UserId) (p : UserId × UserId) (ms : List ((UserId × UserId) × Bits))
     → lookup (same_pair p) (filter (λ e. not (same_user u e.0.0 || same_user u e.0.1)) ms) ≡
     (if same_user u p.0 || same_user u p.1 then None else lookup (same_pair p) ms)
@@ -275,7 +275,7 @@ StandsFor-new edition owner es rows keys = record {
     presets_now preset.Windows bit = allows-all_bits bit
     presets_now preset.Commands bit = allows-all_bits bit
 
--- the keys, with one more at the end
+-- the keys, after one entry is pushed
 pub keys_of-push : {K X : Type 0} (es : List (K × X)) (k : K) (x : X)
     → keys_of (es ++ (k, x) ∷ []) ≡ keys_of es ++ k ∷ []
 keys_of-push [] k x = refl
@@ -287,7 +287,7 @@ pub keys_of-revalued : (g : UserId → Row → Row) (es : List (UserId × Row))
 keys_of-revalued g [] = refl
 keys_of-revalued g (e ∷ es) = ap (λ ks. e.0 ∷ ks) (keys_of-revalued g es)
 
--- the keys without one are the users without one
+-- removing a key is removing the user from the list of users
 pub remove_key-user : (u : UserId) (users : List UserId) → remove_key (same_user u) users ≡ without_user u users
 remove_key-user u [] = refl
 remove_key-user u (v ∷ users) = elim (same_user u v) as

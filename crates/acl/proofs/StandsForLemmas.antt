@@ -1,4 +1,4 @@
--- Each act, done to the table, gives the history with that act in front.
+-- A table to which an act is done stands for the history with that act in front.
 use Rattle.std.proofs.Common.{◌≡◌, ◌≢◌, ◌∙◌, ℕ, ◌<◌, Bool, true, false, not, ◌==◌, ◌&&◌, ◌||◌, ap, sym, refl, List, []}
 use Rattle.std.proofs.Common.{◌∷◌, Option, Some, None, is_some, unwrap_or, filter, if◌then◌else◌, slice_index_or}
 use Rattle.std.proofs.Common.{true≢false, length, get_or-set_same, get_or-set_other, ◌++◌}
@@ -25,13 +25,13 @@ use Rattle.acl_words.specs.declared.act.PresetKind.TheVariants as preset
 use Rattle.acl_words.specs.declared.act.Act.TheVariants.{Known, Gone, Set, Grouped, Masked, Preset, Opened, Closed}
 use Rattle.acl.specs.declared.rows.Row.{Row}
 
--- what is read of a choice, where an act decides
+-- a value read from a choice, if an act decides it
 step : {X Y : Type 0} (f : X → Y) (c : Bool) (x y : X) (g : Option Y) (r : Y) → (c ≡ true → f x ≡ unwrap_or g r)
     → f y ≡ r → f (if c then x else y) ≡ unwrap_or (if c then g else None) r
 step f true x y g r taken left = taken refl
 step f false x y g r taken left = left
 
--- the same, where the act decides of some parts only
+-- a value read from a choice, if an act decides only some of the objects
 step_of : {X Y : Type 0} (f : X → Y) (c d e : Bool) (x y : X) (v r : Y)
     → (c ≡ true → f x ≡ unwrap_or (decided (d && e) v) r) → f y ≡ r
     → f (if c then x else y) ≡ unwrap_or (decided (c && d && e) v) r
@@ -46,7 +46,7 @@ or-false : (c : Bool) → (c || false) ≡ c
 or-false true = refl
 or-false false = refl
 
--- who is known, where an act decides it
+-- whether a user is known, if an act decides it
 known_step : (c d : Bool) (v r : Bool) (x y : Option Row) → (c ≡ true → is_some x ≡ (d || v)) → is_some y ≡ (d || r)
     → is_some (if c then x else y) ≡ (d || unwrap_or (decided c v) r)
 known_step true d v r x y taken left = taken refl
@@ -66,7 +66,7 @@ mask_at bit set = option_map_or (allows bit) set true
 
 module _ (t : Table) (edition : Edition) (owner : UserId) (h : History) (s : StandsFor t edition owner h) (u : UserId)
   where
-    -- a user becomes known: his row is new, and no mask names him
+    -- a user becomes known: the user's row is new, and no mask names the user
     pub StandsFor-Known : (es : List (UserId × Row)) (ms : List ((UserId × UserId) × Bits)) (row : Row)
         → keys_of es ≡ users_in t ++ u ∷ []
         → ((q : UserId) → lookup (same_user q) es ≡ (if same_user u q then Some row else row_of t q))
@@ -118,7 +118,7 @@ module _ (t : Table) (edition : Edition) (owner : UserId) (h : History) (s : Sta
             ∙ ap (leaders_of edition h) (same_user-true u q e)
         led_same q false e = s.led q
 
-    -- a user is gone: no row and no mask is his, and he leads nobody
+    -- a user is gone: no row and no mask belongs to the user, who leads nobody
     pub StandsFor-Gone : (es : List (UserId × Row)) (ms : List ((UserId × UserId) × Bits))
         → keys_of es ≡ without_user u (users_in t)
         → ((q : UserId)
@@ -217,13 +217,15 @@ module _ (t : Table) (edition : Edition) (owner : UserId) (h : History) (s : Sta
 
         stranger : (b : Bit) (place : Object) (q : UserId) (c : Bool) → same_user u q ≡ c
             → is_some (if c then Some row' else row_of t q) ≡ false
-            → unwrap_or (decided (c && same_bit bit b && same_object object place) value) (has owner h q b place) ≡ false
+            → unwrap_or (decided (c && same_bit bit b && same_object object place) value) (has owner h q b place) ≡
+            false
         stranger b place q true e none = absurd (true≢false none)
         stranger b place q false e none = s.strangers q b place none
 
         led_same : (c : Bool) (q : UserId) → same_user u q ≡ c
             → leaders_at (if c then Some row' else row_of t q) ≡ leaders_of edition h q
-        led_same true q e = leaders ∙ sym (ap leaders_at had) ∙ s.led u ∙ ap (leaders_of edition h) (same_user-true u q e)
+        led_same true q e = leaders ∙ sym (ap leaders_at had) ∙ s.led u
+            ∙ ap (leaders_of edition h) (same_user-true u q e)
         led_same false q e = s.led q
 
     -- a known user gets a leader, or none
@@ -277,7 +279,7 @@ module _ (t : Table) (edition : Edition) (owner : UserId) (h : History) (s : Sta
             (sym (ap leaders_at had) ∙ s.led u ∙ ap (leaders_of edition h) (same_user-true u q e))
         led_new false q e = s.led q
 
-    -- what u gives `of` on windows that u opens later
+    -- a mask is set: what u gives `of` on windows that u opens later
     pub StandsFor-Masked : (ms : List ((UserId × UserId) × Bits)) (named : UserId) (bit : Bit) (value : Bool)
         → ((p : UserId × UserId)
         → lookup (same_pair p) ms ≡
@@ -293,7 +295,8 @@ module _ (t : Table) (edition : Edition) (owner : UserId) (h : History) (s : Sta
       rights = s.rights;
       strangers = s.strangers;
       led = s.led;
-      masks = λ by q b. ap (mask_at b) (masks (by, q)) ∙ masked_now by q b (same_user u by) (same_user named q) refl refl;
+      masks = λ by q b. ap (mask_at b) (masks (by, q))
+          ∙ masked_now by q b (same_user u by) (same_user named q) refl refl;
       presets = s.presets;
     }
       where
@@ -326,7 +329,7 @@ module _ (t : Table) (edition : Edition) (owner : UserId) (h : History) (s : Sta
       by true = refl
       by false = e
 
-  -- the preset of windows
+  -- a preset is set
   pub StandsFor-Preset-windows : (bit : Bit) (value : Bool)
       → StandsFor (record t { window_preset = with_bit bit value t.window_preset }) edition owner
       (Preset preset.Windows bit value ∷ h)
@@ -441,7 +444,7 @@ module _ (t : Table) (edition : Edition) (owner : UserId) (h : History) (s : Sta
       led_same q None = refl
       led_same q (Some r) = refl
 
-      -- no one who isn't known gets anything
+      -- a user who isn't known gets nothing
       nothing : (q : UserId) (b : Bit) (place : Object) (c d : Bool) → same_user by q ≡ c → is_known owner h q ≡ d
           → d ≡ false
           → unwrap_or (if c then Some true else decided d (mask h by q b)) (has owner h q b place) ≡ has owner h q b
@@ -517,7 +520,7 @@ module _ (t : Table) (edition : Edition) (owner : UserId) (h : History) (s : Sta
               same_slot (Some k) g = ap (allows b)
                   (get_or-set_other r.windows slot k (opening_bits t.masks by q) no_bits (apart v k g))
 
--- what the table lets is what the definition says
+-- the table lets a user do what the definitions say they may do
 pub may-StandsFor : (t : Table) (edition : Edition) (owner : UserId) (h : History) (s : StandsFor t edition owner h)
     (u : UserId) (bit : Bit) (object : Object)
     → is_there t object ≡ true → lets t u bit object ≡ may edition owner h u bit object

@@ -1,6 +1,6 @@
 -- The list commands of the GNU Screen manual (acladd, aclchg, acldel, aclgrp, aclumask): the fault
--- that refuses one, which is the first from the left, and the acts of one that is done. A name is
--- none where its word is no name.
+-- that refuses a command, which is the first from the left, and the acts of a command that is done.
+-- A name is `None` if its word is no name.
 use Rattle.std.specs.Prelude.{◌≡◌, ◌≤◌, Bool, true, false, not, ◌||◌, ◌&&◌, nat_lt, nat_le, List}
 use Rattle.std.specs.Prelude.{[], ◌∷◌, ◌++◌, Option, Some, None, Result, Ok, Err, map, length}
 use Rattle.std.specs.Prelude.{if◌then◌else◌}
@@ -30,13 +30,13 @@ use Rattle.acl_words.specs.declared.entries.MaskEntry.{MaskEntry}
 use Rattle.acl_words.specs.declared.entries.MaskScope.{MaskScope}
 use Rattle.acl_words.specs.declared.entries.MaskScope.TheVariants as scope
 
--- the answer is the fault, where there is one, or that memory was refused
+-- the result is the fault, if there is one; else it is Ok, or NoMemory
 abbrev pub Answers : {X : Type 0} → Result X AclFault → Option AclFault → Type 0
 Answers (Ok x) fault = fault ≡ None
 Answers (Err NoMemory) fault = Unit {0}
 Answers (Err f) fault = fault ≡ Some f
 
--- the list of acts is the old one, with perhaps more at its end
+-- the list of acts begins with the old list; acts may have been added at its end
 abbrev pub Keeps : List Act → List Act → Type 0
 Keeps before after = (more : List Act) × (after ≡ before ++ more)
 
@@ -50,19 +50,19 @@ abbrev pub names_user : UserId → Option UserId → Bool
 names_user u None = false
 names_user u (Some v) = same_user u v
 
--- acladd, aclchg: a name that may become known
+-- acladd, aclchg: why a name can't become known
 abbrev pub new_name_fault : UserId → List UserId → Option UserId → Option AclFault
 new_name_fault owner users None = Some ReservedName
 new_name_fault owner users (Some u) =
     if same_user owner u then Some OwnerKept
     else (if among users u || nat_lt (length users) USERS then None else Some TooManyUsers)
 
--- the known users, once those of a name are known
+-- the known users, after those whom the name adds are known
 abbrev pub with_name : List UserId → Option UserId → List UserId
 with_name users None = users
 with_name users (Some u) = if among users u then users else users ++ u ∷ []
 
--- and those of each of these names
+-- the known users, after those of each of these names are known
 abbrev pub with_names : List UserId → List (Option UserId) → List UserId
 with_names users [] = users
 with_names users (name ∷ names) = with_names (with_name users name) names
@@ -72,16 +72,16 @@ change_fault owner users [] = None
 change_fault owner users (name ∷ names) =
     option_or (new_name_fault owner users name) (change_fault owner (with_name users name) names)
 
--- the sets of a user's bits on one object, as they are written
+-- the acts that set a user's bits on one object, in the order in which they are written
 abbrev pub sets_on : UserId → List BitChange → Object → List Act
 sets_on u changes object = map (λ change. Set u change.bit object change.value) changes
 
--- and object by object
+-- the acts that set a user's bits, object by object
 abbrev pub sets : UserId → List BitChange → List Object → List Act
 sets u changes [] = []
 sets u changes (object ∷ objects) = sets_on u changes object ++ sets u changes objects
 
--- a name that isn't known becomes known first
+-- the acts for one user; a name that isn't known becomes known first
 abbrev pub user_acts : Bool → UserId → List BitChange → List Object → List Act
 user_acts true u changes objects = sets u changes objects
 user_acts false u changes objects = Known u ∷ sets u changes objects
@@ -90,14 +90,14 @@ abbrev pub name_acts : List UserId → Option UserId → List BitChange → List
 name_acts users None changes objects = []
 name_acts users (Some u) changes objects = user_acts (among users u) u changes objects
 
--- a change of bits, user by user
+-- the acts of a change of bits, user by user
 abbrev pub change_acts : List UserId → List (Option UserId) → List BitChange → List Object
     → List Act
 change_acts users [] changes objects = []
 change_acts users (name ∷ names) changes objects =
     name_acts users name changes objects ++ change_acts (with_name users name) names changes objects
 
--- acladd: each name that isn't known becomes known
+-- acladd: the act by which a name that isn't known becomes known
 abbrev pub new_acts : List UserId → Option UserId → List Act
 new_acts users None = []
 new_acts users (Some u) = if among users u then [] else Known u ∷ []
@@ -106,7 +106,7 @@ abbrev pub known_acts : List UserId → List (Option UserId) → List Act
 known_acts users [] = []
 known_acts users (name ∷ names) = new_acts users name ++ known_acts (with_name users name) names
 
--- and is then granted this: +rwx
+-- acladd: what each name is granted, which is +rwx
 abbrev pub added : List BitChange
 added =
     record { bit = Read; value = true }
@@ -118,7 +118,7 @@ abbrev pub name_sets : List BitChange → List Object → Option UserId → List
 name_sets changes objects None = []
 name_sets changes objects (Some u) = sets u changes objects
 
--- user by user
+-- acladd: the acts that grant these bits, user by user
 abbrev pub names_sets : List Object → List (Option UserId) → List Act
 names_sets objects [] = []
 names_sets objects (name ∷ names) = name_sets added objects name ++ names_sets objects names
@@ -126,7 +126,7 @@ names_sets objects (name ∷ names) = name_sets added objects name ++ names_sets
 abbrev pub add_acts : List UserId → List (Option UserId) → List Object → List Act
 add_acts users names objects = known_acts users names ++ names_sets objects names
 
--- acldel, aclgrp, aclumask: a name that is known
+-- acldel, aclgrp, aclumask: the fault of a name that must be known
 abbrev pub known_name_fault : UserId → List UserId → Option UserId → Option AclFault
 known_name_fault owner users None = Some ReservedName
 known_name_fault owner users (Some u) =
@@ -136,7 +136,8 @@ abbrev pub removal_acts : Option UserId → List Act
 removal_acts None = []
 removal_acts (Some u) = Gone u ∷ []
 
--- a leader is known, and neither the owner nor the user himself. At most eight lead a user
+-- aclgrp: a leader must be known, and be neither the owner nor the user who is to follow. At most
+-- eight users lead one
 abbrev pub leader_fault : Edition → UserId → List UserId → (UserId → List UserId) → Option UserId
     → NewLeader → Option AclFault
 leader_fault edition owner users leaders name Nobody = None
@@ -163,7 +164,7 @@ abbrev pub group_acts : Option UserId → NewLeader → List Act
 group_acts None leader = []
 group_acts (Some u) leader = Grouped u (chosen_leader leader) ∷ []
 
--- aclumask, bit by bit
+-- aclumask: the fault of one bit of a mask
 abbrev pub scope_fault : UserId → List UserId → MaskScope → Option AclFault
 scope_fault owner users (scope.Preset kind) = None
 scope_fault owner users (scope.User name) = known_name_fault owner users name
@@ -182,8 +183,8 @@ abbrev pub mask_acts : UserId → List MaskEntry → List Act
 mask_acts by [] = []
 mask_acts by (e ∷ entries) = scope_acts by e.scope e.bit e.value ++ mask_acts by entries
 
--- an act of a list command that may come after h: it names users who are known, or not yet, and
--- objects that are there
+-- whether an act of a list command may come after h: the users whom it names are known (or, for
+-- acts that make a name known, not yet known), and its objects are there
 abbrev pub MayFollow : Edition → UserId → History → Act → Type 0
 MayFollow edition owner h (Known u) = is_known owner h u ≡ false
 MayFollow edition owner h (Gone u) = same_user owner u ≡ false
@@ -196,13 +197,13 @@ MayFollow edition owner h (Masked by u bit value) = Unit {0}
 MayFollow edition owner h (Preset kind bit value) = Unit {0}
 MayFollow edition owner h _ = ⊥
 
--- and these acts, each after those before it
+-- each of these acts may come after the acts before it
 abbrev pub AllMayFollow : Edition → UserId → History → List Act → Type 0
 AllMayFollow edition owner h [] = Unit {0}
 AllMayFollow edition owner h (a ∷ acts) =
     MayFollow edition owner h a × AllMayFollow edition owner (a ∷ h) acts
 
--- an act of clients or locks, which leaves all rights as they are
+-- an act of clients or locks, which leaves all rights unchanged
 abbrev pub IsAside : Act → Type 0
 IsAside (Attached client user) = Unit {0}
 IsAside (Parted client) = Unit {0}
@@ -212,7 +213,7 @@ IsAside (Mode by window mode) = Unit {0}
 IsAside (Default mode) = Unit {0}
 IsAside _ = ⊥
 
--- whether the act needs a row, or a mask
+-- whether the act needs a new row, or a new mask
 abbrev pub makes_known : Act → Bool
 makes_known (Known u) = true
 makes_known _ = false

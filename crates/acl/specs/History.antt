@@ -1,8 +1,8 @@
 -- What the acts of a session decide: who is known, who has which right, who leads whom. A history
 -- is a list of acts, the newest first. The rules are those of the GNU Screen manual, section
--- "Multiuser Session", with the entries named below; what those leave open (what a name that
--- becomes known gets, when a mask counts, how many leaders a user has) is this project's own
--- profile.
+-- "Multiuser Session", with the entries named below. The manual leaves open what a name that
+-- becomes known gets, when a mask counts, and how many leaders a user has: these rules are this
+-- project's own.
 use Rattle.std.specs.Prelude.{ℕ, Bool, true, false, not, ◌||◌, ◌&&◌, ◌==◌, ◌+◌, ◌-◌, List, [], ◌∷◌}
 use Rattle.std.specs.Prelude.{Option, Some, None, unwrap_or, filter, ◌++◌, if◌then◌else◌}
 use Rattle.std.specs.List.{list_any}
@@ -22,21 +22,21 @@ pub use Rattle.acl_words.specs.Leaders.{among, leaders_with}
 abbrev pub History : Type 0
 History = List Act
 
--- the history, and then these acts, the first of them first
+-- the history, followed by these acts in order
 abbrev pub followed_by : History → List Act → History
 followed_by h [] = h
 followed_by h (a ∷ acts) = followed_by (a ∷ h) acts
 
--- a value, where the fact holds
+-- the value if the fact holds, else nothing
 abbrev pub decided : {X : Type 0} → Bool → X → Option X
 decided c x = if c then Some x else None
 
--- the value of the latest act that decides, and else `first`
+-- the value of the newest act that decides; `first` if none does
 abbrev pub latest : {X : Type 0} → (Act → Option X) → X → History → X
 latest decides first [] = first
 latest decides first (a ∷ h) = unwrap_or (decides a) (latest decides first h)
 
--- acladd, acldel: whether the act makes u known, or gone
+-- acladd, acldel: whether the act makes u known, or makes u gone
 abbrev pub decides_known : UserId → Act → Option Bool
 decides_known u (Known v) = decided (same_user v u) true
 decides_known u (Gone v) = decided (same_user v u) false
@@ -69,7 +69,7 @@ decides_open w _ = None
 abbrev pub is_open : History → ℕ → Bool
 is_open h w = latest (decides_open w) false h
 
--- how many windows are open, where each that is opened is a new one
+-- how many windows are open, if each window that opens is a new one
 abbrev pub open_count : History → ℕ
 open_count [] = 0
 open_count (Opened by w ∷ h) = open_count h + 1
@@ -77,7 +77,7 @@ open_count (Closed w ∷ h) = if is_open h w then open_count h - 1 else open_cou
 open_count (_ ∷ h) = open_count h
 
 -- aclumask: what the masks of `by` say of u's bit on windows that `by` opens later. A mask counts
--- since both became known
+-- only from the time at which both are known
 abbrev pub decides_mask : UserId → UserId → Bit → Act → Option Bool
 decides_mask by u bit (Masked b v c value) =
     decided (same_user b by && same_user v u && same_bit c bit) value
@@ -88,7 +88,7 @@ decides_mask by u bit _ = None
 abbrev pub mask : History → UserId → UserId → Bit → Bool
 mask h by u bit = latest (decides_mask by u bit) true h
 
--- aclumask with ? or ??: the preset of windows, and that of commands
+-- aclumask with ? or ??: what the act sets in the preset for windows, or for commands
 abbrev pub decides_preset : PresetKind → Bit → Act → Option Bool
 decides_preset kind bit (Preset k c value) = decided (same_preset k kind && same_bit c bit) value
 decides_preset kind bit _ = None
@@ -96,18 +96,19 @@ decides_preset kind bit _ = None
 abbrev pub preset_of : History → PresetKind → Bit → Bool
 preset_of h kind bit = latest (decides_preset kind bit) true h
 
--- what a name that becomes known gets: `?` on each open window, `??` on each command
+-- what a name that becomes known gets: the preset `?` on each open window, `??` on each command
 abbrev pub greeting : History → Bit → Object → Option Bool
 greeting h bit (Window w) = decided (is_open h w) (preset_of h preset.Windows bit)
 greeting h bit (Command c) = Some (preset_of h preset.Commands bit)
 
--- what u gets on a window that `by` opens: each bit where he opened it, else what the mask says of
--- a known user
+-- what u gets on a window that `by` opens: every bit if u is `by`, else what the mask of `by` says,
+-- if u is known
 abbrev pub opening : UserId → History → UserId → UserId → Bit → Option Bool
 opening owner h by u bit =
     if same_user by u then Some true else decided (is_known owner h u) (mask h by u bit)
 
--- aclchg and the others: what an act after the history h decides of u's bit on an object
+-- what the act, coming after the history h, decides of u's bit on an object (aclchg and the other
+-- list commands, and windows that open and close)
 abbrev pub decision : UserId → Act → History → UserId → Bit → Object → Option Bool
 decision owner (Known v) h u bit object = if same_user v u then greeting h bit object else None
 decision owner (Gone v) h u bit object = decided (same_user v u) false
@@ -117,13 +118,14 @@ decision owner (Opened by w) h u bit object =
     if same_object (Window w) object then opening owner h by u bit else None
 decision owner _ h u bit object = None
 
--- the value of the latest act that decides u's bit on the object, and false if none does
+-- whether u has the bit on the object: the value of the newest act that decides it; false if none
+-- does
 abbrev pub has : UserId → History → UserId → Bit → Object → Bool
 has owner [] u bit object = false
 has owner (a ∷ h) u bit object =
     unwrap_or (decision owner a h u bit object) (has owner h u bit object)
 
--- the leaders of u after an act. Nobody leads a user who is gone, and one who is gone leads nobody
+-- the leaders of u after an act. A user who is gone has no leaders, and leads nobody
 abbrev pub leaders_after : Edition → Act → UserId → List UserId → List UserId
 leaders_after edition (Grouped v leader) u before =
     if same_user v u then leaders_with edition leader before else before
@@ -135,13 +137,13 @@ abbrev pub leaders_of : Edition → History → UserId → List UserId
 leaders_of edition [] u = []
 leaders_of edition (a ∷ h) u = leaders_after edition a u (leaders_of edition h u)
 
--- u is the owner, or has the bit, or a leader of his has it. A leader's own leaders aren't asked
+-- u is the owner, or has the bit, or one of u's leaders has it. A leader's own leaders aren't asked
 abbrev pub may : Edition → UserId → History → UserId → Bit → Object → Bool
 may edition owner h u bit object =
     same_user owner u || has owner h u bit object
     || list_any (λ leader. has owner h leader bit object) (leaders_of edition h u)
 
--- an object that is there: a command, or an open window
+-- whether an object is there: a command always is, a window if it is open
 abbrev pub there : History → Object → Bool
 there h (Window w) = is_open h w
 there h (Command c) = true

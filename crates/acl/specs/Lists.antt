@@ -1,4 +1,4 @@
--- The table that the lists are.
+-- The table that the access lists show to the crates above.
 use Rattle.acl.specs.Table.{Table}
 use Rattle.acl.specs.declared.lists.Lists.{Lists}
 

@@ -70,12 +70,12 @@ preset_bits t preset.Commands = t.command_preset
 abbrev pub led_by : Table → UserId → List UserId
 led_by t u = option_map_or (λ row. row.leaders) (row_of t u) []
 
--- an object that is there: a command, or an open window
+-- whether an object is there: a command always is, a window if it is open
 abbrev pub is_there : Table → Object → Bool
 is_there t (Window w) = shows t w
 is_there t (Command c) = true
 
--- what a name that becomes known has
+-- the row of a name that becomes known
 abbrev pub new_row : Bits → Bits → Row
 new_row command_preset window_preset =
     record {
@@ -84,7 +84,7 @@ new_row command_preset window_preset =
       leaders = [];
     }
 
--- the row, once `gone` leads nobody any more
+-- the row, after `gone` leads nobody any more
 abbrev pub without_leader : UserId → Row → Row
 without_leader gone row = record row { leaders = remaining_leaders gone row.leaders }
 
@@ -96,7 +96,7 @@ mask_bits masks by u = unwrap_or (lookup (same_pair (by, u)) masks) all_bits
 abbrev pub opening_bits : List ((UserId × UserId) × Bits) → UserId → UserId → Bits
 opening_bits masks by u = if same_user by u then all_bits else mask_bits masks by u
 
--- the row, with these bits on the window in the slot
+-- the row, with these bits on the window that stands in the slot
 abbrev pub with_window : ℕ → Bits → Row → Row
 with_window slot bits row = record row { windows = slice_set row.windows slot bits }
 
@@ -114,13 +114,14 @@ with_right windows (Command c) bit value row =
           (with_bit bit value (slice_index_or row.commands (index_of_command c) no_bits));
     }
 
--- whether the table lets the user
+-- whether the table lets the user do it
 abbrev pub lets : Table → UserId → Bit → Object → Bool
 lets t u bit object =
     same_user t.owner u || granted t u bit object
     || list_any (λ leader. granted t leader bit object) (led_by t u)
 
--- the table is what the definitions give of the history of this owner's session, of this edition
+-- the table is what the definitions give for this history of a session of this edition, with this
+-- owner
 pub record StandsFor (t : Table) (edition : Edition) (owner : UserId) (h : History) : Type 0 where
   pub edition_is : t.edition ≡ edition
   pub owned : t.owner ≡ owner
@@ -136,8 +137,8 @@ pub record StandsFor (t : Table) (edition : Edition) (owner : UserId) (h : Histo
   pub presets : (kind : PresetKind) (bit : Bit)
       → allows bit (preset_bits t kind) ≡ preset_of h kind bit
 
--- a denial of an entry tells whom it denies what, and his leaders in their order; neither his entry
--- nor a leader's has the bit
+-- a denial names the user, the bit and the object, and the user's leaders in their order; neither
+-- the user's own entry nor a leader's has the bit
 pub record IsDenial (edition : Edition) (owner : UserId) (h : History) (u : UserId) (bit : Bit)
     (object : Object) (d : EntryDenial)
     : Type 0 where

@@ -17,11 +17,11 @@ use std::marker::Model;
 /// The access lists of a session: who is known, what each user may do, who leads whom, masks and
 /// presets.
 ///
-/// Each list command is done whole or refused whole; the refusal is its first fault from the left,
-/// or that memory was refused. Its words for users are given as `UserId::of` answers them, none for
-/// a word that is no name. Its acts go to the end of `acts`, in order, and each to the follower
-/// once it is done. `room` is how many acts more there is room for after them, which a caller may
-/// then push without a growth.
+/// A list command is done whole or refused whole. It is refused for its first fault from the left,
+/// or because memory was refused. Its words for users are given as `UserId::of` answers them:
+/// `None` for a word that is no name. Its acts are put at the end of `acts`, in order, and the
+/// follower is told of each act after it is done. `room` is the number of further acts for which
+/// room is made: the caller may then push these without growing the vector.
 pub struct Acl {
     lists: Lists,
 }
@@ -55,7 +55,7 @@ impl Acl {
     ghost use Rattle.acl_words.specs.declared.edition.Edition.{Edition};
     ghost use Rattle.acl_words.specs.declared.act.Act.TheVariants.{Opened, Closed};
 
-    /// The lists of a session that only its owner has entered.
+    /// The lists of a session that only its owner has entered. `AllocError` if memory is refused.
     pub fn new(alloc: Global, owner: UserId, edition: Edition) -> Result<Self, AllocError>
         ensures { IfOk result (λ acl. StandsFor acl edition owner []) }
     {
@@ -92,14 +92,15 @@ impl Acl {
         self.lists.knows(user)
     }
 
-    /// How many users are known, the owner among them: 1 to 64.
+    /// The number of known users, the owner included: 1 to 64.
     pub fn user_count(&self) -> usize
         ensures { result ≡ length (users_in self.now) }
     {
         self.lists.user_count()
     }
 
-    /// The known user at this place, in the order in which they became known; the owner is first.
+    /// The known user at this place, from 0, in the order in which they became known; the owner is
+    /// first. `None` beyond the last.
     pub fn user_at(&self, place: usize) -> Option<UserId>
         ensures { result ≡ slice_get (users_in self.now) place }
     {
@@ -113,8 +114,8 @@ impl Acl {
         self.lists.leaders_of(user)
     }
 
-    /// Whether the user has the bit on an object that is there, themselves or by a leader of theirs, or
-    /// else why not.
+    /// Whether the user has the bit on an object that is there, by their own entry or by a
+    /// leader's. If not, the error says who was asked.
     pub fn may(&self, user: UserId, bit: Bit, object: Object) -> Result<(), EntryDenial>
         ensures answer { (edition : Edition) (owner : UserId) (h : History) →
             StandsFor self.now edition owner h → there h object ≡ true →
@@ -128,7 +129,7 @@ impl Acl {
     }
 
     /// The fault that refuses a change of these users' bits, or their addition: the first from the
-    /// left.
+    /// left. `None` if there is none.
     pub fn change_fault(&self, names: &[Option<UserId>]) -> Option<AclFault>
         ensures { (edition : Edition) (owner : UserId) (h : History) →
             StandsFor self.now edition owner h →
@@ -138,7 +139,7 @@ impl Acl {
     }
 
     /// `aclchg`: changes users' bits on objects that are there. A name that isn't known becomes
-    /// known.
+    /// known first. Errors: the first fault of `change_fault`, or `NoMemory`.
     pub fn change<F: Follower>(
         &mut self,
         change: RightsChange,
@@ -167,7 +168,7 @@ impl Acl {
     }
 
     /// `acladd`: makes names known, and then grants each of these users each bit on the objects,
-    /// which are there.
+    /// which are there. Errors: the first fault of `change_fault`, or `NoMemory`.
     pub fn add<F: Follower>(
         &mut self,
         names: &[Option<UserId>],
@@ -195,7 +196,8 @@ impl Acl {
         conclude(&mut self.lists, plan, acts, follower)
     }
 
-    /// `acldel`: takes a user away, with all that is theirs.
+    /// `acldel`: removes a user, with their rights, masks and leaders. Errors: the name isn't
+    /// known, or is the owner's, or memory is refused.
     pub fn remove<F: Follower>(
         &mut self,
         name: Option<UserId>,
@@ -223,7 +225,9 @@ impl Acl {
     }
 
     /// `aclgrp`: gives a user a leader, or none. In the first edition a new leader takes the former
-    /// one's place; in the second they come last, and one who is there keeps their place.
+    /// one's place. In the second the new leader comes last, and one who already leads the user
+    /// keeps their place. Errors: a name isn't known or is the owner's, the leader would be the
+    /// user, the user would have more than eight leaders, or memory is refused.
     pub fn group<F: Follower>(
         &mut self,
         name: Option<UserId>,
@@ -251,7 +255,8 @@ impl Acl {
         conclude(&mut self.lists, plan, acts, follower)
     }
 
-    /// `aclumask`: sets what users get on windows that `by` opens later, and the presets.
+    /// `aclumask`: sets what users get on windows that `by` opens later, and the presets. Errors:
+    /// the first fault of a name from the left, or `NoMemory`.
     pub fn mask<F: Follower>(
         &mut self,
         by: UserId,
@@ -279,7 +284,8 @@ impl Acl {
         conclude(&mut self.lists, plan, acts, follower)
     }
 
-    /// A known user opened a window, whose serial number is new. At most 39 others are open.
+    /// Records that a known user opened a window, whose serial number is new. At most 39 others are
+    /// open.
     pub fn window_opened(&mut self, by: UserId, window: u32)
         ensures { (edition : Edition) (owner : UserId) (h : History) →
             StandsFor self.old edition owner h →
@@ -289,7 +295,7 @@ impl Acl {
         self.lists.open(by, window);
     }
 
-    /// A window was closed.
+    /// Records that a window was closed.
     pub fn window_closed(&mut self, window: u32)
         ensures { (edition : Edition) (owner : UserId) (h : History) →
             StandsFor self.old edition owner h →

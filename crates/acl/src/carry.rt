@@ -12,8 +12,8 @@ use crate::follower::Follower;
 use crate::lists::Lists;
 use acl_words::{AclFault, Act};
 
-/// The acts of a list command: whether they were planned well, from which place on they stand, and
-/// how many more there is to be room for after them.
+/// The acts of a list command: whether planning them succeeded, the index in the list of acts at
+/// which they begin, and for how many further acts there is to be room.
 #[derive(Drop)]
 pub struct Plan {
     pub planned: Result<(), AclFault>,
@@ -21,7 +21,7 @@ pub struct Plan {
     pub room: usize,
 }
 
-/// How many names become known.
+/// The number of acts by which a name becomes known.
 fn count_known(acts: &[Act]) -> usize
     ensures { result ≡ count_by makes_known acts.now }
 {
@@ -30,7 +30,7 @@ fn count_known(acts: &[Act]) -> usize
         .count()
 }
 
-/// How many masks are set.
+/// The number of acts that set a mask.
 fn count_masked(acts: &[Act]) -> usize
     ensures { result ≡ count_by sets_mask acts.now }
 {
@@ -39,7 +39,7 @@ fn count_masked(acts: &[Act]) -> usize
         .count()
 }
 
-/// Makes room for the acts from `start` on, and for `room` more after them.
+/// Makes room in the lists for the acts from `start` on, and in the list of acts for `room` more.
 fn make_room(
     lists: &mut Lists,
     room: usize,
@@ -70,7 +70,7 @@ fn make_room(
     Ok(())
 }
 
-/// Does these acts in order, where room was made for them, and tells the follower of each.
+/// Does these acts in order, after room was made for them, and tells the follower of each.
 fn apply_all<F: Follower>(lists: &mut Lists, acts: &[Act], follower: &mut F)
     requires rows { count_by makes_known acts.now ≤ spare lists.old.rows }
     requires masks { count_by sets_mask acts.now ≤ spare lists.old.masks }
@@ -84,8 +84,8 @@ fn apply_all<F: Follower>(lists: &mut Lists, acts: &[Act], follower: &mut F)
     }
 }
 
-/// Does the acts that were planned where they were planned well, with room for `plan.room` more after
-/// them; else takes them back, and answers the fault.
+/// If the acts were planned without a fault, does them, with room for `plan.room` more. Else takes
+/// them back and answers the fault.
 pub fn conclude<F: Follower>(
     lists: &mut Lists,
     plan: Plan,

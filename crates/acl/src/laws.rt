@@ -11,7 +11,7 @@ ghost use Rattle.acl_words.specs.declared.act.Act.{Act};
 ghost use Rattle.acl_words.specs.declared.edition.Edition.{Edition};
 ghost use Rattle.acl_words.specs.declared.user_id.UserId.{UserId};
 
-/// Acts of clients and locks leave all rights as they are.
+/// Acts of clients and locks leave all rights unchanged.
 pub fn acts_aside()
     ensures one { (t : Table) (edition : Edition) (owner : UserId) (h : History) (act : Act) →
         IsAside act → StandsFor t edition owner h → StandsFor t edition owner (act ∷ h) }
@@ -20,7 +20,7 @@ pub fn acts_aside()
         StandsFor t edition owner (followed_by h acts) }
 {}
 
-/// Acts of list commands leave the open windows as they are.
+/// Acts of list commands leave the open windows unchanged.
 pub fn windows_stay()
     ensures windows { (edition : Edition) (owner : UserId) (h : History) (acts : List Act) →
         AllMayFollow edition owner h acts →
@@ -29,13 +29,13 @@ pub fn windows_stay()
         AllMayFollow edition owner h acts → open_count (followed_by h acts) ≡ open_count h }
 {}
 
-/// Acts after acts follow the history that those before leave.
+/// Acts that follow other acts follow the history that those leave.
 pub fn acts_in_order()
     ensures { (h : History) (before after : List Act) →
         followed_by h (before ++ after) ≡ followed_by (followed_by h before) after }
 {}
 
-/// The known users are those whom the list of users has, where a table stands for the history.
+/// If a table stands for a history, its list of users holds exactly the known users.
 pub fn users_listed()
     ensures { (t : Table) (edition : Edition) (owner : UserId) (h : History) (u : UserId) →
         StandsFor t edition owner h → is_known owner h u ≡ among (users_of owner h) u }

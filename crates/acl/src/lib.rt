@@ -13,7 +13,7 @@ mod sets;
 
 pub use acl::Acl;
 pub use acl_words::Slots;
-// With the modules of words, by whose paths definitions name the words.
+// The modules of words are passed on too, since definitions name the words by their paths.
 pub use acl_words::{
     Leaders, USERS, WINDOWS, act, bits, command_name, edition, entries, faults, names_equal,
     user_id,

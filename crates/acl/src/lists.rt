@@ -53,7 +53,7 @@ impl Lists {
         })
     }
 
-    /// How many groups a user may be in.
+    /// How many groups a user may be in. It never changes.
     pub fn edition(&self) -> Edition
         ensures { result ≡ (table_of self.now).edition }
     {
@@ -75,14 +75,15 @@ impl Lists {
         self.rows.contains_key(&user)
     }
 
-    /// How many users are known, the owner among them.
+    /// The number of known users, the owner included.
     pub fn user_count(&self) -> usize
         ensures { result ≡ length (users_in (table_of self.now)) }
     {
         self.rows.len()
     }
 
-    /// The known user at this place, in the order in which they became known; the owner is first.
+    /// The known user at this place, from 0, in the order in which they became known; the owner is
+    /// first. `None` beyond the last.
     pub fn user_at(&self, place: usize) -> Option<UserId>
         ensures { result ≡ slice_get (users_in (table_of self.now)) place }
     {
@@ -102,7 +103,7 @@ impl Lists {
         }
     }
 
-    /// Whether the user may be given this leader too: no more than eight lead them then.
+    /// Whether the user may be given this leader too: then at most eight lead them.
     pub(crate) fn has_place(&self, user: UserId, leader: UserId) -> bool
         ensures { result ≡ nat_le (length (leaders_with (table_of self.now).edition
             (Some leader) (led_by (table_of self.now) user))) 8 }
@@ -130,8 +131,8 @@ impl Lists {
         users.iter().any(|user| self.is_granted(*user, bit, object))
     }
 
-    /// Whether the user has the bit on an object that is there, themselves or by a leader of theirs, or
-    /// else why not.
+    /// Whether the user has the bit on an object that is there, by their own entry or by a
+    /// leader's. If not, the error says who was asked.
     pub fn may(&self, user: UserId, bit: Bit, object: Object) -> Result<(), EntryDenial>
         ensures answer { (edition : Edition) (owner : UserId) (h : History) →
             StandsFor (table_of self.now) edition owner h → there h object ≡ true →
@@ -156,7 +157,7 @@ impl Lists {
         })
     }
 
-    /// A user becomes known, after room was made for them.
+    /// Makes a user known, after room was made for them.
     fn make_known(&mut self, user: UserId)
         requires { 0 < spare self.old.rows }
         ensures stands { Takes (table_of self.old) (table_of self.new) (Known user) }
@@ -168,7 +169,7 @@ impl Lists {
         let _ = self.rows.insert(user, row).unwrap();
     }
 
-    /// A user who isn't the owner is gone.
+    /// Removes a user who isn't the owner.
     fn make_gone(&mut self, user: UserId)
         ensures stands { Takes (table_of self.old) (table_of self.new) (Gone user) }
         ensures rows_room { spare self.old.rows ≤ spare self.new.rows }
@@ -190,7 +191,7 @@ impl Lists {
         }
     }
 
-    /// Gives a known user a leader, or none; at most eight lead them then.
+    /// Gives a known user a leader, or none; then at most eight lead them.
     fn set_leader(&mut self, user: UserId, leader: Option<UserId>)
         ensures stands { Takes (table_of self.old) (table_of self.new) (Grouped user leader) }
         ensures rows_room { spare self.old.rows ≤ spare self.new.rows }
@@ -201,7 +202,7 @@ impl Lists {
         }
     }
 
-    /// Sets what `by` gives a user on windows that `by` opens later, where room was made.
+    /// Sets what `by` gives a user on windows that `by` opens later, after room was made.
     fn set_mask(&mut self, by: UserId, user: UserId, bit: Bit, value: bool)
         requires { 0 < spare self.old.masks }
         ensures stands { Takes (table_of self.old) (table_of self.new) (Masked by user bit value) }
@@ -212,7 +213,7 @@ impl Lists {
         let _ = self.masks.insert((by, user), bits).unwrap();
     }
 
-    /// Sets what names that become known get.
+    /// Sets what names that become known later get.
     fn set_preset(&mut self, kind: PresetKind, bit: Bit, value: bool)
         ensures stands { Takes (table_of self.old) (table_of self.new) (Preset kind bit value) }
         ensures rows { self.new.rows ≡ self.old.rows }
@@ -224,7 +225,8 @@ impl Lists {
         }
     }
 
-    /// A known user opened a window, whose serial number is new. At most 39 others are open.
+    /// Records that a known user opened a window, whose serial number is new. At most 39 others are
+    /// open.
     pub(crate) fn open(&mut self, by: UserId, window: u32)
         ensures { (edition : Edition) (owner : UserId) (h : History) →
             StandsFor (table_of self.old) edition owner h →
@@ -237,7 +239,7 @@ impl Lists {
         }
     }
 
-    /// A window was closed.
+    /// Records that a window was closed.
     pub(crate) fn close(&mut self, window: u32)
         ensures { (edition : Edition) (owner : UserId) (h : History) →
             StandsFor (table_of self.old) edition owner h →
@@ -246,7 +248,7 @@ impl Lists {
         self.windows.close(window);
     }
 
-    /// Does one act of a list command, where room was made for it.
+    /// Does one act of a list command, after room was made for it.
     pub(crate) fn apply(&mut self, act: Act)
         requires rows_room { makes_known act ≡ true → 0 < spare self.old.rows }
         requires masks_room { sets_mask act ≡ true → 0 < spare self.old.masks }

@@ -54,7 +54,7 @@ fn names_any(names: &[Option<UserId>], user: UserId) -> bool
     names.iter().any(|name| names_user(*name, user))
 }
 
-/// The user whom a word names, not the owner.
+/// The user whom a word names, unless it is no name or names the owner.
 fn new_name(lists: &Lists, name: Option<UserId>) -> Result<UserId, AclFault>
     ensures { result ≡ new_name (table_of lists.now).owner name }
 {
@@ -75,8 +75,8 @@ fn is_named(lists: &Lists, before: &[Option<UserId>], user: UserId) -> bool
     lists.knows(user) || names_any(before, user)
 }
 
-/// How many users are known after one more word of a change, if `count` are known after the words before
-/// it; or the word's fault.
+/// The number of users who are known after one more word of a change, if `count` are known after
+/// the words before it; or the word's fault.
 fn count_with(
     lists: &Lists,
     before: &[Option<UserId>],
@@ -116,7 +116,7 @@ pub fn change_fault(lists: &Lists, names: &[Option<UserId>]) -> Option<AclFault>
     None
 }
 
-/// A name that isn't known, after the words before it, becomes known.
+/// Plans the act by which a name becomes known, if it isn't known after the words before it.
 fn plan_known(
     lists: &Lists,
     before: &[Option<UserId>],
@@ -138,7 +138,7 @@ fn plan_known(
     }
 }
 
-/// The sets of the bits of the user whom a word names.
+/// Plans the acts that set the bits of the user whom a word names.
 fn plan_name_sets(
     name: Option<UserId>,
     changes: &[BitChange],
@@ -156,7 +156,7 @@ fn plan_name_sets(
     }
 }
 
-/// A change of bits, user by user. A name that isn't known becomes known.
+/// Plans a change of bits, user by user. A name that isn't known becomes known first.
 pub fn plan_change(lists: &Lists, change: RightsChange, acts: &mut Vec<Act>) -> Result<(), AclFault>
     ensures answer { Answers result (change_fault (table_of lists.now).owner
         (users_in (table_of lists.now)) change.entry.names.now) }
@@ -180,7 +180,7 @@ pub fn plan_change(lists: &Lists, change: RightsChange, acts: &mut Vec<Act>) -> 
     Ok(())
 }
 
-/// Each name that isn't known becomes known.
+/// Plans the acts by which names that aren't known become known.
 fn plan_all_known(
     lists: &Lists,
     names: &[Option<UserId>],
@@ -197,7 +197,7 @@ fn plan_all_known(
     Ok(())
 }
 
-/// The sets of what names that are added get, user by user.
+/// Plans the acts that grant the added names their bits, user by user.
 fn plan_grants(
     names: &[Option<UserId>],
     objects: &[Object],
@@ -213,8 +213,8 @@ fn plan_grants(
     Ok(())
 }
 
-/// An addition of names: each that isn't known becomes known, and then each user is granted each
-/// bit.
+/// Plans an addition of names: each that isn't known becomes known, and then each user is granted
+/// each bit.
 pub fn plan_addition(
     lists: &Lists,
     names: &[Option<UserId>],
@@ -234,7 +234,7 @@ pub fn plan_addition(
     plan_grants(names, objects, acts)
 }
 
-/// The known user, not the owner, whom a word names.
+/// The known user whom a word names, unless it is the owner.
 fn known_name(lists: &Lists, name: Option<UserId>) -> Result<UserId, AclFault>
     ensures answer { Answers result
         (known_name_fault (table_of lists.now).owner (users_in (table_of lists.now)) name) }
@@ -248,7 +248,7 @@ fn known_name(lists: &Lists, name: Option<UserId>) -> Result<UserId, AclFault>
     }
 }
 
-/// A user is gone.
+/// Plans a user's removal.
 pub fn plan_removal(
     lists: &Lists,
     name: Option<UserId>,
@@ -271,7 +271,7 @@ fn may_lead(lists: &Lists, user: UserId, leader: UserId) -> bool
     lists.knows(leader) && !(user == leader)
 }
 
-/// The leader whom a word names for a user.
+/// The leader whom a word names for a user, or why that user can't lead them.
 fn leader_for(lists: &Lists, user: UserId, leader: NewLeader) -> Result<Option<UserId>, AclFault>
     ensures answer { Answers result
         (leader_fault (table_of lists.now).edition (table_of lists.now).owner
@@ -293,7 +293,7 @@ fn leader_for(lists: &Lists, user: UserId, leader: NewLeader) -> Result<Option<U
     }
 }
 
-/// A user gets a leader, or none.
+/// Plans the act that gives a user a leader, or none.
 pub fn plan_group(
     lists: &Lists,
     name: Option<UserId>,
@@ -311,7 +311,7 @@ pub fn plan_group(
     push_act(acts, Act::Grouped { user, leader })
 }
 
-/// One bit of a mask or a preset.
+/// Plans one bit of a mask or a preset.
 fn plan_mask(
     lists: &Lists,
     by: UserId,
@@ -348,7 +348,7 @@ fn plan_mask(
     }
 }
 
-/// Masks and presets, bit by bit.
+/// Plans masks and presets, bit by bit.
 pub fn plan_masks(
     lists: &Lists,
     by: UserId,

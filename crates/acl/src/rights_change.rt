@@ -2,7 +2,7 @@
 
 use acl_words::{BitChange, Object, UserId};
 
-/// A change of users' bits on objects that are there. A name is none for a word that is no name.
+/// A change of users' bits on objects that are there. A name is `None` for a word that is no name.
 #[derive(Clone, Copy)]
 pub struct RightsChange<'a> {
     pub names: &'a [Option<UserId>],

@@ -13,7 +13,7 @@ ghost use Rattle.acl.specs.Table.{with_right};
 use acl_words::{Bit, Bits, CommandName, Edition, Leaders, Object, Slots, UserId, WINDOWS};
 use indexmap::IndexMap;
 
-/// What a known user has, and their leaders.
+/// A known user's bits on commands and on windows, and their leaders.
 #[derive(Drop)]
 pub struct Row {
     pub commands: [Bits; CommandName::COUNT],
@@ -24,14 +24,14 @@ pub struct Row {
 /// The known users' rows, in the order in which they became known.
 pub type Rows = IndexMap<UserId, Row>;
 
-/// What users get on windows that others open, by opener and user.
+/// What users get on windows that others open; the keys are opener and user.
 pub type Masks = IndexMap<(UserId, UserId), Bits>;
 
 impl Row {
     ghost use Rattle.std.specs.Prelude.{◌≡◌};
     ghost use Rattle.acl.specs.Table.{new_row};
 
-    /// What a name that becomes known has.
+    /// The row of a name that becomes known.
     pub fn new(command_preset: Bits, window_preset: Bits) -> Row
         ensures { result ≡ new_row command_preset window_preset }
     {
@@ -43,7 +43,7 @@ impl Row {
     }
 }
 
-/// What a row has on an object.
+/// The bits that a row has on an object.
 pub fn bits_on(slots: &Slots, object: Object, row: &Row) -> Bits
     ensures { result ≡ bits_on slots.now.serials object row.now }
 {
@@ -131,7 +131,7 @@ pub fn forget_leader(rows: &mut Rows, gone: UserId)
     }
 }
 
-/// Forgets the masks that a user gave or got.
+/// Removes the masks that a user gave or got.
 pub fn forget_masks(masks: &mut Masks, user: UserId)
     ensures forgotten { masks.new.entries
         ≡ filter (λ e. not (same_user user e.0.0 || same_user user e.0.1)) masks.old.entries }

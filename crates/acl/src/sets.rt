@@ -5,11 +5,12 @@ ghost use Rattle.acl.specs.Commands.{Keeps, sets_on, sets};
 
 use acl_words::{AclFault, Act, BitChange, Object, UserId};
 
-/// So many acts of list commands at most make one step. More are refused as if there were no
-/// memory for them.
+/// One step has at most this number of acts of list commands. A command that makes more is refused
+/// as if memory were refused.
 const MOST_ACTS: usize = 65_536;
 
-/// Puts an act at the end. Where a command makes more than its step may file, none can be put.
+/// Puts an act at the end. `NoMemory` if memory is refused, or if the command makes more acts than
+/// one step may have.
 pub fn push_act(acts: &mut Vec<Act>, act: Act) -> Result<(), AclFault>
     ensures ok { OnOk result (acts.new.items ≡ acts.old.items ++ act ∷ []) }
     ensures err { OnErr result (acts.new.items ≡ acts.old.items) }
@@ -21,7 +22,7 @@ pub fn push_act(acts: &mut Vec<Act>, act: Act) -> Result<(), AclFault>
     Ok(())
 }
 
-/// The sets of a user's bits on one object.
+/// Plans the acts that set a user's bits on one object.
 fn plan_sets_on(
     user: UserId,
     changes: &[BitChange],
@@ -46,7 +47,7 @@ fn plan_sets_on(
     Ok(())
 }
 
-/// The sets of a user's bits, object by object.
+/// Plans the acts that set a user's bits, object by object.
 pub fn plan_sets(
     user: UserId,
     changes: &[BitChange],

@@ -1,8 +1,8 @@
--- A loop that changes each item of a list in place.
+-- Facts of a loop that changes each item of a list in place.
 use Rattle.std.proofs.Common.{◌≡◌, ◌∙◌, ℕ, zero, suc, ◌+◌, ◌<◌, ◌≤◌, ap, sym, refl, arith, List, [], ◌∷◌}
 use Rattle.std.proofs.Common.{slice_index_or, slice_set, length, map, add-one}
 
--- the list, with f at each index below i
+-- the list, with f applied to each item at an index below i
 abbrev pub mapped_below : {X : Type 0} → (X → X) → ℕ → List X → List X
 mapped_below f zero xs = xs
 mapped_below f (suc i) [] = []

@@ -1,4 +1,4 @@
--- Names at the front of a fixed array.
+-- Facts of names that stand at the front of a fixed array.
 use Rattle.std.proofs.Common.{ℕ, ◌+◌, ◌-◌, ◌<◌, List, drop, replicate, arith, ap, ◌∙◌, sym, set}
 use Rattle.std.proofs.lemmas.List.{drop-set-lt, drop-replicate, length-set, drop-drop}
 use Rattle.acl_words.specs.Leaders.{AreFront, blank}

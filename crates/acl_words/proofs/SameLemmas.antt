@@ -1,10 +1,10 @@
--- Names that the test finds the same.
+-- What the tests of equality answer: names that the test finds equal are equal.
 use Rattle.std.proofs.Common.{◌≡◌, ◌∙◌, ℕ, Bool, true, false, ap, sym, refl, List}
 use Rattle.std.proofs.lemmas.Slice.Eq.{bytes_eq-Decides}
 use Rattle.acl_words.specs.Same.{same_user}
 use Rattle.acl_words.specs.declared.user_id.UserId.{UserId}
 
--- they are equal
+-- names that the test finds equal are equal
 pub same_user-true : (u v : UserId) → same_user u v ≡ true → u ≡ v
 same_user-true u v h = ap {A = List ℕ} {B = UserId} (λ l. record { name = l }) ((bytes_eq-Decides u.name v.name).0 h)
 

@@ -1,4 +1,4 @@
--- The slots of windows, as one opens or closes.
+-- Facts of the slots that windows stand in, while one opens or closes.
 use Rattle.std.proofs.Common.{◌≡◌, ◌≢◌, ◌∙◌, ℕ, zero, suc, ◌+◌, ◌<◌, Bool, true, false, ◌==◌, nat_eq, cond, ap, subst}
 use Rattle.std.proofs.Common.{sym, refl, arith, List, [], ◌∷◌, Option, Some, None, is_some, is_none, eq-eqb, zero-add}
 use Rattle.std.proofs.Common.{if◌then◌else◌, slice_index_or, slice_set, true≢false, length, map, position}
@@ -90,7 +90,7 @@ slot_of-opened ws w v slot below free fresh =
     ∙ from_opened v w 0 slot ws below free (sym (from_zero (is_window w) ws) ∙ fresh)
     ∙ (λ j. if w == v then Some (zero-add slot j) else sym (from_zero (is_window v) ws) j)
 
--- the index at which a search stops is one that passes
+-- the index at which a search stops is that of an item that passes the test
 found_from : (test : Option ℕ → Bool) (i k : ℕ) (ws : List (Option ℕ)) → position_from test i ws ≡ Some k → (j : ℕ)
     × (k ≡ i + j) × (j < length ws) × (test (slice_index_or ws j None) ≡ true)
 found_from test i k [] e = cc
@@ -110,7 +110,7 @@ found test k ws e =
     let same : r.0 ≡ k = omega (arith, r.1) in
     (omega (arith, r.2), subst (λ j. test (slice_index_or ws j None) ≡ true) same r.3)
 
--- two windows are in two slots
+-- two different windows stand in two different slots
 pub slot_of-apart : (ws : List (Option ℕ)) (v w k : ℕ) → slot_of ws v ≡ Some k → slot_of ws w ≡ Some k → v ≡ w
 slot_of-apart ws v w k e f = by (slice_index_or ws k None) (found (is_window v) k ws e).1 (found (is_window w) k ws f).1
   where
@@ -132,7 +132,7 @@ slot_of-free ws v k slot e f same =
     (sym (found (is_window v) k ws e).1 ∙ ap (λ j. is_window v (slice_index_or ws j None)) same
     ∙ ap (is_window v) (free_slot-empty ws slot f))
 
--- how many slots are filled, as a window opens in a free slot
+-- a window that opens in a free slot makes one slot more filled
 filled-opened : (ws : List (Option ℕ)) (w slot : ℕ) → slot < length ws → slice_index_or ws slot None ≡ None
     → filled (slice_set ws slot (Some w)) ≡ filled ws + 1
 filled-opened [] w slot below free = absurd (omega arith)
@@ -152,7 +152,7 @@ filled-closed (Some x ∷ ws) w = by (x == w) (filled-closed ws w)
     by true rest = omega arith
     by false rest = omega arith
 
--- and frees the one that has it
+-- closing a window frees the slot that has it
 filled-freed : (ws : List (Option ℕ)) (w i k : ℕ) → position_from (is_window w) i ws ≡ Some k
     → filled (map (without_window w) ws) + 1 ≤ filled ws
 filled-freed [] w i k at = cc
@@ -165,7 +165,7 @@ filled-freed (Some x ∷ ws) w i k at = by (x == w) at (λ e. filled-freed ws w 
     by true e rest = omega (arith, filled-closed ws w)
     by false e rest = omega (arith, rest e)
 
--- where no slot is free, each is filled
+-- if no slot is free, each slot is filled
 filled-full : (ws : List (Option ℕ)) (i : ℕ) → position_from is_none i ws ≡ None → filled ws ≡ length ws
 filled-full [] i none = refl
 filled-full (None ∷ ws) i none = cc
@@ -192,7 +192,7 @@ slots-new = record {
 }
 
 module _ (ws : List (Option ℕ)) (is_open : ℕ → Bool) (count : ℕ) (s : SlotsStandFor ws is_open count) where
-  -- a slot is free for one more window
+  -- while fewer than 40 windows are open, there is a free slot
   pub slots-free : count < 40 → free_slot ws ≡ None → {X : Type 0} → X
   slots-free few none = absurd (omega (arith, s.few, s.all, filled-full ws 0 (sym (from_zero is_none ws) ∙ none)))
 

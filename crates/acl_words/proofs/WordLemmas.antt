@@ -1,4 +1,4 @@
--- A name in an array that ends in zeros.
+-- Facts of a name in an array that ends in zeros.
 use Rattle.std.proofs.Common.{◌≡◌, ◌∙◌, ℕ, zero, suc, ◌+◌, ◌-◌, ◌<◌, ◌≤◌, Bool, true, false, not, ◌&&◌, ◌==◌, nat_le}
 use Rattle.std.proofs.Common.{nat_eq, cond, ap, sym, refl, arith, List, [], ◌∷◌, ◌++◌, length, take, replicate}
 use Rattle.std.proofs.Common.{slice_set, slice_index_or, position, unwrap_or, Some, add-one, true≢false, codes}
@@ -9,7 +9,7 @@ use Rattle.std.proofs.lemmas.Iterator.Adapters.{position_from-zero}
 use borrow.Author.Tests.{eqb-true, leb-true}
 use Rattle.acl_words.specs.Names.{is_name_byte, is_name, begins_with_letter, before_zero}
 
--- a byte more of the word, in place of a zero
+-- writing the next byte of the word replaces a zero
 put-next : (word : List ℕ) (i k : ℕ) → i < length word
     → slice_set (take i word ++ replicate (suc k) 0) i (slice_index_or word i 0) ≡ take (suc i) word ++ replicate k 0
 put-next [] i k below = absurd (omega arith)
@@ -48,7 +48,7 @@ spelled (b ∷ word) n e = by (is_name_byte b) refl e (λ f. spelled word n f)
         ∙ ap (λ xs. b ∷ xs) (rest q)
     by false p q rest = cc
 
--- the parts of the test for a name
+-- what the test for a name says of the word: it has at most 20 bytes
 pub few_bytes : (word : List ℕ) → is_name word ≡ true → length word ≤ 20
 few_bytes word e = leb-true (length word) 20
     (by (begins_with_letter word) (nat_le (length word) 20) (list_all is_name_byte word)
@@ -81,7 +81,7 @@ filled_in word name i is all = is ∙ (λ j. take (all j) word ++ replicate (20 
     take-all [] = refl
     take-all (x ∷ xs) = ap (λ ys. x ∷ ys) (take-all xs)
 
--- what stands before the first zero
+-- the bytes before the first zero
 before_from : (xs : List ℕ) (i n : ℕ) → length xs ≤ n → (j : ℕ)
     × (unwrap_or (position_from (λ b. b == 0) i xs) (i + n) ≡ i + j) × (take j xs ≡ before_zero xs)
 before_from [] i n few = (n, refl, none n)

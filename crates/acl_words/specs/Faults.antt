@@ -1,4 +1,4 @@
--- The numbers of faults.
+-- The number of each fault.
 use Rattle.std.specs.Prelude.{ℕ}
 use Rattle.acl_words.specs.declared.faults.AclFault.{AclFault}
 use Rattle.acl_words.specs.declared.faults.AclFault.TheVariants.{UnknownUser, OwnerKept}
@@ -6,7 +6,7 @@ use Rattle.acl_words.specs.declared.faults.AclFault.TheVariants.{TooManyUsers, R
 use Rattle.acl_words.specs.declared.faults.AclFault.TheVariants.{NoSuchGroup, NoMemory}
 use Rattle.acl_words.specs.declared.faults.AclFault.TheVariants.{TooManyGroups}
 
--- a fault's number
+-- the number of a fault
 abbrev pub number_of_fault : AclFault → ℕ
 number_of_fault UnknownUser = 1
 number_of_fault OwnerKept = 2

@@ -1,4 +1,4 @@
--- A user's leaders, which are names at the front of a fixed array, whose rest is blank.
+-- A user's leaders: names at the front of a fixed array. The unused places hold the blank name.
 use Rattle.std.specs.Prelude.{◌≡◌, ℕ, Bool, not, ◌-◌, ◌≤◌, List, [], ◌∷◌, ◌++◌, Option, Some, None}
 use Rattle.std.specs.Prelude.{filter, length, take, drop, replicate, if◌then◌else◌}
 use Rattle.std.specs.List.{list_any}
@@ -8,24 +8,24 @@ use Rattle.acl_words.specs.declared.edition.Edition.{Edition}
 use Rattle.acl_words.specs.declared.edition.Edition.TheVariants.{First, Second}
 use Rattle.acl_words.specs.declared.user_id.UserId.{UserId}
 
--- whether the name is among these
+-- whether the user is one of these
 abbrev pub among : List UserId → UserId → Bool
 among users u = list_any (same_user u) users
 
--- aclgrp: a user's leaders, once he is given one, or none. In the first edition a new leader takes
--- the former one's place; in the second he comes last, and one who leads the user already keeps his
--- place
+-- aclgrp: a user's leaders, after the user is given a leader or none. In the first edition a new
+-- leader takes the former leader's place. In the second the new leader comes last, and one who
+-- already leads the user keeps their place
 abbrev pub leaders_with : Edition → Option UserId → List UserId → List UserId
 leaders_with edition None before = []
 leaders_with First (Some leader) before = leader ∷ []
 leaders_with Second (Some leader) before =
     if among before leader then before else before ++ leader ∷ []
 
--- the leaders, without the one who is gone
+-- the leaders, without the user who is gone
 abbrev pub remaining_leaders : UserId → List UserId → List UserId
 remaining_leaders gone leaders = filter (λ leader. not (same_user gone leader)) leaders
 
--- no name
+-- the name that stands in an unused place: 20 zeros
 abbrev pub blank : UserId
 blank = record { name = replicate 20 0 }
 
@@ -33,7 +33,7 @@ abbrev pub AreFront : ℕ → List UserId → Type 0
 AreFront count names =
     (count ≤ 8) × (length names ≡ 8) × (drop count names ≡ replicate (8 - count) blank)
 
--- the array of a list
+-- the fixed array that holds the list
 abbrev pub array_of : List UserId → List UserId
 array_of xs = xs ++ replicate (8 - length xs) blank
 

@@ -1,4 +1,4 @@
--- What a name is.
+-- Which words are names of users.
 use Rattle.std.specs.Prelude.{ℕ, Bool, false, not, ◌||◌, ◌&&◌, ◌==◌, ◌-◌, nat_eq, nat_le, List, []}
 use Rattle.std.specs.Prelude.{◌∷◌, ◌++◌, Option, Some, None, length, replicate, codes}
 use Rattle.std.specs.Prelude.{if◌then◌else◌}
@@ -6,11 +6,11 @@ use Rattle.std.specs.List.{list_all}
 use Rattle.std.specs.Cmp.Lexicographic.{pointwise}
 use Rattle.acl_words.specs.declared.user_id.UserId.{UserId}
 
--- a to z
+-- a letter from a to z
 abbrev pub is_letter : ℕ → Bool
 is_letter b = nat_le 0x61 b && nat_le b 0x7A
 
--- a to z, 0 to 9, and _
+-- a letter from a to z, a digit from 0 to 9, or _
 abbrev pub is_name_byte : ℕ → Bool
 is_name_byte b = is_letter b || (nat_le 0x30 b && nat_le b 0x39) || b == 0x5F
 
@@ -18,7 +18,7 @@ abbrev pub begins_with_letter : List ℕ → Bool
 begins_with_letter [] = false
 begins_with_letter (b ∷ word) = is_letter b
 
--- 1 to 20 of these, the first a letter; `none` is no name
+-- a name has 1 to 20 of these bytes, and begins with a letter; `none` is no name
 abbrev pub is_name : List ℕ → Bool
 is_name word =
     begins_with_letter word && nat_le (length word) 20 && list_all is_name_byte word

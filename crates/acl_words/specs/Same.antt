@@ -15,7 +15,7 @@ use Rattle.acl_words.specs.declared.command_name.CommandName.TheVariants as comm
 abbrev pub same_user : UserId → UserId → Bool
 same_user u v = pointwise nat_eq u.name v.name
 
--- the place of a command among all
+-- the index of a command in the list of all commands
 abbrev pub index_of_command : CommandName → ℕ
 index_of_command command.Acladd = 0
 index_of_command command.Aclchg = 1
@@ -53,7 +53,7 @@ index_of_command command.Quit = 30
 abbrev pub same_command : CommandName → CommandName → Bool
 same_command c d = index_of_command c == index_of_command d
 
--- whether two bits are the same
+-- the index of a bit; two bits are equal if their indices are
 abbrev pub place_of_bit : Bit → ℕ
 place_of_bit Read = 0
 place_of_bit Write = 1

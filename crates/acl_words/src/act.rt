@@ -2,21 +2,21 @@ use crate::bits::Bit;
 use crate::command_name::CommandName;
 use crate::user_id::UserId;
 
-/// What a right is about: a window, by its serial number, or a command.
+/// What a right applies to: a window, by its serial number, or a command.
 #[derive(Clone, Copy, PartialEq, Eq, Hash, Debug)]
 pub enum Object {
     Window(u32),
     Command(CommandName),
 }
 
-/// What a name that becomes known gets: `?` on each open window, `??` on each command.
+/// The two presets for a name that becomes known: `?` for each open window, `??` for each command.
 #[derive(Clone, Copy, PartialEq, Eq, Hash, Debug)]
 pub enum PresetKind {
     Windows,
     Commands,
 }
 
-/// How the write lock of a window is taken.
+/// How a window's write lock is taken and freed.
 #[derive(Clone, Copy, PartialEq, Eq, Hash, Debug)]
 pub enum LockMode {
     Off,
@@ -24,8 +24,8 @@ pub enum LockMode {
     On,
 }
 
-/// What happened to the rights and locks of a session. Windows and clients are named by serial
-/// numbers.
+/// An event in the history of a session's rights and locks. Windows and clients are named by their
+/// serial numbers.
 #[derive(Clone, Copy, PartialEq, Eq, Debug)]
 pub enum Act {
     Known {

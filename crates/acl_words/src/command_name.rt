@@ -35,10 +35,10 @@ pub enum CommandName {
 }
 
 impl CommandName {
-    /// How many commands there are.
+    /// The number of commands.
     pub const COUNT: usize = 31;
 
-    /// Each command.
+    /// All commands, in the order of the variants.
     pub const ALL: [CommandName; CommandName::COUNT] = [
         CommandName::Acladd,
         CommandName::Aclchg,

@@ -1,8 +1,8 @@
-/// How many groups a user may be in.
+/// A session's edition decides how many groups a user may be in.
 #[derive(Clone, Copy, PartialEq, Eq, Debug)]
 pub enum Edition {
-    /// One: a new leader takes the place of the former one.
+    /// One group: a new leader takes the former one's place.
     First,
-    /// Up to eight, each with a leader, in the order in which they were named.
+    /// Up to eight groups, each with a leader, in the order in which they were named.
     Second,
 }

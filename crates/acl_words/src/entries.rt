@@ -3,7 +3,8 @@ use crate::bits::Bit;
 use crate::leaders::Leaders;
 use crate::user_id::UserId;
 
-/// Why a check of a bit failed: neither this user's entry nor that of any of his leaders has it.
+/// Why a right is missing: neither the user's own entry nor that of any of the user's leaders has
+/// it.
 #[derive(Clone, Copy, PartialEq, Eq, Debug)]
 pub struct EntryDenial {
     pub user: UserId,
@@ -12,22 +13,23 @@ pub struct EntryDenial {
     pub leaders: Leaders,
 }
 
-/// Whom a user is to follow: nobody, or the leader whom a word names (none where it is no name).
+/// Whom a user is to follow: nobody, or the leader whom a word names (`None` if the word is no
+/// name).
 #[derive(Clone, Copy, PartialEq, Eq, Debug)]
 pub enum NewLeader {
     Nobody,
     Named(Option<UserId>),
 }
 
-/// Whose mask is set: a preset, or the mask of the user whom a word names (none where it is no
-/// name).
+/// Which mask is set: a preset, or the mask for the user whom a word names (`None` if the word is
+/// no name).
 #[derive(Clone, Copy, PartialEq, Eq, Debug)]
 pub enum MaskScope {
     Preset(PresetKind),
     User(Option<UserId>),
 }
 
-/// A bit of a mask that is given or taken.
+/// A bit of a mask, and whether it is given or taken.
 #[derive(Clone, Copy, PartialEq, Eq, Debug)]
 pub struct MaskEntry {
     pub scope: MaskScope,

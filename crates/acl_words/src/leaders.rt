@@ -8,10 +8,10 @@ use crate::edition::Edition;
 use crate::user_id::UserId;
 use std::marker::Model;
 
-/// How many leaders a user has at most.
+/// The most leaders that a user may have.
 const MOST: usize = 8;
 
-/// The leaders of a user in the order in which they were named: at most eight.
+/// A user's leaders, at most eight, in the order in which they were named.
 #[derive(Clone, Copy, PartialEq, Eq, Debug)]
 pub struct Leaders {
     names: [UserId; MOST],
@@ -45,7 +45,7 @@ impl Model for Leaders {
 }
 
 impl Leaders {
-    /// Nobody.
+    /// No leaders.
     pub fn none() -> Leaders
         ensures { result ≡ [] }
     {
@@ -55,7 +55,7 @@ impl Leaders {
         }
     }
 
-    /// The leaders in their order.
+    /// The leaders, in the order in which they were named.
     pub fn as_slice(&self) -> &[UserId]
         ensures names { result.now ≡ self.now }
         ensures few { length result.now ≤ 8 }
@@ -63,14 +63,14 @@ impl Leaders {
         &self.names[..self.count]
     }
 
-    /// Whether this user is one of them.
+    /// Whether the user is one of the leaders.
     fn has(&self, user: UserId) -> bool
         ensures { result ≡ among self.now user }
     {
         is_among(self.as_slice(), user)
     }
 
-    /// One leader more, at the end.
+    /// Puts a leader at the end; there is room for one.
     fn push(&mut self, leader: UserId)
         requires { length self.old < 8 }
         ensures { self.new ≡ self.old ++ leader ∷ [] }
@@ -79,7 +79,7 @@ impl Leaders {
         self.count += 1;
     }
 
-    /// The leaders and this one at the end; none where they are eight already.
+    /// The leaders with this one at the end; `None` if there are eight already.
     fn and(self, leader: UserId) -> Option<Leaders>
         ensures { result ≡ (if nat_le (length (self ++ leader ∷ [])) 8
             then Some (self ++ leader ∷ []) else None) }
@@ -92,8 +92,8 @@ impl Leaders {
         Some(more)
     }
 
-    /// The leaders of a user who is given this one, or none, in this edition; none where they would
-    /// be more than eight.
+    /// The leaders after the user is given this one, or none, in this edition; `None` if there
+    /// would be more than eight.
     pub fn with(self, edition: Edition, leader: Option<UserId>) -> Option<Leaders>
         ensures { result ≡ (if nat_le (length (leaders_with edition leader self)) 8
             then Some (leaders_with edition leader self) else None) }

@@ -1,8 +1,8 @@
-//! The words of access lists: users, objects, bits, acts, list entries, leaders and faults, and
+//! The words of access lists: users, objects, bits, acts, list entries, leaders and faults. Also
 //! the slots that open windows stand in.
 #![tactic(auto)]
 
-// Public are the modules that `acl` passes on.
+// The public modules are those that `acl` passes on.
 pub mod act;
 pub mod bits;
 pub mod command_name;

@@ -4,7 +4,7 @@ ghost use Rattle.acl_words.specs.declared.limits.TheConstants.{WINDOWS};
 
 use crate::limits::WINDOWS;
 
-/// The open windows, each in a slot of its own.
+/// The open windows, each in one of the slots 0 to 39.
 #[derive(Clone, Copy, PartialEq, Eq, Debug)]
 pub struct Slots {
     serials: [Option<u32>; WINDOWS],
@@ -20,7 +20,7 @@ fn is_window(slot: Option<u32>, window: u32) -> bool
     }
 }
 
-/// The slot, once the window is closed.
+/// A slot's content after the window is closed.
 fn without_window(slot: Option<u32>, window: u32) -> Option<u32>
     ensures { result ≡ without_window window slot }
 {
@@ -32,7 +32,7 @@ impl Slots {
     ghost use Rattle.std.specs.Prelude.{slice_index_or};
     ghost use Rattle.acl_words.specs.Slots.{slot_of, free_slot, without_window};
 
-    /// No window is open.
+    /// Slots with no window open.
     pub fn new() -> Slots
         ensures { result ≡ record { serials = replicate WINDOWS None } }
     {
@@ -41,7 +41,7 @@ impl Slots {
         }
     }
 
-    /// The slot of an open window.
+    /// The slot of an open window; `None` if the window isn't open.
     pub fn slot_of(&self, window: u32) -> Option<usize>
         ensures slot { result ≡ slot_of self.now.serials window }
         ensures within { IfSome result (λ slot. slot < WINDOWS) }
@@ -51,7 +51,7 @@ impl Slots {
             .position(|slot| is_window(*slot, window))
     }
 
-    /// The first free slot.
+    /// The first free slot; `None` if all are filled.
     pub fn free_slot(&self) -> Option<usize>
         ensures slot { result ≡ free_slot self.now.serials }
         ensures within { IfSome result (λ slot. slot < WINDOWS) }
@@ -59,7 +59,7 @@ impl Slots {
         self.serials.iter().position(|slot| slot.is_none())
     }
 
-    /// The window in a slot.
+    /// The serial number of the window in a slot; `None` if the slot is free.
     pub fn serial_at(&self, slot: usize) -> Option<u32>
         requires { slot < WINDOWS }
         ensures { result ≡ slice_index_or self.now.serials slot None }
@@ -67,7 +67,7 @@ impl Slots {
         self.serials[slot]
     }
 
-    /// Puts an open window into a slot.
+    /// Puts an open window into a slot, in place of what the slot held.
     pub fn put(&mut self, slot: usize, window: u32)
         requires { slot < WINDOWS }
         ensures { self.new.serials ≡ slice_set self.old.serials slot (Some window) }
@@ -75,7 +75,7 @@ impl Slots {
         self.serials[slot] = Some(window);
     }
 
-    /// Frees the slot of a window.
+    /// Frees the slot of a window; does nothing if the window isn't open.
     pub fn close(&mut self, window: u32)
         ensures { self.new.serials ≡ map (without_window window) self.old.serials }
     {

@@ -8,7 +8,7 @@ ghost use Rattle.acl_words.specs.Names.{is_letter, is_name_byte, is_name, begins
 const LONGEST: usize = 20;
 
 /// A user's name: 1 to 20 characters of `a` to `z`, `0` to `9` and `_`, the first of them a letter.
-/// `none` is no name.
+/// The word `none` is no name.
 #[derive(Clone, Copy, PartialEq, Eq, Hash, Debug)]
 pub struct UserId {
     name: [u8; 20],
@@ -21,7 +21,7 @@ fn is_letter(byte: u8) -> bool
     byte >= b'a' && byte <= b'z'
 }
 
-/// Whether a name may hold the byte.
+/// Whether the byte may stand in a name.
 fn is_name_byte(byte: u8) -> bool
     ensures { result ≡ is_name_byte byte }
 {
@@ -38,7 +38,7 @@ fn begins_with_letter(word: &[u8]) -> bool
     }
 }
 
-/// Whether a name may hold each byte of the word.
+/// Whether each byte of the word may stand in a name.
 fn has_name_bytes(word: &[u8]) -> bool
     ensures { result ≡ list_all is_name_byte word.now }
 {
@@ -59,7 +59,7 @@ fn is_name(word: &[u8]) -> bool
     begins_with_letter(word) && word.len() <= LONGEST && has_name_bytes(word) && !is_none_word(word)
 }
 
-/// The place of the first zero.
+/// The index of the first zero.
 fn first_zero(name: &[u8; 20]) -> Option<usize>
     ensures place { result ≡ position (λ byte. byte == 0) name.now }
     ensures within { IfSome result (λ place. place < 20) }
@@ -67,7 +67,7 @@ fn first_zero(name: &[u8; 20]) -> Option<usize>
     name.iter().position(|byte| *byte == 0)
 }
 
-/// How many bytes stand before the zeros.
+/// The number of bytes before the zeros.
 fn length_of(name: &[u8; 20]) -> usize
     ensures length { result ≡ unwrap_or (position (λ byte. byte == 0) name.now) 20 }
     ensures within { result ≤ 20 }
@@ -82,10 +82,10 @@ impl UserId {
     ghost use Rattle.std.specs.Prelude.{◌≡◌, IfSome};
     ghost use Rattle.acl_words.specs.Names.{named_by, name_of};
 
-    /// What stands where there is no name.
+    /// Stands in a place that holds no name.
     pub(crate) const BLANK: UserId = UserId { name: [0; 20] };
 
-    /// The user whom the word names; none where it is no name.
+    /// The user whom the word names; `None` if the word is no name.
     pub fn of(word: &[u8]) -> Option<UserId>
         ensures named { result ≡ named_by word.now }
         ensures spelled { IfSome result (λ user. name_of user ≡ word.now) }

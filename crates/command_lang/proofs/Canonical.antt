@@ -1,4 +1,4 @@
--- The words that are printed mean what was printed.
+-- A command's printed words mean what was printed: lists, fixed words, numbers, bits and masks.
 use Rattle.std.proofs.Common.{◌≡◌, ℕ, suc, ◌+◌, ◌<◌, ◌≤◌, ◌^◌, Bool, true, false, not, ◌&&◌, cond, List, [], ◌∷◌, ◌++◌}
 use Rattle.std.proofs.Common.{length, take, drop, codes, refl, sym, ap, ◌∙◌, subst, arith, Option, Some, None}
 use Rattle.std.proofs.Common.{unwrap_or, true≢false, lit<}
@@ -156,7 +156,7 @@ number_again limit v t l h = by (is_number limit t) refl h
         small-number limit v l (omega (arith, s, m))
     by false e k = absurd (no-some v k)
 
--- Bits. A sign or a letter more.
+-- Bits: one more sign or letter
 letter-goes : (v w : Bool) (b : Bit) (rest : List ℕ) → goes_on false rest ≡ true
     → goes_on false ((sign_before (Some v) w ++ letter b ∷ []) ++ rest) ≡ true
 letter-goes true true Read rest h = h
@@ -286,7 +286,7 @@ bits_again (c ∷ cs) h =
     (some-behind (change_of true (bit_of c)) (bits_after (value_after true c (bit_of c)) cs)
     (wanted (value_after true c (bit_of c)) cs (and-parts (is_sign c) (goes_on true cs) h).1))
 
--- Masks.
+-- Masks
 abbrev NoSign : List ℕ → Type 0
 NoSign [] = Unit {0}
 NoSign (c ∷ cs) = (is_sign c ≡ false) × NoSign cs
@@ -333,7 +333,7 @@ pub record MaskAgain (t : List ℕ) : Type 0 where
   pub value : mask_of (mask_word (mask_of t)) ≡ mask_of t
   pub text : IsUtf8 (mask_word (mask_of t))
 
--- a text whose users and bits are these
+-- a text that is these users followed by these bits
 joined : (f b : List ℕ) → NoSign f → HeadSign b → (mask_of (f ++ b) ≡ record { users = mask_users f; bits = bits_of b })
     × (mask_fault (f ++ b) ≡ cond (not (is_bits b)) (Some faults.BadBits)
     (cond (not (is_empty_text f) && has_empty_item f) (Some faults.BadWord) None))

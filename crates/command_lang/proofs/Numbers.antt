@@ -1,4 +1,4 @@
--- A command that gives a window a number gives it one below 40.
+-- A command that gives a window a number gives it a number below 40.
 use Rattle.std.proofs.Common.{◌≡◌, ℕ, ◌<◌, Bool, true, false, List, [], ◌∷◌, Option, Some, None, refl, ap, sym, ◌∙◌}
 use Rattle.std.proofs.Common.{arith}
 use Rattle.std.specs.Prelude.{nat_lt, nat_le, ◌&&◌, if◌then◌else◌}
@@ -19,7 +19,7 @@ abbrev pub is_small : Command → Bool
 is_small (command.Number n) = nat_lt n 40
 is_small c = true
 
--- it is small, if there is one
+-- the command's window number is below 40, if it has one
 abbrev pub AreSmall : Option Command → Type 0
 AreSmall o = option_map_or is_small o true ≡ true
 

@@ -20,7 +20,7 @@ use Rattle.command_lang_table.specs.LineFaults.{named_faults, line_faults}
 use Rattle.command_lang_table.proofs.Fits.{fits, means_one}
 use Rattle.command_lang.specs.Relation.{HasWords, Relates, Refuses, faults_of, command_or, read_line}
 
--- what is computed
+-- what is computed for such a line
 short : (line : List ℕ) → length line ≤ 1024 → nat_lt 1024 (length line) ≡ false
 short line h = grind (arith, nat_tests)
 

@@ -22,7 +22,7 @@ use Rattle.command_lang_table.specs.Table.{least, kind_at, at, at_place, judged,
 use Rattle.command_lang.specs.Relation.{HasWords, Refuses, NoneBefore}
 use Rattle.command_lang_table.specs.LineFaults.{named_faults, line_faults}
 
--- words at rising places, none of them before the first place or behind the end
+-- words at rising places, all of them from the first place to the end
 abbrev Rising : ℕ → ℕ → List Word → Type 0
 Rising place end [] = place ≤ end
 Rising place end (w ∷ ws) = (place ≤ w.place) × Rising w.place end ws
@@ -90,7 +90,7 @@ sorted-faults line ws h =
     (rising-cut (chars line) ws (length line) h.cut
     (ap length (encodes-chars line (IsUtf8-from_is_utf8 line h.text))))
 
--- none before the first
+-- no fault is at a place before the first one
 abbrev AllFrom : ℕ → List ParseFault → Type 0
 AllFrom place fs = AllByRecursion (λ g. place ≤ g.place) fs
 

@@ -1,4 +1,4 @@
--- What is quoted reads back.
+-- What is quoted reads back as it was.
 use Rattle.std.proofs.Common.{◌≡◌, ◌≢◌, ℕ, ◌+◌, ◌-◌, ◌*◌, ◌/◌, ◌%◌, ◌<◌, Bool, true, false, ◌&&◌, ◌||◌, cond, List, []}
 use Rattle.std.proofs.Common.{◌∷◌, ◌++◌, refl, ap, ◌∙◌, arith, Option, Some, None}
 use Rattle.std.specs.Prelude.{nat_lt, ◌==◌}
@@ -16,7 +16,7 @@ no_octal c (x ∷ y ∷ cs) h = ap
     (λ b. cond ((b && nat_lt c 0x32) && (is_octal x && is_octal y))
     (Some (((c - 0x30) * 8 + (x - 0x30)) * 8 + (y - 0x30))) None) h
 
--- the three forms of a character in "
+-- the three forms in which a character is written between "
 backslashed : (c : ℕ) (cs text : List ℕ) (end : Option (List ℕ)) → is_octal c ≡ false → Double cs text end
     → Double (0x5C ∷ c ∷ cs) (c ∷ text) end
 backslashed c cs text end h d = Double.more backslash_apart (Character.escape (Escaped.itself (no_octal c cs h))) d
@@ -48,7 +48,7 @@ octally : (c : ℕ) (cs text : List ℕ) (end : Option (List ℕ)) → c < 128 �
     → Double (0x5C ∷ (octal c ++ cs)) (c ∷ text) end
 octally c cs text end l d = Double.more backslash_apart (Character.escape (Escaped.octal (octal_is c cs l))) d
 
--- what is put in " reads back
+-- what is written between " reads back
 pub quoted_reads : (cs rest : List ℕ) → Double (quoted cs ++ 0x22 ∷ rest) cs (Some rest)
 quoted_reads [] rest = Double.closed
 quoted_reads (c ∷ cs) rest = by (c == 0x22) (c == 0x5C) (nat_lt c 0x20 || c == 0x7F) refl refl refl

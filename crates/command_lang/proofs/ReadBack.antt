@@ -29,7 +29,7 @@ use Rattle.command_lang.proofs.Whole.{relates}
 some-fault : (f : ParseFault) (fs : List ParseFault) → f ∷ fs ≡ [] → ⊥
 some-fault f fs h = true≢false (ap (λ l. is_some (first_of l)) h)
 
--- its words are a name and texts that fit
+-- its words are a command's name and texts that fit
 record Named (ws : List Word) (c : Command) : Type 0 where
   name : CommandName
   texts : List (List ℕ)

@@ -1,4 +1,4 @@
--- The texts of words of characters are text.
+-- The texts of words that are cut from characters are made of characters.
 use Rattle.std.proofs.Common.{◌≡◌, ℕ, ◌+◌, ◌-◌, ◌*◌, ◌<◌, Bool, true, false, ◌&&◌, cond, List, [], ◌∷◌, ◌++◌, refl, sym}
 use Rattle.std.proofs.Common.{ap, ◌∙◌, arith, true≢false, Option, Some, None, unwrap_or}
 use Rattle.std.specs.Prelude.{nat_lt}
@@ -55,7 +55,7 @@ of-octal (x ∷ y ∷ z ∷ cs) c h = by ((is_octal x && nat_lt x 0x32) && (is_o
         ap (λ o. scalars (unwrap_or o n ∷ [])) (sym k) ∙ lone n (small-scalar n (octal_small x y z e))
     by false e k = absurd (true≢false (sym (ap is_some k)))
 
--- what follows a thing
+-- what follows a thing is made of characters
 behind : (n : ℕ) (cs rest : List ℕ) → Behind n cs (Some rest) → scalars cs ≡ true → scalars rest ≡ true
 behind n cs rest b h = later b.0 (sym (ap scalars b.1.1) ∙ h)
   where

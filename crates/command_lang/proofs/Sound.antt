@@ -25,7 +25,7 @@ use Rattle.command_lang.proofs.Canonical.{some-same, items_again, users_again, l
 use Rattle.command_lang.proofs.Canonical.{switch_again, coding_again, vertical_again, Again, number_again, bits_again}
 use Rattle.command_lang.proofs.Canonical.{mask_again}
 
--- the words of the command are those of its name, mean it, and are text
+-- the words of the command belong to its name, mean the command, and are text
 pub record Sound (n : CommandName) (c : Command) : Type 0 where
   pub named : name_of c ≡ n
   pub again : command_of n (words_of c) ≡ Some c
@@ -44,7 +44,7 @@ exact n c ts m e h f u = record {
 at : (n : CommandName) (d c : Command) → Some d ≡ Some c → Sound n d → Sound n c
 at n d c h s = subst (Sound n) (some-same d c h) s
 
--- what an option was made of
+-- the value from which an option's command was made
 mapped : {A : Type 0} (f : A → Command) (o : Option A) (c : Command) → option_map f o ≡ Some c → (x : A)
     × ((o ≡ Some x) × (f x ≡ c))
 mapped f (Some x) c h = (x, (refl, some-same (f x) c h))
@@ -60,7 +60,7 @@ numbered n f limit t c l h g =
 number-read : (limit v : ℕ) → Again limit v → number_in limit (decimal v) ≡ Some v
 number-read limit v a = ap (λ b. cond b (Some (number_after 0 (decimal v))) None) a.fine ∙ ap (λ m. Some m) a.value
 
--- what is made of no words has this name, and no words
+-- a command made of no words has this name, and no words
 abbrev IsBare : CommandName → Command → Type 0
 IsBare n c = (name_of c ≡ n) × (words_of c ≡ [])
 

@@ -1,4 +1,4 @@
--- The words of printed characters.
+-- A line that is printed is cut into the words that were printed.
 use Rattle.std.proofs.Common.{◌≡◌, ◌≢◌, Some, ℕ, ◌+◌, ◌-◌, ◌/◌, ◌%◌, Bool, true, false, not, ◌&&◌, ◌||◌, cond, List, []}
 use Rattle.std.proofs.Common.{◌∷◌, ◌++◌, refl, sym, ap, ◌∙◌, subst, arith, append_assoc, true≢false}
 use Rattle.std.specs.Prelude.{◌==◌, nat_lt}
@@ -27,7 +27,7 @@ abbrev pub Ends : List ℕ → Type 0
 Ends [] = Unit {0}
 Ends (c ∷ cs) = c ≡ 0x20
 
--- what begins a word
+-- a character that begins a word
 abbrev pub Visible : List ℕ → Type 0
 Visible [] = ⊥
 Visible (c ∷ cs) = c ≢ 0x20
@@ -94,7 +94,7 @@ word-visible t u = by (needs_no_quotes t) refl
 abbrev at-word : ℕ → List ℕ → Word
 at-word place text = record { place = place; text = encode_utf8_all text; is_closed = true }
 
--- a word, and the words behind it
+-- a word, and the words after it
 pub one-word : (end : ℕ) (cs rest text : List ℕ) (ws : List Word) → Visible cs → Parts (cs ++ rest) text (Some rest)
     → Line end rest ws
     → (place : ℕ) × Line end (cs ++ rest) (at-word place text ∷ ws)
@@ -105,12 +105,12 @@ pub ends-words : (ts : List (List ℕ)) → Ends (printed_words ts)
 ends-words [] = tt
 ends-words (t ∷ ts) = refl
 
--- words whose texts are these, none of them unended
+-- words with these texts, each of them closed
 pub record Spells (ws : List Word) (ts : List (List ℕ)) : Type 0 where
   pub whole : AllWhole ws
   pub texts : texts_of ws ≡ ts
 
--- a line's words, which spell these texts
+-- the line is cut into closed words with these texts
 pub record Spelling (end : ℕ) (cs : List ℕ) (ts : List (List ℕ)) : Type 0 where
   pub words : List Word
   pub cut : Line end cs words

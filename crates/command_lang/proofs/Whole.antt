@@ -1,4 +1,4 @@
--- From the words of a line to the line.
+-- What holds of the words of a line holds of the line.
 use Rattle.std.proofs.Common.{◌≡◌, ℕ, ◌≤◌, Bool, true, false, List, [], length, refl, Some, inl, inr, ◌⊎◌}
 use Rattle.std.specs.Str.{chars, is_utf8, IsUtf8}
 use Rattle.std.proofs.lemmas.Str.{is_utf8-from_IsUtf8, IsUtf8-from_is_utf8}

@@ -5,7 +5,7 @@ use Rattle.command_lang_table.specs.declared.fault.FaultKind.TheVariants as faul
 use Rattle.command_lang_table.specs.Table.{at}
 use Rattle.command_lang.specs.Relation.{Relates, Refuses}
 
--- the command, or TooLong where the line has more than 1,024 bytes
+-- reading gives the command, or TooLong if the line has more than 1,024 bytes
 pub record ReadsBack (line : List ℕ) (c : Command) : Type 0 where
   pub short : length line ≤ 1024 → Relates line c
   pub long : 1024 < length line → Refuses line (at 1024 faults.TooLong)

@@ -1,4 +1,4 @@
--- Lines and commands.
+-- Which lines are commands, and which are refused.
 use Rattle.std.specs.Prelude.{◌≡◌, ℕ, ◌<◌, ◌≤◌, true, false, nat_lt, if◌then◌else◌, List, [], ◌∷◌}
 use Rattle.std.specs.Prelude.{length, Option, Some, None, Result, Ok, Err}
 use Rattle.std.specs.List.{AllByRecursion}
@@ -26,8 +26,8 @@ pub record Relates (line : List ℕ) (c : Command) : Type 0 where
   pub fine : line_faults (length line) words ≡ []
   pub means : line_command words ≡ Some c
 
--- The line is no command, and this is its first fault. A long line, or one that isn't UTF-8, has no
--- other fault.
+-- The line is no command, and this is its first fault. A line that is too long, or isn't UTF-8, has
+-- no other fault.
 pub data Refuses : List ℕ → ParseFault → Type 0 where
   long : {line : List ℕ} → 1024 < length line → Refuses line (at 1024 faults.TooLong)
   no_text : {line : List ℕ} → length line ≤ 1024 → is_utf8 line ≡ false
@@ -35,20 +35,20 @@ pub data Refuses : List ℕ → ParseFault → Type 0 where
   fault : {line : List ℕ} {ws : List Word} {f : ParseFault} → HasWords line ws
       → first_of (line_faults (length line) ws) ≡ Some f → Refuses line f
 
--- no fault of the line's words is at a place before this one's
+-- no fault of the line's words is at a lower place than this one
 abbrev pub NoneBefore : List ℕ → ParseFault → Type 0
 NoneBefore line f =
     (ws : List Word) → HasWords line ws
     → AllByRecursion (λ g. f.place ≤ g.place) (line_faults (length line) ws)
 
--- The same, computed.
+-- What the relations above say, computed.
 abbrev pub faults_of : List ℕ → List ParseFault
 faults_of line =
     if nat_lt 1024 (length line) then at 1024 faults.TooLong ∷ []
     else if is_utf8 line then line_faults (length line) (words (chars line))
     else at 0 faults.BadWord ∷ []
 
--- a line without a fault always means a command
+-- a line without a fault always means a command, so the other case doesn't occur
 abbrev pub command_or : Option Command → Result Command ParseFault
 command_or None = Err no_memory
 command_or (Some c) = Ok c

@@ -7,8 +7,8 @@ ghost use Rattle.command_lang_table.specs.declared.command.Command.TheVariants a
 ghost use Rattle.command_lang_table.specs.declared.fault.ParseFault.{ParseFault};
 ghost use Rattle.command_lang.specs.Relation.{Relates, Refuses, read_line};
 
-/// Each line is a command or has a first fault, and not both; what is computed of it is that
-/// command or that fault.
+/// Each line is a command or has a first fault, and not both. `parse` computes that command or that
+/// fault.
 pub fn each_line_is_a_command_or_faulty()
     ensures either { (line : List ℕ)
         → ((c : Command) × Relates line c) ⊎ ((f : ParseFault) × Refuses line f) }
@@ -18,7 +18,7 @@ pub fn each_line_is_a_command_or_faulty()
     ensures fault { (line : List ℕ) (f : ParseFault) → Refuses line f ↔ (read_line line ≡ Err f) }
 {}
 
-/// A line that gives a window a number gives it one below 40.
+/// A line that gives a window a number gives it a number below 40.
 pub fn numbers_are_below_40()
     ensures { (line : List ℕ) (n : ℕ) → Relates line (command.Number n) → n < WINDOWS }
 {}

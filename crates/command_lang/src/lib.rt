@@ -1,4 +1,4 @@
-//! The commands of a session: a line is a command, and a command is a line.
+//! The commands of a session: a line is read as a command, and a command is printed as a line.
 #![tactic(auto)]
 
 mod laws;

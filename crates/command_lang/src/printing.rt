@@ -10,14 +10,15 @@ use command_lang_printing::command_line;
 use command_lang_table::Command;
 use std::alloc::{AllocError, Global};
 
-/// The line of a command: its name and its words with one blank between them.
+/// The line of a command: its name and its words with one blank between them. `AllocError` if
+/// memory is refused.
 ///
-/// A word that is empty, or that holds another character than ASCII's letters and digits and
-/// `_ - + , # ? *`, stands between `"`. Numbers and bits are written in one form: `number 007` is
-/// printed as `number 7`.
+/// A word stands between `"` if it is empty or holds a character other than ASCII letters, ASCII
+/// digits and `_ - + , # ? *`. Numbers and bits are written in one form: `number 007` is printed as
+/// `number 7`.
 pub fn print(alloc: Global, command: &Command) -> Result<String, AllocError>
     ensures text { IfOk result (λ t. string_bytes t ≡ printed command.now) }
-    // What any line gives, this line gives too, where it isn't too long.
+    // This line gives what any line of the command gives, unless it is too long.
     ensures reads_back { IfOk result (λ t. (line : List ℕ) → Relates line command.now
         → ReadsBack (string_bytes t) command.now) }
 {

@@ -27,7 +27,7 @@ drop-all [] (suc i) h = refl
 drop-all (x ∷ xs) zero h = absurd (omega (arith, h))
 drop-all (x ∷ xs) (suc i) h = drop-all xs i (omega (arith, h))
 
--- one item more
+-- every item but the first has a comma before it
 behind-suc : (n : ℕ) (y : List ℕ) → item_behind (suc n) y ≡ 0x2C ∷ y
 behind-suc n y = let e : (suc n == 0) ≡ false = grind (arith, nat_tests) in ap (λ b. cond b [] (0x2C ∷ []) ++ y) e
 
@@ -64,7 +64,7 @@ items-more old now new xs i x y h e f a b =
     (ap (λ j. items_word (take i xs) ++ item_behind j x) (sym (length-take-le xs i (omega (arith, h))))
     ∙ sym (items-snoc (take i xs) x) ∙ ap items_word (sym (take-more xs i x h e)))
 
--- one character more
+-- one more character of a quoted word
 pub quoted-more : (old now new cs ys : List ℕ) (x : ℕ) → (length ys < length cs) × (x ≡ get_or cs (length ys) x)
     → old ≡ now ++ encode_utf8_all (quoted (drop (length ys) cs)) → new ≡ now ++ encode_utf8_all (escaped x)
     → old ≡ new ++ encode_utf8_all (quoted (drop (length (ys ++ x ∷ [])) cs))
@@ -80,7 +80,7 @@ pub quoted-end : (old now cs : List ℕ) (n : ℕ) → n ≡ length cs → old �
 quoted-end old now cs n e a = sym
     (a ∙ ap (λ l. now ++ encode_utf8_all (quoted l)) (drop-all cs n (omega (arith, e))) ∙ append-nil now)
 
--- what was pushed, where it was
+-- if appending succeeded, the text is at the end
 pub pushed : {T E : Type 0} (r : Result T E) (old new text : List ℕ) → new ≡ cond (is_ok r) (old ++ text) old
     → OnOk r (new ≡ old ++ text)
 pushed (Ok x) old new text h = h
@@ -105,7 +105,7 @@ quoted_text old a b new text h e f g =
     ∙ ap (λ l. old ++ (0x22 ∷ l)) (sym (encodes-append (quoted (chars text)) (0x22 ∷ [])))
     ∙ ap (λ c. old ++ encode_utf8_all (cond c (chars text) (0x22 ∷ (quoted (chars text) ++ 0x22 ∷ [])))) (sym h)
 
--- the name, and one word more
+-- the name of a command, and one more word
 pub name-encoded : (n : CommandName) → encode_utf8_all (name_text n) ≡ name_text n
 unfolding lib.Utf8.encode
 name-encoded name.Acladd = refl

@@ -27,7 +27,7 @@ use Rattle.command_lang_table.specs.Values.{is_empty_text}
 abbrev pub items_word : List (List ℕ) → List ℕ
 items_word items = join_with_byte (code ",") items
 
--- an item as it stands there, where i others stand before it
+-- an item as it is printed, if i items come before it
 abbrev pub item_behind : ℕ → List ℕ → List ℕ
 item_behind i item = (if i == 0 then [] else codes ",") ++ item
 
@@ -48,7 +48,7 @@ abbrev pub sign : Bool → ℕ
 sign true = code "+"
 sign false = code "-"
 
--- a sign stands before the first bit, and where it is another than before
+-- a sign stands before the first bit, and before each bit whose sign differs from the one before
 abbrev pub sign_before : Option Bool → Bool → List ℕ
 sign_before None value = sign value ∷ []
 sign_before (Some true) true = []
@@ -109,14 +109,14 @@ words_of (command.Encoding coding) = coding_word coding ∷ []
 words_of (command.Stuff text) = text ∷ []
 words_of _ = []
 
--- The characters that need no quotes: ASCII's letters and digits, and some signs
+-- The characters that need no quotes: ASCII letters and digits, and some signs
 abbrev pub is_plain : ℕ → Bool
 is_plain c = is_ascii_alphanumeric c || list_any (λ sign. c == sign) (codes "_-+,#?*")
 
 abbrev pub octal : ℕ → List ℕ
 octal c = (0x30 + c / 64 % 8) ∷ (0x30 + c / 8 % 8) ∷ (0x30 + c % 8) ∷ []
 
--- a character inside of "
+-- a character between "
 abbrev pub escaped : ℕ → List ℕ
 escaped c =
     if c == 0x22 || c == 0x5C then 0x5C ∷ c ∷ []
@@ -127,7 +127,7 @@ abbrev pub quoted : List ℕ → List ℕ
 quoted [] = []
 quoted (c ∷ cs) = escaped c ++ quoted cs
 
--- an empty word, or one with another character, stands in "
+-- a word needs " if it is empty or has any other character
 abbrev pub needs_no_quotes : List ℕ → Bool
 needs_no_quotes text = not (is_empty_text text) && list_all is_plain (chars text)
 
@@ -136,7 +136,7 @@ abbrev pub printed_word : List ℕ → List ℕ
 printed_word text =
     if needs_no_quotes text then chars text else 0x22 ∷ (quoted (chars text) ++ 0x22 ∷ [])
 
--- words, each behind a blank
+-- words, each with a blank before it
 abbrev pub printed_words : List (List ℕ) → List ℕ
 printed_words [] = []
 printed_words (text ∷ texts) = 0x20 ∷ (printed_word text ++ printed_words texts)

@@ -9,7 +9,7 @@ use command_lang_table::{Coding, Command, Leader, Mask, Users};
 use command_lang_words::{Text, Texts};
 use std::alloc::{AllocError, Global};
 
-/// Appends an item, with a comma before each but the first.
+/// Appends an item; a comma comes before each but the first.
 fn put_item(i: usize, item: &str, out: &mut String) -> Result<(), AllocError>
     ensures { OnOk result (string_bytes out.new ≡ string_bytes out.old
         ++ print.item_behind i item.now) }
@@ -31,7 +31,7 @@ fn put_items(items: &[Text], out: &mut String) -> Result<(), AllocError>
     Ok(())
 }
 
-/// Appends users.
+/// Appends the word for users.
 fn put_users(users: &Users, out: &mut String) -> Result<(), AllocError>
     ensures { OnOk result (string_bytes out.new ≡ string_bytes out.old
         ++ print.users_word users.now) }
@@ -53,7 +53,8 @@ fn letter(bit: Bit) -> char
     }
 }
 
-/// The sign before a bit that is given or taken, after one that was given or taken, or none.
+/// The sign before a bit that is given or taken; `None` if the bit before it had the same sign.
+/// `last` is that of the bit before, if any.
 fn sign_before(last: Option<bool>, value: bool) -> Option<char>
     ensures { option_to_list result ≡ print.sign_before last value }
 {
@@ -67,7 +68,7 @@ fn sign_before(last: Option<bool>, value: bool) -> Option<char>
     }
 }
 
-/// Appends a bit that is given or taken.
+/// Appends a bit that is given or taken, with its sign if it needs one.
 fn put_change(last: Option<bool>, change: BitChange, out: &mut String) -> Result<(), AllocError>
     ensures { OnOk result (string_bytes out.new ≡ string_bytes out.old
         ++ print.change_behind last change) }
@@ -78,7 +79,7 @@ fn put_change(last: Option<bool>, change: BitChange, out: &mut String) -> Result
     out.push(letter(change.bit))
 }
 
-/// Appends bits: each group of one sign together.
+/// Appends bits; those of one sign that follow each other share it.
 fn put_bits(bits: &[BitChange], out: &mut String) -> Result<(), AllocError>
     ensures { OnOk result (string_bytes out.new ≡ string_bytes out.old
         ++ print.bits_word bits.now) }
@@ -92,7 +93,7 @@ fn put_bits(bits: &[BitChange], out: &mut String) -> Result<(), AllocError>
     Ok(())
 }
 
-/// Appends users, if any.
+/// Appends the users of a mask, if it has any.
 fn put_mask_users(users: &Option<Users>, out: &mut String) -> Result<(), AllocError>
     ensures { OnOk result (string_bytes out.new ≡ string_bytes out.old
         ++ print.mask_users_word users.now) }
@@ -103,7 +104,7 @@ fn put_mask_users(users: &Option<Users>, out: &mut String) -> Result<(), AllocEr
     }
 }
 
-/// The word of users.
+/// The word for users.
 fn users_text(alloc: Global, users: &Users) -> Result<Text, AllocError>
     ensures { IfOk result (λ t. t ≡ print.users_word users.now) }
 {
@@ -112,7 +113,7 @@ fn users_text(alloc: Global, users: &Users) -> Result<Text, AllocError>
     Ok(Text::new(word))
 }
 
-/// The word of bits.
+/// The word for bits.
 fn bits_text(alloc: Global, bits: &[BitChange]) -> Result<Text, AllocError>
     ensures { IfOk result (λ t. t ≡ print.bits_word bits.now) }
 {
@@ -121,7 +122,7 @@ fn bits_text(alloc: Global, bits: &[BitChange]) -> Result<Text, AllocError>
     Ok(Text::new(word))
 }
 
-/// The word of a list.
+/// The word for a list.
 fn items_text(alloc: Global, items: &[Text]) -> Result<Text, AllocError>
     ensures { IfOk result (λ t. t ≡ print.items_word items.now) }
 {
@@ -130,7 +131,7 @@ fn items_text(alloc: Global, items: &[Text]) -> Result<Text, AllocError>
     Ok(Text::new(word))
 }
 
-/// The word of a mask.
+/// The word for a mask.
 fn mask_text(alloc: Global, mask: &Mask) -> Result<Text, AllocError>
     ensures { IfOk result (λ t. t ≡ print.mask_word mask.now) }
 {
@@ -140,7 +141,7 @@ fn mask_text(alloc: Global, mask: &Mask) -> Result<Text, AllocError>
     Ok(Text::new(word))
 }
 
-/// The word of a lock's mode.
+/// The word for a lock's mode.
 fn lock_mode_text(mode: LockMode) -> &'static str
     ensures { result.now ≡ print.lock_mode_word mode }
 {
@@ -151,14 +152,14 @@ fn lock_mode_text(mode: LockMode) -> &'static str
     }
 }
 
-/// The word of a switch.
+/// The word for a switch.
 fn switch_text(on: bool) -> &'static str
     ensures { result.now ≡ print.switch_word on }
 {
     if on { "on" } else { "off" }
 }
 
-/// The word of a coding.
+/// The word for a coding.
 fn coding_text(coding: Coding) -> &'static str
     ensures { result.now ≡ print.coding_word coding }
 {
@@ -168,7 +169,7 @@ fn coding_text(coding: Coding) -> &'static str
     }
 }
 
-/// The word of a leader.
+/// The word for a leader.
 fn leader_text(leader: &Leader) -> &str
     ensures { result.now ≡ print.leader_word leader.now }
 {
@@ -178,7 +179,7 @@ fn leader_text(leader: &Leader) -> &str
     }
 }
 
-/// One word.
+/// A list of one word.
 fn lone(alloc: Global, word: &str) -> Result<Texts, AllocError>
     ensures { IfOk result (λ w. w ≡ word.now ∷ []) }
 {
@@ -187,7 +188,7 @@ fn lone(alloc: Global, word: &str) -> Result<Texts, AllocError>
     Ok(words)
 }
 
-/// Words, in order.
+/// A list of three words.
 fn three(alloc: Global, first: Text, second: Text, third: Text) -> Result<Texts, AllocError>
     ensures { IfOk result (λ w. w ≡ first ∷ second ∷ third ∷ []) }
 {
@@ -198,7 +199,7 @@ fn three(alloc: Global, first: Text, second: Text, third: Text) -> Result<Texts,
     Ok(words)
 }
 
-/// The words of a user and their leader.
+/// The words for a user and their leader.
 fn group_words(alloc: Global, user: &str, leader: &Option<Leader>) -> Result<Texts, AllocError>
     ensures { IfOk result (λ w. w ≡ user.now ∷ print.leader_words leader.now) }
 {
@@ -209,7 +210,7 @@ fn group_words(alloc: Global, user: &str, leader: &Option<Leader>) -> Result<Tex
     Ok(words)
 }
 
-/// The words of masks.
+/// The words for masks.
 fn mask_words(alloc: Global, masks: &[Mask]) -> Result<Texts, AllocError>
     ensures { IfOk result (λ w. w ≡ map print.mask_word masks.now) }
 {
@@ -220,7 +221,7 @@ fn mask_words(alloc: Global, masks: &[Mask]) -> Result<Texts, AllocError>
     Ok(words)
 }
 
-/// The words of a command, after its name.
+/// The words of a command, after its name. `AllocError` if memory is refused.
 pub fn command_words(alloc: Global, command: &Command) -> Result<Texts, AllocError>
     ensures { IfOk result (λ w. w ≡ print.words_of command.now) }
 {

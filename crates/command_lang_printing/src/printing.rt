@@ -10,7 +10,7 @@ use crate::command_words::command_words;
 use command_lang_table::{Command, name_text};
 use std::alloc::{AllocError, Global};
 
-/// Whether a word with this character is printed as it is.
+/// Whether the character needs no quotes.
 fn is_plain(c: char) -> bool
     ensures { result ≡ is_plain c }
 {
@@ -32,7 +32,7 @@ fn octal_digit(value: u32) -> char
     (b'0' + value as u8) as char
 }
 
-/// Appends an escape with three octal digits.
+/// Appends an escape: a backslash and three octal digits.
 fn put_octal(c: char, out: &mut String) -> Result<(), AllocError>
     ensures { OnOk result (string_bytes out.new ≡ string_bytes out.old
         ++ encode_utf8_all (0x5C ∷ octal c)) }
@@ -44,7 +44,7 @@ fn put_octal(c: char, out: &mut String) -> Result<(), AllocError>
     out.push(octal_digit(code % 8))
 }
 
-/// Appends a character that stands between `"`.
+/// Appends a character, as it is written between `"`.
 fn put_escaped(c: char, out: &mut String) -> Result<(), AllocError>
     ensures { OnOk result (string_bytes out.new ≡ string_bytes out.old
         ++ encode_utf8_all (escaped c)) }
@@ -59,14 +59,14 @@ fn put_escaped(c: char, out: &mut String) -> Result<(), AllocError>
     }
 }
 
-/// Whether a word is printed as it is.
+/// Whether a word is printed without quotes.
 fn needs_no_quotes(text: &str) -> bool
     ensures { result ≡ needs_no_quotes text.now }
 {
     !text.is_empty() && text.chars().all(|c| is_plain(c))
 }
 
-/// Appends the characters of a word that stands between `"`.
+/// Appends the characters of a word, as they are written between `"`.
 fn put_quoted(text: &str, out: &mut String) -> Result<(), AllocError>
     ensures { OnOk result (string_bytes out.new ≡ string_bytes out.old
         ++ encode_utf8_all (quoted (chars text.now))) }
@@ -77,7 +77,7 @@ fn put_quoted(text: &str, out: &mut String) -> Result<(), AllocError>
     Ok(())
 }
 
-/// Appends a word, between `"` where it has to be.
+/// Appends a word, between `"` if it needs quotes.
 fn put_word(text: &str, out: &mut String) -> Result<(), AllocError>
     ensures { OnOk result (string_bytes out.new ≡ string_bytes out.old
         ++ encode_utf8_all (printed_word text.now)) }
@@ -91,7 +91,8 @@ fn put_word(text: &str, out: &mut String) -> Result<(), AllocError>
     }
 }
 
-/// The line of a command: its name and its words with one blank between them.
+/// The line of a command: its name and its words, with one blank between them. `AllocError` if
+/// memory is refused.
 pub fn command_line(alloc: Global, command: &Command) -> Result<String, AllocError>
     ensures { IfOk result (λ t. string_bytes t ≡ printed command.now) }
 {

@@ -1,4 +1,4 @@
--- The digits of a number, one after another.
+-- The digits of a number, read one after another.
 use Rattle.std.proofs.Common.{◌≡◌, ℕ, zero, suc, ◌+◌, ◌-◌, ◌*◌, ◌<◌, true, ◌&&◌, List, [], ◌∷◌, ◌++◌, length, take}
 use Rattle.std.proofs.Common.{get_or, refl, sym, ap, ◌∙◌, arith, ◌^◌}
 use Rattle.std.specs.List.{list_all}
@@ -7,7 +7,7 @@ use Rattle.std.proofs.Math.Nat.{pow-suc}
 use Rattle.std.proofs.lemmas.List.Folds.{list_all-append}
 use Rattle.command_lang_table.specs.Values.{is_digit, number_after}
 
--- one digit more
+-- taking one more digit appends that digit
 take-more : (xs : List ℕ) (i : ℕ) → i < length xs → take (i + 1) xs ≡ take i xs ++ get_or xs i 0 ∷ []
 take-more [] i h = absurd (omega (arith, h))
 take-more (x ∷ xs) zero h = refl

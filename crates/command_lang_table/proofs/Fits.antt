@@ -1,4 +1,4 @@
--- Words without a fault are those that the table wants, and mean a command.
+-- If words have no fault, the table wants them, and they mean a command.
 use Rattle.std.proofs.Common.{◌≡◌, ℕ, ◌+◌, Bool, true, false, cond, List, [], ◌∷◌, ◌++◌, refl, sym, ap, ◌∙◌, Option}
 use Rattle.std.proofs.Common.{Some, None, option_to_list, true≢false, ◌<◌, arith}
 use Rattle.std.specs.Prelude.{nat_lt, not, ◌||◌}
@@ -21,7 +21,7 @@ use Rattle.command_lang_table.specs.Rows.{takes}
 use Rattle.command_lang_table.specs.Table.{least, kind_at, kind_fault, at_place, word_fault, words_faults, first_of}
 use Rattle.command_lang_table.specs.Meaning.{bare, with_word, with_words, command_of, texts_of}
 
--- the texts are those that the row wants
+-- each text is of the kind that its row wants
 abbrev pub AllFit : Kind → List (List ℕ) → Type 0
 AllFit k [] = Unit {0}
 AllFit k (t ∷ ts) = (kind_fault k t ≡ None) × AllFit k ts
@@ -57,7 +57,7 @@ extra w h = by w.is_closed h
     by true h = true≢false (ap is_some h)
     by false h = true≢false (ap is_some h)
 
--- one word more
+-- one more word
 more : (r : Words) (i end : ℕ) (w : Word) (ws : List Word) → first_of (words_faults r i end (w ∷ ws)) ≡ None
     → (word_fault (kind_at r i) w ≡ None) × (first_of (words_faults r (i + 1) end ws) ≡ None)
 unfolding words_faults
@@ -124,7 +124,7 @@ numbered : (f : ℕ → Command) (limit : ℕ) (text : List ℕ) → unless (is_
 numbered f limit text h = ap (λ b. is_some (option_map f (cond b (Some (number_after 0 text)) None)))
     (passes (is_number limit text) faults.BadNumber h)
 
--- a row that can do without words
+-- whether the row can be without words
 abbrev takes_none : Words → Bool
 takes_none Nothing = true
 takes_none (Perhaps a) = true
@@ -135,7 +135,7 @@ none_fit Nothing h = refl
 none_fit (Perhaps a) h = refl
 none_fit _ h = absurd h
 
--- such a command is one without words
+-- a command whose row can be without words has a meaning without words
 bare_row : (n : CommandName) → (not (takes_none (takes n)) || is_some (bare n)) ≡ true
 bare_row name.Detach = refl
 bare_row n = refl
@@ -181,7 +181,7 @@ means_one n [] h = bare_is n h
 means_one n (t ∷ []) h = one_is n t h
 means_one n (t ∷ u ∷ ts) h = several_is n t u ts h
 
--- Words that fit have no fault.
+-- words that fit have no fault
 abbrev pub AllWhole : List Word → Type 0
 AllWhole [] = Unit {0}
 AllWhole (w ∷ ws) = (w.is_closed ≡ true) × AllWhole ws

@@ -1,4 +1,4 @@
--- Bits, byte by byte, and where they begin.
+-- Bits, read byte by byte, and the place at which they begin.
 use Rattle.std.proofs.Common.{◌≡◌, ℕ, suc, ◌+◌, ◌<◌, ◌≤◌, Bool, true, false, not, ◌&&◌, cond, List, [], ◌∷◌, ◌++◌}
 use Rattle.std.proofs.Common.{length, drop, get_or, Option, Some, None, refl, sym, ap, ◌∙◌, arith, unwrap_or}
 use Rattle.std.proofs.Common.{append_assoc, drop-cons}
@@ -34,13 +34,13 @@ first-or xs r n h e = e ∙ ap (λ o. unwrap_or o (length xs)) h
     by true t = refl
     by false t = let l = place_le xs in grind (arith, nat_tests)
 
--- what a loop over groups keeps
+-- what the loop over groups of bits keeps
 pub groups-at : (text : List ℕ) (i x : ℕ) (b : Bool) → i < length text → x ≡ get_or text i x
     → goes_on b (drop i text) ≡ cond (is_letter x) (goes_on false (drop (i + 1) text))
     ((is_sign x && not b) && goes_on true (drop (i + 1) text))
 groups-at text i x b h g = ap (goes_on b) (drop-at text i x h g)
 
--- what a loop over bits keeps: those put, and those to come
+-- what the loop over bits keeps: those that were put, and those still to be put
 pub bits-at : (all out new : List BitChange) (text : List ℕ) (i x : ℕ) (v : Bool) (o : Option Bit)
     → all ≡ out ++ bits_after v (drop i text) → i < length text → x ≡ get_or text i x → o ≡ bit_of x
     → new ≡ out ++ change_of v o → all ≡ new ++ bits_after (value_after v x o) (drop (i + 1) text)
@@ -50,7 +50,7 @@ bits-at all out new text i x v o a h g e n =
     ∙ sym (append_assoc out (change_of v o) (bits_after (value_after v x o) (drop (i + 1) text)))
     ∙ ap (λ l. l ++ bits_after (value_after v x o) (drop (i + 1) text)) (sym n)
 
--- a text may be cut before its first sign
+-- a text may be cut at its first sign
 sign_at : (xs : List ℕ) → position_or_len is_sign xs < length xs
     → is_sign (get_or xs (position_or_len is_sign xs) 0) ≡ true
 sign_at [] h = absurd (omega (arith, h))

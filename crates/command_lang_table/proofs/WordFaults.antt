@@ -1,4 +1,4 @@
--- The faults of words, from the first on.
+-- The faults of words, from a given word on.
 use Rattle.std.proofs.Common.{◌≡◌, ℕ, zero, suc, ◌+◌, ◌<◌, ◌≤◌, Bool, true, false, cond, List, [], ◌∷◌, ◌++◌, length}
 use Rattle.std.proofs.Common.{drop, get_or, refl, sym, ap, ◌∙◌, arith, Option, Some, None, option_to_list, true≢false}
 use Rattle.std.proofs.Common.{drop-cons}

@@ -19,6 +19,6 @@ line_faults end (w ∷ ws) =
     if w.is_closed then named_faults (command_named w.text) w.place end ws
     else at w.place faults.BadQuote ∷ []
 
--- want of memory, at no place
+-- the fault that memory was refused; its place is 0
 abbrev pub no_memory : ParseFault
 no_memory = at 0 faults.NoMemory

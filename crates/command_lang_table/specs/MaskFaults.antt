@@ -1,4 +1,4 @@
--- Why a word isn't users, if any, and bits.
+-- Why a word isn't a mask: optional users, followed by bits.
 use Rattle.std.specs.Prelude.{ℕ, Bool, not, ◌&&◌, if◌then◌else◌, List, take, drop, Option, Some}
 use Rattle.std.specs.Prelude.{None}
 use Rattle.command_lang_table.specs.declared.fault.FaultKind.{FaultKind}
@@ -9,7 +9,7 @@ use Rattle.command_lang_table.specs.Values.{is_bits, has_empty_item, is_empty_te
 abbrev pub unless : Bool → FaultKind → Option FaultKind
 unless fine kind = if fine then None else Some kind
 
--- of both faults at one place that of the bits, which has the lower number
+-- of two faults at one place, the one of the bits counts, since it has the lower number
 abbrev pub mask_fault : List ℕ → Option FaultKind
 mask_fault text =
     if not (is_bits (drop (sign_place text) text)) then Some faults.BadBits

@@ -11,7 +11,7 @@ use Rattle.command_lang_table.specs.Values.{is_vertical, items_of, users_of, lea
 use Rattle.command_lang_table.specs.Values.{mask_of}
 use Rattle.command_lang_table.specs.Names.{command_named}
 
--- without a word
+-- the command of a name alone
 abbrev pub bare : CommandName → Option Command
 bare name.Detach = Some command.Detach
 bare name.Next = Some command.Next
@@ -31,7 +31,7 @@ bare name.Displays = Some command.Displays
 bare name.Quit = Some command.Quit
 bare _ = None
 
--- with one word
+-- the command of a name and one word
 abbrev pub with_word : CommandName → List ℕ → Option Command
 with_word name.Acladd text = Some (command.Acladd (users_of text))
 with_word name.Acldel text = Some (command.Acldel text)
@@ -50,7 +50,7 @@ with_word name.Encoding text = option_map command.Encoding (coding_in text)
 with_word name.Stuff text = Some (command.Stuff text)
 with_word _ text = None
 
--- with several words
+-- the command of a name and several words
 abbrev pub with_words : CommandName → List (List ℕ) → Option Command
 with_words name.Aclgrp (user ∷ leader ∷ []) = Some (command.Aclgrp user (Some (leader_of leader)))
 with_words name.Aclchg (users ∷ bits ∷ list ∷ []) =

@@ -23,7 +23,7 @@ is_called word n = bytes_eq (name_text n) word || is_alias (row n).alias word
 abbrev pub all_names : List CommandName
 all_names = ALL
 
--- their names, in this order, by the GNU Screen manual; scrollview is this project's own
+-- the names in this order are those of the GNU Screen manual; scrollview is this project's own
 abbrev pub names_of_manual : List (List ℕ)
 names_of_manual =
     codes "acladd" ∷ codes "aclchg" ∷ codes "acldel" ∷ codes "aclgrp" ∷ codes "aclumask"

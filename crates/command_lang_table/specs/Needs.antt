@@ -1,5 +1,5 @@
--- What each command needs beside x on itself: what its row has; but `writelock off` gives nothing
--- that w guards.
+-- What each command needs besides x on itself: what its row says, except that `writelock off` gives
+-- nothing that w guards.
 use Rattle.std.specs.Prelude.{true}
 use Rattle.acl.specs.declared.act.LockMode.{LockMode}
 use Rattle.acl.specs.declared.act.LockMode.TheVariants.{Off, Auto, On}

@@ -1,4 +1,5 @@
--- The table of commands: the rows of the code's own constant, by the places of the names.
+-- The table of commands: the rows of the code's own constant, at the indices of the commands'
+-- names.
 use Rattle.std.specs.Prelude.{ℕ, List, [], map, get_or, Option, None}
 use Rattle.std.specs.Option.{option_map}
 use Rattle.acl.specs.Same.{index_of_command}
@@ -10,7 +11,7 @@ use Rattle.command_lang_table.specs.declared.rows.TheConstants.{ROWS}
 use Rattle.command_lang_table.specs.declared.rows.Words.{Words}
 use Rattle.command_lang_table.specs.declared.rows.Words.TheVariants.{Nothing}
 
--- a command's name, another word for it, the words that it takes, and what it needs
+-- a command's name, its alias, the words that it takes, and what it needs
 pub record TableRow : Type 0 where
   pub name : List ℕ
   pub alias : Option (List ℕ)
@@ -25,7 +26,7 @@ rows = map (λ r. record {
   needs = r.3;
 }) ROWS
 
--- each command has its row; the blank one stands for none
+-- stands for the row of a command that has none; each command has one
 abbrev pub no_row : TableRow
 no_row = record { name = []; alias = None; words = Nothing; needs = NOTHING }
 

@@ -15,7 +15,7 @@ use Rattle.command_lang_table.specs.Values.{is_number, lock_mode_in, switch_in, 
 use Rattle.command_lang_table.specs.Values.{is_vertical, is_bits, has_empty_item}
 use Rattle.command_lang_table.specs.MaskFaults.{unless, mask_fault}
 
--- how many words there are at least
+-- the least number of words
 abbrev pub least : Words → ℕ
 least Nothing = 0
 least (One a) = 1
@@ -24,7 +24,7 @@ least (OneOrTwo a b) = 1
 least (Three a b c) = 3
 least (Several a) = 1
 
--- what the word with this number has to be; none where there may be none
+-- what the word with this number has to be; None if there may be no such word
 abbrev pub kind_at : Words → ℕ → Option Kind
 kind_at Nothing i = None
 kind_at (One a) i = if i == 0 then Some a else None
@@ -34,7 +34,7 @@ kind_at (Three a b c) i =
     if i == 0 then Some a else if i == 1 then Some b else if i == 2 then Some c else None
 kind_at (Several a) i = Some a
 
--- why a text isn't what a word has to be
+-- why a text isn't what its word has to be
 abbrev pub kind_fault : Kind → List ℕ → Option FaultKind
 kind_fault kind.Text text = None
 kind_fault kind.Items text = unless (not (has_empty_item text)) faults.BadWord
@@ -53,12 +53,12 @@ abbrev pub at_place : ℕ → Option FaultKind → Option ParseFault
 at_place place None = None
 at_place place (Some kind) = Some (at place kind)
 
--- a word where none may stand, or why it isn't what it has to be
+-- why a word isn't what it has to be, or that there may be no word there
 abbrev pub judged : Option Kind → List ℕ → Option FaultKind
 judged None text = Some faults.ExtraWord
 judged (Some k) text = kind_fault k text
 
--- the fault of a word; a bad quote goes first
+-- the fault of a word; BadQuote comes before any other
 abbrev pub word_fault : Option Kind → Word → Option ParseFault
 word_fault k w = at_place w.place (if w.is_closed then judged k w.text else Some faults.BadQuote)
 

@@ -1,5 +1,5 @@
--- What words mean, and which texts are the words that are wanted. Users, bits, lists and masks are
--- those of acladd, aclchg and aclumask in the GNU Screen manual, section Multiuser Session.
+-- What words mean, and which texts are of the wanted kind. Users, bits, lists and masks are those
+-- of acladd, aclchg and aclumask in the GNU Screen manual, section Multiuser Session.
 use Rattle.std.specs.Prelude.{ℕ, ◌+◌, ◌-◌, ◌*◌, Bool, true, false, not, ◌&&◌, ◌||◌, nat_lt, nat_le}
 use Rattle.std.specs.Prelude.{◌==◌, if◌then◌else◌, List, [], ◌∷◌, ◌++◌, length, take, drop, codes}
 use Rattle.std.specs.Prelude.{Option, Some, None}
@@ -23,7 +23,7 @@ use Rattle.command_lang_table.specs.declared.command.Mask.{Mask}
 abbrev pub is_digit : ℕ → Bool
 is_digit c = nat_lt 0x2F c && nat_lt c 0x3A
 
--- the number that some digits spell, behind what is spelled before them
+-- the number that digits spell after digits that spell n
 abbrev pub number_after : ℕ → List ℕ → ℕ
 number_after n [] = n
 number_after n (d ∷ digits) = number_after (n * 10 + (d - 0x30)) digits
@@ -59,7 +59,7 @@ coding_in text =
 abbrev pub is_vertical : List ℕ → Bool
 is_vertical text = bytes_eq text (codes "-v")
 
--- Lists: the items between commas.
+-- Lists: items with commas between them.
 abbrev pub items_of : List ℕ → List (List ℕ)
 items_of text = slice_split (λ b. b == 0x2C) text
 
@@ -69,7 +69,7 @@ is_empty_text text = length text == 0
 abbrev pub has_empty_item : List ℕ → Bool
 has_empty_item text = list_any is_empty_text (items_of text)
 
--- a lone `*` is all users
+-- a lone `*` means all users
 abbrev pub users_of : List ℕ → Users
 users_of text = if bytes_eq text (codes "*") then users.All else users.Listed (items_of text)
 
@@ -90,7 +90,7 @@ bit_of c =
 abbrev pub is_letter : ℕ → Bool
 is_letter c = is_some (bit_of c)
 
--- what may follow a sign, which wants a letter, or a letter
+-- whether groups may go on with these bytes; after a sign, a letter must come next
 abbrev pub goes_on : Bool → List ℕ → Bool
 goes_on wanting [] = not wanting
 goes_on wanting (c ∷ cs) =
@@ -100,12 +100,12 @@ abbrev pub is_bits : List ℕ → Bool
 is_bits [] = false
 is_bits (c ∷ cs) = is_sign c && goes_on true cs
 
--- what a byte gives or takes, behind a sign that gives or takes
+-- the change that a byte makes, after a sign that gives or takes
 abbrev pub change_of : Bool → Option Bit → List BitChange
 change_of value None = []
 change_of value (Some b) = record { bit = b; value = value } ∷ []
 
--- whether the bits behind a byte are given
+-- whether the bits that follow a byte are given
 abbrev pub value_after : Bool → ℕ → Option Bit → Bool
 value_after value c None = c == 0x2B
 value_after value c (Some b) = value
@@ -119,7 +119,7 @@ bits_after value (c ∷ cs) =
 abbrev pub bits_of : List ℕ → List BitChange
 bits_of text = bits_after true text
 
--- Masks: users, if any, and bits, which begin at the first sign.
+-- Masks: optional users, followed by bits, which begin at the first sign.
 abbrev pub sign_place : List ℕ → ℕ
 sign_place text = position_or_len is_sign text
 

@@ -1,4 +1,4 @@
-//! A command is built from its name and words, once they have been judged.
+//! A command is built from its name and words, after the words were judged.
 
 ghost use Rattle.std.specs.Prelude.{◌≡◌, ◌∷◌, [], IfOk, map};
 ghost use Rattle.command_lang_table.specs.Values.{number_in, mask_of};
@@ -13,7 +13,7 @@ use acl::CommandName;
 use command_lang_words::{Text, Word};
 use std::alloc::{AllocError, Global};
 
-/// The command that takes no word, if the name is one's.
+/// The command of this name, if it is one that takes no word.
 fn bare(name: CommandName) -> Option<Command>
     ensures { result ≡ bare name }
 {
@@ -38,7 +38,7 @@ fn bare(name: CommandName) -> Option<Command>
     }
 }
 
-/// One mask.
+/// A list of one mask.
 fn lone_mask(alloc: Global, text: &str) -> Result<Masks, AllocError>
     ensures { IfOk result (λ m. m ≡ mask_of text.now ∷ []) }
 {
@@ -47,7 +47,7 @@ fn lone_mask(alloc: Global, text: &str) -> Result<Masks, AllocError>
     Ok(masks)
 }
 
-/// The number of a window.
+/// The window number that the text spells, if it does.
 fn window_number(text: &str) -> Option<u8>
     ensures { result ≡ number_in 39 text.now }
 {
@@ -57,7 +57,7 @@ fn window_number(text: &str) -> Option<u8>
     }
 }
 
-/// The command of one word.
+/// The command of a name and one word, if there is one.
 fn with_word(alloc: Global, name: CommandName, text: &str) -> Result<Option<Command>, AllocError>
     ensures { IfOk result (λ c. c ≡ with_word name text.now) }
 {
@@ -84,7 +84,7 @@ fn with_word(alloc: Global, name: CommandName, text: &str) -> Result<Option<Comm
     }
 }
 
-/// The masks of words.
+/// The masks that the words spell.
 fn masks(alloc: Global, words: &[Word]) -> Result<Masks, AllocError>
     ensures { IfOk result (λ m. m ≡ map mask_of (texts_of words.now)) }
 {
@@ -95,7 +95,7 @@ fn masks(alloc: Global, words: &[Word]) -> Result<Masks, AllocError>
     Ok(masks)
 }
 
-/// The command of several words.
+/// The command of a name and several words, if there is one.
 fn with_words(
     alloc: Global,
     name: CommandName,
@@ -118,7 +118,8 @@ fn with_words(
     }
 }
 
-/// The command of this name and these words, where they fit.
+/// The command of this name and these words; `None` if they don't fit. `AllocError` if memory is
+/// refused.
 pub fn build(
     alloc: Global,
     name: CommandName,

@@ -3,42 +3,42 @@
 use acl::{BitChange, CommandName, LockMode};
 use command_lang_words::{Items, Text, Texts};
 
-/// Users of a list command: all whom the session knows, or those whom words name.
+/// The users of a list command: all whom the session knows, or those whom words name.
 #[derive(Drop)]
 pub enum Users {
     All,
     Listed(Texts),
 }
 
-/// Whom a user is to follow.
+/// Whom a user is to follow: nobody, or the user whom a word names.
 #[derive(Drop)]
 pub enum Leader {
     Nobody,
     Named(Text),
 }
 
-/// Bits that are given and taken, in order.
+/// Bits that are given and taken, in this order.
 pub type BitList = Items<BitChange>;
 
-/// A mask: without users it is meant for all.
+/// A mask: users, and bits that are given and taken. Without users it is a mask for all.
 #[derive(Drop)]
 pub struct Mask {
     pub users: Option<Users>,
     pub bits: BitList,
 }
 
-/// Masks, in order.
+/// A list of masks.
 pub type Masks = Items<Mask>;
 
-/// A coding of a window's program: UTF-8, or sets and shifts by ECMA-35.
+/// The coding of a window's program: UTF-8, or the sets and shifts of ECMA-35.
 #[derive(Clone, Copy, PartialEq, Eq, Debug)]
 pub enum Coding {
     Utf8,
     Ecma35,
 }
 
-/// A command, with what its words mean. Names, list items and windows stay texts until the session
-/// looks them up.
+/// A command, with the meaning of its words. Names, list items and windows are texts until the
+/// session looks them up.
 #[derive(Drop)]
 pub enum Command {
     Acladd(Users),

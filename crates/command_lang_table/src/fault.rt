@@ -12,7 +12,7 @@ pub enum FaultKind {
     BadWord,
 }
 
-/// Why a line is no command, and at which of its bytes.
+/// Why a line is no command, and the index of the byte at which it isn't.
 #[derive(Clone, Copy, PartialEq, Eq, Debug)]
 pub struct ParseFault {
     pub kind: FaultKind,
@@ -24,7 +24,7 @@ impl ParseFault {
     ghost use Rattle.command_lang_table.specs.FaultNumbers.{number_of};
     ghost use Rattle.command_lang_table.specs.LineFaults.{no_memory};
 
-    /// Want of memory, at no place.
+    /// The fault that memory was refused; its place is 0.
     pub fn no_memory() -> ParseFault
         ensures { result ≡ no_memory }
     {
@@ -51,8 +51,8 @@ impl ParseFault {
         }
     }
 
-    /// The place of the fault: the first byte of its word, or the line's length where a word is
-    /// missing.
+    /// The place of the fault: the index of its word's first byte, or the line's length if a word
+    /// is missing.
     pub fn place(self) -> usize
         ensures { result ≡ self.place }
     {

@@ -1,4 +1,4 @@
-//! The table of commands: their names, the words that each takes, and what words mean.
+//! The table of commands: their names, the words that each takes, and what the words mean.
 #![tactic(auto)]
 
 mod build;

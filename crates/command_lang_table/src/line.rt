@@ -1,4 +1,4 @@
-//! The words of a line are a command, or have a fault.
+//! From the words of a line to a command or a fault.
 
 ghost use Rattle.std.specs.Prelude.{◌≡◌, ◌⊎◌, [], IfOk, IfErr, Some};
 ghost use Rattle.command_lang_table.specs.Rows.{takes};
@@ -15,14 +15,14 @@ use acl::CommandName;
 use command_lang_words::Word;
 use std::alloc::Global;
 
-/// The first fault of the words behind a command's name, in a line of that length.
+/// The first fault of the words after a command's name, in a line of that length in bytes.
 fn fault_of(name: CommandName, words: &[Word], end: usize) -> Option<ParseFault>
     ensures { result ≡ first_of (words_faults (takes name) 0 end words.now) }
 {
     words_fault(row(name).words, words, end)
 }
 
-/// The command of a line's words, or the first fault; the line has that length in bytes.
+/// The command of a line's words, or its first fault. `end` is the line's length in bytes.
 pub fn command_of(alloc: Global, line: &[Word], end: usize) -> Result<Command, ParseFault>
     ensures ok { IfOk result (λ c. (line_faults end line.now ≡ [])
         × (line_command line.now ≡ Some c)) }

@@ -6,7 +6,7 @@ ghost use Rattle.command_lang_table.specs.Names.{name_text, is_called, command_n
 use crate::rows::row;
 use acl::CommandName;
 
-/// The word that names a command.
+/// The word that names the command.
 pub fn name_text(name: CommandName) -> &'static str
     ensures { result.now ≡ name_text name }
 {
@@ -24,7 +24,7 @@ fn is_called(name: CommandName, word: &str) -> bool
     }
 }
 
-/// The command that a word names, by its name or alias.
+/// The command whose name or alias the word is; `None` if there is none.
 pub fn command_named(word: &str) -> Option<CommandName>
     ensures { result ≡ command_named word.now }
 {
@@ -34,8 +34,8 @@ pub fn command_named(word: &str) -> Option<CommandName>
         .copied()
 }
 
-/// The rows stand at the places of their commands: each has the name that the GNU Screen manual
-/// gives it.
+/// Each row stands at the index of its command, and has the name that the GNU Screen manual gives
+/// the command.
 pub fn commands_have_their_names()
     ensures { AreNamed }
 {}

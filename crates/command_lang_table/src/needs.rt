@@ -1,4 +1,4 @@
-//! What commands need.
+//! What commands need before they are done.
 
 ghost use Rattle.std.specs.Prelude.{◌≡◌};
 ghost use Rattle.command_lang_table.specs.Needs.{needs, of_lock};
@@ -7,8 +7,8 @@ use crate::command::Command;
 use crate::rows::row;
 use acl::LockMode;
 
-/// What a command needs beside x on itself: multiuser mode, a client, a window with x on it, then w
-/// on that, then its lock.
+/// What a command needs besides x on itself: multiuser mode, a client, a window with x on it, then
+/// w on that window, then its lock.
 #[derive(Clone, Copy, PartialEq, Eq, Debug)]
 pub struct Needs {
     pub multiuser: bool,
@@ -18,7 +18,7 @@ pub struct Needs {
     pub lock: bool,
 }
 
-/// Nothing but x on the command.
+/// Nothing besides x on the command.
 pub const NOTHING: Needs = Needs {
     multiuser: false,
     client: false,
@@ -27,7 +27,7 @@ pub const NOTHING: Needs = Needs {
     lock: false,
 };
 
-/// The lists change in multiuser mode alone.
+/// Multiuser mode: only then can the lists change.
 pub const MULTIUSER: Needs = Needs {
     multiuser: true,
     ..NOTHING
@@ -51,14 +51,14 @@ pub const PAGE_AND_WINDOW: Needs = Needs {
     ..WINDOW
 };
 
-/// What types needs w and the lock too.
+/// A window with x and w on it, and its lock: for commands that type.
 pub const TYPING: Needs = Needs {
     write: true,
     lock: true,
     ..WINDOW
 };
 
-/// `writelock off` gives nothing that w guards.
+/// `writelock off` gives nothing that w guards, so it doesn't need w.
 fn of_lock(mode: LockMode) -> Needs
     ensures { result ≡ of_lock mode }
 {
@@ -71,7 +71,7 @@ fn of_lock(mode: LockMode) -> Needs
     }
 }
 
-/// What a command needs beside x on itself: what stands in its row, but for `writelock off`.
+/// What a command needs besides x on itself: what its row says, except for `writelock off`.
 pub fn needs_of(command: &Command) -> Needs
     ensures { result ≡ needs command.now }
 {

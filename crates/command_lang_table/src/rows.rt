@@ -1,5 +1,5 @@
-//! The table of commands: a row for each, with its name, its alias, the words that it takes and what
-//! it needs.
+//! The table of commands: a row for each, with its name, its alias, the words that it takes and
+//! what it needs.
 
 ghost use Rattle.std.specs.Prelude.{◌≡◌};
 ghost use Rattle.command_lang_table.specs.Rows.{row, shown};
@@ -12,12 +12,12 @@ use acl::CommandName;
 pub enum Kind {
     /// Any text: a message, a title, a name, or a window's number or title.
     Text,
-    /// A list between commas without an empty item.
+    /// Items between commas, none of them empty.
     Items,
     Bits,
-    /// Users, if any, and bits.
+    /// Optional users, followed by bits.
     Mask,
-    /// 1 to 4 decimal digits, up to a number.
+    /// 1 to 4 decimal digits, whose value is at most this number.
     Number(u16),
     LockMode,
     Switch,
@@ -36,8 +36,7 @@ pub enum Words {
     Several(Kind),
 }
 
-/// A row of the table: the word that names the command, another word for it, the words that it takes
-/// and what it needs.
+/// A row of the table: the command's name, its alias, the words that it takes and what it needs.
 #[derive(Clone, Copy)]
 pub struct Entry {
     pub name: &'static str,
@@ -46,9 +45,9 @@ pub struct Entry {
     pub needs: Needs,
 }
 
-// Tuples: a constant of a struct that holds a reference can't be cited by the definitions.
+// These are tuples, since the definitions can't cite a constant of a struct that holds a reference.
 /// The rows, in the order of `CommandName` (GNU Screen manual). `scrollview`, the three words of
-/// writelock and the limits of numbers are this project's own.
+/// `writelock` and the limits of numbers are this project's own.
 pub static ROWS: [(&str, Option<&str>, Words, Needs); CommandName::COUNT] = [
     ("acladd", Some("addacl"), Words::One(Kind::Items), MULTIUSER),
     (

@@ -16,7 +16,7 @@ use crate::values::{
 use acl::CommandName;
 use command_lang_words::Word;
 
-/// How many words there are at least.
+/// The least number of words.
 fn least(words: Words) -> usize
     ensures { result ≡ least words }
 {
@@ -27,7 +27,7 @@ fn least(words: Words) -> usize
     }
 }
 
-/// What the word with this number has to be, from 0 on; none where there may be none.
+/// What the word with this number, from 0, has to be; `None` if there may be no such word.
 fn kind_at(words: Words, i: usize) -> Option<Kind>
     ensures { result ≡ kind_at words i }
 {
@@ -49,14 +49,14 @@ fn kind_at(words: Words, i: usize) -> Option<Kind>
     }
 }
 
-/// The fault that a word is in if a test failed.
+/// No fault if the test passed, else this one.
 fn fault_unless(fine: bool, kind: FaultKind) -> Option<FaultKind>
     ensures { result ≡ unless fine kind }
 {
     if fine { None } else { Some(kind) }
 }
 
-/// Why a text isn't what a word has to be.
+/// Why a text isn't of this kind; `None` if it is.
 fn judge(kind: Kind, text: &str) -> Option<FaultKind>
     ensures { result ≡ kind_fault kind text.now }
 {
@@ -78,7 +78,8 @@ fn judge(kind: Kind, text: &str) -> Option<FaultKind>
     }
 }
 
-/// The fault of a word that stands where this kind is wanted, or none.
+/// The fault of a word that has to be of this kind; `None` as a kind means that there may be no
+/// word.
 fn word_fault(kind: Option<Kind>, word: &Word) -> Option<ParseFault>
     ensures { result ≡ word_fault kind word.now }
 {
@@ -98,7 +99,8 @@ fn word_fault(kind: Option<Kind>, word: &Word) -> Option<ParseFault>
     }
 }
 
-/// The first fault of a command's words, in a line of that length.
+/// The first fault of a command's words, in a line of that length in bytes; `None` if there is
+/// none.
 pub fn words_fault(taken: Words, words: &[Word], end: usize) -> Option<ParseFault>
     ensures { result ≡ first_of (words_faults taken 0 end words.now) }
 {
@@ -118,7 +120,7 @@ pub fn words_fault(taken: Words, words: &[Word], end: usize) -> Option<ParseFaul
     }
 }
 
-/// The command that a line's first word names.
+/// The command that a line's first word names, or why it names none.
 pub fn first_name(word: &Word) -> Result<CommandName, ParseFault>
     ensures { result ≡ name_in word.now }
 {

@@ -17,7 +17,8 @@ fn is_digit(c: u8) -> bool
     b'0' <= c && c <= b'9'
 }
 
-/// The number that 1 to 4 digits spell, unless it is above the limit.
+/// The number that the digits spell; `None` unless there are 1 to 4 of them and the number is at
+/// most the limit.
 pub fn number(text: &[u8], limit: u16) -> Option<u16>
     ensures { result ≡ mean.number_in limit text.now }
 {
@@ -34,7 +35,7 @@ pub fn number(text: &[u8], limit: u16) -> Option<u16>
     if n <= limit { Some(n) } else { None }
 }
 
-/// `off`, `auto` or `on`.
+/// The mode that `off`, `auto` or `on` means; `None` for another text.
 pub fn lock_mode(text: &str) -> Option<LockMode>
     ensures { result ≡ mean.lock_mode_in text.now }
 {
@@ -49,7 +50,7 @@ pub fn lock_mode(text: &str) -> Option<LockMode>
     }
 }
 
-/// `on` or `off`.
+/// `on` is true, `off` is false; `None` for another text.
 pub fn switch(text: &str) -> Option<bool>
     ensures { result ≡ mean.switch_in text.now }
 {
@@ -62,7 +63,7 @@ pub fn switch(text: &str) -> Option<bool>
     }
 }
 
-/// `utf8` or `ecma35`.
+/// The coding that `utf8` or `ecma35` means; `None` for another text.
 pub fn coding(text: &str) -> Option<Coding>
     ensures { result ≡ mean.coding_in text.now }
 {
@@ -82,14 +83,14 @@ pub fn is_vertical(text: &str) -> bool
     text == "-v"
 }
 
-/// Whether an item between commas is empty.
+/// Whether one of the items between commas is empty.
 pub fn has_empty_item(text: &str) -> bool
     ensures { result ≡ mean.has_empty_item text.now }
 {
     text.split(',').any(|item| item.is_empty())
 }
 
-/// The items between commas.
+/// The items between commas. `AllocError` if memory is refused.
 pub fn items(alloc: Global, text: &str) -> Result<Texts, AllocError>
     ensures { IfOk result (λ l. l ≡ mean.items_of text.now) }
 {
@@ -100,7 +101,7 @@ pub fn items(alloc: Global, text: &str) -> Result<Texts, AllocError>
     Ok(items)
 }
 
-/// `*`, or a list of users.
+/// The users that `*` or a list means. `AllocError` if memory is refused.
 pub fn users(alloc: Global, text: &str) -> Result<Users, AllocError>
     ensures { IfOk result (λ u. u ≡ mean.users_of text.now) }
 {
@@ -111,7 +112,7 @@ pub fn users(alloc: Global, text: &str) -> Result<Users, AllocError>
     }
 }
 
-/// `none`, or a leader's name.
+/// The leader that `none` or a name means. `AllocError` if memory is refused.
 pub fn leader(alloc: Global, text: &str) -> Result<Leader, AllocError>
     ensures { IfOk result (λ l. l ≡ mean.leader_of text.now) }
 {
@@ -129,7 +130,7 @@ fn is_sign(c: u8) -> bool
     c == b'+' || c == b'-'
 }
 
-/// The bit that a letter stands for.
+/// The bit that a letter stands for; `None` for another byte.
 fn bit_of(c: u8) -> Option<Bit>
     ensures { result ≡ mean.bit_of c }
 {
@@ -141,7 +142,7 @@ fn bit_of(c: u8) -> Option<Bit>
     }
 }
 
-/// Whether groups go on so, behind a sign, which wants a letter, or a letter.
+/// Whether the byte after a sign is a letter, and a byte after a letter belongs to groups.
 fn goes_on(text: &[u8]) -> bool
     ensures { result ≡ mean.goes_on true text.now }
 {
@@ -158,7 +159,7 @@ fn goes_on(text: &[u8]) -> bool
     !wanting
 }
 
-/// Whether the text is groups of a sign and letters.
+/// Whether the text is groups, each of a sign and one or more letters.
 pub fn is_bits(text: &[u8]) -> bool
     ensures { result ≡ mean.is_bits text.now }
 {
@@ -168,7 +169,8 @@ pub fn is_bits(text: &[u8]) -> bool
     }
 }
 
-/// The bits that groups of a sign and letters give and take.
+/// The bits that groups of a sign and letters give and take, in order. `AllocError` if memory is
+/// refused.
 pub fn bits(alloc: Global, text: &[u8]) -> Result<BitList, AllocError>
     ensures { IfOk result (λ l. l ≡ mean.bits_of text.now) }
 {
@@ -184,14 +186,14 @@ pub fn bits(alloc: Global, text: &[u8]) -> Result<BitList, AllocError>
     Ok(changes)
 }
 
-/// The place of the first sign, or the text's length.
+/// The index of the first sign; the text's length if there is none.
 fn first_sign(text: &[u8]) -> usize
     ensures { result ≡ mean.sign_place text.now }
 {
     text.iter().position(|c| is_sign(*c)).unwrap_or(text.len())
 }
 
-/// Why a word isn't users, if any, and bits.
+/// Why a word isn't a mask, which is optional users followed by bits; `None` if it is one.
 pub fn mask_fault(text: &str) -> Option<FaultKind>
     ensures { result ≡ judging.mask_fault text.now }
 {
@@ -205,7 +207,8 @@ pub fn mask_fault(text: &str) -> Option<FaultKind>
     }
 }
 
-/// Users, if any, and bits.
+/// The mask that a word spells: optional users, followed by bits. `AllocError` if memory is
+/// refused.
 pub fn mask(alloc: Global, text: &str) -> Result<Mask, AllocError>
     ensures { IfOk result (λ m. m ≡ mean.mask_of text.now) }
 {

@@ -1,4 +1,4 @@
--- What the function that cuts a line keeps.
+-- Facts that the function that cuts a line keeps in its loop.
 use Rattle.std.proofs.Common.{◌≡◌, ◌≢◌, ℕ, suc, ◌+◌, ◌-◌, ◌<◌, ◌≤◌, Bool, true, false, List, [], ◌∷◌, ◌++◌, length}
 use Rattle.std.proofs.Common.{drop, take, get_or, refl, sym, ap, ◌∙◌, subst, arith, append_assoc, length-append, Option}
 use Rattle.std.proofs.Common.{Some, None}
@@ -12,7 +12,7 @@ use Rattle.command_lang_words.specs.Reading.{Reads}
 use Rattle.command_lang_words.proofs.Fronts.{cons-front}
 use Rattle.command_lang_words.proofs.Suffixes.{shorter, smaller, word-behind}
 
--- bytes of one character more
+-- taking one more item appends that item
 take-more : (cs : List ℕ) (i c : ℕ) → i < length cs → c ≡ get_or cs i c → take (i + 1) cs ≡ take i cs ++ c ∷ []
 take-more cs i c h g = let e : i + 1 ≡ suc i = omega arith in ap (λ n. take n cs) e ∙ go cs i h g
   where
@@ -34,7 +34,7 @@ count-more cs i c n h g e =
     let s = size-cons c [] in
     omega (arith, e, t, s)
 
--- Of the characters cs all but those that are left are cut into words.
+-- Of the characters cs, all but those in `left` are cut into these words.
 pub record IsCutTo (cs : List ℕ) (words : List Word) (left : List ℕ) : Type 0 where
   pub goes_on : (ws : List Word) → Line (size cs) left ws → Line (size cs) cs (words ++ ws)
   pub short : length left ≤ length cs
@@ -56,11 +56,11 @@ cut-blank cs words left c a l g e =
       small = omega (arith, ap size f ∙ size-cons c rest, a.small);
     }
 
--- the word that is put
+-- the word that is pushed
 abbrev pub word : ℕ → List ℕ → Bool → Word
 word place text closed = record { place = place; text = text; is_closed = closed }
 
--- what is left begins with a word
+-- what is left begins with a word, whose text was appended
 record Begins (left old new : List ℕ) (end : Option (List ℕ)) : Type 0 where
   first : ℕ
   others : List ℕ

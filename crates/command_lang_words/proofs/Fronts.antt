@@ -1,4 +1,4 @@
--- The front of a list, and what was read of it.
+-- Facts of a list's front, and of what was read of it.
 use Rattle.std.proofs.Common.{◌≡◌, ℕ, zero, suc, ◌-◌, ◌≤◌, List, [], ◌∷◌, ◌++◌, length, drop, take, get_or, sym, ap}
 use Rattle.std.proofs.Common.{◌∙◌, subst, arith, append_assoc, Option, Some, true≢false}
 use Rattle.std.specs.Option.{is_some}
@@ -29,7 +29,7 @@ octal-long (a ∷ []) c h = absurd (true≢false (sym (ap is_some h)))
 octal-long (a ∷ b ∷ []) c h = absurd (true≢false (sym (ap is_some h)))
 octal-long (a ∷ b ∷ d ∷ cs) c h = omega arith
 
--- Of the characters cs, which began where the text was old, all but those that are left were read.
+-- Of the characters cs, all but those in `left` were read; the text was `old` when reading began.
 pub record IsAhead (Kind : List ℕ → List ℕ → Option (List ℕ) → Type 0) (cs old now left : List ℕ) : Type 0 where
   pub done : List ℕ
   pub put : now ≡ old ++ encode_utf8_all done
@@ -40,7 +40,7 @@ pub ahead-start : (Kind : List ℕ → List ℕ → Option (List ℕ) → Type 0
 ahead-start Kind cs old = record
     { done = []; put = sym (append-nil old); goes_on = λ text rest k. k; shorter = omega arith }
 
--- a thing more was read
+-- one more thing was read
 pub ahead-more : (Kind : List ℕ → List ℕ → Option (List ℕ) → Type 0) (cs old now left : List ℕ)
     → IsAhead Kind cs old now left
     → (new next first : List ℕ) → new ≡ now ++ encode_utf8_all first → length next ≤ length left
@@ -56,7 +56,7 @@ ahead-more Kind cs old now left a new next first p s m = record {
   shorter = omega (arith, s, a.shorter);
 }
 
--- the whole is read
+-- the whole text was read
 pub ahead-end : (Kind : List ℕ → List ℕ → Option (List ℕ) → Type 0) (cs old now left : List ℕ)
     → IsAhead Kind cs old now left
     → (new text : List ℕ) (rest : Option (List ℕ)) → new ≡ now ++ encode_utf8_all text → Kind left text rest

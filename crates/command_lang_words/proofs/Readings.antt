@@ -1,4 +1,4 @@
--- A line is cut in one way, which is the one that is computed.
+-- A line is cut in one way, which is the one that `Lines` computes.
 use Rattle.std.proofs.Common.{◌≡◌, ◌≢◌, ℕ, zero, suc, ◌-◌, ◌≤◌, Bool, true, false, List, [], ◌∷◌, ◌++◌, length, drop}
 use Rattle.std.proofs.Common.{refl, sym, ap, ◌∙◌, subst, arith, Option, Some, None, true≢false}
 use Rattle.std.specs.Prelude.{◌==◌}
@@ -20,7 +20,7 @@ same x y h = grind (arith, nat_tests)
 differs : (x y : ℕ) → (x == y) ≡ false → x ≢ y
 differs x y h e = grind (arith, nat_tests)
 
--- what a relation holds of is computed
+-- what the relation holds of is what is computed
 escaped-is : {cs text : List ℕ} {end : Option (List ℕ)} → Escaped cs text end → escaped cs ≡ (text, end)
 escaped-is (Escaped.octal {cs = cs} {c = c} h) = by cs h
   where

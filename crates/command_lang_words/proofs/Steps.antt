@@ -1,4 +1,4 @@
--- What the functions that read words keep.
+-- What the functions that read words append and leave.
 use Rattle.std.proofs.Common.{◌≡◌, ◌≢◌, ℕ, ◌-◌, ◌<◌, ◌≤◌, List, [], ◌∷◌, ◌++◌, length, drop, take, get_or, refl, sym}
 use Rattle.std.proofs.Common.{ap, ◌∙◌, subst, arith, Option, Some, None}
 use Rattle.std.specs.Char.{encode_utf8}
@@ -22,7 +22,7 @@ nothing-put old = sym (append-nil old)
 put-one : (old new : List ℕ) (c : ℕ) → new ≡ old ++ encode_utf8 c → new ≡ old ++ encode_utf8_all (c ∷ [])
 put-one old new c p = p ∙ ap (λ l. old ++ l) (lone c)
 
--- behind a backslash
+-- after a backslash
 pub octal-read : (cs old new : List ℕ) (c : ℕ) → octal_front cs ≡ Some c → new ≡ old ++ encode_utf8 c
     → Reads Escaped cs old new (Some (take (length cs - 3) (drop 3 cs)))
 octal-read cs old new c h p = record {
@@ -47,7 +47,7 @@ pub unended-read : (cs old : List ℕ) → length cs < 1 → Reads Escaped cs ol
 unended-read cs old h = record
     { text = []; put = nothing-put old; read = subst (λ l. Escaped l [] None) (nil-length cs h) Escaped.unended }
 
--- a character
+-- one character
 pub plain-read : (c : ℕ) (cs old new : List ℕ) → c ≢ 0x5C → new ≡ old ++ encode_utf8 c
     → Reads Character (c ∷ cs) old new (Some cs)
 plain-read c cs old new n p = record { text = c ∷ []; put = put-one old new c p; read = Character.plain n }
@@ -57,7 +57,7 @@ pub escape-read : (c : ℕ) (cs old new : List ℕ) (rest : Option (List ℕ)) �
 escape-read c cs old new rest e r = record
     { text = r.text; put = r.put; read = subst (λ x. Character (x ∷ cs) r.text rest) (sym e) (Character.escape r.read) }
 
--- parts
+-- parts of a word
 pub single-part : (c : ℕ) (cs old new : List ℕ) (rest : Option (List ℕ)) → c ≡ 0x27 → Reads Single cs old new rest
     → Reads Part (c ∷ cs) old new rest
 single-part c cs old new rest e r = record
@@ -72,7 +72,7 @@ pub character-part : (c : ℕ) (cs old new : List ℕ) (rest : Option (List ℕ)
     → Reads Character (c ∷ cs) old new rest → Reads Part (c ∷ cs) old new rest
 character-part c cs old new rest n m r = record { text = r.text; put = r.put; read = Part.character n m r.read }
 
--- in '
+-- inside single quotes
 pub single-closes : (cs old now left : List ℕ) (c : ℕ) → IsAhead Single cs old now left → 1 ≤ length left
     → c ≡ get_or left 0 c → c ≡ 0x27
     → Reads Single cs old now (Some (take (length left - 1) (drop 1 left)))
@@ -95,7 +95,7 @@ pub single-ends : (cs old now left : List ℕ) → IsAhead Single cs old now lef
 single-ends cs old now left a l = ahead-end Single cs old now left a now [] None (nothing-put now)
     (subst (λ x. Single x [] None) (nil-length left l) Single.unended)
 
--- in "
+-- inside double quotes
 pub double-closes : (cs old now left : List ℕ) (c : ℕ) → IsAhead Double cs old now left → 1 ≤ length left
     → c ≡ get_or left 0 c → c ≡ 0x22
     → Reads Double cs old now (Some (take (length left - 1) (drop 1 left)))
@@ -129,7 +129,7 @@ pub double-ends : (cs old now left : List ℕ) → IsAhead Double cs old now lef
 double-ends cs old now left a l = ahead-end Double cs old now left a now [] None (nothing-put now)
     (subst (λ x. Double x [] None) (nil-length left l) Double.unended)
 
--- parts of a word
+-- the parts of a word
 pub parts-blank : (cs old now left : List ℕ) (c : ℕ) → IsAhead Parts cs old now left → 1 ≤ length left
     → c ≡ get_or left 0 c → c ≡ 0x20
     → Reads Parts cs old now (Some left)
@@ -162,7 +162,7 @@ pub parts-end : (cs old now left : List ℕ) → IsAhead Parts cs old now left �
 parts-end cs old now left a l = ahead-end Parts cs old now left a now [] _ (nothing-put now)
     (subst (λ x. Parts x [] (Some x)) (nil-length left l) Parts.last)
 
--- what follows is shorter
+-- the characters that follow are fewer
 pub less-behind : (left new now behind : List ℕ) (c : ℕ) (end : Option (List ℕ)) → 1 ≤ length left → c ≡ get_or left 0 c
     → Reads Part (c ∷ take (length left - 1) (drop 1 left)) now new end → end ≡ Some behind
     → length behind < length left

@@ -1,4 +1,4 @@
--- What follows a thing is the end of the characters that it begins.
+-- What follows a thing is an end of the characters that the thing begins with.
 use Rattle.std.proofs.Common.{◌≡◌, ◌≢◌, ℕ, suc, ◌+◌, ◌≤◌, List, [], ◌∷◌, ◌++◌, length, drop, refl, sym, ap, ◌∙◌, arith}
 use Rattle.std.proofs.Common.{append_assoc, length-append, Option, Some, None, true≢false}
 use Rattle.std.specs.Option.{is_some}
@@ -79,7 +79,7 @@ word-behind c cs text end n (Parts.more {behind = behind} m f d) = both 1 (c ∷
 word-behind c cs text end n (Parts.broken m f) = tt
 word-behind c cs text end n Parts.blank = absurd (n refl)
 
--- lengths in characters and in bytes
+-- lengths, in characters and in bytes
 pub shorter : (n : ℕ) (cs rest : List ℕ) → Behind n cs (Some rest) → length rest + n ≤ length cs
 shorter n cs rest h = omega (arith, h.1.0, ap length h.1.1, length-append h.0 rest)
 

@@ -1,17 +1,17 @@
 -- How the characters of a line are cut into words, as in the GNU Screen manual, chapter Customizing
--- Screen, section The .screenrc File: a line is blanks and words, a word is parts, and a part is a
--- text in ', a text in ", a backslash with what it stands for, or a plain character. Octal from 000
--- to 177 is this project's choice.
+-- Screen, section The .screenrc File. A line is blanks and words; a word is parts; a part is a text
+-- in ', a text in ", a backslash with what it stands for, or a plain character. Reading three octal
+-- digits only from 000 to 177 is this project's own choice.
 --
--- Each relation has the characters that a thing begins with, the characters that it gives, and what
--- follows it: none where the line ends inside.
+-- Each relation is between the characters that a thing begins with, the text that the thing gives,
+-- and the characters that follow the thing: None if the line ends inside of it.
 use Rattle.std.specs.Prelude.{◌≡◌, ◌≢◌, ℕ, ◌+◌, ◌-◌, ◌*◌, Bool, true, false, ◌&&◌, nat_lt}
 use Rattle.std.specs.Prelude.{if◌then◌else◌, drop, List, [], ◌∷◌, ◌++◌, length, Option, Some, None}
 use Rattle.std.specs.Str.{encode_utf8_all}
 use Prim.Native.Char.{code}
 use Rattle.command_lang_words.specs.declared.word.Word.{Word}
 
--- the characters that mean something
+-- the characters that have a meaning of their own
 abbrev pub space : ℕ
 space = code " "
 
@@ -35,21 +35,21 @@ octal_front (a ∷ b ∷ c ∷ cs) =
     else None
 octal_front _ = None
 
--- Behind a backslash: three octal digits stand for the character of their value, else one character
--- for itself.
+-- After a backslash: three octal digits stand for the character with their value; any other
+-- character stands for itself.
 pub data Escaped : List ℕ → List ℕ → Option (List ℕ) → Type 0 where
   octal : {cs : List ℕ} {c : ℕ} → octal_front cs ≡ Some c → Escaped cs (c ∷ []) (Some (drop 3 cs))
   itself : {c : ℕ} {rest : List ℕ} → octal_front (c ∷ rest) ≡ None
       → Escaped (c ∷ rest) (c ∷ []) (Some rest)
   unended : Escaped [] [] None
 
--- A character, where ' and " mean nothing.
+-- A character in a place in which ' and " have no meaning.
 pub data Character : List ℕ → List ℕ → Option (List ℕ) → Type 0 where
   plain : {c : ℕ} {rest : List ℕ} → c ≢ backslash → Character (c ∷ rest) (c ∷ []) (Some rest)
   escape : {cs text : List ℕ} {end : Option (List ℕ)} → Escaped cs text end
       → Character (backslash ∷ cs) text end
 
--- Behind ', up to the next one: each character stands for itself.
+-- After a ', up to the next one: each character stands for itself.
 pub data Single : List ℕ → List ℕ → Option (List ℕ) → Type 0 where
   closed : {rest : List ℕ} → Single (single_quote ∷ rest) [] (Some rest)
   more : {c : ℕ} {cs text : List ℕ} {end : Option (List ℕ)} → c ≢ single_quote
@@ -57,7 +57,7 @@ pub data Single : List ℕ → List ℕ → Option (List ℕ) → Type 0 where
       → Single (c ∷ cs) (c ∷ text) end
   unended : Single [] [] None
 
--- Behind ", up to the next one: characters.
+-- After a ", up to the next one: characters, with backslashes read.
 pub data Double : List ℕ → List ℕ → Option (List ℕ) → Type 0 where
   closed : {rest : List ℕ} → Double (double_quote ∷ rest) [] (Some rest)
   more : {c : ℕ} {cs first behind text : List ℕ} {end : Option (List ℕ)} → c ≢ double_quote
@@ -89,17 +89,17 @@ pub data Parts : List ℕ → List ℕ → Option (List ℕ) → Type 0 where
       → Part (c ∷ cs) text None
       → Parts (c ∷ cs) text None
 
--- the bytes of characters in UTF-8
+-- the number of bytes of characters in UTF-8
 abbrev pub size : List ℕ → ℕ
 size cs = length (encode_utf8_all cs)
 
--- a word that is closed, or inside which the line ends
+-- a word that is closed, or in which the line ends
 abbrev pub word_at : ℕ → List ℕ → Bool → Word
 word_at place text is_closed =
     record { place = place; text = encode_utf8_all text; is_closed = is_closed }
 
--- The words of the characters at the end of a line of that length: the place of a word is that of
--- its first byte. A word has at least one part, which may be empty.
+-- The words of these characters, which are the end of a line that has `end` bytes. The place of a
+-- word is that of its first byte. A word has at least one part, which may be empty.
 pub data Line (end : ℕ) : List ℕ → List Word → Type 0 where
   last : Line end [] []
   blank : {cs : List ℕ} {ws : List Word} → Line end cs ws → Line end (space ∷ cs) ws

@@ -1,6 +1,6 @@
--- The words of a line, computed: `IsCut` of the grammar holds of these alone. The first number of a
--- function bounds how many characters it reads; each gives the text and what follows it, as the
--- relation of its name does.
+-- The words of a line, computed. The relation `IsCut` of the grammar holds of these words alone.
+-- The first number that a function takes bounds how many characters it reads; each function gives
+-- the text and what follows it, as the relation of its name does.
 use Rattle.std.specs.Prelude.{ℕ, zero, suc, ◌-◌, true, false, ◌==◌, List, [], ◌∷◌, ◌++◌, length}
 use Rattle.std.specs.Prelude.{drop, Option, Some, None}
 use Rattle.command_lang_words.specs.declared.word.Word.{Word}
@@ -10,7 +10,7 @@ use Rattle.command_lang_words.specs.Grammar.{octal_front, size, word_at}
 abbrev pub Read : Type 0
 Read = List ℕ × Option (List ℕ)
 
--- a text, and then what is read behind it
+-- reads a text, and appends what is read after it
 abbrev pub and_then : Read → (List ℕ → Read) → Read
 and_then r next = elim r.1 [
   | Some rest ↦ (let later = next rest in (r.0 ++ later.0, later.1))
@@ -56,7 +56,7 @@ parts (suc n) (c ∷ cs) = elim (c == space) [
   | false ↦ and_then (part n c cs) (λ rest. parts n rest)
 ]
 
--- a word, and the words behind it
+-- a word, and the words after it
 abbrev pub and_words : ℕ → Read → (List ℕ → List Word) → List Word
 and_words place r next = elim r.1 [
   | Some rest ↦ word_at place r.0 true ∷ next rest

@@ -9,7 +9,7 @@ use crate::word::Word;
 use std::alloc::{AllocError, Global};
 use strings::Text;
 
-/// How many bytes characters have in UTF-8.
+/// The number of bytes of the characters in UTF-8.
 fn byte_count(cs: &[char]) -> usize
     requires { length cs.now ≤ 1024 }
     ensures { result ≡ size cs.now }
@@ -21,7 +21,7 @@ fn byte_count(cs: &[char]) -> usize
     count
 }
 
-/// The words of the characters of a line.
+/// The words of the characters of a line. `AllocError` if memory is refused.
 fn words_of(alloc: Global, cs: &[char]) -> Result<Vec<Word>, AllocError>
     requires { length cs.now ≤ 1024 }
     ensures { IfOk result (λ ws. IsCut cs.now ws.items) }
@@ -50,7 +50,7 @@ fn words_of(alloc: Global, cs: &[char]) -> Result<Vec<Word>, AllocError>
     Ok(words)
 }
 
-/// The words of a line of at most 1,024 bytes.
+/// The words of a line of at most 1,024 bytes. `AllocError` if memory is refused.
 pub fn words(alloc: Global, line: &str) -> Result<Vec<Word>, AllocError>
     requires { length line.now ≤ 1024 }
     ensures { IfOk result (λ ws. IsCut (chars line.now) ws.items) }

@@ -6,7 +6,7 @@ use std::alloc::{AllocError, Global};
 use std::marker::Model;
 use strings::Text;
 
-/// Items, in order. Contracts see them as their list.
+/// A list of items, to which items can be added at the end. Contracts see it as its list.
 #[derive(Drop, Debug)]
 pub struct Items<T> {
     items: Vec<T>,
@@ -21,7 +21,7 @@ impl<T> Model for Items<T> {
 }
 
 impl<T: Drop> Items<T> {
-    /// No item.
+    /// A list without items.
     pub fn new(alloc: Global) -> Items<T>
         ensures { result ≡ [] }
     {
@@ -30,7 +30,7 @@ impl<T: Drop> Items<T> {
         }
     }
 
-    /// Puts an item at the end.
+    /// Puts an item at the end. `AllocError` if memory is refused; the list is then unchanged.
     pub fn push(&mut self, item: T) -> Result<(), AllocError>
         ensures ok { OnOk result (self.new ≡ self.old ++ item ∷ []) }
         ensures err { OnErr result (self.new ≡ self.old) }
@@ -39,7 +39,7 @@ impl<T: Drop> Items<T> {
         Ok(())
     }
 
-    /// The items.
+    /// The items in their order.
     pub fn as_slice(&self) -> &[T]
         ensures { result.now ≡ self.now }
     {
@@ -47,5 +47,5 @@ impl<T: Drop> Items<T> {
     }
 }
 
-/// Texts, in order.
+/// A list of texts.
 pub type Texts = Items<Text>;

@@ -1,4 +1,4 @@
-//! The words of a line: blanks between them, and quotes in them.
+//! The words of a line: they are separated by blanks, and may have quotes.
 #![tactic(auto)]
 
 mod cut;

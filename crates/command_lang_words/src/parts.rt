@@ -15,7 +15,7 @@ fn is_octal_digit(c: char) -> bool
     '0' <= c && c <= '7'
 }
 
-/// The character of three octal digits of value at most 177, if the characters begin with them.
+/// The character whose octal digits (000 to 177) the characters begin with, if they do.
 fn octal_front(cs: &[char]) -> Option<char>
     ensures { result ≡ octal_front cs.now }
 {
@@ -29,7 +29,7 @@ fn octal_front(cs: &[char]) -> Option<char>
     }
 }
 
-/// Appends what stands after a backslash: three octal digits, or another character.
+/// Appends the character that follows a backslash: that of three octal digits, or another.
 fn put_escaped<'a>(after: &'a [char], out: &mut String) -> Result<Option<&'a [char]>, AllocError>
     ensures { Puts Escaped after.now (string_bytes out.old) (string_bytes out.new) result }
 {
@@ -46,7 +46,7 @@ fn put_escaped<'a>(after: &'a [char], out: &mut String) -> Result<Option<&'a [ch
     }
 }
 
-/// Appends a character, or what stands after it where it is a backslash.
+/// Appends a character; for a backslash, appends what follows it.
 fn put_character<'a>(
     c: char,
     after: &'a [char],
@@ -62,7 +62,7 @@ fn put_character<'a>(
     }
 }
 
-/// Appends what stands after `'`.
+/// Appends the text that follows `'`, up to the next one.
 fn put_single<'a>(mut left: &'a [char], out: &mut String) -> Result<Option<&'a [char]>, AllocError>
     ensures { Puts Single left.entry.now (string_bytes out.old) (string_bytes out.new) result }
 {
@@ -76,7 +76,7 @@ fn put_single<'a>(mut left: &'a [char], out: &mut String) -> Result<Option<&'a [
     Ok(None)
 }
 
-/// Appends what stands after `"`.
+/// Appends the text that follows `"`, up to the next one.
 fn put_double<'a>(mut left: &'a [char], out: &mut String) -> Result<Option<&'a [char]>, AllocError>
     ensures { Puts Double left.entry.now (string_bytes out.old) (string_bytes out.new) result }
 {

@@ -1,4 +1,4 @@
--- The consoles' rows. By computing.
+-- The rows of the consoles, proved by computing.
 use lib.Utf8.{encode}
 use Rattle.std.proofs.Common.{◌≡◌, List, [], ◌∷◌, refl, inl, inr}
 use Rattle.std.specs.List.{AllByRecursion}

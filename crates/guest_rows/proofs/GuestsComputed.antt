@@ -1,4 +1,4 @@
--- A guest among four users. By computing.
+-- The rows of a guest among four users, proved by computing.
 use Rattle.std.proofs.Common.{◌≡◌, true, false, refl, ap, sym, ◌∙◌}
 use Rattle.std.specs.Fmt.{digits}
 use Rattle.acl.specs.declared.bits.Bit.TheVariants.{Execute}

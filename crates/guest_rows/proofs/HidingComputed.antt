@@ -1,4 +1,4 @@
--- Which output is hidden. By computing.
+-- The rows on which output is hidden, proved by computing.
 use Rattle.std.proofs.Common.{refl}
 use Rattle.std.specs.Fmt.{digits}
 use Rattle.keys.specs.Grammar.{items_from}

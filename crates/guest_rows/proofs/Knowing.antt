@@ -1,4 +1,4 @@
--- A fact of each known user is one of the owner and of each name that became known.
+-- A fact of each known user follows if it holds of the owner and of each name that became known.
 use Rattle.std.proofs.Common.{◌≡◌, Bool, true, false, List, [], ◌∷◌, Some, None, refl, subst}
 use Rattle.std.specs.Prelude.{◌||◌, if◌then◌else◌, unwrap_or}
 use Rattle.std.specs.List.{AllByRecursion}
@@ -8,7 +8,7 @@ use Rattle.acl.specs.Same.{same_user}
 use Rattle.acl.specs.History.{History, is_known, latest, decides_known}
 use Rattle.acl.proofs.StandsForLemmas.{same_user-true}
 
--- the names that became known
+-- the names that the acts of the history made known
 abbrev pub named : History → List UserId
 named [] = []
 named (act.Known u ∷ h) = u ∷ named h

@@ -1,4 +1,4 @@
--- The late-comers' rows. By computing.
+-- The rows of a guest who becomes known late, proved by computing.
 use lib.Utf8.{encode}
 use Rattle.std.proofs.Common.{◌≡◌, true, false, List, [], ◌∷◌, refl, ap, sym, subst, inl, inr}
 use Rattle.std.specs.List.{AllByRecursion}
@@ -113,7 +113,7 @@ unfolding is_utf8 chars encode char_width digits command_named single double par
     unless refused_if given
 nothing_comes = (refl, refl)
 
--- ---- the law doesn't hold without masks
+-- ---- without its premise on masks, the law doesn't hold
 
 closed : Tables
 closed = closes 1 (rows.let_in Second)

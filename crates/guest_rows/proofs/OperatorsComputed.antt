@@ -1,4 +1,4 @@
--- The operators' rows. By computing.
+-- The rows of the operators, proved by computing.
 use lib.Utf8.{encode}
 use Rattle.std.proofs.Common.{◌≡◌, List, [], ◌∷◌, refl, inl, inr}
 use Rattle.std.specs.List.{AllByRecursion}

@@ -1,4 +1,5 @@
--- What is computed of listed users, and of each name that became known, is what the law asks of tables.
+-- What is computed of listed users, and of each name that became known, gives what the law of
+-- confinement asks of tables.
 use Rattle.std.proofs.Common.{◌≡◌, Bool, true, false, List, [], ◌∷◌, refl, sym, subst, inl, inr}
 use Rattle.std.specs.Prelude.{◌||◌, ◌⊎◌}
 use Rattle.std.specs.List.{AllByRecursion}
@@ -28,7 +29,7 @@ among P (v ∷ users) all u is = on (same_user v u) refl is (among P users all.1
   on true same is later = subst P (same_user-true v u same) all.0
   on false same is later = later is
 
--- x on none of the five
+-- the user has x on none of the five commands
 abbrev pub None5 : Tables → UserId → Type 0
 None5 t u =
     (may_in t u Execute (object.Command name.Acladd) ≡ false)
@@ -49,13 +50,13 @@ none_of_five t u five c is = absurd (cc (is))
 pub guests : (t : Tables) (users : List UserId) → AllByRecursion (None5 t) users → AreGuests t (is_among users)
 guests t users all user c is changes = none_of_five t user (among (None5 t) users all user is) c changes
 
--- a user is led by nobody, is known, and may open nothing
+-- the user has no leader, is known, and may open nothing
 pub record IsOut (t : Tables) (u : UserId) : Type 0 where
   pub circled : circle t u ≡ u ∷ []
   pub known : is_known t u ≡ true
   pub opens : may_open t u ≡ false
 
--- an opener masks the bit for these users, if it is one
+-- this user, if they may open windows, masks the bit for each of these users
 abbrev pub Masks : Tables → Bit → List UserId → UserId → Type 0
 Masks t bit users v = AllByRecursion (λ u. mask t.acts v u bit ≡ false) users
 
@@ -63,7 +64,7 @@ abbrev pub Shuts : Tables → Bit → List UserId → UserId → Type 0
 Shuts t bit users v = (may_open t v ≡ false) ⊎ Masks t bit users v
 
 module _ (t : Tables) (bit : Bit) (users : List UserId) (out : AllByRecursion (IsOut t) users) where
-  -- a fact of all users is one of the circle of each
+  -- a fact of all users holds in the circle of each of them
   circled : (P : UserId → Type 0) → AllByRecursion P users → (user : UserId) → is_among users user ≡ true
       → AllByRecursion P (circle t user)
   circled P all user is =

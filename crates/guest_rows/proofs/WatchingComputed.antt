@@ -1,4 +1,4 @@
--- bob watches. By computing.
+-- The rows of bob, who watches, proved by computing.
 use Rattle.std.proofs.Common.{◌≡◌, ℕ, Bool, true, false, Some, None, refl}
 use Rattle.std.specs.Prelude.{if◌then◌else◌, ◌==◌, ◌||◌, unwrap_or}
 use Rattle.std.specs.Fmt.{digits}
@@ -17,7 +17,7 @@ use Rattle.guest_rows.specs.Watching as rows
 nowhere : (w : ℕ) → may_in rows.watched bob Write (object.Window w) ≡ false
 unfolding digits items_from command_named unless refused_if given
 nowhere w = on (0 == w) where
-  -- as far as it computes: whether the window is own's
+  -- the part that can be computed: whether the window is own's
   on : (b : Bool)
       →
       (unwrap_or (if unwrap_or (if b then Some true else None) false then Some false else None)

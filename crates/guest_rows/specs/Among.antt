@@ -1,4 +1,4 @@
--- Users that are listed.
+-- Lists of users.
 use Rattle.std.specs.Prelude.{Bool, List}
 use Rattle.std.specs.List.{list_any}
 use Rattle.acl.specs.declared.user_id.UserId.{UserId}

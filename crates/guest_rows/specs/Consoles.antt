@@ -1,5 +1,5 @@
--- Consoles that the owner alone opens, with rights by a file: the lines that contrib/mux-rights and
--- contrib/mux-guest give.
+-- Worked rows of consoles that only the owner opens, with rights from a file: these are the lines
+-- that contrib/mux-rights and contrib/mux-guest give.
 use Rattle.std.specs.Prelude.{◌≡◌, ℕ, true, Bool, List, [], ◌∷◌, ◌++◌, codes}
 use Rattle.acl.specs.declared.user_id.UserId.{UserId}
 use Rattle.acl.specs.declared.edition.Edition.{Edition}
@@ -29,7 +29,8 @@ setup =
     ∷ codes "aclchg wall +x select"
     ∷ codes "aclumask -rwx" ∷ []
 
--- the mask before an opening; and what is given after it, by the window's title
+-- the mask that is set before a console opens; and the lines after it, which name the window by its
+-- title
 abbrev pub opened : List ℕ → Tables → Tables
 opened title t = opens own title (by own t (codes "aclumask -rwx"))
 
@@ -68,7 +69,7 @@ all_three = ann ∷ wall ∷ guest ∷ []
 abbrev pub is_one : UserId → Bool
 is_one = is_among all_three
 
--- what the file and the guest's line give, and no more
+-- the guests have what the file and the guest's line give, and no more
 abbrev pub Granted : Type 0
 Granted = InBoth (λ e.
     (are_done (fresh e own) setup ≡ true)
@@ -77,15 +78,15 @@ Granted = InBoth (λ e.
     × (on_windows (let_in e) wall ≡ reads ∷ nothing ∷ [])
     × (on_windows (let_in e) guest ≡ reads ∷ nothing ∷ []))
 
--- so the law speaks of the three, and of each bit
+-- so the law applies to the three guests, and to each bit
 abbrev pub AreGuestsThen : Type 0
 AreGuestsThen = InBoth (λ e. AreGuests (let_in e) is_one)
 
 abbrev pub AllShutOut : Type 0
 AllShutOut = InBoth (λ e. (bit : Bit) → AreShutOut (let_in e) is_one bit)
 
--- web1's program ends: once web1 is opened again none of the three has a bit there, and then each
--- has what the file gives; the guest's line was for the window that is gone
+-- the program of web1 ends. After web1 is opened again, none of the three has a bit on it; then
+-- each gets what the file gives; the guest's line was for the window that is gone
 abbrev pub Reopened : Type 0
 Reopened = InBoth (λ e.
     (on_windows (opened (codes "web1") (closes 0 (let_in e))) ann ≡ nothing ∷ nothing ∷ [])
@@ -94,7 +95,7 @@ Reopened = InBoth (λ e.
     × (on_windows (web1 (closes 0 (let_in e))) wall ≡ nothing ∷ reads ∷ [])
     × (on_windows (web1 (closes 0 (let_in e))) guest ≡ nothing ∷ nothing ∷ []))
 
--- by hand somebody became known without a mask; the mask before the next opening covers them
+-- a user was made known by hand, without a mask; the mask before the next opening covers this user
 abbrev pub carl : UserId
 carl = user (codes "carl")
 

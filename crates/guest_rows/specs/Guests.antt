@@ -1,4 +1,4 @@
--- A guest among four users: own, the owner, and ann, bob and eve.
+-- Worked rows of a guest among four users: own, the owner, and ann, bob and eve.
 use Rattle.std.specs.Prelude.{◌≡◌, ℕ, true, false, List, [], ◌∷◌, Some, None, codes}
 use Rattle.acl.specs.declared.edition.Edition.TheVariants.{Second}
 use Rattle.acl.specs.declared.bits.Bit.TheVariants.{Write, Execute}
@@ -37,7 +37,7 @@ InVain =
     (ordered contained bob None (changes of_bob (gives Execute) (codes "aclgrp" ∷ []))).tables
     ≡ contained
 
--- he has x on aclchg alone, and gives himself aclgrp
+-- bob has x only on aclchg, and gives himself x on aclgrp
 abbrev pub with_aclchg : Tables
 with_aclchg = after contained (changes of_bob (gives Execute) (codes "aclchg" ∷ []))
 
@@ -48,7 +48,7 @@ ByHimself =
     (may_in with_aclchg bob Execute (object.Command name.Aclgrp) ≡ false)
     × (may_in t bob Execute (object.Command name.Aclgrp) ≡ true)
 
--- the owner gives him x on aclchg
+-- the owner gives bob x on aclchg
 abbrev pub ByAnother : Type 0
 ByAnother =
     (may_in contained bob Execute (object.Command name.Aclchg) ≡ false)
@@ -56,7 +56,7 @@ ByAnother =
 
 -- ---- locks
 
--- eve: writelock on, on window 2; and then aclchg bob -w 2
+-- eve: writelock on, on window 2; after that, aclchg bob -w 2
 abbrev pub locked : Tables
 locked =
     after (ordered contained eve (Some 2) (command.Writelock On)).tables

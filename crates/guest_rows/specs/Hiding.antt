@@ -1,5 +1,5 @@
--- Which output is hidden from bob, whose client shows window 2, and from own, who opened all
--- windows.
+-- Worked rows on which output is hidden from bob, whose client shows window 2, and from own, who
+-- opened all windows.
 use Rattle.std.specs.Prelude.{◌≡◌, ℕ, List, [], ◌∷◌, codes}
 use Rattle.acl.specs.declared.edition.Edition.TheVariants.{Second}
 use Rattle.acl.specs.declared.bits.Bit.TheVariants.{Read}
@@ -11,7 +11,7 @@ use Rattle.session_model.specs.Events.{outcome}
 use Rattle.session_unseen.specs.Hidden.{unhidden}
 use Rattle.session_worked.specs.Setup.{own, bob, several, after, changes, takes}
 
--- events in their order, as steps of a run; what draws deliver doesn't matter here
+-- events in their order, as the steps of a run; what draws deliver doesn't matter here
 abbrev pub entry : Tables → EventValue → Entry
 entry t event =
     let o : Outcome = outcome t event in record {
@@ -35,7 +35,8 @@ prints window bytes = Output window bytes
 
 -- ---- the rows
 
--- what is printed before a draw shows it, behind the last draw, and in a window that he isn't shown
+-- output before a draw is shown by it; output after the last draw isn't, and neither is output of a
+-- window that bob doesn't see
 abbrev pub printed : List EventValue
 printed =
     prints 2 (codes "a") ∷ prints 0 (codes "b") ∷ Draw 2 ∷ prints 2 (codes "c") ∷ Draw 1 ∷ []
@@ -44,7 +45,7 @@ abbrev pub ShownBefore : Type 0
 ShownBefore =
     unhidden bob (several Second) (run_of printed) ≡ Draw 1 ∷ Draw 2 ∷ prints 2 (codes "a") ∷ []
 
--- own opened the windows
+-- nothing is hidden from own, who opened the windows
 abbrev pub NoneOfOwn : Type 0
 NoneOfOwn =
     unhidden own (several Second) (run_of printed)
@@ -64,7 +65,7 @@ TurnedBehind =
     unhidden bob (several Second) (run_of (prints 2 (codes "a") ∷ Draw 2 ∷ turned ∷ []))
     ≡ turned ∷ Draw 2 ∷ prints 2 (codes "a") ∷ []
 
--- own: aclchg bob -r 2, and from then on
+-- own: aclchg bob -r 2; nothing of window 2 is shown from then on
 abbrev pub unread : Tables
 unread = after (several Second) (changes (codes "bob" ∷ []) (takes Read) (codes "2" ∷ []))
 

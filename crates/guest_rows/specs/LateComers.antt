@@ -1,4 +1,5 @@
--- A guest who becomes known after the masks of another opener, a user who opens consoles.
+-- Worked rows of a guest who becomes known after another opener set masks: console, a user who
+-- opens consoles.
 use Rattle.std.specs.Prelude.{◌≡◌, ℕ, true, false, Bool, List, [], ◌∷◌, codes}
 use Rattle.std.specs.List.{AllByRecursion}
 use Rattle.acl.specs.declared.user_id.UserId.{UserId}
@@ -22,7 +23,7 @@ use Rattle.guest_rows.specs.Consoles.{guest, guests_lines}
 abbrev pub is_guest : UserId → Bool
 is_guest = is_among (guest ∷ [])
 
--- console masks those who are known, can't change that any more, and opens two windows
+-- console masks the known users, can't change its masks any more, and opens two windows
 abbrev pub lines : List (List ℕ)
 lines =
     codes "multiuser on"
@@ -45,24 +46,24 @@ let_in e = by_own (begun e) guests_lines
 abbrev pub reopened : Tables → Tables
 reopened t = opens console (codes "web2") (closes 1 t)
 
--- the guest has x on none of the five, may open nothing, and has nothing on web2
+-- the guest has x on none of the five commands, may open nothing, and has no bit on web2
 abbrev pub IsGuest : Type 0
 IsGuest = InBoth (λ e.
     AreGuests (let_in e) is_guest
     × (may_open (let_in e) guest ≡ false)
     × (on_windows (let_in e) guest ≡ reads ∷ nothing ∷ []))
 
--- own masked the guest, but console didn't
+-- own has masked the guest, but console hasn't
 abbrev pub Unmasked : Type 0
 Unmasked = InBoth (λ e.
     (mask (let_in e).acts own guest Write ≡ false)
     × (mask (let_in e).acts console guest Write ≡ true))
 
--- so the guest has everything there once it is opened again
+-- so the guest has every bit on web2 after it is opened again
 abbrev pub Reopened : Type 0
 Reopened = InBoth (λ e. on_windows (reopened (let_in e)) guest ≡ reads ∷ all ∷ [])
 
--- console masks the guest, too
+-- the tables after console masked the guest, too
 abbrev pub mended : Edition → Tables
 mended e =
     by_own
@@ -88,6 +89,6 @@ WithoutMasks =
     users user ≡ true → came t (after t e) window ≡ true →
     may_in (after t e) user bit (object.Window window) ≡ false
 
--- isn't one
+-- the law without its premise on masks doesn't hold
 abbrev pub MasksAreNeeded : Type 0
 MasksAreNeeded = WithoutMasks → ⊥

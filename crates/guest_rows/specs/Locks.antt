@@ -1,4 +1,4 @@
--- eve holds the lock of window 2, and others take steps.
+-- Worked rows of a lock: eve holds the lock of window 2, and others take steps.
 use Rattle.std.specs.Prelude.{◌≡◌, ℕ, false, List, [], ◌∷◌, Some, None, codes}
 use Rattle.acl.specs.declared.edition.Edition.TheVariants.{Second}
 use Rattle.acl.specs.declared.bits.Bit.TheVariants.{Write}
@@ -28,7 +28,8 @@ Holds = holder_in held 2 ≡ Some eve
 abbrev pub on_window : Tables → ℕ → Order → Tables
 on_window t n c = (ordered t own (Some n) c).tables
 
--- the window's program ends; kill on it, quit; multiuser off; aclchg eve -w 2; acldel eve
+-- what frees the lock: the window's program ends; kill on it; quit; multiuser off; aclchg eve -w 2;
+-- acldel eve
 abbrev pub Freed : Type 0
 Freed =
     (holder_in (then_comes held (Closed 2)) 2 ≡ None)
@@ -38,13 +39,13 @@ Freed =
     × (holder_in (after held (changes eves (takes Write) two)) 2 ≡ None)
     × (holder_in (after held (command.Acldel (codes "eve"))) 2 ≡ None)
 
--- eve has w by her leader ann alone, and holds window 2
+-- eve has w only by her leader ann, and holds window 2
 abbrev pub led : Tables
 led =
     (ordered (after (after (several Second) (follows (codes "eve") (codes "ann")))
     (changes eves (takes Write) two)) eve (Some 2) (command.Writelock On)).tables
 
--- aclchg ann -w 2; aclgrp eve none; acldel ann
+-- what frees a lock that is held by a leader's entry: aclchg ann -w 2; aclgrp eve none; acldel ann
 abbrev pub ByLeaders : Type 0
 ByLeaders =
     (holder_in led 2 ≡ Some eve)
@@ -52,8 +53,9 @@ ByLeaders =
     × (holder_in (after led (command.Aclgrp (codes "eve") (Some Nobody))) 2 ≡ None)
     × (holder_in (after led (command.Acldel (codes "ann"))) 2 ≡ None)
 
--- Another window closes or is killed; another user is removed, or loses w; bob, who has w, and own
--- give writelock; bob attaches once more, and turns the page of a client.
+-- What leaves the lock to eve: another window closes or is killed; another user is removed, or
+-- loses w; bob, who has w, and own give writelock; bob attaches once more, and shows another
+-- window.
 abbrev pub Keeps : Type 0
 Keeps =
     (holder_in (then_comes held (Closed 0)) 2 ≡ Some eve)

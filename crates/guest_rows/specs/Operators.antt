@@ -1,4 +1,5 @@
--- The operators of contrib/policies, jo and kim who watch them, and a fourth opener, console.
+-- Worked rows of the operators of contrib/policies: jo and kim, who watch them, and a fourth
+-- opener, console.
 use Rattle.std.specs.Prelude.{◌≡◌, Bool, List, [], ◌∷◌, codes}
 use Rattle.acl.specs.declared.user_id.UserId.{UserId}
 use Rattle.acl.specs.declared.edition.Edition.{Edition}
@@ -19,7 +20,8 @@ watchers = jo ∷ kim ∷ []
 abbrev pub watches : UserId → Bool
 watches = is_among watchers
 
--- after ann's and bob's masks console gets screen, gives its own mask, and can't change that
+-- after ann and bob set their masks, console gets x on screen, sets its own mask, and can't change
+-- that any more
 abbrev pub consoled : Edition → Tables
 consoled e =
     by_own
@@ -36,7 +38,7 @@ NoneTypes = InBoth (λ e. AreShutOut (consoled e) watches Write)
 abbrev pub NoneActs : Type 0
 NoneActs = InBoth (λ e. AreShutOut (consoled e) watches Execute)
 
--- one window of each opener
+-- each opener opened one window
 abbrev pub come : Edition → Tables
 come e =
     opens console (codes "web1")

@@ -1,4 +1,4 @@
--- bob watches a window of own's, by the policy of a support call.
+-- Worked rows of bob, who watches a window of own's, by the policy of a support call.
 use Rattle.std.specs.Prelude.{◌≡◌, ℕ, true, false, List, [], ◌∷◌, Some, codes}
 use Rattle.acl.specs.declared.edition.Edition.TheVariants.{Second}
 use Rattle.acl.specs.declared.bits.Bit.TheVariants.{Read, Write, Execute}
@@ -15,7 +15,7 @@ use Rattle.session_model.specs.Rights.{may_in}
 use Rattle.session_unseen.specs.Watching.{IsSpectator}
 use Rattle.session_worked.specs.Setup.{own, bob, window, after, changes, takes, gives}
 
--- own opened a window, and lets others in
+-- own opened a window, and lets other users in
 abbrev pub shop : Tables
 shop = record (fresh Second own) {
   acts = followed_by [] (act.Opened own 0 ∷ []);
@@ -32,8 +32,8 @@ all_bits =
 abbrev pub mask : List ℕ → List BitChange → Mask
 mask whom bits = record { users = Some (Listed (whom ∷ [])); bits = bits }
 
--- aclumask ?-rwx ??-x; aclchg bob +r shop; aclumask bob-rwx; and then
--- aclchg bob +x detach,next,prev,scrollview
+-- aclumask ?-rwx ??-x; aclchg bob +r shop; aclumask bob-rwx; after that, aclchg bob +x
+-- detach,next,prev,scrollview
 abbrev pub presets : Tables
 presets =
     after shop (command.Aclumask (mask (codes "?") all_bits ∷ mask (codes "??") (takes Execute) ∷ []))

@@ -1,6 +1,6 @@
-//! Worked rows of the laws of guests: guests that the laws speak of, what others could do, and what
-//! frees a lock, computed from the definitions. Each function here does nothing; its contract has
-//! the rows.
+//! Worked rows of the laws of guests, computed from the definitions: guests to whom the laws apply,
+//! what others could do, and what frees a lock. Each function here does nothing; its contract
+//! states the rows.
 #![tactic(auto)]
 
 ghost use Rattle.guest_rows.specs.Consoles as consoles;
@@ -12,8 +12,8 @@ ghost use Rattle.guest_rows.specs.Operators as operators;
 ghost use Rattle.guest_rows.specs.Watching as watching;
 
 /// bob, who has x on no command that changes rights, is a guest, and what bob asks for changes
-/// nothing; with x on one of them, or if another user gives it, bob gets more. bob can't free
-/// eve's lock by leaving its window, and can by `multiuser off`.
+/// nothing. With x on one of them, or if another user gives such a command, bob gets more. bob
+/// can't free eve's lock by leaving its window, and can by `multiuser off`.
 pub fn guests_and_others()
     ensures guest { guests.BobIsGuest }
     ensures in_vain { guests.InVain }
@@ -25,8 +25,8 @@ pub fn guests_and_others()
     ensures parted { guests.Parted }
 {}
 
-/// Output that no draw of bob's client shows after it is hidden from bob, also if the client
-/// shows another window by then or bob may not read; none of own's windows is hidden from own.
+/// Output that no later draw of bob's client shows is hidden from bob, also if by then the client
+/// shows another window or bob may not read. None of own's windows is hidden from own.
 pub fn hidden_output()
     ensures shown_before { hiding.ShownBefore }
     ensures none_of_own { hiding.NoneOfOwn }
@@ -35,16 +35,16 @@ pub fn hidden_output()
     ensures never_read { hiding.NeverRead }
 {}
 
-/// bob, who was let in by the policy of a support call, is a spectator, and may read the window and
-/// go from one to the next.
+/// bob, whom the policy of a support call let in, is a spectator: bob may read the window and move
+/// between windows.
 pub fn spectators()
     ensures watches { watching.BobWatches }
     ensures reads { watching.HeReads }
 {}
 
 /// Confinement, if only the owner opens consoles and rights come from a file: two users of the file
-/// and a guest are shut out for r, w and x. A console that is opened again gives nobody a bit
-/// before the file's lines are given, also not to a user who became known by hand.
+/// and a guest are shut out of r, w and x. A console that is opened again gives nobody a bit before
+/// the file's lines are given, not even a user who became known by hand.
 pub fn consoles()
     ensures granted { consoles.Granted }
     ensures guests { consoles.AreGuestsThen }
@@ -53,8 +53,8 @@ pub fn consoles()
     ensures by_hand { consoles.ByHand }
 {}
 
-/// Confinement, if four users open windows: those who watch the operators get neither w nor x on
-/// windows to come, whoever of own, ann, bob and console opens them.
+/// Confinement, if four users open windows: users who watch the operators get neither w nor x on
+/// later windows, whichever of own, ann, bob and console opens them.
 pub fn several_openers()
     ensures guests { operators.WatchersAreGuests }
     ensures no_write { operators.NoneTypes }
@@ -62,9 +62,9 @@ pub fn several_openers()
     ensures come { operators.Come }
 {}
 
-/// A guest who becomes known after console gave its masks has r, w and x on what console opens. So
-/// the law of confinement doesn't hold without its premise on masks. Once console masks the guest,
-/// too, nothing comes.
+/// A guest who becomes known after console set its masks has r, w and x on what console opens. So
+/// the law of confinement doesn't hold without its premise on masks. After console masks the guest,
+/// too, the guest gets nothing more.
 pub fn late_comers()
     ensures guest { late.IsGuest }
     ensures unmasked { late.Unmasked }
@@ -74,8 +74,8 @@ pub fn late_comers()
     ensures nothing { late.NothingComes }
 {}
 
-/// eve holds the lock of window 2. Each way that the law of locks lists frees it, by an act on her
-/// rights or on her leader's, and other steps of others leave it.
+/// eve holds the lock of window 2. Each way that the law of locks lists frees it, by an act on
+/// eve's rights or on her leader's; other steps of other users leave it.
 pub fn locks_that_stay()
     ensures holds { locks.Holds }
     ensures freed { locks.Freed }

@@ -22,5 +22,7 @@ hub_send L b g = declared_send (Hub.the_type L b g) (mutex.the_send (Ledger.the_
 pub hub_sync : (L : RattleType) (b : Beginnings L.Denot) (g : Ghosts L.Denot) → IsSync (Hub.the_row L b g)
 hub_sync L b g = declared_sync (Hub.the_type L b g) (mutex.the_sync (Ledger.the_row L b g) (ledger_send L b g), tt)
 
-pub seats_sync : (L : RattleType) (g : Ghosts L.Denot) → IsSync (Mutex.the_row (Vec.the_row (Seat.the_row L g) Global.the_row heap.ghosts))
-seats_sync L g = mutex.the_sync (Vec.the_row (Seat.the_row L g) Global.the_row heap.ghosts) (Vec-send (Seat.the_row L g) (seat.the_send L g))
+pub seats_sync : (L : RattleType) (g : Ghosts L.Denot)
+    → IsSync (Mutex.the_row (Vec.the_row (Seat.the_row L g) Global.the_row heap.ghosts))
+seats_sync L g = mutex.the_sync (Vec.the_row (Seat.the_row L g) Global.the_row heap.ghosts)
+    (Vec-send (Seat.the_row L g) (seat.the_send L g))

@@ -1,12 +1,12 @@
-//! A session that threads share under one lock. Each call of `Hub` is one call of the `Ledger` under
-//! it, which alone makes answers and trails.
+//! A session that threads share under one lock. Each call of `Hub` is one call of the `Ledger`
+//! under the lock; only the ledger makes answers and trails.
 //!
 //! A program names the hub's ledger once, where it calls a function that is generic in it:
 //! `serve::<Brand, _>(rt, alloc, Blank::new(seats), owner, ..)` with `fn serve<L: Begun + Send +
 //! Sync, R: ..>` that requires `(blank.name ≡ L.name) × (blank.parts ≡ L.parts)` and `(L.edition ≡
-//! Second) × (L.owner ≡ owner)`; its `Invariants.antt` says
-//! `ghosts-serve-L-Ledger g a = record { name = a.blank.name; parts = a.blank.parts }` and
-//! `ghosts-serve-L-Begun g a = record { edition = Second; owner = a.owner }`.
+//! Second) × (L.owner ≡ owner)`; its `Invariants.antt` says `ghosts-serve-L-Ledger g a = record {
+//! name = a.blank.name; parts = a.blank.parts }` and `ghosts-serve-L-Begun g a = record { edition =
+//! Second; owner = a.owner }`.
 #![tactic(auto)]
 
 ghost use Rattle.std.specs.Prelude.{◌≡◌, ◌↔◌, ◌<◌, ◌≤◌, length, IfOk, IfErr, OnErr, None, []};
@@ -38,8 +38,8 @@ impl<L: Begun> Drop for Hub<L> {
 }
 
 impl<L: Begun> Hub<L> {
-    /// A hub of a session that has taken no event, and its 1 to 8 seats. Where memory is refused,
-    /// the one refusal, the session is dropped.
+    /// A hub of a session that has taken no event, and its 1 to 8 seats. If memory is refused,
+    /// which is the only error, the session is dropped.
     pub fn new(
         alloc: Global,
         blank: Blank,
@@ -54,7 +54,7 @@ impl<L: Begun> Hub<L> {
             × (receipts_of made.1.items ≡ [])) }
         // No two seats have one number.
         ensures numbers { IfOk result (λ made. AreNumbered made.1.items) }
-        // A seat asks for entries only where it is told to.
+        // A seat asks for entries only if it is told to.
         ensures asks { IfOk result (λ made. NoneAsks made.1.items) }
         ensures err { IfErr result (λ fault. fault ≡ NoMemory) }
     {
@@ -67,7 +67,7 @@ impl<L: Begun> Hub<L> {
         ))
     }
 
-    /// Submits one event. The answer is to this event, and the seat holds its receipt.
+    /// Submits one event. The answer is the one to this event, and the seat holds its receipt.
     pub fn submit<'a, R: Wait>(
         &self,
         rt: &R,
@@ -81,26 +81,28 @@ impl<L: Begun> Hub<L> {
         self.ledger.lock(rt).submit(seat, event)
     }
 
-    /// What waits for a seat, and whether a step other than a Draw came since its last take.
+    /// The effects that wait for a seat, and whether a step other than a Draw came since they were
+    /// last taken.
     pub fn take<R: Wait>(&self, rt: &R, seat: &mut Seat<L>) -> (Vec<Effect>, bool)
         ensures { seat.new ≡ seat.old }
     {
         self.ledger.lock(rt).take(seat)
     }
 
-    /// The trail, and the least place that isn't, with its event and reply, in just one receipt of
-    /// these seats. It takes no memory.
+    /// The trail; and the lowest place for which the receipts of these seats aren't exactly one,
+    /// with the event and the reply of the trail's entry there. It takes no memory.
     pub fn close(self, seats: Vec<Seat<L>>) -> (Trail, Option<usize>)
         // It is the trail of the session that the hub began with.
         ensures begun { (result.0.edition ≡ L.edition) × (result.0.owner ≡ L.owner) }
         // The trail is a legal history of one thread.
         ensures legal { IsLegal result.0 }
-        // Where all seats are handed back, they hold as many receipts as the trail has entries.
+        // If all seats are handed back, they hold as many receipts as the trail has entries.
         ensures counted { length seats.items ≡ L.parts
             → length result.0.entries ≡ length (receipts_of seats.items) }
         ensures wrong { IsFirstWrong result.0.entries (receipts_of seats.items) result.1 }
-        // Then there is no such place exactly where no two receipts name one place, and at each
-        // place stand the receipt's event and reply.
+        // If all seats are handed back, there is no such place exactly if no two receipts name the
+        // same place, and each receipt has the event and the reply of the trail's entry at its
+        // place.
         ensures none { length seats.items ≡ L.parts
             → ((result.1 ≡ None) ↔ AreThere result.0.entries (receipts_of seats.items)) }
     {

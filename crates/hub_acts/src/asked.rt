@@ -1,4 +1,4 @@
-//! The command that an entry's verdicts ask for.
+//! The command for which an entry's verdicts ask.
 
 ghost use Rattle.std.specs.Prelude.{◌≡◌};
 ghost use Rattle.hub_trail.specs.Legal.{asks_for_command, from_command};
@@ -20,7 +20,7 @@ pub fn asks_for_command(verdict: Verdict) -> bool
     )
 }
 
-/// The verdicts from the first on that asks for x on a command.
+/// The verdicts, from the first one on that asks for x on a command.
 pub fn from_command(verdicts: &[Verdict]) -> &[Verdict]
     ensures { result.now ≡ from_command verdicts.now }
 {

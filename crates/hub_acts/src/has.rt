@@ -1,4 +1,4 @@
-//! What is done has its acts.
+//! Whether the acts of an entry contain the act of what its event did.
 
 ghost use Rattle.std.specs.Prelude.{◌≡◌, ◌↔◌, ℕ, List, true};
 ghost use Rattle.std.specs.List.{list_any};
@@ -11,7 +11,7 @@ ghost use Rattle.hub_trail.specs.declared.kept.Kept.TheVariants as kept;
 use acl::{Act, UserId};
 use hub_trail::Ending;
 
-/// Whether the act makes the user known or gone, or changes his entries or his leaders.
+/// Whether the act makes the user known or gone, or changes the user's entries or leaders.
 fn is_act_of(act: Act, user: UserId) -> bool
     ensures { result ≡ is_act_of user act }
 {
@@ -24,14 +24,14 @@ fn is_act_of(act: Act, user: UserId) -> bool
     }
 }
 
-/// Whether one of the acts is of the user.
+/// Whether one of the acts is on the user.
 fn has_any_of(acts: &[Act], user: UserId) -> bool
     ensures { result ≡ list_any (is_act_of user) acts.now }
 {
     acts.iter().any(|act| is_act_of(*act, user))
 }
 
-/// Whether one of the acts is of the user, if he is one.
+/// Whether one of the acts is on the named user; false if the word is no name.
 pub fn has_act_of(acts: &[Act], name: Option<UserId>) -> bool
     ensures { result ≡ has_act_of acts.now name }
 {
@@ -41,7 +41,7 @@ pub fn has_act_of(acts: &[Act], name: Option<UserId>) -> bool
     }
 }
 
-/// Whether an Attach that was done has its act.
+/// Whether the acts attach the client, if the Attach was done.
 pub fn has_come(ending: &Ending, acts: &[Act], user: UserId) -> bool
     ensures { (owner : UserId) (h : History) (rows columns : ℕ) → (result ≡ true)
         ↔ HasItsActs owner h (kept.Attach user rows columns) ending.now acts.now }
@@ -52,7 +52,7 @@ pub fn has_come(ending: &Ending, acts: &[Act], user: UserId) -> bool
     }
 }
 
-/// Whether a Detach that was done has its act.
+/// Whether the acts let the client go, if the Detach was done.
 pub fn has_gone(ending: &Ending, acts: &[Act], client: u32) -> bool
     ensures { (owner : UserId) (h : History) → (result ≡ true)
         ↔ HasItsActs owner h (kept.Detach client) ending.now acts.now }
@@ -63,7 +63,7 @@ pub fn has_gone(ending: &Ending, acts: &[Act], client: u32) -> bool
     }
 }
 
-/// Whether an Open that was done has its act.
+/// Whether the acts open the window, if the Open was done.
 pub fn has_opened(ending: &Ending, acts: &[Act], user: UserId) -> bool
     ensures { (owner : UserId) (h : History) (rows columns keep : ℕ) (title : List ℕ) →
         (result ≡ true)
@@ -75,7 +75,7 @@ pub fn has_opened(ending: &Ending, acts: &[Act], user: UserId) -> bool
     }
 }
 
-/// Whether a Closed that was done has its act.
+/// Whether the acts close the window, if the Closed was done.
 pub fn has_closed(ending: &Ending, acts: &[Act], window: u32) -> bool
     ensures { (owner : UserId) (h : History) → (result ≡ true)
         ↔ HasItsActs owner h (kept.Closed window) ending.now acts.now }

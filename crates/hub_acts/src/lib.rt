@@ -1,5 +1,5 @@
 //! Which acts an entry of a trail can have. Each function decides a definition of `hub_trail`, and
-//! needs no tables of rights: `hub_check` asks these functions for each entry that it judges.
+//! needs no tables of rights. `hub_check` calls these functions for each entry that it judges.
 #![tactic(auto)]
 
 mod asked;

@@ -9,7 +9,7 @@ ghost use Rattle.hub_trail.specs.Fitting.{makes, made_by};
 use acl::{Act, Bit, CommandName, Object, UserId};
 use session_model::Verdict;
 
-/// Whether it is the same command.
+/// Whether both are the same command.
 pub fn is_same(command: CommandName, other: CommandName) -> bool
     ensures { result ≡ same_command command other }
 {
@@ -76,7 +76,7 @@ fn enters(command: CommandName) -> bool
     )
 }
 
-/// Whether a command comes by keys of this client.
+/// Whether the command came by keys of this client.
 fn is_client(client: Option<u32>, other: u32) -> bool
     ensures { result ≡ is_client client other }
 {

@@ -32,7 +32,7 @@ pub fn is_listed(user: UserId, words: &[Text]) -> bool
     words.iter().any(|word| is_named_by(user, word))
 }
 
-/// Whether the values are the same.
+/// Whether both values are equal.
 fn same_value(value: bool, other: bool) -> bool
     ensures { result ≡ same_value value other }
 {
@@ -129,7 +129,7 @@ pub fn removes(given: &Command, user: UserId) -> bool
     }
 }
 
-/// Whether it is the same leader, or none is both.
+/// Whether both are the same leader, or neither is a leader.
 fn same_leader(leader: Option<UserId>, other: Option<UserId>) -> bool
     ensures { result ≡ same_leader leader other }
 {
@@ -140,7 +140,7 @@ fn same_leader(leader: Option<UserId>, other: Option<UserId>) -> bool
     }
 }
 
-/// Whom the line of an aclgrp chooses.
+/// The leader that the line of an aclgrp chooses; `None` for `none`, or if the word is no name.
 fn chosen(leader: &Leader) -> Option<UserId>
     ensures { result ≡ chosen_leader (new_leader_of leader.now) }
 {

@@ -1,4 +1,4 @@
--- Acts of list commands that aren't refused follow one another.
+-- The acts of a list command that isn't refused can follow one another, after those of the tables.
 use Rattle.std.proofs.Common.{◌≡◌, ◌∙◌, Bool, true, false, not, ◌||◌, List, [], ◌∷◌, ◌++◌, Option, Some, None, refl, ap}
 use Rattle.std.proofs.Common.{sym, subst}
 use Rattle.std.specs.Prelude.{if◌then◌else◌, is_none, nat_lt, length}
@@ -27,12 +27,12 @@ use Rattle.acl.specs.Commands.{sets_on, sets, user_acts, name_acts, change_acts,
 use Rattle.acl.specs.Commands.{names_sets, add_acts, scope_acts, mask_acts, group_acts, removal_acts}
 use Rattle.acl.proofs.NameLemmas.{among-with_name, among-with_names}
 use Rattle.acl.proofs.StandsForLemmas.{same_user-refl}
-use Rattle.session_laws.proofs.Agreeing.{followed_append}
+use Rattle.session_laws.proofs.ActsOfMoves.{followed_append}
 use Rattle.session_laws.proofs.Moving.{is_aside}
 use Rattle.hub_trail.proofs.Sights.{any_behind}
 use Rattle.hub_trail.specs.Judging.{can_follow, CanFollow}
 
--- ---- acts behind acts
+-- ---- acts after acts
 
 pub follow_append : (edition : Edition) (owner : UserId) (h : History) (xs ys : List Act) → CanFollow edition owner h xs
     → CanFollow edition owner (followed_by h xs) ys
@@ -41,7 +41,7 @@ follow_append edition owner h [] ys these those = those
 follow_append edition owner h (x ∷ xs) ys these those =
     (these.0, follow_append edition owner (x ∷ h) xs ys these.1 those)
 
--- acts that come after any others
+-- acts that may come after any others
 abbrev pub is_free : Act → Bool
 is_free (act.Known u) = false
 is_free (act.Gone u) = false
@@ -76,7 +76,7 @@ free_follow edition owner h [] free = tt
 free_follow edition owner h (a ∷ acts) free =
     (free_one edition owner h a free.0, free_follow edition owner (a ∷ h) acts free.1)
 
--- they leave the known users
+-- such acts leave the known users unchanged
 users_free : (owner : UserId) (h : History) (a : Act) → is_free a ≡ true → users_of owner (a ∷ h) ≡ users_of owner h
 users_free owner h (act.Known u) is = absurd (cc (is))
 users_free owner h (act.Gone u) is = absurd (cc (is))
@@ -105,18 +105,18 @@ not_owner owner users u none = on (same_user owner u) (among users u || nat_lt (
   on true c e = absurd (cc (e))
   on false c e = refl
 
--- and once it is known, it can be named
+-- a name can be named after it became known
 known_name : (owner : UserId) (users : List UserId) (u : UserId) → same_user owner u ≡ false → among users u ≡ true
     → known_name_fault owner users (Some u) ≡ None
 known_name owner users u other known = ap
     (λ (b : Bool). if b then Some OwnerKept else (if among users u then None else Some UnknownUser)) other
     ∙ ap (λ (b : Bool). if b then None else Some UnknownUser) known
 
--- names that are known, and not the owner's
+-- the names are known, and none is the owner's
 abbrev AreNamed : UserId → List UserId → List (Option UserId) → Type 0
 AreNamed owner users names = AllByRecursion (λ name. known_name_fault owner users name ≡ None) names
 
--- so are those of a change, once it made them known
+-- the names of a change are known after it made them known
 named : (owner : UserId) (users : List UserId) (names : List (Option UserId)) → change_fault owner users names ≡ None
     → AreNamed owner (with_names users names) names
 named owner users [] none = tt
@@ -134,7 +134,7 @@ named owner users (Some u ∷ names) none = (
 
 -- ---- what acts lead to
 
--- acts that open and close nothing leave what is there
+-- acts that open and close nothing leave the objects that are there
 still : (a : Act) (h : History) (o : Object) → is_aside a ≡ true → there (a ∷ h) o ≡ there h o
 still a h (Command c) is = refl
 still (act.Opened by w) h (Window v) is = absurd (cc (is))
@@ -142,7 +142,7 @@ still (act.Closed w) h (Window v) is = absurd (cc (is))
 still a h (Window v) is = refl
 
 module _ (edition : Edition) (owner : UserId) (g : History) where
-  -- after these acts these users are known, and there is what was there
+  -- after these acts the known users are these, and the objects that were there are there
   pub record IsAt (h : History) (users : List UserId) : Type 0 where
     pub users_are : users_of owner h ≡ users
     pub stays : (o : Object) → there h o ≡ there g o
@@ -167,7 +167,7 @@ module _ (edition : Edition) (owner : UserId) (g : History) where
         leads = subst (λ (k : History). IsAt k more) (sym (followed_append h xs ys)) two.leads;
       }
 
-  -- an act that leaves the users
+  -- an act that leaves the known users
   one_leads : (users : List UserId) (a : Act) → is_aside a ≡ true
       → ((h : History) → users_of owner (a ∷ h) ≡ users_of owner h)
       → ((h : History) → IsAt h users → can_follow edition owner h a ≡ true) → Leads users (a ∷ []) users
@@ -310,7 +310,7 @@ module _ (edition : Edition) (owner : UserId) (g : History) where
       (mask_leads users by entries
       (second_none (scope_fault owner users e.scope) (mask_fault owner users entries) none))
 
-  -- from the acts before
+  -- acts that follow those before them
   pub here_follow : (acts : List Act) (more : List UserId) → Leads (users_of owner g) acts more
       → CanFollow edition owner g acts
   here_follow acts more leads = let all : Goes g acts more = leads g (record { users_are = refl; stays = λ o. refl }) in

@@ -1,4 +1,4 @@
--- What is named is there: windows, the objects of lists, and what clients show.
+-- What is named is there: windows, the objects of lists, and the windows that clients show.
 use Rattle.std.proofs.Common.{◌≡◌, ◌∙◌, ℕ, Bool, true, false, List, [], ◌∷◌, ◌++◌, Option, Some, None, map, filter}
 use Rattle.std.proofs.Common.{refl, sym, subst, inl, inr, ⊎_elim}
 use Rattle.std.specs.Prelude.{if◌then◌else◌, IfSome, MatchOption, is_some, slice_get, unwrap_or, nat_eq}
@@ -18,9 +18,9 @@ use Rattle.session_model.specs.Tables.{Tables, Window, Client, window_at, focuse
 use Rattle.session_model.specs.Naming.{with_number, lowest, window_named, is_wide, wide_objects, item_objects}
 use Rattle.session_model.specs.Naming.{objects_of, every_window, every_command}
 use Rattle.session_model.specs.Promises.{unread}
-use Rattle.session_laws.proofs.Agreeing.{has, has_row}
+use Rattle.session_laws.proofs.ActsOfMoves.{has, has_row}
 use Rattle.session_laws.proofs.Showing.{IsThere, lowest_there, number_there, get_all}
-use Rattle.session_laws.proofs.Fitting.{has_there, ShowsIn, PageIn, Holds}
+use Rattle.session_laws.proofs.FitCommands.{has_there, ShowsIn, PageIn, Holds}
 use Rattle.session_laws.proofs.Lists.{all_append, all_map, all_of, all_weaken, members}
 use Rattle.session_laws.proofs.Moving.{serials}
 use Rattle.session_laws.proofs.Unread.{SameClients}
@@ -46,7 +46,7 @@ named_there ws word w is =
     (lowest (filter (λ (v : Window). bytes_eq v.title word) ws)) w
     (λ at. number_there ws (spelled word) w at) (λ at. filter_there _ ws w (lowest_there _ w at)) is
 
--- the acts say of each window of the tables that it is open
+-- by the acts, each window of the tables is open
 abbrev pub OpenIs : Tables → Type 0
 OpenIs t = (w : ℕ) → is_open t.acts w ≡ is_some (window_at t w)
 
@@ -151,7 +151,7 @@ read_pages : (ns : List ℕ) (cs : List Client) → AllByRecursion (PageIn ns) (
 read_pages ns [] all = tt
 read_pages ns (c ∷ cs) all = (all.0, read_pages ns cs all.1)
 
--- and so do clients that have read keys and were told something
+-- clients that have read keys and were sent a message show the same windows
 pub same_holds : (t : Tables) (cs : List Client) → SameClients t cs → Holds t → Holds (record t { clients = cs })
 same_holds t cs same h = record {
   numbers = h.numbers;

@@ -1,4 +1,4 @@
--- The acts of commands follow those of the tables.
+-- The acts of a command can follow those of the tables.
 use Rattle.std.proofs.Common.{◌≡◌, ◌∙◌, ℕ, Bool, true, false, ◌||◌, List, [], ◌∷◌, Option, Some, None, map, refl, ap}
 use Rattle.std.proofs.Common.{subst}
 use Rattle.std.specs.Prelude.{if◌then◌else◌, MatchOption}
@@ -33,12 +33,12 @@ use Rattle.session_model.specs.Checks.{passes, refusal_of, first_fault, checks, 
 use Rattle.session_model.specs.Deeds.{Deed, parts, removes, is_of, closes, entering, enters}
 use Rattle.session_model.specs.Commands.{does, caller_client, mask_entries}
 use Rattle.session_laws.proofs.Doing.{Either}
-use Rattle.session_laws.proofs.Agreeing.{has}
+use Rattle.session_laws.proofs.ActsOfMoves.{has}
 use Rattle.session_laws.proofs.Moving.{serials}
 use Rattle.session_laws.proofs.Showing.{IsThere, ShowsNoOther}
 use Rattle.session_laws.proofs.Shapes as shapes
 use Rattle.session_laws.proofs.Shapes.{Acted, Shape, by_shape}
-use Rattle.session_laws.proofs.Fitting.{Holds, page_of, has_there}
+use Rattle.session_laws.proofs.FitCommands.{Holds, page_of, has_there}
 use Rattle.session_laws.proofs.Lists.{all_append}
 use Rattle.session_laws.proofs.Unread.{row_at}
 use Rattle.hub_trail.specs.Judging.{CanFollow}
@@ -51,7 +51,7 @@ Follows t acts = CanFollow t.edition t.owner t.acts acts
 
 -- ---- checks
 
--- where there is no fault, each check passes
+-- if there is no fault, each check passes
 pub each_passes : (t : Tables) (cs : List Check) → first_fault t cs ≡ None → AllByRecursion (λ c. passes t c ≡ true) cs
 each_passes t [] none = tt
 each_passes t (c ∷ cs) none = on (passes t c) none (each_passes t cs) where
@@ -137,7 +137,7 @@ module _ (t : Tables) (agree : OpenIs t) (k : Caller) (h : Holds t)
   abbrev pub Is : Deed → Type 0
   Is d = Follows t d.acts
 
-  -- a client that shows another window, or another region, shows what the tables have
+  -- a client that turns to another window or region shows one that is in the tables
   page_follows : (c : Client) (l : Arrangement) → caller_client t k ≡ Some c → ShowsNoOther t c l → Is (enters t c l)
   page_follows c l at shows =
       let d : Client = with_layout l c in

@@ -1,4 +1,4 @@
--- What a step files can be judged, and so can the trail of a run.
+-- Tables of rights and locks can judge what a step files, and so the trail of a run.
 use Rattle.std.proofs.Common.{◌≡◌, ◌∙◌, ℕ, ◌<◌, Bool, true, false, not, ◌&&◌, List, [], ◌∷◌, ◌++◌, Option, Some, None}
 use Rattle.std.proofs.Common.{Result, Ok, Err, map, reverse, refl, ap, sym, subst, take, arith}
 use Rattle.std.specs.Prelude.{◌==◌, ◌||◌, ◌^◌, if◌then◌else◌, MatchOption, is_some, nat_lt, length}
@@ -38,10 +38,10 @@ use Rattle.session_model.specs.Comings.{attaches, new_client, open_checks, opens
 use Rattle.session_model.specs.Answering.{typing_verdicts, keyed, with_listed, message_of, by_line, ordered, Ordered}
 use Rattle.session_model.specs.Answering.{reading, types, unsaid, keys_outcome}
 use Rattle.session_model.specs.Run.{IsStep, IsRun, IsRunFrom, tables_from}
-use Rattle.session_laws.proofs.Agreeing.{has, has_row}
+use Rattle.session_laws.proofs.ActsOfMoves.{has, has_row}
 use Rattle.session_laws.proofs.Doing.{Either}
 use Rattle.session_laws.proofs.Showing.{at_there, number_there, lowest_there}
-use Rattle.session_laws.proofs.Fitting.{Holds}
+use Rattle.session_laws.proofs.FitCommands.{Holds}
 use Rattle.session_laws.proofs.Lists.{all_append, and_first}
 use Rattle.session_laws.proofs.Moving.{serials}
 use Rattle.session_laws.proofs.Staying.{run_fit, fresh_fit}
@@ -60,7 +60,8 @@ use Rattle.hub_laws.proofs.Rows.{Follows, each_passes, follows, entering_follows
 
 -- ---- outcomes
 
--- the verdicts of an outcome are on objects that are there, and its acts follow those of the tables
+-- the verdicts of an outcome are on objects that are there, and its acts can follow those of the
+-- tables
 pub record CanJudge (t : Tables) (o : Outcome) : Type 0 where
   pub see : SeeThere t o.verdicts
   pub follow : Follows t o.acts
@@ -91,7 +92,7 @@ finished_judged t vs reply d see follow =
 
 -- ---- commands
 
--- a command of a line
+-- a command line
 module _ (t : Tables) (agree : OpenIs t) (user : UserId) (number : Option ℕ) (c : Order) where
   asked_see : SeeThere t (verdicts t (checks t (line_caller t user number) c))
   asked_see = verdicts_see t (checks t (line_caller t user number) c)
@@ -104,7 +105,8 @@ module _ (t : Tables) (agree : OpenIs t) (user : UserId) (number : Option ℕ) (
 
 -- ---- keys
 
--- what comes of a command among keys, where the tables have the same acts and windows
+-- what comes of a command among keys; the tables have the same acts and windows as those before the
+-- keys
 pub record IsOrdered (t : Tables) (o : Ordered) : Type 0 where
   pub see : SeeThere t o.verdicts
   pub follow : Follows t o.deed.acts
@@ -170,7 +172,7 @@ keys_judged t s c bytes agree h found =
 
 -- ---- what comes
 
--- a serial that comes next isn't given yet
+-- the next serial isn't given yet
 next_apart : (n next : ℕ) → n < next → (n == next) ≡ false
 next_apart n next below = grind (arith, nat_tests, below)
 

@@ -1,4 +1,4 @@
--- What holds of each step on tables as those of runs are.
+-- What holds of each step on tables that are fit.
 use Rattle.session_model.specs.Sound.{AreFit}
 use Rattle.session_model.specs.Tables.{Tables}
 use Rattle.session_model.specs.Trace as trace

@@ -1,5 +1,7 @@
--- Where there are as many receipts as entries, no place is wrong exactly where all receipts stand.
-use Rattle.std.proofs.Common.{◌≡◌, ℕ, zero, suc, ◌<◌, ◌≤◌, ◌+◌, Bool, true, false, List, [], ◌∷◌, length, Option, Some, None, refl, ap, sym, ◌∙◌, subst, arith, cond, add-one, inl, inr}
+-- If there are as many receipts as entries, no place is wrong exactly if each receipt has its
+-- entry.
+use Rattle.std.proofs.Common.{◌≡◌, ℕ, zero, suc, ◌<◌, ◌≤◌, ◌+◌, Bool, true, false, List, [], ◌∷◌, length, Option, Some}
+use Rattle.std.proofs.Common.{None, refl, ap, sym, ◌∙◌, subst, arith, cond, add-one, inl, inr}
 use Rattle.std.specs.Prelude.{◌↔◌, ◌⊎◌, ◌==◌, nat_lt, slice_get}
 use Rattle.std.specs.List.{AllByRecursion}
 use Rattle.std.proofs.lemmas.Bool.Decides.{nat_tests}
@@ -11,7 +13,7 @@ use Rattle.hub_ledger.specs.Seats.{AllBelow}
 use Rattle.hub_ledger.specs.Closing.{AreOf, AreThere, AreTold, IsFirstWrong, IsOf, IsThere, times}
 use Rattle.hub_seats.proofs.Rising.{others_below, times_cons, times_none}
 
--- ---- how many name a place below one
+-- ---- how many receipts name a place below one
 
 abbrev one : Bool → ℕ
 one b = cond b 1 0
@@ -25,11 +27,13 @@ tick p n = grind (arith, nat_tests)
 
 below_more : (n : ℕ) (rs : List Receipt) → below (n + 1) rs ≡ below n rs + times n rs
 below_more n [] = refl
-below_more n (r ∷ rs) = let t = tick r.place n in let rest = below_more n rs in let c = times_cons n r rs in omega (arith, t, rest, c)
+below_more n (r ∷ rs) = let t = tick r.place n in let rest = below_more n rs in let c = times_cons n r rs in omega
+    (arith, t, rest, c)
 
 below_zero : (rs : List Receipt) → below 0 rs ≡ 0
 below_zero [] = refl
-below_zero (r ∷ rs) = let h : one (nat_lt r.place 0) ≡ 0 = grind (arith, nat_tests) in let rest = below_zero rs in omega (arith, h, rest)
+below_zero (r ∷ rs) = let h : one (nat_lt r.place 0) ≡ 0 = grind (arith, nat_tests) in let rest = below_zero rs in omega
+    (arith, h, rest)
 
 at_most : (b : Bool) → one b ≤ 1
 at_most true = omega arith
@@ -41,9 +45,10 @@ below_le n (r ∷ rs) = let h = at_most (nat_lt r.place n) in let rest = below_l
 
 below_all : (n : ℕ) (rs : List Receipt) → AllBelow rs n → below n rs ≡ length rs
 below_all n [] all = refl
-below_all n (r ∷ rs) all = let h = lower r.place n all.0 in let rest = below_all n rs all.1 in omega (arith, h, rest) where
-  lower : (p m : ℕ) → p < m → one (nat_lt p m) ≡ 1
-  lower p m l = grind (arith, nat_tests, l)
+below_all n (r ∷ rs) all = let h = lower r.place n all.0 in let rest = below_all n rs all.1 in omega (arith, h, rest)
+  where
+    lower : (p m : ℕ) → p < m → one (nat_lt p m) ≡ 1
+    lower p m l = grind (arith, nat_tests, l)
 
 all_below : (n : ℕ) (rs : List Receipt) → below n rs ≡ length rs → AllBelow rs n
 all_below n [] is = tt
@@ -94,7 +99,8 @@ got [] k l = absurd (omega (arith, l))
 got (e ∷ es) zero l = (e, refl)
 got (e ∷ es) (suc k) l = got es k (omega (arith, l))
 
-each_there : (es : List Entry) (rs : List Receipt) → AllBelow rs (length es) → ((k : ℕ) (e : Entry) → slice_get es k ≡ Some e → AreOf k e rs) → AllByRecursion (IsThere es) rs
+each_there : (es : List Entry) (rs : List Receipt) → AllBelow rs (length es)
+    → ((k : ℕ) (e : Entry) → slice_get es k ≡ Some e → AreOf k e rs) → AllByRecursion (IsThere es) rs
 each_there es [] all right = tt
 each_there es (r ∷ rs) all right =
     let at = got es r.place all.0 in
@@ -111,22 +117,29 @@ told_there es rs same told =
     let one : (k : ℕ) → k < length es → times k rs ≡ 1 = λ k l. (let at = got es k l in (told k at.0 l at.1).once) in
     let all : AllBelow rs (length es) = all_below (length es) rs (full rs (length es) one ∙ sym same) in
     record {
-      apart = λ k. split {P = times k rs ≤ 1} k (length es) (λ l. (let h = one k l in omega (arith, h))) (λ le. (let h = times_none k rs (others_below rs (length es) k le all) in omega (arith, h)));
+      apart = λ k. split {P = times k rs ≤ 1} k (length es) (λ l. (let h = one k l in omega (arith, h)))
+          (λ le. (let h = times_none k rs (others_below rs (length es) k le all) in omega (arith, h)));
       each = each_there es rs all (λ k e at. (told k e (slice_get_within es k e at) at).right);
     }
 
 there_told : (es : List Entry) (rs : List Receipt) → length rs ≡ length es → AreThere es rs → AreTold es rs (length es)
 there_told es rs same there k e l at =
-    let all : AllBelow rs (length es) = all_weaken (IsThere es) (λ (r : Receipt). r.place < length es) rs (λ r is. slice_get_within es r.place is.0 is.1) there.each in
+    let all : AllBelow rs (length es) = all_weaken (IsThere es) (λ (r : Receipt). r.place < length es) rs
+    (λ r is. slice_get_within es r.place is.0 is.1) there.each in
     record {
       once = once rs there.apart (length es) (below_all (length es) rs all ∙ same) k l;
       right = all_weaken (IsThere es) (λ (r : Receipt). r.place ≡ k → IsOf e r) rs
-          (λ r is at_k. (let g : Some is.0 ≡ Some e = sym is.1 ∙ ap (slice_get es) at_k ∙ at in let h : is.0 ≡ e = cc (g) in subst (λ (x : Entry). IsOf x r) h is.2)) there.each;
+          (λ r is at_k.
+          (let g : Some is.0 ≡ Some e = sym is.1 ∙ ap (slice_get es) at_k
+          ∙ at in let h : is.0 ≡ e = cc (g) in subst (λ (x : Entry). IsOf x r) h is.2)) there.each;
     }
 
-pub none_means : (es : List Entry) (rs : List Receipt) (o : Option ℕ) → length es ≡ length rs → IsFirstWrong es rs o → (o ≡ None) ↔ AreThere es rs
+pub none_means : (es : List Entry) (rs : List Receipt) (o : Option ℕ) → length es ≡ length rs → IsFirstWrong es rs o
+    → (o ≡ None) ↔ AreThere es rs
 none_means es rs None same told = ((λ is. told_there es rs (sym same) told), (λ there. refl))
 none_means es rs (Some w) same wrong = (
   (λ is. absurd (cc (is))),
-  (λ there. absurd (wrong.1.2 (there_told es rs (sym same) there w wrong.1.0 (slice_get_within es w wrong.1.0 wrong.1.1) wrong.1.1))),
+  (λ there. absurd
+      (wrong.1.2
+      (there_told es rs (sym same) there w wrong.1.0 (slice_get_within es w wrong.1.0 wrong.1.1) wrong.1.1))),
 )

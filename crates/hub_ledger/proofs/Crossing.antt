@@ -1,5 +1,5 @@
--- What lies under the hub's lock may go to another thread.
--- Type by type: the search for the whole at once ends at a limit.
+-- What lies under the hub's lock may be sent to another thread. This is proved type by type: the
+-- search for the whole at once ends at a limit.
 use denote.RattleType.{RattleType}
 use denote.Param.Send.{IsSend, view_send}
 use denote.Param.SendFields.{declared_send}
@@ -16,7 +16,9 @@ use Rattle.hub_ledger.specs.contracts.ledger.Ledger as Ledger
 use Rattle.hub_ledger.specs.contracts.ledger.Ledger.TheInside as inside
 
 pub desk_send : IsSend FiledSession.the_row
-desk_send = declared_send FiledSession.the_type (global.the_send, (session_send, (entries.the_send, (peers.the_send, (waiting.the_send, tt)))))
+desk_send = declared_send FiledSession.the_type
+    (global.the_send, (session_send, (entries.the_send, (peers.the_send, (waiting.the_send, tt)))))
 
 pub ledger_send : (L : RattleType) (b : Beginnings L.Denot) (g : Ghosts L.Denot) → IsSend (Ledger.the_row L b g)
-ledger_send L b g = view_send (inside.the_row L b g) _ _ _ _ (declared_send (inside.the_type L b g) (desk_send, (book.the_send L g, tt)))
+ledger_send L b g = view_send (inside.the_row L b g) _ _ _ _
+    (declared_send (inside.the_type L b g) (desk_send, (book.the_send L g, tt)))

@@ -1,4 +1,4 @@
--- What is kept under the lock says of the trail.
+-- What is kept under the lock says that the trail is legal, and has the acts of the tables.
 use Rattle.std.proofs.Common.{◌≡◌, ap, ◌∙◌, subst, sym, []}
 use Rattle.session_model.specs.Trace.{Trace}
 use Rattle.session_model.specs.Run.{tables_of}
@@ -16,4 +16,5 @@ pub kept_acts : (s : State) (h : Trace) → Stood h s → acts_of s.trail ≡ (t
 kept_acts s h stood = ap acts_of (sym stood.trail) ∙ acts_run h stood.stands.run
 
 pub kept_judgeable : (s : State) → IsKept s → AreJudgeable s.trail.edition s.trail.owner [] s.trail.entries
-kept_judgeable s kept = subst (λ (t : trails.Trail). AreJudgeable t.edition t.owner [] t.entries) kept.past.1.trail (judged_run kept.past.0 kept.past.1.stands.run)
+kept_judgeable s kept = subst (λ (t : trails.Trail). AreJudgeable t.edition t.owner [] t.entries) kept.past.1.trail
+    (judged_run kept.past.0 kept.past.1.stands.run)

@@ -1,4 +1,4 @@
--- The numbers of editions.
+-- The number of each edition.
 use Rattle.std.specs.Prelude.{ℕ}
 use Rattle.acl.specs.declared.edition.Edition.{Edition}
 use Rattle.acl.specs.declared.edition.Edition.TheVariants.{First, Second}

@@ -1,4 +1,4 @@
--- The numbers of faults.
+-- The number of each fault.
 use Rattle.std.specs.Prelude.{ℕ}
 use Rattle.hub_ledger.specs.declared.answer.HubFault.{HubFault}
 use Rattle.hub_ledger.specs.declared.answer.HubFault.TheVariants.{TrailFull, NoMemory, Strange}

@@ -1,4 +1,4 @@
--- What is kept under the lock says of the trail.
+-- What is kept under the lock says that the trail is legal, and has the acts of the tables.
 use Rattle.std.specs.Prelude.{◌≡◌}
 use Rattle.session_model.specs.Trace.{Trace}
 use Rattle.session_model.specs.Run.{tables_of}
@@ -9,7 +9,7 @@ use Rattle.hub_ledger.specs.States.{State, Stood, IsKept}
 abbrev pub KeptTrailsAreLegal : Type 0
 KeptTrailsAreLegal = (s : State) → IsKept s → IsLegal s.trail
 
--- and its acts are those of the session's tables
+-- the acts of the trail are those of the session's tables
 abbrev pub KeptTrailsHaveTheActs : Type 0
 KeptTrailsHaveTheActs =
     (s : State) (h : Trace) → Stood h s → acts_of s.trail ≡ (tables_of h).acts

@@ -7,11 +7,11 @@ use Rattle.hub_trail.specs.Trails.{Entry, Trail}
 use Rattle.hub_trail.specs.Filing.{ending_of}
 use Rattle.hub_ledger.specs.declared.prepared.Prepared.{Prepared}
 
--- what it keeps of an event
+-- what a trail keeps of the event
 abbrev pub kept_by : Option Prepared → Option Kept
 kept_by prepared = option_map (λ s. s.event) prepared
 
--- the entry with what was noted of a step and its reply, if it writes one
+-- the entry with the notes of a step and its reply, if the event writes one
 abbrev pub written : Option Kept → Noted → Reply → List Entry
 written None noted reply = []
 written (Some event) noted reply = record {

@@ -16,7 +16,7 @@ use Rattle.hub_ledger.specs.declared.entries.Entries.{Entries}
 use Rattle.hub_ledger.specs.declared.filed_session.FiledSession.{FiledSession}
 use Rattle.hub_ledger.specs.Slips.{with_entries}
 
--- the session, its trail, the seats of its peers, and for each seat the effects that wait and its
+-- the session; its trail; the seats of its peers; and for each seat the effects that wait and its
 -- mark
 pub record State : Type 0 where
   pub session : Session
@@ -37,7 +37,7 @@ state_of d = record {
   marks = d.waiting.marks.items;
 }
 
--- what a hub with so many seats begins with: no entry, no peer, and nothing that waits
+-- the state with which a hub of n seats begins: no entry, no peer, and no effect that waits
 abbrev pub begun_with : Session → Edition → UserId → ℕ → State
 begun_with session edition owner seats = record {
   session = session;
@@ -47,22 +47,22 @@ begun_with session edition owner seats = record {
   marks = replicate seats false;
 }
 
--- The session stands for a run, whose trail is the one that is kept; and each client and each
--- window that came has a seat at its serial.
+-- The session stands for a run; the trail that is kept is the trail of this run; and each client
+-- and each window that came has a seat at its serial.
 pub record Stood (h : Trace) (s : State) : Type 0 where
   pub stands : StandsFor h s.session
   pub trail : trail_of h ≡ s.trail
   pub clients : length s.owners.clients ≡ (tables_of h).next_client
   pub windows : length s.owners.windows ≡ (tables_of h).next_window
 
--- so it is for some run, and all these seats are there
+-- that holds for some run, and all these seats are there
 pub record IsKept (s : State) : Type 0 where
   pub past : (h : Trace) × Stood h s
   pub seats : AreSeats (length s.waiting) s.owners
 
--- The state after a step for a seat: whatever run the session stood for, it stands for it with this
--- step, whose entry stands last in the trail; what came belongs to the seat; each effect waits
--- behind those there; and a step other than a Draw marks every seat.
+-- The state after a step for a seat. Whichever run the session stood for, it stands for it with
+-- this step, whose entry is the last one of the trail. What came belongs to the seat. Each effect
+-- is put after those that wait for its peer's seat. A step other than a Draw marks every seat.
 pub record IsAfter (seat : ℕ) (step : Entry) (old new : State) : Type 0 where
   pub stands : (h : Trace) → StandsFor h old.session → StandsFor (with_step h step) new.session
   pub trail : new.trail ≡ with_entries old.trail (filed step)

@@ -1,4 +1,4 @@
-//! What a submit answers.
+//! The answer to a submitted event.
 
 ghost use Rattle.std.specs.Prelude.{◌≡◌};
 ghost use Rattle.std.specs.Option.{option_copied};
@@ -11,16 +11,16 @@ use std::alloc::{AllocError, AllocFailed};
 use std::marker::Model;
 use thiserror::Error;
 
-/// Why a submit did nothing.
+/// Why a submitted event wasn't taken.
 #[derive(Clone, Copy, PartialEq, Eq, Debug, Error)]
 pub enum HubFault {
-    /// The event writes an entry, and the trail has 4,194,304.
+    /// The event would write an entry, and the trail has 4,194,304 entries already.
     #[error("the trail is full")]
     TrailFull,
     #[error("out of memory")]
     NoMemory,
-    /// The event writes an entry, and a place that the seat was told isn't below the trail's
-    /// length.
+    /// The event would write an entry, and the seat has a receipt whose place isn't below the
+    /// trail's length.
     #[error("the seat is of another hub")]
     Strange,
 }
@@ -57,7 +57,7 @@ impl<T: Drop> From<AllocFailed<T>> for HubFault {
     }
 }
 
-/// The answer to one submitted event. Nothing but a submit makes one, and nothing copies it.
+/// The answer to one submitted event. Only a submit makes one, and nothing copies it.
 pub struct Answer<'a> {
     pub(crate) event: Event<'a>,
     pub(crate) reply: Reply,
@@ -98,14 +98,14 @@ impl<'a> Answer<'a> {
         self.event
     }
 
-    /// What the session answered.
+    /// The session's reply.
     pub fn reply(&self) -> &Reply
         ensures { result.now ≡ self.now.reply }
     {
         &self.reply
     }
 
-    /// What the session answered, where nothing else of the answer is asked for any more.
+    /// The session's reply, when nothing else of the answer is needed any more.
     pub fn into_reply(self) -> Reply
         ensures { result ≡ self.entry.reply }
     {
@@ -118,15 +118,15 @@ impl<'a> Answer<'a> {
         reply
     }
 
-    /// The place of the entry in the trail, if the event writes one.
+    /// The place of the entry in the trail, from 0; `None` if the event writes no entry.
     pub fn place(&self) -> Option<usize>
         ensures { result ≡ self.now.place }
     {
         self.place
     }
 
-    /// The entry, if the event writes one and the seat asks for entries. Such a seat misses it only
-    /// where memory for a copy was refused; the step stands all the same.
+    /// The entry, if the event writes one and the seat asks for entries. Such a seat still gets
+    /// `None` if memory for a copy was refused; the step is done nevertheless.
     pub fn entry(&self) -> Option<&Filed>
         ensures { option_copied result ≡ self.now.entry }
     {

@@ -1,4 +1,4 @@
-//! What a hub begins with, in types.
+//! What a hub begins with, as part of its type.
 
 ghost use Rattle.std.specs.Prelude.{replicate};
 ghost use Rattle.acl.specs.declared.edition.Edition.{Edition};
@@ -8,8 +8,8 @@ ghost use Rattle.acl.specs.declared.user_id.UserId.{UserId};
 use std::marker::Brand;
 use std::sync::ledger::Ledger;
 
-/// A hub's ledger of shares, and the edition and the owner of the session that the hub begins with.
-/// So the type of a hub says whose trail it keeps.
+/// The ledger of a hub's shares, with the edition and the owner of the session that the hub begins
+/// with. So the type of a hub says whose trail it keeps.
 pub trait Begun: Ledger {
     ghost edition: { Edition };
 

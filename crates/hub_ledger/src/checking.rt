@@ -1,4 +1,4 @@
-//! The check of a trail by itself.
+//! Checks a trail by itself.
 
 ghost use Rattle.std.specs.Prelude.{◌≡◌, [], ℕ, Err, Ok};
 ghost use Rattle.hub_check.specs.declared.fault.CheckFault.TheVariants.{BadEntry};
@@ -11,7 +11,7 @@ use hub_check::{CheckFault, Judge};
 use hub_record::Roll;
 use std::alloc::Global;
 
-/// Judges entries from the first on: each by the acts of those before it.
+/// Judges entries from the first on, each by the acts of those before it.
 fn check_entries(
     alloc: Global,
     edition: Edition,
@@ -31,16 +31,18 @@ fn check_entries(
     Ok(())
 }
 
-/// Judges a trail by its edition, as one of this owner, from no act on: each entry by the acts of
-/// those before it. BadEntry names the first that doesn't pass.
+/// Judges a trail by its edition, as a trail of this owner, beginning without acts: each entry by
+/// the acts of those before it. Errors: `BadEntry` with the place of the first entry that doesn't
+/// pass; memory is refused.
 pub fn check_trail(alloc: Global, trail: &Trail, owner: UserId) -> Result<(), CheckFault>
-    // What passes is legal.
+    // A trail that passes is legal.
     ensures legal { result ≡ Ok tt → AreLegal trail.now.edition owner [] trail.now.entries }
-    // The first that doesn't pass isn't legal as this owner's, or tables of his rights and locks
-    // can't judge it; all before it pass.
+    // The first entry that doesn't pass isn't legal for this owner, or tables of the owner's rights
+    // and locks can't judge it. All entries before it pass.
     ensures first { (place : ℕ) → result ≡ Err (BadEntry place)
         → IsBadAt trail.now.edition owner [] trail.now.entries place }
-    // For the trail's own owner, the first that doesn't pass is the first that isn't legal.
+    // If the owner is the trail's own, the first entry that doesn't pass is the first that isn't
+    // legal.
     ensures bad { (place : ℕ) → owner ≡ trail.now.owner → result ≡ Err (BadEntry place)
         → IsIllegalAt trail.now.edition owner [] trail.now.entries place }
 {

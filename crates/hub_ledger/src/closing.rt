@@ -1,16 +1,16 @@
-//! Receipts against the trail.
+//! Compares the receipts of seats with the trail.
 
 ghost use Rattle.std.specs.Prelude.{◌≡◌, ◌↔◌, ◌+◌, ◌<◌, ◌≤◌, true, length};
 ghost use Rattle.hub_ledger.specs.Closing.{IsFirstWrong, IsTold, before, receipts_of};
 ghost use Rattle.hub_ledger.specs.declared.ledger.TheConstants.{FULL};
 
 use crate::seat::Seat;
-use hub_record::{Filed, Roll as Entries};
-use std::sync::ledger::{Book, Ledger as Roll};
+use hub_record::{Filed, Roll};
+use std::sync::ledger::{Book, Ledger as ShareLedger};
 
-/// Takes away the receipts of this place and above from all seats. Whether one of them alone names
-/// it, and has the event and the reply of the entry.
-fn strip_all<L: Roll>(
+/// Removes the receipts with this place or a higher one from all seats. Returns whether exactly one
+/// of them names the place, and has the event and the reply of the entry.
+fn strip_all<L: ShareLedger>(
     book: &mut Book<L>,
     seats: &mut [Seat<L>],
     place: usize,
@@ -33,12 +33,12 @@ fn strip_all<L: Roll>(
     named == 1 && right
 }
 
-/// The least place that isn't, with its event and reply, in just one receipt of these seats, which
-/// are taken away.
-pub fn first_wrong<L: Roll>(
+/// The lowest place for which the receipts of these seats aren't exactly one, with the event and
+/// the reply of the trail's entry there; `None` if there is none. The receipts are removed.
+pub fn first_wrong<L: ShareLedger>(
     book: &mut Book<L>,
     seats: &mut [Seat<L>],
-    entries: &Entries,
+    entries: &Roll,
 ) -> Option<usize>
     requires { length entries.now.entries ≤ FULL }
     ensures wrong { IsFirstWrong entries.now.entries (receipts_of seats.old) result }
@@ -56,8 +56,8 @@ pub fn first_wrong<L: Roll>(
     wrong
 }
 
-/// Merges the shares of all seats: then the book's total is the number of their receipts.
-pub fn count<L: Roll>(book: &mut Book<L>, seats: Vec<Seat<L>>)
+/// Merges the shares of all seats; then the book's total is the number of their receipts.
+pub fn count<L: ShareLedger>(book: &mut Book<L>, seats: Vec<Seat<L>>)
     requires { 0 < L.parts }
     ensures { length seats.items ≡ L.parts → book.old.total ≡ length (receipts_of seats.items) }
 {

@@ -21,7 +21,7 @@ pub struct Entries {
 }
 
 impl Entries {
-    /// Makes room for one entry more.
+    /// Makes room for one more entry. `AllocError` if memory is refused.
     pub fn make_room(&mut self) -> Result<(), AllocError>
         ensures same { trail_in self.new ≡ trail_in self.old }
         ensures room { OnOk result (HasRoom self.new.list) }
@@ -29,8 +29,8 @@ impl Entries {
         self.list.reserve()
     }
 
-    /// Writes the entry of a step, if it has one. The step's room is given back: what is kept for
-    /// good takes what it says and no more, and 4 bytes where it is found to be stored already.
+    /// Writes the entry of a step, if it has one. The memory that the step had taken is given back:
+    /// an entry keeps only the memory that it needs, and only 4 bytes if an equal one is found.
     pub fn write(&mut self, prepared: Option<Prepared>, notes: Notes, reply: &Reply)
         requires room { HasRoom self.old.list }
         requires few { length self.old.list.entries < 4294967296 }

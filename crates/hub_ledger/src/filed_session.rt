@@ -1,4 +1,4 @@
-//! A session with its trail, and what waits for each seat.
+//! A session with its trail, and the effects that wait for each seat.
 
 ghost use Rattle.std.specs.Prelude.{◌≡◌, ◌↔◌, ◌<◌, ◌≤◌, length, IfOk, OnOk, OnErr, Err};
 ghost use Rattle.std.specs.Prelude.{IfSome, Some, is_some, slice_get, true};
@@ -22,7 +22,7 @@ use session_core::{Notes, Session};
 use session_model::{Event, Refusal, Reply};
 use std::alloc::{AllocError, Global};
 
-/// A session with its trail, the seats of its peers, and what waits for each seat.
+/// A session with its trail, the seats of its peers, and the effects that wait for each seat.
 pub struct FiledSession {
     pub alloc: Global,
     pub session: Session,
@@ -43,7 +43,7 @@ impl Drop for FiledSession {
     }
 }
 
-/// Whether a step was refused for want of memory.
+/// Whether a step was refused because memory was refused.
 fn wants_memory(reply: &Reply) -> bool
     ensures { result ≡ wants_memory reply.now }
 {
@@ -51,7 +51,8 @@ fn wants_memory(reply: &Reply) -> bool
 }
 
 impl FiledSession {
-    /// A session that has taken no event, with an empty trail, for which nothing waits.
+    /// A session that has taken no event, with an empty trail, and without effects that wait.
+    /// `AllocError` if memory is refused.
     pub fn new(
         alloc: Global,
         edition: Edition,
@@ -79,7 +80,7 @@ impl FiledSession {
         })
     }
 
-    /// One step of the session, for a seat. Where memory is refused nothing has changed.
+    /// One step of the session, for a seat. If memory is refused, nothing has changed.
     pub fn take_step(
         &mut self,
         seat: usize,
@@ -111,8 +112,8 @@ impl FiledSession {
         Ok(reply)
     }
 
-    /// One step that writes an entry, for a seat that was told this and is told one more. Where it is
-    /// refused nothing has changed.
+    /// One step that writes an entry, for a seat with these receipts, which get one more. If it is
+    /// refused, nothing has changed.
     pub fn file(
         &mut self,
         seat: usize,
@@ -156,7 +157,8 @@ impl FiledSession {
         Ok(reply)
     }
 
-    /// A copy of the entry at a place for one who asks. There is none where memory is refused.
+    /// A copy of the entry at a place, for a seat that asks for entries; `None` if it doesn't, or
+    /// if memory is refused.
     pub fn copied(&self, asks: bool, place: usize) -> Option<Filed>
         requires { place < length self.now.entries.list.entries }
         ensures { IfSome result (λ e. (asks ≡ true)
@@ -169,7 +171,7 @@ impl FiledSession {
         }
     }
 
-    /// The entries alone.
+    /// The entries, without the session and the effects.
     pub fn into_entries(self) -> Entries
         ensures { result ≡ self.entries }
     {

@@ -1,4 +1,4 @@
-//! Laws of what is kept under the hub's lock.
+//! Laws of what lies under the hub's lock.
 
 ghost use Rattle.hub_ledger.specs.Laws.{KeptTrailsAreLegal, KeptTrailsHaveTheActs};
 

@@ -25,14 +25,14 @@ use session_core::Session;
 use session_model::{Effect, Event};
 use std::alloc::{AllocError, Global};
 use std::marker::Model;
-use std::sync::ledger::{Blank, Book, Ledger as Roll, Share};
+use std::sync::ledger::{Blank, Book, Ledger as ShareLedger, Share};
 
-/// The most entries of a trail.
+/// The most entries that a trail may have.
 pub const FULL: usize = 4_194_304;
 
-/// What lies under the hub's lock: a session that stands for a run, its trail, and what waits for
-/// each seat. Its shares count the receipts of all seats: there are as many as the trail has
-/// entries.
+/// What lies under the hub's lock: a session that stands for a run, its trail, and the effects that
+/// wait for each seat. Its shares count the receipts of all seats: there are as many as the trail
+/// has entries.
 pub struct Ledger<L: Begun> {
     filed: FiledSession,
     book: Book<L>,
@@ -66,7 +66,7 @@ impl<L: Begun> Model for Ledger<L> {
         × (l.filed.entries.edition ≡ L.edition) × (l.filed.entries.owner ≡ L.owner) };
 }
 
-/// Whether an event writes an entry.
+/// Whether the event writes an entry.
 fn writes_entry(event: Event) -> bool
     ensures { result ≡ is_some (kept_of (happening event.entry)) }
 {
@@ -76,8 +76,8 @@ fn writes_entry(event: Event) -> bool
     )
 }
 
-/// A seat of this number that was told nothing.
-fn make_seat<L: Roll>(alloc: Global, number: usize, share: Share<L>) -> Seat<L>
+/// A seat with this number and without receipts.
+fn make_seat<L: ShareLedger>(alloc: Global, number: usize, share: Share<L>) -> Seat<L>
     requires number { number < L.parts }
     requires share { (share.parts ≡ 1) × (share.amount ≡ 0) }
     ensures { result ≡ record { number = number; asks = false; receipts = [] } }
@@ -90,8 +90,8 @@ fn make_seat<L: Roll>(alloc: Global, number: usize, share: Share<L>) -> Seat<L>
     }
 }
 
-/// As many seats as the share has parts, each with one of them, which were told nothing.
-fn make_seats<L: Roll>(
+/// One seat for each part of the share; each seat has one part and no receipts.
+fn make_seats<L: ShareLedger>(
     alloc: Global,
     share: Share<L>,
     seats: usize,
@@ -113,8 +113,8 @@ fn make_seats<L: Roll>(
 }
 
 impl<L: Begun> Ledger<L> {
-    /// A ledger of a session that has taken no event, and its 1 to 8 seats. Where memory is
-    /// refused, the one refusal, the session is dropped.
+    /// A ledger of a session that has taken no event, and its 1 to 8 seats. If memory is refused,
+    /// which is the only error, the session is dropped.
     pub fn new(
         alloc: Global,
         blank: Blank,
@@ -141,23 +141,23 @@ impl<L: Begun> Ledger<L> {
         Ok((Ledger { filed, book }, made))
     }
 
-    /// Takes one event for a seat: one step of the session, its entry in the trail, and the
-    /// receipt in the seat. Where it is refused nothing has changed.
+    /// Takes one event for a seat: it makes one step of the session, writes the step's entry into
+    /// the trail, and puts the receipt into the seat. If it is refused, nothing has changed.
     pub fn submit<'a>(
         &mut self,
         seat: &mut Seat<L>,
         event: Event<'a>,
     ) -> Result<Answer<'a>, HubFault>
-        // The session takes a step of this event with this reply; its entry stands last, and its
-        // effects wait for the seats of their peers.
+        // The session makes a step of this event with this reply; the step's entry is the last one
+        // of the trail, and its effects wait for the seats of their peers.
         ensures step { IfOk result (λ told. Takes seat.old.number (happening event.entry)
             told.reply self.old self.new) }
-        // The answer is to this event, and the seat holds its receipt at the entry's place.
+        // The answer is to this event, and the seat has its receipt, which names the entry's place.
         ensures answer { IfOk result (λ told. Answers (happening event.entry) told seat.old
             seat.new) }
         ensures place { IfOk result (λ told. told.place
             ≡ placed (kept_of (happening event.entry)) (length self.old.trail.entries)) }
-        // An entry in it is the one that was filed.
+        // If the answer has an entry, it is the one that was written into the trail.
         ensures entry { IfOk result (λ told. StandsLast told.entry self.old.trail.entries
             self.new.trail.entries) }
         ensures full { (result ≡ Err TrailFull)
@@ -211,8 +211,8 @@ impl<L: Begun> Ledger<L> {
         })
     }
 
-    /// Hands out what waits for a seat, and tells whether a step other than a Draw came since its
-    /// last take. It takes no memory.
+    /// Hands out the effects that wait for a seat, and tells whether a step other than a Draw came
+    /// since the last take. It takes no memory.
     pub fn take(&mut self, seat: &Seat<L>) -> (Vec<Effect>, bool)
         ensures effects { slice_get self.old.waiting seat.now.number ≡ Some result.0.items }
         ensures mark { slice_get self.old.marks seat.now.number ≡ Some result.1 }
@@ -224,7 +224,7 @@ impl<L: Begun> Ledger<L> {
         self.filed.waiting.take(self.filed.alloc, seat.number)
     }
 
-    /// That a run stands behind what is kept, and that its trail is legal.
+    /// The state is that of a run, and its trail is legal.
     pub fn is_kept(&self)
         ensures kept { IsKept self.now }
         ensures legal { IsLegal self.now.trail }
@@ -232,19 +232,20 @@ impl<L: Begun> Ledger<L> {
         let _ = &self.filed;
     }
 
-    /// The trail, and the least place that isn't, with its event and reply, in just one receipt of
-    /// these seats. It takes no memory.
+    /// The trail; and the lowest place for which the receipts of these seats aren't exactly one,
+    /// with the event and the reply of the trail's entry there. It takes no memory.
     pub fn close(self, seats: Vec<Seat<L>>) -> (Trail, Option<usize>)
         ensures trail { result.0 ≡ self.trail }
-        // It is that of the session with which the ledger was made.
+        // The trail is that of the session with which the ledger was made.
         ensures begun { (result.0.edition ≡ L.edition) × (result.0.owner ≡ L.owner) }
         ensures legal { IsLegal result.0 }
-        // Where all seats are handed back, they hold as many receipts as the trail has entries.
+        // If all seats are handed back, they hold as many receipts as the trail has entries.
         ensures counted { length seats.items ≡ L.parts
             → length result.0.entries ≡ length (receipts_of seats.items) }
         ensures wrong { IsFirstWrong result.0.entries (receipts_of seats.items) result.1 }
-        // Then there is no such place exactly where no two receipts name one place, and at each
-        // place stand the receipt's event and reply.
+        // If all seats are handed back, there is no such place exactly if no two receipts name the
+        // same place, and each receipt has the event and the reply of the trail's entry at its
+        // place.
         ensures none { length seats.items ≡ L.parts
             → ((result.1 ≡ None) ↔ AreThere result.0.entries (receipts_of seats.items)) }
     {

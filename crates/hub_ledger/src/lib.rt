@@ -1,5 +1,5 @@
-//! What lies under the hub's lock: a session, its trail, and what waits for each seat of clients and
-//! windows; the seats, and what they were told.
+//! What lies under the hub's lock: a session, its trail, and the effects that wait for each seat of
+//! clients and windows. Also the seats, and their receipts.
 #![tactic(auto)]
 
 mod answer;

@@ -1,4 +1,4 @@
-//! What is made before a step, so that what it files takes no memory.
+//! What is made before a step, so that what the step files takes no memory.
 
 ghost use Rattle.std.specs.Prelude.{◌≡◌, IfOk};
 ghost use Rattle.session_model.specs.Trace.{happening};
@@ -9,7 +9,7 @@ use hub_record::KeptEvent;
 use session_model::{Event, Refusal};
 use std::alloc::{AllocError, Global};
 
-/// What is kept of an event, and a block for what refuses it.
+/// What is kept of an event, and a block of memory for a refusal.
 #[derive(Drop)]
 pub struct Prepared {
     pub event: KeptEvent,
@@ -17,7 +17,7 @@ pub struct Prepared {
 }
 
 impl Prepared {
-    /// The prepared of an event, if it writes an entry.
+    /// What has to be made for the event, if it writes an entry. `AllocError` if memory is refused.
     pub fn of(alloc: Global, event: Event<'_>) -> Result<Option<Prepared>, AllocError>
         ensures { IfOk result (λ prepared. kept_by prepared ≡ kept_of (happening event.entry)) }
     {

@@ -1,4 +1,4 @@
-//! Seats, and what they hold.
+//! Seats, and the receipts that they hold.
 
 ghost use Rattle.std.specs.Prelude.{◌≡◌, ◌↔◌, ◌+◌, ◌≤◌, ◌<◌, true, length};
 ghost use Rattle.hub_ledger.specs.Closing.{AreOf, before, times};
@@ -6,18 +6,18 @@ ghost use Rattle.hub_ledger.specs.Closing.{AreOf, before, times};
 use hub_record::{Filed, Receipts};
 use hub_seats::strip;
 use std::marker::Model;
-use std::sync::ledger::{Book, Ledger as Roll, Share};
+use std::sync::ledger::{Book, Ledger as ShareLedger, Share};
 
-/// One of those that submit. It holds what it was told.
+/// A seat submits events, and holds a receipt of each entry that they wrote.
 #[derive(Drop)]
-pub struct Seat<L: Roll> {
+pub struct Seat<L: ShareLedger> {
     pub(crate) number: usize,
     pub(crate) asks: bool,
     pub(crate) told: Receipts,
     pub(crate) share: Share<L>,
 }
 
-impl<L: Roll> Model for Seat<L> {
+impl<L: ShareLedger> Model for Seat<L> {
     ghost use Rattle.std.specs.Prelude.{◌≡◌, ◌<◌, length};
     ghost use Rattle.hub_ledger.specs.Seats.{Sitting, Rise};
 
@@ -29,30 +29,30 @@ impl<L: Roll> Model for Seat<L> {
         × (s.share.amount ≡ length s.told.receipts) × Rise s.told.receipts };
 }
 
-impl<L: Roll> Seat<L> {
-    /// Its number, counted from 0.
+impl<L: ShareLedger> Seat<L> {
+    /// The seat's number, counted from 0.
     pub fn number(&self) -> usize
         ensures { result ≡ self.now.number }
     {
         self.number
     }
 
-    /// From now on an answer to it has the entry that was written.
+    /// From now on, an answer to this seat has the entry that was written.
     pub fn ask_for_entries(&mut self)
         ensures { self.new ≡ record self.old { asks = true } }
     {
         self.asks = true;
     }
 
-    /// What it was told, the oldest first.
+    /// The seat's receipts, the oldest first.
     pub fn receipts(&self) -> &Receipts
         ensures { result.now.receipts ≡ self.now.receipts }
     {
         &self.told
     }
 
-    /// Takes away the receipts of this place and above. How many of them name it, and whether these
-    /// have the event and the reply of the entry.
+    /// Removes the receipts with this place or a higher one. Returns how many of them name the
+    /// place, and whether these have the event and the reply of the entry.
     pub(crate) fn strip(&mut self, book: &mut Book<L>, place: usize, entry: &Filed) -> (usize, bool)
         requires { place < 4294967296 }
         ensures rest { self.new.receipts ≡ before place self.old.receipts }

@@ -10,8 +10,8 @@ use acl::{Edition, UserId};
 use hub_record::{Filed, Roll};
 use std::marker::Model;
 
-/// The trail of a session: its edition and its owner, and the entries of all its steps, in their
-/// order. Tables of rights and locks can judge it.
+/// The trail of a session: its edition and its owner, and the entries of all its steps, in order.
+/// Tables of rights and locks can judge it.
 pub struct Trail {
     edition: Edition,
     owner: UserId,
@@ -30,10 +30,10 @@ impl Drop for Trail {
 
 impl Model for Trail {
     ghost use Rattle.std.specs.Prelude.{[]};
-    ghost use Rattle.hub_trail.specs.Trails.{Trail as Kept};
+    ghost use Rattle.hub_trail.specs.Trails.{Trail as TrailValue};
     ghost use Rattle.hub_trail.specs.Judging.{AreJudgeable};
 
-    ghost Value = { Kept };
+    ghost Value = { TrailValue };
 
     ghost view = { λ t. record { edition = t.edition; owner = t.owner; entries = t.entries.entries } };
 
@@ -41,7 +41,7 @@ impl Model for Trail {
 }
 
 impl Trail {
-    /// The trail with these entries.
+    /// The trail that has these entries.
     pub(crate) fn of(entries: Entries) -> Trail
         requires { AreJudgeable entries.edition entries.owner [] entries.list.entries }
         ensures { result ≡ trail_in entries }
@@ -68,7 +68,7 @@ impl Trail {
         }
     }
 
-    /// The same, as lists of rights take it.
+    /// The edition of the session's groups, as access lists take it.
     pub fn acl_edition(&self) -> Edition
         ensures { result ≡ self.now.edition }
     {
@@ -82,14 +82,14 @@ impl Trail {
         self.owner
     }
 
-    /// How many entries it has.
+    /// The number of entries.
     pub fn len(&self) -> usize
         ensures { result ≡ length self.now.entries }
     {
         self.entries.len()
     }
 
-    /// Its entries, the oldest first.
+    /// The entries, the oldest first.
     pub fn entries(&self) -> &Roll
         ensures { result.now.entries ≡ self.now.entries }
     {
@@ -104,7 +104,8 @@ impl Trail {
         self.entries.at(place)
     }
 
-    /// That tables of rights and locks can judge each entry after the acts of those before it.
+    /// The law that tables of rights and locks can judge each entry, after the acts of those before
+    /// it.
     pub fn is_judgeable(&self)
         ensures { AreJudgeable self.now.edition self.now.owner [] self.now.entries }
     {

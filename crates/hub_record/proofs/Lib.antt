@@ -1,2 +1,2 @@
-mod Listing
-mod Telling
+mod EntryForms
+mod ReceiptForms

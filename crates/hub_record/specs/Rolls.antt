@@ -11,7 +11,7 @@ pub record Rolled : Type 0 where
   pub forms : ℕ
   pub most_forms : ℕ
 
--- one entry more takes no memory
+-- one more entry takes no memory
 abbrev pub HasRoom : Rolled → Type 0
 HasRoom r = (length r.entries < r.most) × (r.forms < r.most_forms)
 
@@ -19,7 +19,7 @@ HasRoom r = (length r.entries < r.most) × (r.forms < r.most_forms)
 abbrev pub listed : List Entry → List ℕ → List Entry
 listed forms codes = flat_map (λ code. option_to_list (slice_get forms code)) codes
 
--- the entry of these parts
+-- the entry with these parts
 abbrev pub entry_in : Slip → Entry
 entry_in s = record {
   event = s.event;
@@ -28,6 +28,6 @@ entry_in s = record {
   reply = s.reply;
 }
 
--- what is stored stays, and at most one form stands behind it
+-- what was stored is unchanged, and at most one form is stored after it
 abbrev pub HasOneMore : {A : Type 0} → List A → List A → Type 0
 HasOneMore {A = A} old new = (more : List A) × (new ≡ old ++ more) × (length more ≤ 1)

@@ -14,7 +14,7 @@ abbrev pub kept_in : Form → Kept
 kept_in (event.Keys client) = kept.Keys client
 kept_in (event.Other block) = block.value
 
--- an event that is lent
+-- the event that a reference lends
 abbrev pub kept_lent : KeptRef → Kept
 kept_lent (lent.Attach user rows columns) = kept.Attach user rows columns
 kept_lent (lent.Detach client) = kept.Detach client

@@ -19,7 +19,7 @@ enum Form {
     Other(Box<Kept>),
 }
 
-/// An event that a trail keeps, lent.
+/// An event that a trail keeps, by reference.
 #[derive(Clone, Copy)]
 pub enum KeptRef<'a> {
     Attach {
@@ -50,7 +50,7 @@ pub enum KeptRef<'a> {
     },
 }
 
-/// Lends the event.
+/// Lends the parts of an event.
 fn lent(kept: &Kept) -> KeptRef<'_>
     ensures { kept_lent result ≡ kept.now }
 {
@@ -132,8 +132,8 @@ fn copied(alloc: Global, kept: &Kept) -> Result<Kept, AllocError>
     }
 }
 
-/// An event that a trail keeps: 16 bytes, and a block of memory for any but Keys. Contracts see it
-/// as hub_trail's `Kept`.
+/// An event that a trail keeps. It takes 16 bytes, and a block of memory unless it is Keys.
+/// Contracts see it as the `Kept` of hub_trail.
 pub struct KeptEvent {
     form: Form,
 }
@@ -155,7 +155,8 @@ impl Model for KeptEvent {
 }
 
 impl KeptEvent {
-    /// What a trail keeps of the event, if it writes an entry. Of Keys this takes no memory.
+    /// What a trail keeps of the event; `Ok(None)` if the event writes no entry. `AllocError` if
+    /// memory is refused; for Keys it takes no memory.
     pub fn of(alloc: Global, event: Event<'_>) -> Result<Option<KeptEvent>, AllocError>
         ensures ok { IfOk result (λ kept. kept ≡ kept_of (happening event.entry)) }
         ensures plain { takes_block (kept_of (happening event.entry)) ≡ false
@@ -177,7 +178,7 @@ impl KeptEvent {
         }
     }
 
-    /// A copy. Of Keys it takes no memory.
+    /// A copy of the event. `AllocError` if memory is refused; for Keys it takes no memory.
     pub fn copy(&self, alloc: Global) -> Result<KeptEvent, AllocError>
         ensures { IfOk result (λ copy. copy ≡ self.now) }
     {
@@ -195,7 +196,7 @@ impl KeptEvent {
         }
     }
 
-    /// The event, lent.
+    /// The event, by reference.
     pub fn get(&self) -> KeptRef<'_>
         ensures { kept_lent result ≡ self.now }
     {
@@ -205,7 +206,7 @@ impl KeptEvent {
         }
     }
 
-    /// Whether the values are the same.
+    /// Whether both events are equal.
     pub fn is_same(&self, other: &KeptEvent) -> bool
         ensures { (result ≡ true) ↔ (self.now ≡ other.now) }
     {

@@ -12,7 +12,7 @@ use std::marker::Model;
 use std::mem::size_of;
 
 /// One entry of a trail: an event, what was checked, what was done, and what was answered.
-/// Contracts see it as hub_trail's `Entry`.
+/// Contracts see it as the `Entry` of hub_trail.
 pub struct Filed {
     event: KeptEvent,
     verdicts: Vec<Verdict>,
@@ -31,7 +31,7 @@ impl Drop for Filed {
     }
 }
 
-// With the two verdicts of Keys an entry takes at most 200 bytes.
+// So an entry of Keys with two verdicts takes at most 200 bytes.
 const _: () = prove!(size_of::<Filed>() <= 88);
 
 const _: () = prove!(2 * size_of::<Verdict>() <= 112);
@@ -50,6 +50,7 @@ impl Model for Filed {
 }
 
 impl Filed {
+    /// The entry with these parts.
     pub fn new(event: KeptEvent, verdicts: Vec<Verdict>, acts: Vec<Act>, reply: KeptReply) -> Filed
         ensures { result ≡ record {
           event = event;
@@ -66,7 +67,8 @@ impl Filed {
         }
     }
 
-    /// A copy, with no more room than it takes.
+    /// A copy of the entry, which takes only the memory that it needs. `AllocError` if memory is
+    /// refused.
     pub fn copy(&self, alloc: Global) -> Result<Filed, AllocError>
         ensures { IfOk result (λ copy. copy ≡ self.now) }
     {
@@ -82,34 +84,35 @@ impl Filed {
         })
     }
 
+    /// The event of the entry.
     pub fn event(&self) -> &KeptEvent
         ensures { result.now ≡ self.now.event }
     {
         &self.event
     }
 
-    /// What was checked, in its order.
+    /// The verdicts of what was checked, in order.
     pub fn verdicts(&self) -> &[Verdict]
         ensures { result.now ≡ self.now.verdicts }
     {
         self.verdicts.as_slice()
     }
 
-    /// What was done, in its order.
+    /// The acts that were done, in order.
     pub fn acts(&self) -> &[Act]
         ensures { result.now ≡ self.now.acts }
     {
         self.acts.as_slice()
     }
 
-    /// What was answered, without the text.
+    /// The reply, without its text.
     pub fn ending(&self) -> Ending
         ensures { result ≡ self.now.reply }
     {
         self.reply.ending()
     }
 
-    /// Whether its event and its reply are these.
+    /// Whether the entry has this event and this reply.
     pub fn is_told(&self, event: &KeptEvent, reply: &KeptReply) -> bool
         ensures { (result ≡ true)
             ↔ ((self.now.event ≡ event.now) × (self.now.reply ≡ reply.now)) }

@@ -14,23 +14,23 @@ use std::alloc::{AllocError, Global};
 use std::marker::Model;
 use std::mem::size_of;
 
-/// The place of an entry, and the code of a form: 8 bytes.
+/// The place of an entry, and the code of a form. It takes 8 bytes.
 #[derive(Clone, Copy)]
-struct Told {
+struct PlaceCode {
     place: u32,
     code: u32,
 }
 
-const _: () = prove!(size_of::<Told>() <= 8);
+const _: () = prove!(size_of::<PlaceCode>() <= 8);
 
-/// The event and the reply of receipts.
+/// The event and the reply that receipts share.
 #[derive(Drop)]
 struct Form {
     event: KeptEvent,
     reply: KeptReply,
 }
 
-/// That an entry stands at a place of the trail, with this event and this reply.
+/// A receipt says that an entry with this event and this reply stands at a place of the trail.
 #[derive(Drop)]
 pub struct Receipt<'a> {
     place: usize,
@@ -46,7 +46,7 @@ impl<'a> Model for Receipt<'a> {
 }
 
 impl<'a> Receipt<'a> {
-    /// The entry's place, counted from 0.
+    /// The entry's place in the trail, counted from 0.
     pub fn place(&self) -> usize
         ensures { result ≡ self.now.place }
     {
@@ -60,14 +60,14 @@ impl<'a> Receipt<'a> {
         &self.form.event
     }
 
-    /// The entry's reply, without the text.
+    /// The entry's reply, without its text.
     pub fn ending(&self) -> Ending
         ensures { result ≡ self.now.reply }
     {
         self.form.reply.ending()
     }
 
-    /// Whether it has the event and the reply of the entry.
+    /// Whether the receipt has the event and the reply of the entry.
     pub fn is_of(&self, entry: &Filed) -> bool
         ensures { (result ≡ true) ↔ IsOf entry.now self.now }
     {
@@ -75,10 +75,10 @@ impl<'a> Receipt<'a> {
     }
 }
 
-/// A list of receipts, the oldest first. Receipts of equal events and replies share a form where a
-/// search among few codes finds it.
+/// A list of receipts, the oldest first. Receipts with equal events and replies share one stored
+/// form, if a search among a few codes finds it.
 pub struct Receipts {
-    told: Vec<Told>,
+    told: Vec<PlaceCode>,
     forms: Vec<Form>,
     kept: Vec<u32>,
 }
@@ -110,14 +110,15 @@ impl Model for Receipts {
     ghost invariant = { λ r. AllByRecursion (λ t. t.code < length r.forms.items) r.told.items };
 }
 
-/// Whether the forms are the same.
+/// Whether both forms are equal.
 fn is_same(form: &Form, other: &Form) -> bool
     ensures { (result ≡ true) ↔ (form.now ≡ other.now) }
 {
     form.event.is_same(&other.event) && form.reply.is_same(&other.reply)
 }
 
-/// The code of a form that is this one, among those that are kept from a place on.
+/// The code of a form equal to `wanted`, among the kept codes from `first` on; `None` if none of
+/// those tried is.
 fn find(forms: &[Form], kept: &[u32], first: usize, wanted: &Form) -> Option<u32>
     requires { first ≤ 4092 }
     ensures { IfSome result (λ code. slice_get forms.now code ≡ Some wanted.now) }
@@ -134,7 +135,8 @@ fn find(forms: &[Form], kept: &[u32], first: usize, wanted: &Form) -> Option<u32
     None
 }
 
-/// The code of the form: of one that is found, or after the others.
+/// The code of the form: that of an equal form, if one is found, or of the form itself, stored
+/// after the others.
 fn store(forms: &mut Vec<Form>, kept: &mut [u32], form: Form) -> u32
     requires room { vec_len forms.old < vec_capacity forms.old }
     requires few { vec_len forms.old < 4294967296 }
@@ -153,7 +155,7 @@ fn store(forms: &mut Vec<Form>, kept: &mut [u32], form: Form) -> u32
     code
 }
 
-/// Makes all codes that are kept, if they aren't there.
+/// Makes the list of kept codes, unless it is there. `AllocError` if memory is refused.
 fn fill(kept: &mut Vec<u32>) -> Result<(), AllocError> {
     for _slot in kept.len()..KEPT {
         kept.push(0)?;
@@ -162,7 +164,7 @@ fn fill(kept: &mut Vec<u32>) -> Result<(), AllocError> {
 }
 
 impl Receipts {
-    /// No receipt.
+    /// A list without receipts.
     pub fn new(alloc: Global) -> Receipts
         ensures { result.receipts ≡ [] }
     {
@@ -173,14 +175,15 @@ impl Receipts {
         }
     }
 
-    /// How many receipts it has.
+    /// The number of receipts.
     pub fn len(&self) -> usize
         ensures { result ≡ length self.now.receipts }
     {
         self.told.len()
     }
 
-    /// Makes room for one receipt more. It is refused, too, where no code is left for a form.
+    /// Makes room for one more receipt. `AllocError` if memory is refused, or if no code is left
+    /// for another form.
     pub fn reserve(&mut self) -> Result<(), AllocError>
         ensures same { self.new.receipts ≡ self.old.receipts }
         ensures room { OnOk result (HasRoom self.new) }
@@ -194,7 +197,7 @@ impl Receipts {
         Ok(())
     }
 
-    /// Puts a receipt after the others.
+    /// Puts a receipt after the others, for which there is room.
     pub fn push(&mut self, place: usize, event: KeptEvent, reply: KeptReply)
         requires room { HasRoom self.old }
         requires place { place < 4294967296 }
@@ -203,13 +206,13 @@ impl Receipts {
     {
         let form = Form { event, reply };
         let code = store(&mut self.forms, self.kept.as_mut_slice(), form);
-        self.told.push_reserved(Told {
+        self.told.push_reserved(PlaceCode {
             place: place as u32,
             code,
         });
     }
 
-    /// A receipt, by its number from 0 on.
+    /// The receipt with this number, from 0.
     pub fn at(&self, number: usize) -> Receipt<'_>
         requires { number < length self.now.receipts }
         ensures { slice_get self.now.receipts number ≡ Some result }
@@ -221,7 +224,7 @@ impl Receipts {
         }
     }
 
-    /// Takes the last one away.
+    /// Removes the last receipt.
     pub fn pop(&mut self)
         requires { 0 < length self.old.receipts }
         ensures { LosesLast self.old.receipts self.new.receipts }

@@ -1,4 +1,4 @@
-//! Whether refusals are the same.
+//! Equality of refusals.
 
 ghost use Rattle.std.specs.Prelude.{◌≡◌, ◌↔◌, true};
 ghost use Rattle.session_model.specs.declared.refusal.Refusal.TheVariants as why;
@@ -8,14 +8,14 @@ use command_lang::ParseFault;
 use regions::RegionFault;
 use session_model::{EntryDenied, LockDenied, Refusal, WindowsFault};
 
-/// Whether the leaders are the same, in the same order.
+/// Whether the leaders are equal, in the same order.
 fn are_same(leaders: &Leaders, other: &Leaders) -> bool
     ensures { (result ≡ true) ↔ (leaders.now ≡ other.now) }
 {
     leaders.as_slice() == other.as_slice()
 }
 
-/// Whether the denials are the same.
+/// Whether both denials are equal.
 fn is_same_denial(denied: &EntryDenied, other: &EntryDenied) -> bool
     ensures { (result ≡ true) ↔ (denied.now ≡ other.now) }
 {
@@ -85,7 +85,7 @@ fn is_regions(refusal: &Refusal, fault: RegionFault) -> bool
     }
 }
 
-/// Whether the refusals are the same.
+/// Whether both refusals are equal.
 pub fn is_same(refusal: &Refusal, other: &Refusal) -> bool
     ensures { (result ≡ true) ↔ (refusal.now ≡ other.now) }
 {

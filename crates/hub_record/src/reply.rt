@@ -16,8 +16,8 @@ enum Form {
     Refused(Box<Refusal>),
 }
 
-/// A reply without its text: 24 bytes, and a block of memory for a refusal. Contracts see it as
-/// hub_trail's `Ending`.
+/// A reply without its text. It takes 24 bytes, and a block of memory if it is a refusal. Contracts
+/// see it as the `Ending` of hub_trail.
 pub struct KeptReply {
     form: Form,
 }
@@ -39,7 +39,7 @@ impl Model for KeptReply {
 }
 
 impl KeptReply {
-    /// The reply without its text. A refusal goes into the spare block, so that this takes no
+    /// The reply without its text. A refusal is put into the spare block, so that this takes no
     /// memory.
     pub fn of(reply: &Reply, spare: Box<Refusal>) -> KeptReply
         ensures { result ≡ ending_of reply.now }
@@ -55,7 +55,8 @@ impl KeptReply {
         KeptReply { form }
     }
 
-    /// A copy. Of what wasn't refused it takes no memory.
+    /// A copy of the reply. `AllocError` if memory is refused; unless it is a refusal, it takes no
+    /// memory.
     pub fn copy(&self, alloc: Global) -> Result<KeptReply, AllocError>
         ensures { IfOk result (λ copy. copy ≡ self.now) }
     {
@@ -82,7 +83,7 @@ impl KeptReply {
         }
     }
 
-    /// Whether the values are the same.
+    /// Whether both replies are equal.
     pub fn is_same(&self, other: &KeptReply) -> bool
         ensures { (result ≡ true) ↔ (self.now ≡ other.now) }
     {

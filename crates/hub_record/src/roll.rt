@@ -10,8 +10,8 @@ use crate::slip::Slip;
 use std::alloc::{AllocError, Global};
 use std::marker::Model;
 
-/// A list of entries, the oldest first: the code of each, 4 bytes, and a form for each code. Equal
-/// entries share a form where a search among few codes finds it.
+/// A list of entries, the oldest first. It has a code of 4 bytes for each entry, and a stored form
+/// for each code. Equal entries share one form, if a search among a few codes finds it.
 pub struct Roll {
     codes: Vec<u32>,
     forms: Vec<Filed>,
@@ -46,7 +46,8 @@ impl Model for Roll {
         × (length r.forms.items ≤ length r.codes.items) };
 }
 
-/// The code of a form that is the entry: one that is found, or a new one after the others.
+/// The code of the entry's form: that of an equal form, if one is found, or of a new form after the
+/// others.
 fn store(forms: &mut Vec<Filed>, kept: &mut [u32], slip: Slip) -> u32
     requires room { vec_len forms.old < vec_capacity forms.old }
     requires few { vec_len forms.old < 4294967296 }
@@ -66,7 +67,7 @@ fn store(forms: &mut Vec<Filed>, kept: &mut [u32], slip: Slip) -> u32
 }
 
 impl Roll {
-    /// No entry.
+    /// A list without entries. `AllocError` if memory is refused.
     pub fn new(alloc: Global) -> Result<Roll, AllocError>
         ensures { IfOk result (λ roll. roll.entries ≡ []) }
     {
@@ -81,14 +82,14 @@ impl Roll {
         })
     }
 
-    /// How many entries it has.
+    /// The number of entries.
     pub fn len(&self) -> usize
         ensures { result ≡ length self.now.entries }
     {
         self.codes.len()
     }
 
-    /// Makes room for one entry more.
+    /// Makes room for one more entry. `AllocError` if memory is refused.
     pub fn reserve(&mut self) -> Result<(), AllocError>
         ensures same { self.new.entries ≡ self.old.entries }
         ensures room { OnOk result (HasRoom self.new) }
@@ -98,7 +99,7 @@ impl Roll {
         Ok(())
     }
 
-    /// Puts an entry after the others.
+    /// Puts an entry after the others, for which there is room.
     pub fn push(&mut self, slip: Slip)
         requires room { HasRoom self.old }
         requires few { length self.old.entries < 4294967296 }

@@ -1,4 +1,4 @@
-//! Whether kept events are the same.
+//! Equality of kept events.
 
 ghost use Rattle.std.specs.Prelude.{◌≡◌, ◌↔◌, true};
 ghost use Rattle.hub_trail.specs.declared.kept.Kept.TheVariants as kept;
@@ -7,7 +7,7 @@ use acl::UserId;
 use hub_trail::Kept;
 use session_model::Bytes;
 
-/// Whether the bytes are the same.
+/// Whether both texts are equal.
 fn are_same(bytes: &Bytes, other: &Bytes) -> bool
     ensures { (result ≡ true) ↔ (bytes.now ≡ other.now) }
 {
@@ -62,7 +62,7 @@ fn is_command(event: &Kept, user: UserId, window: Option<u8>, line: &Bytes) -> b
     }
 }
 
-/// Whether the event is an Open of this user and size.
+/// Whether the event is this Open.
 fn is_open(event: &Kept, user: UserId, size: (u16, u16), keep: u16, title: &Bytes) -> bool
     ensures { (result ≡ true) ↔ (event.now ≡ kept.Open user size.0 size.1 keep title.now) }
 {
@@ -94,7 +94,7 @@ fn is_closed(event: &Kept, window: u32) -> bool
     }
 }
 
-/// Whether the events are the same.
+/// Whether both events are equal.
 pub fn is_same(event: &Kept, other: &Kept) -> bool
     ensures { (result ≡ true) ↔ (event.now ≡ other.now) }
 {

@@ -10,13 +10,13 @@ use crate::slip::Slip;
 use acl::Object;
 use session_model::Verdict;
 
-/// How many codes are tried for an entry or a receipt.
+/// The number of codes that are tried for an entry or a receipt.
 pub const WAYS: usize = 4;
 
-/// How many codes are kept for the search.
+/// The number of codes that are kept for the search.
 pub const KEPT: usize = 4096;
 
-/// A number of the bytes.
+/// A hash of the bytes.
 fn number_of(bytes: &[u8]) -> u32 {
     let mut number = 0u32;
     for byte in bytes {
@@ -25,7 +25,7 @@ fn number_of(bytes: &[u8]) -> u32 {
     number
 }
 
-/// A number of the event: the same for the same event.
+/// A hash of the event: equal events have the same one.
 pub fn number_of_event(event: KeptRef<'_>) -> u32 {
     match event {
         KeptRef::Keys { client } => client.wrapping_mul(7),
@@ -35,7 +35,7 @@ pub fn number_of_event(event: KeptRef<'_>) -> u32 {
     }
 }
 
-/// The serial of the window of which the verdict is, else 0.
+/// The serial of the window that the verdict is on; 0 if it is on a command.
 fn window_of(verdict: Verdict) -> u32 {
     match verdict {
         Verdict::Lock { window, .. } => window,
@@ -47,7 +47,8 @@ fn window_of(verdict: Verdict) -> u32 {
     }
 }
 
-/// Where among the kept codes the search begins, by a number of the event and by the reply.
+/// The index among the kept codes at which a search begins, by a hash of the event and by the
+/// reply.
 pub fn first_by(number: u32, reply: &KeptReply) -> usize
     ensures { result ≤ 4092 }
 {
@@ -60,7 +61,7 @@ pub fn first_by(number: u32, reply: &KeptReply) -> usize
     number as usize % (KEPT / WAYS) * WAYS
 }
 
-/// Where among the kept codes the search for an entry begins.
+/// The index among the kept codes at which the search for an entry begins.
 pub fn first_of(slip: &Slip) -> usize
     ensures { result ≤ 4092 }
 {
@@ -71,7 +72,7 @@ pub fn first_of(slip: &Slip) -> usize
     first_by(number, &slip.reply)
 }
 
-/// Where among the kept codes the next one goes, where the search began at the first.
+/// The index among the kept codes at which the next code is put, if the search began at `first`.
 pub fn slot_of(first: usize, code: u32) -> usize
     requires { first ≤ 4092 }
     ensures { result ≤ 4095 }
@@ -79,7 +80,8 @@ pub fn slot_of(first: usize, code: u32) -> usize
     first + code as usize % WAYS
 }
 
-/// The code of a form that is the entry, among those that are kept from a place on.
+/// The code of a form equal to the entry, among the kept codes from `first` on; `None` if none of
+/// those tried is.
 pub fn find(forms: &[Filed], kept: &[u32], first: usize, slip: &Slip) -> Option<u32>
     requires { first ≤ 4092 }
     ensures { IfSome result (λ code. slice_get forms.now code ≡ Some (entry_in slip.now)) }

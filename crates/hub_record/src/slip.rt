@@ -10,7 +10,7 @@ use crate::reply::KeptReply;
 use acl::{Act, Bit, Object, UserId};
 use session_model::Verdict;
 
-/// The parts of an entry that is to be stored.
+/// The parts of an entry that is still to be stored.
 #[derive(Drop)]
 pub struct Slip {
     pub event: KeptEvent,
@@ -19,7 +19,7 @@ pub struct Slip {
     pub reply: KeptReply,
 }
 
-/// Whether what was asked is the same.
+/// Whether both verdicts answer the same question.
 fn is_same_question(asked: (UserId, Bit, Object), other: (UserId, Bit, Object)) -> bool
     ensures { (result ≡ true) ↔ (asked ≡ other) }
 {
@@ -58,7 +58,7 @@ fn is_lock(verdict: Verdict, user: UserId, window: u32, holder: Option<UserId>) 
     }
 }
 
-/// Whether the verdicts are the same.
+/// Whether both verdicts are equal.
 fn is_same(verdict: &Verdict, other: &Verdict) -> bool
     ensures { (result ≡ true) ↔ (verdict.now ≡ other.now) }
 {
@@ -77,7 +77,7 @@ fn is_same(verdict: &Verdict, other: &Verdict) -> bool
     }
 }
 
-/// Whether the lists of verdicts are the same.
+/// Whether both lists of verdicts are equal.
 fn are_same(verdicts: &[Verdict], other: &[Verdict]) -> bool
     ensures { result ≡ true → verdicts.now ≡ other.now }
 {
@@ -93,7 +93,8 @@ fn are_same(verdicts: &[Verdict], other: &[Verdict]) -> bool
 }
 
 impl Slip {
-    /// Whether this is the entry, and has no act. One with an act is never found to be the same.
+    /// Whether this is equal to the entry, and has no acts. An entry with acts is never found to be
+    /// equal.
     pub fn is_of(&self, entry: &Filed) -> bool
         ensures { result ≡ true → entry.now ≡ entry_in self.now }
     {
@@ -103,7 +104,7 @@ impl Slip {
             && are_same(entry.verdicts(), self.verdicts.as_slice())
     }
 
-    /// The entry, with no more room than it takes.
+    /// The entry, which takes only the memory that it needs.
     pub fn into_entry(self) -> Filed
         ensures { result ≡ entry_in self }
     {

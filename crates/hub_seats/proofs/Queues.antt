@@ -1,4 +1,4 @@
--- Effects put behind what waits.
+-- Effects are put after those that wait for the seat of their peer.
 use Rattle.std.proofs.Common.{◌≡◌, ◌≢◌, ℕ, zero, suc, ◌<◌, ◌≤◌, ◌+◌, Bool, true, false, List, [], ◌∷◌, ◌++◌, length}
 use Rattle.std.proofs.Common.{Some, set, filter, refl, ap, sym, ◌∙◌, subst, inl, inr, arith, length-append}
 use Rattle.std.proofs.Common.{append_assoc}
@@ -114,7 +114,7 @@ more_waits o es e k old ws v new here is at put waits =
 
 -- ---- room
 
--- room before one list got one more
+-- how much room there is after one list got one effect more
 pub room_left : (ws : List (Vec Effect Global)) (k : ℕ) (v new : Vec Effect Global) (most : ℕ) (done : List Effect)
     (e : Effect) → slice_get ws k ≡ Some v
     → vec_len new ≡ vec_len v + 1 → vec_capacity new ≡ vec_capacity v

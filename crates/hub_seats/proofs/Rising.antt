@@ -1,4 +1,4 @@
--- Receipts whose places rise.
+-- Facts of receipts whose places rise.
 use Rattle.std.proofs.Common.{◌≡◌, ℕ, zero, suc, ◌<◌, ◌≤◌, ◌+◌, ◌-◌, Bool, true, false, List, [], ◌∷◌, ◌++◌, length}
 use Rattle.std.proofs.Common.{Some, refl, ap, sym, ◌∙◌, subst, arith, cond, length-append}
 use Rattle.std.specs.Prelude.{◌↔◌, ◌==◌, nat_lt, slice_get, if◌then◌else◌}
@@ -39,7 +39,7 @@ rise_front (x ∷ rs) r rise =
     let rest = rise_front rs r rise.1 in
     ((parts.0, rest.0), (parts.1.0, rest.1))
 
--- the last place is the highest
+-- the place of the last receipt is the highest
 pub below_last : (rs : List Receipt) (r : Receipt) (p k : ℕ) → k + 1 ≡ length rs → Rise rs → slice_get rs k ≡ Some r
     → r.place < p → AllBelow rs p
 below_last [] r p k len rise at l = tt
@@ -93,7 +93,7 @@ before_le p rs = omega (
       rs,
 )
 
--- what stands below a place doesn't change by cutting above it
+-- receipts below a place are unchanged if those above it are removed
 pub before_before : (rs : List Receipt) (p q : ℕ) → p ≤ q → before p (before q rs) ≡ before p rs
 before_before [] p q le = refl
 before_before (r ∷ rs) p q le =
@@ -104,7 +104,7 @@ before_before (r ∷ rs) p q le =
     (λ h. drops p r (before q rs) h ∙ before_before rs p q le ∙ sym (drops p r rs h)))
     (λ high. ap (before p) (drops q r rs high) ∙ before_before rs p q le ∙ sym (drops p r rs (omega (arith, le, high))))
 
--- ---- who names a place
+-- ---- how many receipts name a place
 
 pub times_append : (p : ℕ) (xs ys : List Receipt) → times p (xs ++ ys) ≡ times p xs + times p ys
 times_append p xs ys = sum_by-append (λ (r : Receipt). cond (r.place == p) 1 0) xs ys
@@ -174,7 +174,7 @@ others_are_of rs k e all = all_weaken (λ (r : Receipt). r.place ≡ k → ⊥) 
 
 -- ---- a place at the end
 
--- no receipt reaches it
+-- no receipt has the place
 pub strip_none : (old mid : List Receipt) (p : ℕ) (e : Entry) → mid ≡ before (p + 1) old → AllBelow mid p
     → (mid ≡ before p old) × (0 ≡ times p old) × AreOf p e old
 strip_none old mid p e cut all =
@@ -186,7 +186,7 @@ strip_none old mid p e cut all =
       are_of_before old p (p + 1) e l (subst (AreOf p e) cut (others_are_of mid p e others)),
     )
 
--- or one does
+-- one receipt has the place
 pub strip_one : (old mid rs : List Receipt) (r : Receipt) (p : ℕ) (e : Entry) → mid ≡ before (p + 1) old
     → mid ≡ rs ++ r ∷ [] → Rise mid → AllBelow mid (p + 1) → (AllBelow mid p → ⊥)
     → Rise rs × (rs ≡ before p old) × (1 ≡ times p old) × (IsOf e r → AreOf p e old) × (AreOf p e old → IsOf e r)
@@ -222,7 +222,7 @@ strip_one old mid rs r p e cut is rise all not =
           (subst (AreOf p e) (sym cut ∙ is) (before_are_of old p (p + 1) e of))).1.0 at),
     )
 
--- ---- a list whose end is taken
+-- ---- a list whose end is removed
 
 less : (a b : ℕ) → nat_lt a b ≡ true → a < b
 less a b is = grind (arith, nat_tests, is)

@@ -1,11 +1,11 @@
--- Receipts and the places that they name.
+-- Receipts, and the places of the trail that they name.
 use Rattle.std.specs.Prelude.{ℕ, ◌<◌, ◌==◌, List, [], ◌∷◌, ◌≡◌, count_by, filter, nat_lt}
 use Rattle.std.specs.List.{AllByRecursion}
 use Rattle.hub_trail.specs.Trails.{Entry}
 use Rattle.hub_record.specs.Receipts.{Receipt}
 pub use Rattle.hub_record.specs.Receipts.{IsOf}
 
--- all places that a seat was told are below this one
+-- all places in these receipts are below this one
 abbrev pub AllBelow : List Receipt → ℕ → Type 0
 AllBelow receipts place = AllByRecursion (λ (r : Receipt). r.place < place) receipts
 
@@ -14,14 +14,14 @@ abbrev pub Rise : List Receipt → Type 0
 Rise [] = Unit {0}
 Rise (r ∷ receipts) = AllByRecursion (λ (s : Receipt). r.place < s.place) receipts × Rise receipts
 
--- those of the places below one
+-- the receipts whose places are below this one
 abbrev pub before : ℕ → List Receipt → List Receipt
 before place receipts = filter (λ (r : Receipt). nat_lt r.place place) receipts
 
--- how many receipts name a place
+-- the number of receipts that name the place
 abbrev pub times : ℕ → List Receipt → ℕ
 times place receipts = count_by (λ (r : Receipt). r.place == place) receipts
 
--- those that name the place do
+-- each receipt that names the place has the event and the reply of the entry
 abbrev pub AreOf : ℕ → Entry → List Receipt → Type 0
 AreOf place e receipts = AllByRecursion (λ (r : Receipt). r.place ≡ place → IsOf e r) receipts

@@ -1,4 +1,4 @@
--- Effects that wait for the seats of their peers, and marks of steps.
+-- Effects that wait for the seats of their peers, and the marks that steps leave.
 use Rattle.std.specs.Prelude.{ℕ, ◌+◌, ◌≤◌, ◌==◌, Bool, true, false, List, ◌++◌, ◌≡◌, Some, IsSome}
 use Rattle.std.specs.Prelude.{length, map, filter, slice_get, vec_len, vec_capacity, if◌then◌else◌}
 use Rattle.std.specs.List.{AllByRecursion}
@@ -12,7 +12,7 @@ use Rattle.hub_seats.specs.Peers.{Owners, seat_of}
 abbrev pub views : List (Vec Effect Global) → List (List Effect)
 views waiting = map (λ v. v.items) waiting
 
--- each list has room for so many more
+-- each list has room for this many effects more
 abbrev pub HaveRoom : ℕ → List (Vec Effect Global) → Type 0
 HaveRoom n waiting =
     (k : ℕ) (v : Vec Effect Global) → slice_get waiting k ≡ Some v
@@ -22,7 +22,7 @@ HaveRoom n waiting =
 abbrev pub is_for : Owners → ℕ → Effect → Bool
 is_for o seat effect = option_map_or (λ s. s == seat) (seat_of o effect) false
 
--- behind what waits for each seat stand the effects for its peers, in order; and each effect is for
+-- the effects for a seat's peers are put after those that wait for it, in order; each effect is for
 -- a peer of some seat
 pub record AreRouted (o : Owners) (effects : List Effect) (old new : List (List Effect))
     : Type 0 where

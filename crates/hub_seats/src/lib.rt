@@ -1,5 +1,5 @@
-//! What the seats of a hub have: the clients and windows that are theirs, the effects that wait for
-//! these, and receipts, whose places rise.
+//! The parts of a hub that belong to its seats: their clients and windows, the effects that wait
+//! for these, and receipts, whose places rise.
 #![tactic(auto)]
 
 mod peers;

@@ -8,7 +8,7 @@ ghost use Rattle.hub_seats.specs.Peers.{HasPeer, owners_of, seat_of, with_peers}
 use session_model::{Effect, Event, Reply};
 use std::alloc::{AllocError, Global};
 
-/// The seats of clients and of windows, by their serials.
+/// The seats of clients and of windows, by serial.
 pub struct Peers {
     pub clients: Vec<usize>,
     pub windows: Vec<usize>,
@@ -38,7 +38,7 @@ fn opens(event: Event, reply: &Reply) -> bool
 }
 
 impl Peers {
-    /// Seats of no peer.
+    /// A table of a hub to which no peer has come.
     pub fn new(alloc: Global) -> Peers
         ensures { owners_of result ≡ record { clients = []; windows = [] } }
     {
@@ -48,7 +48,7 @@ impl Peers {
         }
     }
 
-    /// Makes room for one client and one window more.
+    /// Makes room for one more client and one more window. `AllocError` if memory is refused.
     pub fn make_room(&mut self) -> Result<(), AllocError>
         ensures same { owners_of self.new ≡ owners_of self.old }
         ensures room { OnOk result ((vec_len self.new.clients < vec_capacity self.new.clients)
@@ -58,7 +58,7 @@ impl Peers {
         self.windows.reserve(1)
     }
 
-    /// What a step attached or opened belongs to the seat.
+    /// Gives the seat the client or the window that the step attached or opened, if it did.
     pub fn add(&mut self, event: Event, reply: &Reply, seat: usize)
         requires clients { vec_len self.old.clients < vec_capacity self.old.clients }
         requires windows { vec_len self.old.windows < vec_capacity self.old.windows }
@@ -73,7 +73,7 @@ impl Peers {
         }
     }
 
-    /// The seat of an effect's peer, which has come.
+    /// The seat of the peer that an effect is for; the peer has come before.
     pub fn seat_of(&self, effect: &Effect) -> usize
         requires { HasPeer (owners_of self.now) effect.now }
         ensures { seat_of (owners_of self.now) effect.now ≡ Some result }

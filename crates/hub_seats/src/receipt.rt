@@ -1,11 +1,11 @@
-//! Receipts, taken away from the last place down.
+//! Receipts are removed from the highest place downwards.
 
 ghost use Rattle.std.specs.Prelude.{◌≡◌, ◌↔◌, ◌≤◌, ◌<◌, ◌+◌, true};
 ghost use Rattle.hub_seats.specs.Rising.{AllBelow, AreOf, Rise, before, times};
 
 use hub_record::{Filed, Receipts};
 
-/// Whether all places are below this one.
+/// Whether the places of all receipts are below this one.
 pub fn are_below(receipts: &Receipts, place: usize) -> bool
     requires { Rise receipts.now.receipts }
     ensures { (result ≡ true) ↔ AllBelow receipts.now.receipts place }
@@ -14,7 +14,7 @@ pub fn are_below(receipts: &Receipts, place: usize) -> bool
     count == 0 || receipts.at(count - 1).place() < place
 }
 
-/// Takes away the receipts of this place and above.
+/// Removes the receipts with this place or a higher one.
 fn cut(receipts: &mut Receipts, place: usize)
     requires { Rise receipts.old.receipts }
     ensures rise { Rise receipts.new.receipts }
@@ -26,8 +26,8 @@ fn cut(receipts: &mut Receipts, place: usize)
     }
 }
 
-/// Takes away the receipts of this place and above. How many of them name it, and whether these
-/// have the event and the reply of the entry.
+/// Removes the receipts with this place or a higher one. Returns how many of them name the place, 0
+/// or 1, and whether these have the event and the reply of the entry.
 pub fn strip(receipts: &mut Receipts, place: usize, entry: &Filed) -> (usize, bool)
     requires rise { Rise receipts.old.receipts }
     requires place { place < 4294967296 }

@@ -12,10 +12,11 @@ use session_model::{Effect, Event};
 use std::alloc::{AllocError, Global};
 use std::mem;
 
-/// The most effects of one step.
+/// The most effects that one step has.
 pub const MOST: usize = 256;
 
-/// What waits for each seat, and whether a step other than a Draw came since its last take.
+/// The effects that wait for each seat, and whether a step other than a Draw came since its effects
+/// were last taken.
 pub struct Waiting {
     pub lists: Vec<Vec<Effect>>,
     pub marks: Vec<bool>,
@@ -28,7 +29,7 @@ impl Drop for Waiting {
 }
 
 impl Waiting {
-    /// Nothing waits for these seats.
+    /// No effect waits for these seats. `AllocError` if memory is refused.
     pub fn new(alloc: Global, seats: usize) -> Result<Waiting, AllocError>
         ensures lists { IfOk result (λ w. views w.lists.items ≡ replicate seats []) }
         ensures marks { IfOk result (λ w. w.marks.items ≡ replicate seats false) }
@@ -42,7 +43,8 @@ impl Waiting {
         Ok(Waiting { lists, marks })
     }
 
-    /// Makes room for the effects of one step after what waits for each seat.
+    /// Makes room for the effects of one step, after those that wait for each seat. `AllocError` if
+    /// memory is refused.
     pub fn make_room(&mut self) -> Result<(), AllocError>
         ensures lists { views self.new.lists.items ≡ views self.old.lists.items }
         ensures marks { self.new.marks ≡ self.old.marks }
@@ -51,7 +53,7 @@ impl Waiting {
         make_room(self.lists.as_mut_slice())
     }
 
-    /// Puts each effect after what waits for its peer's seat.
+    /// Puts each effect after those that wait for the seat of its peer.
     pub fn route(&mut self, peers: &Peers, effects: Vec<Effect>)
         requires seats { AreSeats (length self.old.lists.items) (owners_of peers.now) }
         requires come { AllByRecursion (HasPeer (owners_of peers.now)) effects.items }
@@ -75,7 +77,7 @@ impl Waiting {
         }
     }
 
-    /// Hands out what waits for a seat, and its mark. It takes no memory.
+    /// Hands out the effects that wait for a seat, and its mark. It takes no memory.
     pub fn take(&mut self, alloc: Global, seat: usize) -> (Vec<Effect>, bool)
         requires lists { seat < length self.old.lists.items }
         requires marks { seat < length self.old.marks.items }

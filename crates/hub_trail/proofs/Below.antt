@@ -1,7 +1,7 @@
--- The laws of steps, as values.
-use Rattle.session_laws.proofs.Keyed.{rows_keyed}
+-- The laws of steps on which the proofs of this crate stand, put together as one value.
+use Rattle.session_laws.proofs.RowsByKeys.{rows_keyed}
 use Rattle.session_laws.proofs.Promising.{step_keeps}
-use Rattle.session_laws.proofs.Rowing.{rows_done, refused_so}
+use Rattle.session_laws.proofs.RowsByLines.{rows_done, refused_so}
 use Rattle.session_guests.proofs.Gating.{Below}
 
 pub below : Below

@@ -1,5 +1,6 @@
--- Effects are for clients and windows that came.
-use Rattle.std.proofs.Common.{◌≡◌, ◌∙◌, ℕ, ◌<◌, Bool, true, false, List, [], ◌∷◌, Option, Some, None, map, refl, ap, subst, sym, ⊎_elim, take}
+-- The effects of a step are for clients and windows that came before.
+use Rattle.std.proofs.Common.{◌≡◌, ◌∙◌, ℕ, ◌<◌, Bool, true, false, List, [], ◌∷◌, Option, Some, None, map, refl, ap}
+use Rattle.std.proofs.Common.{subst, sym, ⊎_elim, take}
 use Rattle.std.specs.Prelude.{◌==◌, if◌then◌else◌, MatchOption}
 use Rattle.std.specs.List.{AllByRecursion}
 use Rattle.std.specs.Option.{option_and_then}
@@ -27,20 +28,25 @@ use Rattle.session_model.specs.Run.{IsStep, IsDraw, HasEffects}
 use Rattle.session_laws.proofs.Asking.{keys_given, line_listed, focus_listed}
 use Rattle.session_laws.proofs.Denying.{IsListed}
 use Rattle.session_laws.proofs.Lists.{all_weaken, some_weaken, some_row, row_serial}
-use Rattle.session_laws.proofs.Saying.{never_delivers, no_other}
+use Rattle.session_laws.proofs.EffectsCaused.{never_delivers, no_other}
 use Rattle.hub_trail.specs.Peers.{HasCome}
 
 -- ---- rows
 
--- a serial of the table is below the next one
-some_below : {A : Type 0} (f : A → ℕ) (rows : List A) (next n : ℕ) → Rises (map f rows) next → SomeOf (λ x. f x ≡ n) rows → n < next
+-- a serial in the table is below the next serial
+some_below : {A : Type 0} (f : A → ℕ) (rows : List A) (next n : ℕ) → Rises (map f rows) next
+    → SomeOf (λ x. f x ≡ n) rows → n < next
 some_below f [] next n rises some = absurd some
 some_below f (x ∷ rows) next n rises some =
-    ⊎_elim (λ (here : f x ≡ n). subst (λ m. m < next) here rises.0) (λ later. some_below f rows next n rises.2 later) some
+    ⊎_elim (λ (here : f x ≡ n). subst (λ m. m < next) here rises.0) (λ later. some_below f rows next n rises.2 later)
+    some
 
-row_below : {A : Type 0} (f : A → ℕ) (rows : List A) (next n : ℕ) (x : A) → Rises (map f rows) next → row_of f rows n ≡ Some x → n < next
+row_below : {A : Type 0} (f : A → ℕ) (rows : List A) (next n : ℕ) (x : A) → Rises (map f rows) next
+    → row_of f rows n ≡ Some x → n < next
 row_below f rows next n x rises is =
-    some_below f rows next n rises (some_weaken (λ y. y ≡ x) (λ y. f y ≡ n) rows (λ y same. ap f same ∙ row_serial f rows n x is) (some_row f rows n x is))
+    some_below f rows next n rises
+    (some_weaken (λ y. y ≡ x) (λ y. f y ≡ n) rows (λ y same. ap f same ∙ row_serial f rows n x is)
+    (some_row f rows n x is))
 
 module _ (t : Tables) (s : AreSound t) where
   client_below : (n : ℕ) (c : Client) → client_at t n ≡ Some c → n < t.next_client
@@ -55,19 +61,21 @@ module _ (t : Tables) (s : AreSound t) where
   passing_below : (p : Client → Bool) (n : ℕ) → IsClient t p n → n < t.next_client
   passing_below p n some =
       some_below (λ (x : Client). x.serial) t.clients t.next_client n s.clients_rise
-      (some_weaken (λ (x : Client). (x.serial ≡ n) × (p x ≡ true)) (λ (x : Client). x.serial ≡ n) t.clients (λ x here. here.0) some)
+      (some_weaken (λ (x : Client). (x.serial ≡ n) × (p x ≡ true)) (λ (x : Client). x.serial ≡ n) t.clients
+      (λ x here. here.0) some)
 
   listed_below : (n : ℕ) → IsListed t n → n < t.next_window
   listed_below n listed = window_below n listed.0 listed.1
 
   -- ---- commands
 
-  -- who gives a command: his client is attached, and his window open
+  -- the client that gives a command is attached, and its window is open
   record IsThere (k : Caller) : Type 0 where
     client : (n : ℕ) → k.client ≡ Some n → n < t.next_client
     window : (w : Window) → k.window ≡ Some w → w.serial < t.next_window
 
-  on_below : (o : Option Window) (n : ℕ) → ((w : Window) → o ≡ Some w → w.serial < t.next_window) → IsOn o n → n < t.next_window
+  on_below : (o : Option Window) (n : ℕ) → ((w : Window) → o ≡ Some w → w.serial < t.next_window) → IsOn o n
+      → n < t.next_window
   on_below None n there is = absurd is
   on_below (Some w) n there is = subst (λ m. m < t.next_window) is (there w refl)
 
@@ -116,10 +124,12 @@ module _ (t : Tables) (s : AreSound t) where
     command_comes (GoneWindow n why) is = closes g.order n why is
     command_comes (GoneClient n why) is = parts g.order n why is
 
-  some_comes : (f : Effect) (gs : List Given) → AllByRecursion (λ g. IsThere g.caller) gs → SomeOf (IsDoneByRight t f) gs → HasCome t f
+  some_comes : (f : Effect) (gs : List Given) → AllByRecursion (λ g. IsThere g.caller) gs
+      → SomeOf (IsDoneByRight t f) gs → HasCome t f
   some_comes f [] there some = absurd some
   some_comes f (g ∷ gs) there some =
-      ⊎_elim (λ (here : IsDoneByRight t f g). command_comes g there.0 f here.1) (λ later. some_comes f gs there.1 later) some
+      ⊎_elim (λ (here : IsDoneByRight t f g). command_comes g there.0 f here.1) (λ later. some_comes f gs there.1 later)
+      some
 
   with_there : (k : Caller) (o : Option Order) → IsThere k → AllByRecursion (λ g. IsThere g.caller) (with_order k o)
   with_there k None there = tt
@@ -128,14 +138,17 @@ module _ (t : Tables) (s : AreSound t) where
   keys_there : (n : ℕ) (c : Client) → client_at t n ≡ Some c → IsThere (caller_of t c)
   keys_there n c is = record {
     client = λ m same. let e : c.serial ≡ m = cc (same) in
-        subst (λ x. x < t.next_client) (sym (row_serial (λ (x : Client). x.serial) t.clients n c is) ∙ e) (client_below n c is);
+        subst (λ x. x < t.next_client) (sym (row_serial (λ (x : Client). x.serial) t.clients n c is) ∙ e)
+        (client_below n c is);
     window = λ w at. listed_below w.serial (focus_listed t (focused c) w at);
   }
 
   line_there : (user : UserId) (number : Option ℕ) → IsThere (line_caller t user number)
-  line_there user number = record { client = λ m same. absurd (cc (same)); window = λ w at. listed_below w.serial (line_listed t number w at) }
+  line_there user number = record
+      { client = λ m same. absurd (cc (same)); window = λ w at. listed_below w.serial (line_listed t number w at) }
 
-  if_there : (b : Bool) (gs : List Given) → AllByRecursion (λ g. IsThere g.caller) gs → AllByRecursion (λ g. IsThere g.caller) (if b then gs else [])
+  if_there : (b : Bool) (gs : List Given) → AllByRecursion (λ g. IsThere g.caller) gs
+      → AllByRecursion (λ g. IsThere g.caller) (if b then gs else [])
   if_there true gs all = all
   if_there false gs all = tt
 
@@ -143,7 +156,8 @@ module _ (t : Tables) (s : AreSound t) where
 
   typed_comes : (n : ℕ) (c : Client) → client_at t n ≡ Some c → (f : Effect) → IsByKeys t n f → HasCome t f
   typed_comes n c is (Input w bytes) by =
-      on_below (option_and_then (window_at t) (focused c)) w (λ v at. listed_below v.serial (focus_listed t (focused c) v at))
+      on_below (option_and_then (window_at t) (focused c)) w
+      (λ v at. listed_below v.serial (focus_listed t (focused c) v at))
       (subst (λ o. MatchOption o ⊥ (λ d. IsOn (option_and_then (window_at t) (focused d)) w)) is by)
   typed_comes n c is (Say to bytes) by = subst (λ m. m < t.next_client) (sym by) (client_below n c is)
   typed_comes n c is (Deliver to bytes) by = absurd by
@@ -151,17 +165,21 @@ module _ (t : Tables) (s : AreSound t) where
   typed_comes n c is (GoneWindow w why) by = absurd by
   typed_comes n c is (GoneClient to why) by = absurd by
 
-  keys_come : (n : ℕ) (bytes : List ℕ) (c : Client) → client_at t n ≡ Some c → (f : Effect) → IsEffectOf t (Keys n bytes) f → HasCome t f
+  keys_come : (n : ℕ) (bytes : List ℕ) (c : Client) → client_at t n ≡ Some c → (f : Effect)
+      → IsEffectOf t (Keys n bytes) f → HasCome t f
   keys_come n bytes c is f of =
       ⊎_elim (λ (by : IsByKeys t n f). typed_comes n c is f by)
-      (λ (some : SomeOf (IsDoneByRight t f) (commands_of t (Keys n bytes))). some_comes f (with_order (caller_of t c) (order_in (command_item (step_items c bytes))))
+      (λ (some : SomeOf (IsDoneByRight t f) (commands_of t (Keys n bytes))). some_comes f
+      (with_order (caller_of t c) (order_in (command_item (step_items c bytes))))
       (with_there (caller_of t c) (order_in (command_item (step_items c bytes))) (keys_there n c is))
       (subst (λ gs. SomeOf (IsDoneByRight t f) gs) (keys_given t n bytes c is) some)) of
 
-  line_comes : (user : UserId) (number : Option ℕ) (bytes : List ℕ) (f : Effect) → IsEffectOf t (Command user number bytes) f → HasCome t f
+  line_comes : (user : UserId) (number : Option ℕ) (bytes : List ℕ) (f : Effect)
+      → IsEffectOf t (Command user number bytes) f → HasCome t f
   line_comes user number bytes f of =
       some_comes f (commands_of t (Command user number bytes))
-      (if_there (is_known t user) (with_order (line_caller t user number) (ok_of (read_line bytes))) (with_there (line_caller t user number) (ok_of (read_line bytes)) (line_there user number))) of
+      (if_there (is_known t user) (with_order (line_caller t user number) (ok_of (read_line bytes)))
+      (with_there (line_caller t user number) (ok_of (read_line bytes)) (line_there user number))) of
 
   -- an effect of an event whose peer is there
   parted_comes : (n : ℕ) (c : Client) → client_at t n ≡ Some c → (f : Effect) → IsEffectOf t (Detach n) f → HasCome t f
@@ -170,7 +188,8 @@ module _ (t : Tables) (s : AreSound t) where
   closed_comes : (n : ℕ) (w : Window) → window_at t n ≡ Some w → (f : Effect) → IsEffectOf t (Closed n) f → HasCome t f
   closed_comes n w is f of = subst (HasCome t) (sym of) (window_below n w is)
 
-  output_comes : (n : ℕ) (bytes : List ℕ) (w : Window) → window_at t n ≡ Some w → (f : Effect) → IsEffectOf t (Output n bytes) f → HasCome t f
+  output_comes : (n : ℕ) (bytes : List ℕ) (w : Window) → window_at t n ≡ Some w → (f : Effect)
+      → IsEffectOf t (Output n bytes) f → HasCome t f
   output_comes n bytes w is (Input to reports) of = subst (λ m. m < t.next_window) (sym of) (window_below n w is)
   output_comes n bytes w is (Deliver to reports) of = absurd of
   output_comes n bytes w is (Say to said) of = absurd of
@@ -186,31 +205,59 @@ module _ (t : Tables) (s : AreSound t) where
   draw_comes n c is (GoneWindow at why) of = absurd of
   draw_comes n c is (GoneClient to why) of = absurd of
 
-  -- where nobody is there, there is no effect
-  come : (event : EventValue) (effects : List Effect) → HasEffects t event effects → AllByRecursion (IsEffectOf t event) effects → AllByRecursion (HasCome t) effects
-  come (Command user number bytes) effects has all = all_weaken (IsEffectOf t (Command user number bytes)) (HasCome t) effects (line_comes user number bytes) all
+  -- if the peer isn't there, there is no effect
+  come : (event : EventValue) (effects : List Effect) → HasEffects t event effects
+      → AllByRecursion (IsEffectOf t event) effects → AllByRecursion (HasCome t) effects
+  come (Command user number bytes) effects has all = all_weaken (IsEffectOf t (Command user number bytes)) (HasCome t)
+      effects (line_comes user number bytes) all
   come (Detach client) effects has all = on (client_at t client) refl has where
-    on : (o : Option Client) → client_at t client ≡ o → effects ≡ (elim o as (λ _. outcomes.Outcome) [ None ↦ outcomes.refused t [] NoWindow | Some c ↦ outcomes.finished t [] outcomes.done (deeds.parts (λ d. d.serial == client) reason.Detached t) ]).effects
+    on : (o : Option Client) → client_at t client ≡ o
+        → effects ≡
+        (elim o as (λ _. outcomes.Outcome) [
+          | None ↦ outcomes.refused t [] NoWindow
+          | Some c ↦ outcomes.finished t [] outcomes.done
+              (deeds.parts (λ d. d.serial == client) reason.Detached t)
+        ]).effects
         → AllByRecursion (HasCome t) effects
     on None is none = subst (AllByRecursion (HasCome t)) (sym none) tt
     on (Some c) is some = all_weaken (IsEffectOf t (Detach client)) (HasCome t) effects (parted_comes client c is) all
   come (Closed window) effects has all = on (window_at t window) refl has where
-    on : (o : Option Window) → window_at t window ≡ o → effects ≡ (elim o as (λ _. outcomes.Outcome) [ None ↦ outcomes.refused t [] NoWindow | Some w ↦ outcomes.finished t [] outcomes.done (deeds.closes (λ v. v.serial == window) reason.Detached t) ]).effects
+    on : (o : Option Window) → window_at t window ≡ o
+        → effects ≡
+        (elim o as (λ _. outcomes.Outcome) [
+          | None ↦ outcomes.refused t [] NoWindow
+          | Some w ↦ outcomes.finished t [] outcomes.done
+              (deeds.closes (λ v. v.serial == window) reason.Detached t)
+        ]).effects
         → AllByRecursion (HasCome t) effects
     on None is none = subst (AllByRecursion (HasCome t)) (sym none) tt
     on (Some w) is some = all_weaken (IsEffectOf t (Closed window)) (HasCome t) effects (closed_comes window w is) all
   come (Output window bytes) effects has all = on (window_at t window) refl has where
-    on : (o : Option Window) → window_at t window ≡ o → effects ≡ (elim o as (λ _. outcomes.Outcome) [ None ↦ outcomes.refused t [] NoWindow | Some w ↦ outcomes.finished t [] outcomes.done (comings.outputs t w bytes) ]).effects
+    on : (o : Option Window) → window_at t window ≡ o
+        → effects ≡
+        (elim o as (λ _. outcomes.Outcome) [
+          | None ↦ outcomes.refused t [] NoWindow
+          | Some w ↦ outcomes.finished t [] outcomes.done
+              (comings.outputs t w bytes)
+        ]).effects
         → AllByRecursion (HasCome t) effects
     on None is none = subst (AllByRecursion (HasCome t)) (sym none) tt
-    on (Some w) is some = all_weaken (IsEffectOf t (Output window bytes)) (HasCome t) effects (output_comes window bytes w is) all
+    on (Some w) is some = all_weaken (IsEffectOf t (Output window bytes)) (HasCome t) effects
+        (output_comes window bytes w is) all
   come (Keys client bytes) effects has all = on (client_at t client) refl has where
-    on : (o : Option Client) → client_at t client ≡ o → effects ≡ (elim o as (λ _. outcomes.Outcome) [ None ↦ outcomes.refused t [] NoWindow | Some c ↦ answering.keys_outcome t c (take (taken c.keys bytes) bytes) ]).effects
+    on : (o : Option Client) → client_at t client ≡ o
+        → effects ≡
+        (elim o as (λ _. outcomes.Outcome) [
+          | None ↦ outcomes.refused t [] NoWindow
+          | Some c ↦ answering.keys_outcome t c (take (taken c.keys bytes) bytes)
+        ]).effects
         → AllByRecursion (HasCome t) effects
     on None is none = subst (AllByRecursion (HasCome t)) (sym none) tt
-    on (Some c) is some = all_weaken (IsEffectOf t (Keys client bytes)) (HasCome t) effects (keys_come client bytes c is) all
+    on (Some c) is some = all_weaken (IsEffectOf t (Keys client bytes)) (HasCome t) effects
+        (keys_come client bytes c is) all
   come (Draw client) effects has all = on (client_at t client) refl has where
-    on : (o : Option Client) → client_at t client ≡ o → MatchOption o (effects ≡ []) (IsDraw t effects) → AllByRecursion (HasCome t) effects
+    on : (o : Option Client) → client_at t client ≡ o → MatchOption o (effects ≡ []) (IsDraw t effects)
+        → AllByRecursion (HasCome t) effects
     on None is none = subst (AllByRecursion (HasCome t)) (sym none) tt
     on (Some c) is some = all_weaken (IsEffectOf t (Draw client)) (HasCome t) effects (draw_comes client c is) all
   come event effects has all = all_weaken (IsEffectOf t event) (HasCome t) effects (λ f of. absurd of) all

@@ -1,4 +1,5 @@
--- What a step files was asked for and answered as is legal, and what writes no entry does no act.
+-- What a step files is legal in what was asked and answered, and a step that writes no entry has no
+-- acts.
 use Rattle.std.proofs.Common.{◌≡◌, ◌∙◌, ℕ, Bool, true, false, List, [], ◌∷◌, ◌++◌, Option, Some, None, Result, Ok, Err}
 use Rattle.std.proofs.Common.{refl, ap, subst, sym, inl, inr, ◌⊎◌, ⊎_elim, take}
 use Rattle.std.specs.Prelude.{◌==◌, if◌then◌else◌}
@@ -68,7 +69,8 @@ use Rattle.hub_trail.proofs.Rules.{rules, Still, stills, listed_rules, read_rule
 abbrev pub entry : Kept → Outcome → Entry
 entry k o = record { event = k; verdicts = o.verdicts; acts = o.acts; reply = ending_of o.reply }
 
--- the verdicts and the reply of an entry are legal, and it has its acts; `Fitting`, `Saying` and `Knowing` have the rest
+-- the verdicts and the reply of an entry are legal, and it has its acts; `Fitting`, `Saying` and
+-- `Knowing` prove the rest
 pub record IsAnswered (edition : Edition) (owner : UserId) (h : History) (e : Entry) : Type 0 where
   pub verdicts : AllByRecursion (IsTrue edition owner h) e.verdicts
   pub user : AreOfUser h e.event e.verdicts
@@ -81,7 +83,7 @@ pub record IsAnswered (edition : Edition) (owner : UserId) (h : History) (e : En
 abbrev pub Legal : Tables → Kept → Outcome → Type 0
 Legal t k o = IsAnswered t.edition t.owner t.acts (entry k o)
 
--- ---- refused, and done
+-- ---- a refused step, and one that was done
 
 refused_legal : (t : Tables) (k : Kept) (cs : List Check) (r : Refusal) → AreOfUser t.acts k (verdicts t cs)
     → AsksForCommand t.owner t.acts k (verdicts t cs)
@@ -111,7 +113,7 @@ finished_legal t k cs y d user first passing told has = record {
   done = has;
 }
 
--- what is done where its checks pass, and is no command
+-- a step that isn't a command is done if its checks pass
 passed_legal : (t : Tables) (k : Kept) (cs : List Check) (y : Done) (d : Deed) → AllByRecursion IsPlain cs
     → AreOfUser t.acts k (verdicts t cs) → AsksForCommand t.owner t.acts k (verdicts t cs)
     → (first_fault t cs ≡ None → is_let k (verdicts t cs) ≡ true)
@@ -123,14 +125,14 @@ passed_legal t k cs y d plain user first passing has =
     (λ is. finished_legal t k cs y d user first (passing is)
     (subst (λ f. Tells f (failed (verdicts t cs))) is (tells t cs plain)) has)
 
--- checks of one user give verdicts of his
+-- the checks of one user give verdicts on this user
 own_user : (t : Tables) (user : UserId) (cs : List Check) → AllByRecursion (IsCheckOf user) cs
     → AllByRecursion (λ v. is_of_user user v ≡ true) (verdicts t cs)
 own_user t user cs own =
     all_weaken (λ v. user_of v ≡ user) (λ v. is_of_user user v ≡ true) (verdicts t cs)
     (λ v same. ap (λ u. same_user u user) same ∙ same_user-refl user) (own_verdicts t user cs own)
 
--- ---- a line that says a command
+-- ---- a line that is a command
 
 order_in : Order → Result Order ParseFault → Order
 order_in c (Ok d) = d
@@ -158,7 +160,7 @@ module _ (t : Tables) (user : UserId) (number : Option ℕ) (bytes : List ℕ) w
   abbrev event : Kept
   event = kept.Command user number bytes
 
-  -- the command that the line says
+  -- the command of the line
   module _ (c : Order) (read : read_line bytes ≡ Ok c) where
     own : AreOfUser t.acts event (verdicts t (checks t k c))
     own = own_user t user (checks t k c) (own_checks t k c)
@@ -251,7 +253,7 @@ closed_legal t window =
 
 -- ---- Keys
 
--- what comes of a command among keys of a client of this user
+-- what comes of a command among the keys of a client of this user
 pub record IsOrdered (t : Tables) (user : UserId) (o : Ordered) : Type 0 where
   pub truth : AreTrue t o.verdicts
   pub own : AreOf user o.verdicts
@@ -278,7 +280,7 @@ module _ (t : Tables) (cs : List Client) (same : SameClients t cs) (d : Client) 
   abbrev Is : Ordered → Type 0
   Is o = IsOrdered t d.user o
 
-  -- a refusal is told
+  -- the client is told the refusal
   why_said : (r : Refusal) (m : List ℕ → Message) (asked : List Check) → AllByRecursion (IsCheckOf d.user) asked
       → Is (record { verdicts = verdicts v asked; deed = keyed v d.serial m (Err r) })
   why_said r m asked own =
@@ -326,7 +328,7 @@ module _ (t : Tables) (cs : List Client) (same : SameClients t cs) (d : Client) 
   is_ordered (Some (typed b)) = none_ordered
   is_ordered None = none_ordered
 
--- the tables once a step's bytes were typed
+-- the tables after a step's bytes were typed
 abbrev pub typed_into : Tables → Client → List ℕ → Tables
 typed_into t c bytes = let d : Client =
     reading bytes c in (types (with_client t d) d (typed_bytes (items_behind c.keys bytes))).tables
@@ -353,7 +355,7 @@ typing_own t c [] = tt
 typing_own t c (b ∷ bytes) = own_verdicts t c.user (typing_checks c.user (focused_window t c))
     (own_typing c.user (focused_window t c))
 
--- they don't ask for x on a command
+-- the verdicts of typed bytes don't ask for x on a command
 pub asks_none : (t : Tables) (c : Client) (bytes : List ℕ) (vs : List Verdict)
     → from_command (typing_verdicts t c bytes ++ vs) ≡ from_command vs
 asks_none t c [] vs = refl

@@ -49,7 +49,7 @@ use Rattle.session_laws.proofs.Outcomes as outcomes
 use Rattle.session_guests.proofs.Steps.{Did, Obeys, with_clients}
 use Rattle.session_guests.proofs.Focusing.{IsMine}
 use Rattle.session_guests.proofs.Gating.{obeys_of}
-use Rattle.session_guests.proofs.Staying.{Own, IsOf, callers, unique, own_read}
+use Rattle.session_guests.proofs.KeptLocks.{Own, IsOf, callers, unique, own_read}
 use Rattle.hub_trail.specs.declared.kept.Kept.{Kept}
 use Rattle.hub_trail.specs.declared.kept.Kept.TheVariants as kept
 use Rattle.hub_trail.specs.Trails.{Entry}
@@ -69,7 +69,7 @@ all_true : {A : Type 0} (p : A → Bool) (xs : List A) → AllByRecursion (λ x.
 all_true p [] all = refl
 all_true p (x ∷ xs) all = both_true (p x) (list_all p xs) all.0 (all_true p xs all.1)
 
--- ---- which command verdicts ask for
+-- ---- the command that verdicts ask for
 
 made_from : (client : Option ℕ) (user : UserId) (name : CommandName) (vs : List Verdict) (acts : List Act)
     → AsksFirst user name vs → AllByRecursion (λ a. makes client user name a ≡ true) acts
@@ -110,7 +110,8 @@ item_asks t v c d same (Some (bound order)) = (
   (
     may_in v d.user Execute (object.Command (name_of order)),
     ap
-        (λ u. right u Execute (object.Command (name_of order)) (may_in v d.user Execute (object.Command (name_of order))))
+        (λ u. right u Execute (object.Command (name_of order))
+        (may_in v d.user Execute (object.Command (name_of order))))
         same,
   ),
   tt,
@@ -125,7 +126,8 @@ item_asks t v c d same (Some (line (b ∷ bytes))) = on (read_line (b ∷ bytes)
     (
       may_in v d.user Execute (object.Command (name_of order)),
       ap
-          (λ u. right u Execute (object.Command (name_of order)) (may_in v d.user Execute (object.Command (name_of order))))
+          (λ u. right u Execute (object.Command (name_of order))
+          (may_in v d.user Execute (object.Command (name_of order))))
           same,
     ),
     tt,
@@ -161,7 +163,7 @@ asks t (Keys client bytes) = on (client_at t client) where
   on (Some c) = keys_ask t c bytes
 asks t event = tt
 
--- which client gives a command
+-- the client that gives a command
 abbrev giving : EventValue → Option ℕ
 giving (Keys client bytes) = Some client
 giving event = None

@@ -1,4 +1,4 @@
--- What isn't refused is of a known user.
+-- An event that isn't refused is one of a known user.
 use Rattle.std.proofs.Common.{◌≡◌, ℕ, Bool, true, false, List, [], Option, None, Ok, Err, refl, ap, sym}
 use Rattle.std.specs.Prelude.{if◌then◌else◌, is_ok}
 use Rattle.std.specs.List.{AllByRecursion}

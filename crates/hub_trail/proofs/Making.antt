@@ -1,4 +1,4 @@
--- The acts that each command does: one row a command.
+-- Which acts each command does, command by command.
 use Rattle.std.proofs.Common.{◌≡◌, ℕ, Bool, true, false, not, List, [], ◌∷◌, ◌++◌, Option, Some, None, Ok, refl, ap}
 use Rattle.std.proofs.Common.{sym, ◌∙◌, subst, map, filter}
 use Rattle.std.specs.Prelude.{◌==◌}
@@ -37,7 +37,7 @@ use Rattle.session_laws.proofs.Unread.{nobody_left}
 use Rattle.session_laws.proofs.Lists.{equal, itself, all_weaken, all_append, all_map, all_of, all_passed}
 use Rattle.session_guests.proofs.Events.{all_left}
 use Rattle.session_guests.proofs.Focusing.{IsMine}
-use Rattle.session_guests.proofs.Rows.{IsCaller}
+use Rattle.session_guests.proofs.CommandActs.{IsCaller}
 use Rattle.hub_trail.specs.Fitting.{makes, is_client}
 use Rattle.session_guests.proofs.Leaving.{LeftBy, left_where, parted, turned}
 use Rattle.hub_trail.proofs.Listed.{change_all, add_all, group_all, mask_all}
@@ -46,7 +46,8 @@ module _ (t : Tables) (k : Caller) (by : IsCaller t k) (mine : IsMine t k) where
   abbrev pub Made : Order → Act → Type 0
   Made c a = makes k.client k.user (name_of c) a ≡ true
 
-  -- its acts, and then its users leave windows
+  -- the acts of the deed, and those of users who then leave windows, are acts that the command can
+  -- do
   abbrev pub Fine : Order → Deed → Type 0
   Fine c d = AllByRecursion (Made c) (d.acts ++ left_acts t.clients d.tables.clients)
 
@@ -55,12 +56,12 @@ module _ (t : Tables) (k : Caller) (by : IsCaller t k) (mine : IsMine t k) where
       → AllByRecursion (Made c) (acts ++ left_acts t.clients after)
   then_left c acts after = all_append (Made c) acts (left_acts t.clients after)
 
-  -- nobody leaves
+  -- nobody leaves a window
   still : (c : Order) (acts : List Act) → AllByRecursion (Made c) acts
       → AllByRecursion (Made c) (acts ++ left_acts t.clients t.clients)
   still c acts all = then_left c acts t.clients all (subst (AllByRecursion (Made c)) (sym (none_left t.clients)) tt)
 
-  -- anybody may leave
+  -- any user may leave a window
   anyone : (c : Order) (acts : List Act) (after : List Client) → ((u : UserId) (w : ℕ) → Made c (act.Left u w))
       → AllByRecursion (Made c) acts → AllByRecursion (Made c) (acts ++ left_acts t.clients after)
   anyone c acts after on all = then_left c acts after all (all_left (Made c) t.clients after on)
@@ -71,7 +72,7 @@ module _ (t : Tables) (k : Caller) (by : IsCaller t k) (mine : IsMine t k) where
   own : (u : UserId) → u ≡ k.user → same_user u k.user ≡ true
   own u is = ap (λ v. same_user v k.user) is ∙ same_user-refl k.user
 
-  -- he himself
+  -- only the command's own user leaves a window
   himself : (c : Order) (acts : List Act) → ((u : UserId) (w : ℕ) → same_user u k.user ≡ true → Made c (act.Left u w))
       → AllByRecursion (LeftBy Mine) acts → AllByRecursion (Made c) acts
   himself c acts on all = all_weaken (LeftBy Mine) (Made c) acts one all where

@@ -1,4 +1,4 @@
--- What commands leave as it is: the owner, the edition and the serials that come next; and what a step makes of them.
+-- Commands leave the owner, the edition and the next serials unchanged.
 use Rattle.std.proofs.Common.{◌≡◌, ℕ, List, Option, Some, None, refl}
 use Rattle.acl.specs.declared.edition.Edition.{Edition}
 use Rattle.acl.specs.declared.user_id.UserId.{UserId}
@@ -15,7 +15,7 @@ use Rattle.session_laws.proofs.Doing.{Either}
 use Rattle.session_laws.proofs.Granting.{told_read, same_tables}
 use Rattle.session_laws.proofs.Shapes as shapes
 
--- the owner, the edition, and the serials that come next
+-- the owner, the edition, and the next serials of windows and clients
 abbrev pub Rules : Type 0
 Rules = UserId × Edition × ℕ × ℕ
 
@@ -28,11 +28,12 @@ Still t d = rules d.tables ≡ rules t
 pub read_rules : (t u : Tables) → OnlyRead t u → rules u ≡ rules t
 read_rules t u r = λ i. (r.owner i, r.edition i, r.next_window i, r.next_client i)
 
--- a message leaves them
+-- a message leaves them unchanged
 pub told_rules : (t : Tables) (client : ℕ) (m : Message) → rules (told t client m) ≡ rules t
 told_rules t client m = read_rules t (told t client m) (told_read t t client m (same_tables t))
 
-pub listed_rules : (client : ℕ) (m : List ℕ → Message) (o : Option (List ℕ)) (d : Deed) → rules (with_listed client m o d).tables ≡ rules d.tables
+pub listed_rules : (client : ℕ) (m : List ℕ → Message) (o : Option (List ℕ)) (d : Deed)
+    → rules (with_listed client m o d).tables ≡ rules d.tables
 listed_rules client m None d = refl
 listed_rules client m (Some bytes) d = told_rules d.tables client (m bytes)
 

@@ -14,7 +14,7 @@ use Rattle.session_model.specs.Sound.{AreFit}
 use Rattle.session_model.specs.Tables.{Tables, fresh}
 use Rattle.session_model.specs.Events.{outcome}
 use Rattle.session_model.specs.Run.{IsStep, IsRun, IsRunFrom, after, drawn, tables_from, tables_of}
-use Rattle.session_laws.proofs.Noting.{after_acts}
+use Rattle.session_laws.proofs.ActsOfRuns.{after_acts}
 use Rattle.session_laws.proofs.Staying.{run_fit, fresh_fit}
 use Rattle.hub_trail.specs.declared.kept.Kept.{Kept}
 use Rattle.hub_trail.specs.Trails.{Entry}
@@ -61,7 +61,7 @@ decided edition owner h (lock u n x) (lock v m y) same is other =
 decided edition owner h (right u b o x) (lock v m y) same is other = absurd same
 decided edition owner h (lock u n x) (right v c p y) same is other = absurd same
 
--- ---- the owner and the edition stay
+-- ---- the owner and the edition are unchanged
 
 abbrev pub Named : Type 0
 Named = UserId × Edition
@@ -114,7 +114,7 @@ legal_entries t e fit s =
     (filed_says t e.event e.reply e.acts e.verdicts e.effects s)
     (filed_known t e.event e.reply e.acts e.verdicts e.effects s)
 
--- its acts are all acts of the step
+-- the acts of the entry are all acts of the step
 pub acts_filed : (t : Tables) (e : trace.Entry) (o : Option Kept) → IsStep t e → IsLegalStep t o (outcome t e.event)
     → acts_after t.acts (entry_of o e) ≡ followed_by t.acts e.acts
 acts_filed t e None s legal = ap (followed_by t.acts) (sym (s.acts ∙ legal))

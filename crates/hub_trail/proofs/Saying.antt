@@ -1,4 +1,4 @@
--- The line of a Command that was done says a command, and the acts on users and rights.
+-- The line of a Command that was done is a command, and says all acts on users and rights.
 use Rattle.std.proofs.Common.{◌≡◌, ℕ, Bool, true, false, List, [], ◌∷◌, ◌++◌, Option, Some, None, Result, Ok, Err, refl}
 use Rattle.std.proofs.Common.{ap, sym, ◌∙◌, subst, map, filter, inl, inr}
 use Rattle.std.specs.Prelude.{if◌then◌else◌, ◌&&◌, nat_eq, not, is_ok}
@@ -139,7 +139,7 @@ module _ (P : Act → Type 0) (N : UserId → Type 0) (B : Bit → Bool → Type
   add_all b us names n os is = all_append P (known_acts us names) (names_sets os names) (known_all us names n)
       (names_sets_all b os is names n)
 
--- ---- what is listed is said
+-- ---- what is on lists is said
 
 -- words that name users
 words_all : (words : List (List ℕ))
@@ -156,7 +156,7 @@ words_all (w ∷ words) = (
       (words_all words),
 )
 
--- users who are known, but the owner
+-- the known users without the owner
 each_among : (us : List UserId) → AllByRecursion (λ u. among us u ≡ true) us
 each_among [] = tt
 each_among (u ∷ us) = (
@@ -414,7 +414,7 @@ none_said : (t : Tables) (c : Order) (acts : List Act) → acts ≡ []
     → AllByRecursion (λ a. says t.owner t.acts c a ≡ true) acts
 none_said t c acts is = subst (AllByRecursion (λ a. says t.owner t.acts c a ≡ true)) (sym is) tt
 
--- what was done has a line that says a command
+-- the line of a Command that was done is a command
 line_reads : (t : Tables) (k : Caller) (r : Result Order ParseFault)
     → is_ok (commanded t (line_ruling t k r)).reply ≡ true → (c : Order) × (r ≡ Ok c)
 line_reads t k (Ok c) ok = (c, refl)

@@ -1,5 +1,5 @@
 -- What a trail keeps of a run: each Attach, Detach, Keys, Command, Open and Closed writes an entry.
--- Where memory was refused there was no step.
+-- If memory was refused, there was no step.
 use Rattle.std.specs.Prelude.{Bool, true, false, List, [], ◌∷◌, ◌++◌, Option, Some, None, Ok, Err}
 use Rattle.session_model.specs.declared.event.Done.{Done}
 use Rattle.session_model.specs.Trace.{EventValue, Attach, Detach, Keys, Command, Open, Closed}
@@ -20,7 +20,7 @@ kept_of (Open user rows columns keep title) = Some (kept.Open user rows columns 
 kept_of (Closed window) = Some (kept.Closed window)
 kept_of event = None
 
--- whether bytes of it are kept, which takes memory
+-- whether bytes of the event are kept, which takes memory
 abbrev pub copies : EventValue → Bool
 copies (Command user window line) = true
 copies (Open user rows columns keep title) = true

@@ -1,4 +1,4 @@
--- Which acts an event can have: one row an act, or a list of acts.
+-- Which acts an event can have, act by act for commands.
 use Rattle.std.specs.Prelude.{ℕ, Bool, true, false, ◌&&◌, ◌||◌, ◌==◌, List, [], ◌∷◌}
 use Rattle.std.specs.Prelude.{Option, Some, None}
 use Rattle.std.specs.List.{list_any, list_all}
@@ -61,8 +61,8 @@ makes client user c (act.Left u w) = sends_away c || (turns_page c && same_user 
 makes client user c (act.Mode by w mode) = same_command c name.Writelock && same_user by user
 makes client user c (act.Default mode) = same_command c name.Defwritelock
 
--- whether the command that the first verdict asks for can do all the acts; without such a verdict
--- there are none
+-- whether the command for which the first verdict asks can do all the acts; without such a verdict
+-- there may be none
 abbrev pub made_by : Option ℕ → List Verdict → List Act → Bool
 made_by client (right user Execute (object.Command c) answer ∷ vs) acts =
     list_all (makes client user c) acts

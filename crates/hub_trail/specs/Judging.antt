@@ -1,5 +1,5 @@
--- What tables of rights and locks can judge: entries whose acts may come after those before them,
--- and whose verdicts speak of what is there. Of anything else tables have no rows.
+-- What tables of rights and locks can judge: an entry whose acts may come after those before it,
+-- and whose verdicts are on objects that are there. Tables have no rows for anything else.
 use Rattle.std.specs.Prelude.{ℕ, zero, suc, Bool, true, not, nat_lt, ◌&&◌, ◌||◌, ◌==◌, ◌≡◌}
 use Rattle.std.specs.Prelude.{List, [], ◌∷◌, Option, Some, None, is_none}
 use Rattle.std.specs.List.{AllByRecursion, list_any}
@@ -21,7 +21,7 @@ use Rattle.session_model.specs.declared.verdict.Verdict.TheVariants.{Right as ri
 use Rattle.hub_trail.specs.Trails.{Entry}
 use Rattle.hub_trail.specs.Legal.{IsLegalEntry}
 
--- a verdict on an object that is there
+-- the verdict is on an object that is there
 abbrev pub is_on_there : History → Verdict → Bool
 is_on_there h (right user bit object answer) = there h object
 is_on_there h (lock user window held) = true
@@ -30,12 +30,12 @@ abbrev pub leader_in : Option UserId → NewLeader
 leader_in None = Nobody
 leader_in (Some u) = Named (Some u)
 
--- whether a client of this serial is attached
+-- whether a client with this serial is attached
 abbrev pub is_client : History → ℕ → Bool
 is_client h client = list_any (λ c. c.0 == client) (clients_of h)
 
--- whether an act can come after these: a list command of one name does it, a known user opens a
--- window that isn't open, a client that comes isn't attached yet, and locks are of open windows
+-- whether the act may come after these: a list command with one name does it, a known user opens a
+-- window that isn't open, a client attaches that isn't attached, or a lock is of an open window
 abbrev pub can_follow : Edition → UserId → History → Act → Bool
 can_follow edition owner h (act.Known u) =
     not (among (users_of owner h) u)
@@ -57,19 +57,19 @@ can_follow edition owner h (act.Mode by w mode) =
     is_open h w && (is_off mode || may edition owner h by Write (Window w))
 can_follow edition owner h a = true
 
--- and these acts, each after those before it
+-- each of these acts may come after the acts before it
 abbrev pub CanFollow : Edition → UserId → History → List Act → Type 0
 CanFollow edition owner h [] = Unit {0}
 CanFollow edition owner h (a ∷ acts) =
     (can_follow edition owner h a ≡ true) × CanFollow edition owner (a ∷ h) acts
 
--- an entry of which tables have all rows
+-- an entry for which tables have all rows
 pub record IsJudgeable (edition : Edition) (owner : UserId) (h : History) (e : Entry)
     : Type 0 where
   pub there : AllByRecursion (λ v. is_on_there h v ≡ true) e.verdicts
   pub follow : CanFollow edition owner h e.acts
 
--- and so is each entry after the acts of those before it
+-- each of these entries can be judged after the acts of those before it
 abbrev pub AreJudgeable : Edition → UserId → History → List Entry → Type 0
 AreJudgeable edition owner h [] = Unit {0}
 AreJudgeable edition owner h (e ∷ entries) =
@@ -87,14 +87,14 @@ AreGood edition owner h [] = Unit {0}
 AreGood edition owner h (e ∷ entries) =
     IsGood edition owner h e × AreGood edition owner (followed_by h e.acts) entries
 
--- the first entry that isn't good stands at this place
+-- this is the place of the first entry that isn't good
 abbrev pub IsBadAt : Edition → UserId → History → List Entry → ℕ → Type 0
 IsBadAt edition owner h [] place = ⊥
 IsBadAt edition owner h (e ∷ entries) zero = IsGood edition owner h e → ⊥
 IsBadAt edition owner h (e ∷ entries) (suc place) =
     IsGood edition owner h e × IsBadAt edition owner (followed_by h e.acts) entries place
 
--- the first entry that isn't legal stands at this place
+-- this is the place of the first entry that isn't legal
 abbrev pub IsIllegalAt : Edition → UserId → History → List Entry → ℕ → Type 0
 IsIllegalAt edition owner h [] place = ⊥
 IsIllegalAt edition owner h (e ∷ entries) zero = IsLegalEntry edition owner h e → ⊥

@@ -1,4 +1,4 @@
--- Every run has a legal trail; and what holds of legal trails.
+-- Laws of the trails of runs, and of legal trails.
 use Rattle.std.specs.Prelude.{◌≡◌, ◌↔◌, List, [], ◌++◌}
 use Rattle.acl.specs.declared.edition.Edition.{Edition}
 use Rattle.acl.specs.declared.user_id.UserId.{UserId}
@@ -15,7 +15,7 @@ use Rattle.hub_trail.specs.Legal.{IsTrue, AreLegal, IsLegal, acts_after, acts_of
 use Rattle.hub_trail.specs.Filing.{filed, entries_of, trail_of}
 use Rattle.hub_trail.specs.Judging.{AreJudgeable}
 
--- what a step files is legal after the acts of its tables, and has all its acts
+-- what a step files is legal after the acts of its tables, and has all acts of the step
 abbrev pub EntriesAreLegal : Type 0
 EntriesAreLegal =
     (t : Tables) (step : trace.Entry) → AreFit t → IsStep t step
@@ -26,7 +26,7 @@ EntriesAreLegal =
 abbrev pub TrailsAreLegal : Type 0
 TrailsAreLegal = (h : Trace) → IsRun h → IsLegal (trail_of h)
 
--- and its acts are those of the session's tables
+-- the acts of the trail of every run are those of the session's tables
 abbrev pub TrailsHaveTheActs : Type 0
 TrailsHaveTheActs = (h : Trace) → IsRun h → acts_of (trail_of h) ≡ (tables_of h).acts
 
@@ -37,19 +37,20 @@ TrailsAreJudgeable =
 
 -- ---- legal trails
 
--- the same was asked
+-- both verdicts are answers to the same question
 abbrev pub AskTheSame : Verdict → Verdict → Type 0
 AskTheSame (right u b o answer) (right v c p other) = (u ≡ v) × (b ≡ c) × (o ≡ p)
 AskTheSame (lock u w held) (lock v x other) = (u ≡ v) × (w ≡ x)
 AskTheSame v w = ⊥
 
--- what was asked decides a verdict, so that no other in its place is legal
+-- the question decides a legal verdict: no other answer in its place is legal
 abbrev pub VerdictsAreDecided : Type 0
 VerdictsAreDecided =
     (edition : Edition) (owner : UserId) (h : History) (v w : Verdict) → AskTheSame v w
     → IsTrue edition owner h v → IsTrue edition owner h w → v ≡ w
 
--- entries are legal exactly where the first ones are, and those behind after the acts of the first
+-- entries in two parts are legal exactly if the first part is legal, and the second is legal after
+-- the acts of the first
 abbrev pub LegalInParts : Type 0
 LegalInParts =
     (edition : Edition) (owner : UserId) (h : History) (before behind : List Entry)

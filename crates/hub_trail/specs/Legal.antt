@@ -1,4 +1,4 @@
--- When a trail is legal. Whatever an entry says of rights and locks is judged by the acts of the
+-- When a trail is legal. What an entry says of rights and locks is judged by the acts of the
 -- entries before it.
 use Rattle.std.specs.Prelude.{ℕ, Bool, true, false, not, ◌&&◌, ◌==◌, ◌≡◌, ◌⊎◌, List, [], ◌∷◌}
 use Rattle.std.specs.Prelude.{Option, Some, None, Ok, Err, if◌then◌else◌, map, filter, find}
@@ -37,18 +37,18 @@ use Rattle.hub_trail.specs.Saying.{says}
 
 -- ---- verdicts
 
--- what rights or locks say after these acts
+-- the verdict is what rights or locks say after these acts
 abbrev pub IsTrue : Edition → UserId → History → Verdict → Type 0
 IsTrue edition owner h (right user bit object answer) =
     answer ≡ may edition owner h user bit object
 IsTrue edition owner h (lock user window held) = held ≡ holder edition owner h window
 
--- whether it lets its user go on
+-- whether the verdict lets its user go on
 abbrev pub passes : Verdict → Bool
 passes (right user bit object answer) = answer
 passes (lock user window held) = stops_nobody_but user held
 
--- the first that doesn't
+-- the first verdict that doesn't
 abbrev pub failed : List Verdict → Option Verdict
 failed verdicts = find (λ v. not (passes v)) verdicts
 
@@ -56,15 +56,15 @@ abbrev pub user_of : Verdict → UserId
 user_of (right user bit object answer) = user
 user_of (lock user window held) = user
 
--- whether the client of this serial is attached, and the user's
+-- whether the client with this serial is attached and is the user's
 abbrev pub is_client_of : History → ℕ → UserId → Bool
 is_client_of h client user = list_any (λ c. (c.0 == client) && same_user c.1 user) (clients_of h)
 
--- whether a verdict is of this user
+-- whether the verdict is on this user
 abbrev pub is_of_user : UserId → Verdict → Bool
 is_of_user user v = same_user (user_of v) user
 
--- those of a Command or an Open are of its user, and those of Keys of their client's
+-- the verdicts of a Command or an Open are on its user, and those of Keys on their client's user
 abbrev pub AreOfUser : History → Kept → List Verdict → Type 0
 AreOfUser h (kept.Keys client) verdicts =
     AllByRecursion (λ v. is_client_of h client (user_of v) ≡ true) verdicts
@@ -81,7 +81,7 @@ AsksFirst user name [] = ⊥
 AsksFirst user name (v ∷ verdicts) =
     (answer : Bool) × (v ≡ right user Execute (object.Command name) answer)
 
--- a known user's Command, whose line says a command, asks first for x on it
+-- the first verdict of a known user's Command, if its line is a command, asks for x on that command
 abbrev pub AsksForCommand : UserId → History → Kept → List Verdict → Type 0
 AsksForCommand owner h (kept.Command user window line) verdicts =
     is_known owner h user ≡ true → (c : Command) → Relates line c
@@ -94,7 +94,7 @@ abbrev pub asks_for_command : Verdict → Bool
 asks_for_command (right user Execute (object.Command name) answer) = true
 asks_for_command v = false
 
--- the verdicts from the first on that asks for x on a command
+-- the verdicts, from the first one on that asks for x on a command
 abbrev pub from_command : List Verdict → List Verdict
 from_command [] = []
 from_command (v ∷ verdicts) = if asks_for_command v then v ∷ verdicts else from_command verdicts
@@ -104,14 +104,14 @@ abbrev pub is_granted : List Verdict → Bool
 is_granted [] = false
 is_granted (v ∷ verdicts) = asks_for_command v && list_all passes (v ∷ verdicts)
 
--- what an event does needs all its verdicts; among keys those of typed bytes stand first, and a
--- command needs those behind
+-- whether the verdicts let the event act: all of them must pass; among keys only those of the
+-- command, which come after those of the typed bytes
 abbrev pub is_let : Kept → List Verdict → Bool
 is_let (kept.Command user window line) verdicts = is_granted verdicts
 is_let (kept.Keys client) verdicts = is_granted (from_command verdicts)
 is_let event verdicts = list_all passes verdicts
 
--- acts stand only where they pass
+-- there are acts only if the verdicts let the event act
 abbrev pub AreLet : Kept → List Verdict → List Act → Type 0
 AreLet event verdicts acts = (acts ≡ []) ⊎ (is_let event verdicts ≡ true)
 
@@ -122,13 +122,15 @@ is_denial (EntryDenied d) = true
 is_denial (LockDenied d) = true
 is_denial r = false
 
--- a denial names a window by its serial; its number is for the text alone
+-- whether a denial names the object; a window is compared by its serial, since its number is for
+-- the text alone
 abbrev pub is_named : Denied → Object → Bool
 is_named (denied.Window serial number) (object.Window window) = serial == window
 is_named (denied.Command c) (object.Command d) = same_command c d
 is_named d o = false
 
--- whether a denial is of this verdict: of its user, bit and object, or of its window and holder
+-- whether a denial agrees with the verdict: in its user, bit and object, or in its window and
+-- holder
 abbrev pub is_of : Refusal → Verdict → Bool
 is_of (EntryDenied d) (right user bit object answer) =
     same_user d.user user && (same_bit d.bit bit && is_named d.on object)
@@ -144,7 +146,7 @@ abbrev pub denies : Ending → Bool
 denies (Ok finished) = false
 denies (Err r) = is_denial r
 
--- and beside a failed verdict no other reply of a Command stands, nor of an Open
+-- if a verdict failed, the reply of a Command or an Open is that denial
 abbrev pub IsDenied : Kept → Option Verdict → Ending → Type 0
 IsDenied (kept.Command user window line) (Some v) reply = denies reply ≡ true
 IsDenied (kept.Open user rows columns keep title) (Some v) reply = denies reply ≡ true
@@ -152,7 +154,7 @@ IsDenied event v reply = Unit {0}
 
 -- ---- what is done has its acts
 
--- what makes a user known or gone, or changes his entries or his leaders
+-- whether the act makes the user known or gone, or changes the user's entries or leaders
 abbrev pub is_act_of : UserId → Act → Bool
 is_act_of u (act.Known v) = same_user v u
 is_act_of u (act.Gone v) = same_user v u
@@ -164,8 +166,8 @@ abbrev pub has_act_of : List Act → Option UserId → Bool
 has_act_of acts None = false
 has_act_of acts (Some u) = list_any (is_act_of u) acts
 
--- the names in the first word of acladd, of acldel, and of aclgrp with a leader or `none`; `*` is
--- all known users but the owner
+-- the names in the first word of acladd, of acldel, and of aclgrp with a leader or `none`; `*`
+-- means all known users but the owner
 abbrev pub first_names : UserId → History → Command → List (Option UserId)
 first_names owner h (command.Acladd users.All) =
     map (λ u. Some u) (filter (λ u. not (same_user owner u)) (users_of owner h))
@@ -221,18 +223,19 @@ can_have h (kept.Open user rows columns keep title) finished vs acts =
     opens_one finished.made user acts
 can_have h (kept.Closed window) finished vs acts = list_all (shuts window) acts
 
--- and what was refused has no act
+-- the acts of an entry are some that its event can have; a refused event has none
 abbrev pub Fits : History → Kept → Ending → List Verdict → List Act → Type 0
 Fits h event (Ok finished) vs acts = can_have h event finished vs acts ≡ true
 Fits h event (Err r) vs acts = acts ≡ []
 
--- the line of a Command that was done says a command, and all that is done to users and rights
+-- the line of a Command that was done is a command, and says everything that is done to users and
+-- rights
 abbrev pub IsSaid : UserId → History → Kept → Ending → List Act → Type 0
 IsSaid owner h (kept.Command user window line) (Ok finished) acts =
     (c : Command) × Relates line c × AllByRecursion (λ a. says owner h c a ≡ true) acts
 IsSaid owner h event reply acts = Unit {0}
 
--- an Attach, a Command or an Open that was done is a known user's
+-- an Attach, a Command or an Open that was done is one of a known user
 abbrev pub IsOfKnown : UserId → History → Kept → Ending → Type 0
 IsOfKnown owner h (kept.Attach user rows columns) (Ok finished) = is_known owner h user ≡ true
 IsOfKnown owner h (kept.Command user window line) (Ok finished) = is_known owner h user ≡ true
@@ -256,17 +259,17 @@ pub record IsLegalEntry (edition : Edition) (owner : UserId) (h : History) (e : 
   pub says : IsSaid owner h e.event e.reply e.acts
   pub known : IsOfKnown owner h e.event e.reply
 
--- and so is each entry after the acts of those before it
+-- each of these entries is legal after the acts of those before it
 abbrev pub AreLegal : Edition → UserId → History → List Entry → Type 0
 AreLegal edition owner h [] = Unit {0}
 AreLegal edition owner h (e ∷ entries) =
     IsLegalEntry edition owner h e × AreLegal edition owner (followed_by h e.acts) entries
 
--- a trail begins without acts
+-- a trail is legal if its entries are, beginning without acts
 abbrev pub IsLegal : Trail → Type 0
 IsLegal trail = AreLegal trail.edition trail.owner [] trail.entries
 
--- the acts of all entries
+-- the history, followed by the acts of all these entries
 abbrev pub acts_after : History → List Entry → History
 acts_after h [] = h
 acts_after h (e ∷ entries) = acts_after (followed_by h e.acts) entries

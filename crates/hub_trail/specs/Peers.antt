@@ -1,5 +1,5 @@
--- The peers of a step: clients and windows have serials from 0 on, and effects are for those that
--- came.
+-- The peers of a step: clients and windows have serials from 0 on, and effects are for peers that
+-- came before.
 use Rattle.std.specs.Prelude.{◌≡◌, ◌<◌, ℕ, ◌+◌, Bool, false, if◌then◌else◌, is_ok, Ok}
 use Rattle.std.specs.List.{AllByRecursion}
 use Rattle.session_model.specs.declared.event.Effect.{Effect}
@@ -12,7 +12,7 @@ use Rattle.session_model.specs.Run.{IsStep, after}
 
 -- ---- serials
 
--- whether a client comes, and whether a window does
+-- whether the step attaches a client; and whether it opens a window
 abbrev pub attaches : EventValue → Reply → Bool
 attaches (Attach user rows columns) reply = is_ok reply
 attaches event reply = false
@@ -21,7 +21,7 @@ abbrev pub opens : EventValue → Reply → Bool
 opens (Open user rows columns keep title) reply = is_ok reply
 opens event reply = false
 
--- it has the serial that comes next
+-- what the step attaches or opens has the next serial
 abbrev pub MakesNext : Tables → EventValue → Reply → Type 0
 MakesNext t (Attach user rows columns) (Ok done) = done.made ≡ t.next_client
 MakesNext t (Open user rows columns keep title) (Ok done) = done.made ≡ t.next_window
@@ -35,7 +35,7 @@ pub record GivesSerials (t : Tables) (e : Entry) : Type 0 where
   pub windows : (after t e).next_window ≡ one_more (opens e.event e.reply) t.next_window
   pub made : MakesNext t e.event e.reply
 
--- each client and each window that comes gets the next serial
+-- each client that attaches, and each window that opens, gets the next serial
 abbrev pub SerialsAreGiven : Type 0
 SerialsAreGiven = (t : Tables) (e : Entry) → IsStep t e → GivesSerials t e
 
@@ -50,7 +50,7 @@ HasCome t (Size window rows columns) = window < t.next_window
 HasCome t (GoneWindow window why) = window < t.next_window
 HasCome t (GoneClient client why) = client < t.next_client
 
--- each effect of a step is for a client or a window that came
+-- each effect of a step is for a client or a window that came before
 abbrev pub EffectsHavePeers : Type 0
 EffectsHavePeers =
     (t : Tables) (e : Entry) → AreSound t → IsStep t e → AllByRecursion (HasCome t) e.effects

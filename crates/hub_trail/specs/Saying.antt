@@ -1,5 +1,5 @@
--- What a command's line says of users and rights: one row an act. Which windows a line means isn't
--- said here: an item's window isn't in a trail.
+-- What a command's line says of users and rights, act by act. It isn't stated here which windows a
+-- line means: a trail doesn't hold the window of an item.
 use Rattle.std.specs.Prelude.{ℕ, Bool, true, false, not, ◌&&◌, nat_eq, List, Option, Some, None}
 use Rattle.std.specs.Prelude.{if◌then◌else◌}
 use Rattle.std.specs.List.{list_any}
@@ -26,7 +26,7 @@ use Rattle.session_model.specs.Naming.{is_wide, new_leader_of}
 
 -- ---- words
 
--- whether a user is named; `*` names all known users but the owner
+-- whether the words name a user; `*` means all known users but the owner
 abbrev pub is_named : UserId → History → Users → UserId → Bool
 is_named owner h users.All u = not (same_user owner u) && among (users_of owner h) u
 is_named owner h (users.Listed words) u = list_any (λ w. names_user u (named_by w)) words
@@ -35,12 +35,12 @@ abbrev pub same_value : Bool → Bool → Bool
 same_value true b = b
 same_value false b = not b
 
--- whether this bit is changed to this value
+-- whether the changes give this bit this value
 abbrev pub changes : List BitChange → Bit → Bool → Bool
 changes bits bit value =
     list_any (λ (c : BitChange). same_bit c.bit bit && same_value c.value value) bits
 
--- whether an item names the command: all commands by `?`, or one by its name or alias
+-- whether an item names the command: `?` names all commands, and else a name or an alias names one
 abbrev pub item_says : CommandName → List ℕ → Bool
 item_says c item =
     if is_wide item then list_any (nat_eq (code "?")) item
@@ -63,7 +63,7 @@ concerns owner h (command.Acladd names) u = is_named owner h names u
 concerns owner h (command.Aclchg names bits list) u = is_named owner h names u
 concerns owner h c u = false
 
--- whether it gives a bit on an object this value: acladd gives each bit on each object
+-- whether the command gives a bit on an object this value; acladd gives each bit on each object
 abbrev pub gives : Command → Bit → Object → Bool → Bool
 gives (command.Acladd names) bit place value = value
 gives (command.Aclchg names bits list) bit place value =
@@ -79,7 +79,7 @@ leads (command.Aclgrp word (Some leader)) u v =
     names_user u (named_by word) && same_leader (chosen_leader (new_leader_of leader)) v
 leads c u v = false
 
--- whether the line says the act; of acts on anything but users and rights it says nothing
+-- whether the line says the act; acts on anything but users and rights need not be said
 abbrev pub says : UserId → History → Command → Act → Bool
 says owner h c (act.Known u) = concerns owner h c u
 says owner h c (act.Set u bit place value) = concerns owner h c u && gives c bit place value

@@ -1,4 +1,4 @@
-//! What a trail keeps of an event, and of its reply.
+//! What a trail keeps of an event and of its reply.
 
 ghost use Rattle.std.specs.Prelude.{◌≡◌, IfOk, false, is_ok, true};
 ghost use Rattle.session_model.specs.Trace.{happening};
@@ -8,7 +8,7 @@ use acl::UserId;
 use session_model::{Bytes, Done, Event, Refusal, Reply};
 use std::alloc::{AllocError, Global};
 
-/// An event that a trail keeps: Keys without their bytes, a Command with its line.
+/// An event, as a trail keeps it: Keys without their bytes, and a Command with its line.
 #[derive(Debug, Drop)]
 pub enum Kept {
     Attach {
@@ -42,11 +42,11 @@ pub enum Kept {
 /// What a step did that wasn't refused, without the text that it lists.
 #[derive(Clone, Copy, PartialEq, Eq, Debug)]
 pub struct Finished {
-    /// How many bytes of a Keys event were read; 0 for others.
+    /// The number of bytes of a Keys event that were read; 0 for other events.
     pub taken: usize,
-    /// The serial of what was attached or opened, else 0.
+    /// The serial of what was attached or opened; 0 for other events.
     pub made: u32,
-    /// The number of an opened window, else 0.
+    /// The number of the window that was opened; 0 for other events.
     pub number: u8,
 }
 
@@ -54,10 +54,11 @@ pub struct Finished {
 pub type Ending = Result<Finished, Refusal>;
 
 impl Kept {
-    /// What a trail keeps of the event, if it writes an entry.
+    /// What a trail keeps of the event; `Ok(None)` if the event writes no entry. `AllocError` if
+    /// memory is refused.
     pub fn of(alloc: Global, event: Event<'_>) -> Result<Option<Kept>, AllocError>
         ensures ok { IfOk result (λ kept. kept ≡ kept_of (happening event.entry)) }
-        // Only the line of a Command and the title of an Open take memory.
+        // Only the line of a Command, and the title of an Open, take memory.
         ensures plain { copies (happening event.entry) ≡ false → is_ok result ≡ true }
     {
         let kept = match event {
@@ -100,7 +101,7 @@ impl Kept {
 }
 
 impl Finished {
-    /// What was done, without the text.
+    /// What a step did, without the text that it lists.
     pub fn of(done: &Done) -> Finished
         ensures { result ≡ finished_by done.now }
     {

@@ -37,7 +37,7 @@ take-snoc [] n d h = absurd (omega (arith, h))
 take-snoc (x ∷ xs) zero d h = refl
 take-snoc (x ∷ xs) (suc n) d h = ap (λ l. x ∷ l) (take-snoc xs n d (omega (arith, h)))
 
--- the last byte goes on with a character: it is left out, and the one before it
+-- if the last byte continues a character, shortening the line is shortening it without this byte
 pub shortened-on : (xs : List ℕ) (n d : ℕ) → 0 < n → n ≤ length xs → continues (get_or xs (n - 1) d) ≡ true
     → shortened (take n xs) ≡ shortened (take (n - 1) xs)
 shortened-on xs zero d z h e = absurd (omega (arith, z))

@@ -1,4 +1,4 @@
--- One key more.
+-- What a prompt's line is after one more key.
 use Rattle.std.proofs.Common.{◌≡◌, ℕ, List, [], ◌∷◌, ◌++◌, sym, ap, ◌∙◌, append_assoc}
 use Rattle.std.proofs.lemmas.List.{append-nil}
 use Rattle.keys.specs.Grammar.{Item, Rest, rest_step, with_front, items_from, items}

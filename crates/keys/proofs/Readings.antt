@@ -21,7 +21,7 @@ and-parts : (a b : Bool) → (a && b) ≡ true → (a ≡ true) × (b ≡ true)
 and-parts true b h = (refl, h)
 and-parts false b h = absurd (true≢false (sym h))
 
--- one key more
+-- one more key
 step : (r : Rest) (k : ℕ) (keys : List ℕ) (s : List Item × Rest) → rest_step r k ≡ s
     → items_from r (k ∷ keys) ≡ with_front s.0 (items_from s.1 keys)
 unfolding items_from
@@ -69,7 +69,7 @@ keys-are (Keys.ends edits k keys h s d) =
     (ap (λ b. cond b ([], prompt (line_after_key bytes k)) (line_items bytes k, nothing)) s)
     ∙ ap (with_front (line_items bytes k)) (keys-are d)))
 
--- what was read before the keys that are to come
+-- what was read before the keys that follow
 data Before : Type 0 where
   typing : Before
   waiting : Before

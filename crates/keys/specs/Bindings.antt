@@ -6,7 +6,7 @@ use Rattle.command_lang.specs.command.Command.TheVariants as command
 use Rattle.keys.specs.declared.binding.Binding.{Binding}
 use Rattle.keys.specs.declared.binding.Binding.TheVariants as bound
 
--- a number's window is named by its decimal digits
+-- a window's number is named by its decimal digits
 abbrev pub command_of : Binding → Command
 command_of bound.Next = command.Next
 command_of bound.Prev = command.Prev

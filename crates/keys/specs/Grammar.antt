@@ -1,6 +1,6 @@
 -- The items of a client's keys. C-a is the command key, as in the GNU Screen manual, section
--- Default Key Bindings; this project's own are the prompt's edits, which are those of a line by
--- ECMA-48's DEL and BS, and its length of 1,024 bytes.
+-- Default Key Bindings. This project's own are the edits of the prompt's line (DEL and BS are those
+-- of ECMA-48) and its length, 1,024 bytes.
 use Rattle.std.specs.Prelude.{◌≡◌, ◌≢◌, ℕ, Bool, true, false, not, ◌&&◌, ◌||◌, nat_lt, ◌==◌}
 use Rattle.std.specs.Prelude.{if◌then◌else◌, List, [], ◌∷◌, ◌++◌, length, map, find, Option, Some}
 use Rattle.std.specs.Prelude.{None, codes, get_or}
@@ -11,13 +11,14 @@ use Rattle.command_lang.specs.command.Command.TheVariants.{Next, Prev, Detach, K
 use Rattle.command_lang.specs.command.Command.TheVariants.{Remove, Only, Windows, Displays, Select}
 use Rattle.command_lang.specs.command.Command.TheVariants.{Other}
 
--- A typed byte, the command of a bound key, a line of the prompt.
+-- A typed byte, the command of a bound key, or a line of the prompt.
 pub data Item : Type 0 where
   typed : ℕ → Item
   bound : Command → Item
   line : List ℕ → Item
 
--- What is unended at the end of the keys: nothing, the command key, a prompt with its line so far.
+-- What is open at the end of the keys: nothing, the command key, or a prompt with its line up to
+-- here.
 pub data Rest : Type 0 where
   nothing : Rest
   command_key : Rest
@@ -33,7 +34,7 @@ open_line (prompt bytes) = Some bytes
 abbrev pub key : List ℕ → ℕ
 key sign = get_or sign 0 0
 
--- and those of other keys: C-a is the command key, and a prompt is closed by ESC, C-c and C-g
+-- the bytes of other keys: C-a is the command key; ESC, C-c and C-g close a prompt
 abbrev pub control_a : ℕ
 control_a = 0x01
 
@@ -64,7 +65,7 @@ delete = 0x7F
 abbrev pub colon : ℕ
 colon = key (codes ":")
 
--- The keys that are bound behind the command key. A digit selects the window of that name.
+-- The keys that are bound after the command key. A digit selects the window of that name.
 abbrev pub bindings : List (ℕ × Command)
 bindings =
     (key (codes "n"), Next) ∷ (key (codes " "), Next) ∷ (key (codes "p"), Prev)
@@ -74,7 +75,7 @@ bindings =
     ∷ (control_a, Other)
     ∷ map (λ k. (k, Select (k ∷ []))) (codes "0123456789")
 
--- what the key does there
+-- the command that the key is bound to
 abbrev pub binding : ℕ → Option Command
 binding k = option_map (λ b. b.1) (find (λ b. b.0 == k) bindings)
 
@@ -82,16 +83,15 @@ abbrev pub bound_items : Option Command → List Item
 bound_items None = []
 bound_items (Some b) = bound b ∷ []
 
--- what the key gives behind the command key, other than the prompt
+-- the items of a key after the command key, if it doesn't open the prompt
 abbrev pub key_items : ℕ → List Item
 key_items k = if k == key (codes "a") then typed 1 ∷ [] else bound_items (binding k)
 
--- A line as the keys of a prompt edit it.
--- a trailing byte of a character
+-- A prompt's line, as keys edit it: whether a byte continues a character
 abbrev pub continues : ℕ → Bool
 continues b = nat_lt 0x7F b && nat_lt b 0xC0
 
--- without its last character: trailing bytes, and the byte before them
+-- the line without its last character: without its trailing bytes and the byte before them
 abbrev pub shortened : List ℕ → List ℕ
 shortened [] = []
 shortened (b ∷ bytes) = if list_all continues bytes then [] else b ∷ shortened bytes
@@ -107,7 +107,7 @@ unfoldable pub line_of : List ℕ → List ℕ → List ℕ
 line_of bytes [] = bytes
 line_of bytes (k ∷ keys) = line_of (line_after_key bytes k) keys
 
--- the keys that end a prompt's line, and those that close it
+-- the keys that end a prompt's line, and the keys that close the prompt
 abbrev pub ends_line : ℕ → Bool
 ends_line k = k == carriage_return || k == line_feed
 
@@ -117,13 +117,13 @@ closes k = k == escape || (k == control_c || k == control_g)
 abbrev pub stays : ℕ → Bool
 stays k = not (ends_line k || closes k)
 
--- what the key that ends or closes a prompt completes
+-- the item that the key that ends or closes a prompt completes
 abbrev pub line_items : List ℕ → ℕ → List Item
 line_items bytes k = if ends_line k then line bytes ∷ [] else []
 
--- Keys, the items that they complete, and what is unended at their end: typed bytes, the command
--- key with the key behind it, and prompts. The keys of a prompt are those that edit its line, up to
--- one that ends or closes it.
+-- Keys, the items that they complete, and what is open at their end. Keys are typed bytes, the
+-- command key with the key after it, and prompts. The keys of a prompt edit its line, up to a key
+-- that ends it or closes the prompt.
 pub data Keys : List ℕ → List Item → Rest → Type 0 where
   none : Keys [] [] nothing
   plain : {k : ℕ} {keys : List ℕ} {given : List Item} {rest : Rest} → k ≢ control_a
@@ -138,8 +138,8 @@ pub data Keys : List ℕ → List Item → Rest → Type 0 where
       → Keys (control_a ∷ colon ∷ (edits ++ k ∷ keys)) (line_items (line_of [] edits) k ++ given)
       rest
 
--- The same, computed key by key: what a key completes behind what is unended, and what is unended
--- then.
+-- The relation, computed key by key: the items that a key completes after what is open, and what is
+-- open after the key.
 abbrev pub rest_step : Rest → ℕ → List Item × Rest
 rest_step nothing k = if k == control_a then ([], command_key) else (typed k ∷ [], nothing)
 rest_step command_key k = if k == colon then ([], prompt []) else (key_items k, nothing)

@@ -7,7 +7,7 @@ use Rattle.keys.specs.declared.reader.KeyItem.TheVariants as given
 use Rattle.keys.specs.Bindings.{command_of}
 use Rattle.keys.specs.Grammar.{Item, typed, bound, line, Rest, nothing, command_key, prompt, items}
 
--- its mode, and the line of its prompt, or of the last one
+-- its mode, and the line of the open prompt, or else of the last one
 pub record Keeping : Type 0 where
   pub mode : Mode
   pub line : List ℕ
@@ -19,7 +19,7 @@ rest_of r = elim r.mode [ Typing ↦ nothing | Command ↦ command_key | Prompt 
 abbrev pub StandsFor : Keeping → List ℕ → Type 0
 StandsFor reader keys = (items keys).1 ≡ rest_of reader
 
--- what is given stands for these items; a prompt line is the one that lies in the reader
+-- what is returned stands for these items; the line of a prompt lies in the reader
 abbrev pub item_list : Option KeyItem → List ℕ → List Item
 item_list None bytes = []
 item_list (Some (given.Typed b)) bytes = typed b ∷ []

@@ -8,7 +8,7 @@ ghost use Rattle.keys.specs.Bindings.{command_of};
 use command_lang::{Command, Text};
 use std::alloc::{AllocError, Global};
 
-/// What a key does after the command key. A number is that of a window.
+/// What a key does after the command key. The number is that of a window.
 #[derive(Clone, Copy, PartialEq, Eq, Debug)]
 pub enum Binding {
     Next,
@@ -27,7 +27,7 @@ pub enum Binding {
 }
 
 impl Binding {
-    /// The command.
+    /// The command that the key stands for. `AllocError` if memory is refused.
     pub fn command(self, alloc: Global) -> Result<Command, AllocError>
         ensures { IfOk result (λ c. c ≡ command_of self) }
     {
@@ -50,7 +50,7 @@ impl Binding {
     }
 }
 
-/// The binding of a key.
+/// The binding of a key; `None` if it has none.
 pub fn bound_to(key: u8) -> Option<Binding>
     ensures { option_map command_of result ≡ binding key }
 {

@@ -6,7 +6,7 @@ ghost use Rattle.keys.specs.Grammar.{continues, shortened, line_after_key};
 
 use std::marker::Model;
 
-/// The most bytes of a line.
+/// The greatest length of a line, in bytes.
 const ROOM: usize = 1024;
 
 /// The line of a prompt. Contracts see it as its bytes.
@@ -24,7 +24,7 @@ impl Model for Line {
     ghost invariant = { λ l. l.count ≤ 1024 };
 }
 
-/// Whether the byte goes on with a character, by the Unicode core specification, table 3-7.
+/// Whether the byte continues a character of UTF-8, by the Unicode core specification, table 3-7.
 fn is_trailing(byte: u8) -> bool
     ensures { result ≡ continues byte }
 {
@@ -42,7 +42,7 @@ impl Line {
         }
     }
 
-    /// A copy.
+    /// A copy of the line.
     pub fn copied(&self) -> Line
         ensures { result ≡ self.now }
     {
@@ -52,21 +52,21 @@ impl Line {
         }
     }
 
-    /// The bytes.
+    /// The bytes of the line.
     pub fn as_slice(&self) -> &[u8]
         ensures { result.now ≡ self.now }
     {
         &self.bytes[..self.count]
     }
 
-    /// Begins anew.
+    /// Empties the line.
     pub fn clear(&mut self)
         ensures { self.new ≡ [] }
     {
         self.count = 0;
     }
 
-    /// Takes the last character away: trailing bytes and the byte before them.
+    /// Removes the last character: its trailing bytes and the byte before them.
     fn shorten(&mut self)
         ensures { self.new ≡ shortened self.old }
     {
@@ -78,7 +78,7 @@ impl Line {
         }
     }
 
-    /// Puts a byte at the end, where there is room.
+    /// Puts a byte at the end, if there is room.
     fn put(&mut self, byte: u8)
         ensures { self.new ≡
             (if nat_lt (length self.old) 1024 then self.old ++ byte ∷ [] else self.old) }
@@ -89,7 +89,7 @@ impl Line {
         }
     }
 
-    /// One key of the prompt, which neither ends the line nor closes it.
+    /// Edits the line by one key of the prompt, which neither ends the line nor closes the prompt.
     pub fn edit(&mut self, key: u8)
         ensures { self.new ≡ line_after_key self.old key }
     {

@@ -15,13 +15,13 @@ pub enum KeyItem {
     Typed(u8),
     /// The command of a key after the command key.
     Bound(Binding),
-    /// The prompt was opened, line_after_key or closed.
+    /// The prompt was opened, edited or closed.
     Edit,
-    /// The prompt's line is ended, and `line` lends it until the next push. It may be empty.
+    /// The prompt's line is ended; `line` lends it until the next push. It may be empty.
     Line,
 }
 
-/// What the keys so far leave open: nothing, the command key, or the prompt.
+/// What the keys leave open: nothing, the command key, or the prompt.
 #[derive(Clone, Copy, PartialEq, Eq, Debug)]
 pub enum Mode {
     Typing,
@@ -29,9 +29,10 @@ pub enum Mode {
     Prompt,
 }
 
-// `copied`, and not `Copy`: contracts see only those bytes of its array that are in use, and `Copy`
-// would want a view that forgets nothing.
-/// Reads the keys of one client, one by one, without memory, however they are cut.
+// It has `copied` and isn't `Copy`: contracts see only the bytes of its array that are in use, and
+// `Copy` would need a view that forgets nothing.
+/// Reads the keys of one client one by one, without taking memory. It doesn't matter how the keys
+/// are cut into reads.
 #[derive(Drop)]
 pub struct KeyReader {
     mode: Mode,
@@ -75,7 +76,7 @@ impl KeyReader {
         }
     }
 
-    /// A copy, which has read the same keys.
+    /// A reader that has read the same keys.
     pub fn copied(&self) -> KeyReader
         ensures { result ≡ self.now }
     {
@@ -85,14 +86,14 @@ impl KeyReader {
         }
     }
 
-    /// The line of the prompt, or of the one that was ended last.
+    /// The line of the open prompt, or else of the prompt that was ended last.
     pub fn line(&self) -> &[u8]
         ensures { result.now ≡ self.now.line }
     {
         self.line.as_slice()
     }
 
-    /// The line of the prompt, while the prompt is open.
+    /// The line of the prompt; `None` if no prompt is open.
     pub fn prompt(&self) -> Option<&[u8]>
         ensures { option_map (λ l. l.now) result ≡ open_line (rest_of self.now) }
     {
@@ -102,11 +103,11 @@ impl KeyReader {
         }
     }
 
-    /// Reads one key, and gives what it completes.
+    /// Reads one key, and returns what it completes, if anything.
     pub fn push(&mut self, key: u8) -> Option<KeyItem>
         ensures next { rest_step (rest_of self.old) key ≡
             (item_list result self.new.line, rest_of self.new) }
-        // Whatever keys were read, this one is read after them.
+        // The keys that were read before are followed by this one.
         ensures stands { (keys : List ℕ) → StandsFor self.old keys
             → StandsFor self.new (keys ++ key ∷ []) }
         ensures gives { (keys : List ℕ) → StandsFor self.old keys →
@@ -115,7 +116,7 @@ impl KeyReader {
         self.step(key)
     }
 
-    /// Reads one key, by what the keys before it left open.
+    /// Reads one key, after what the keys before it left open.
     fn step(&mut self, key: u8) -> Option<KeyItem>
         ensures { rest_step (rest_of self.old) key ≡
             (item_list result self.new.line, rest_of self.new) }

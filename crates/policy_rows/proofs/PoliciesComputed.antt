@@ -1,4 +1,4 @@
--- The policies' rows. By computing.
+-- The rows of the policies, proved by computing.
 use lib.Utf8.{encode}
 use Rattle.std.proofs.Common.{refl}
 use Rattle.std.specs.Str.{is_utf8, chars}

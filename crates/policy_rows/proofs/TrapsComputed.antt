@@ -1,4 +1,4 @@
--- The traps' rows. By computing.
+-- The rows of the traps, proved by computing.
 use lib.Utf8.{encode}
 use Rattle.std.proofs.Common.{refl}
 use Rattle.std.specs.Str.{is_utf8, chars}

@@ -1,4 +1,5 @@
--- The policies of contrib/policies: what their guests may, computed from the lines.
+-- Worked rows of the policies in contrib/policies: what their guests may do, computed from the
+-- policies' lines.
 use Rattle.std.specs.Prelude.{◌≡◌, ℕ, ◌-◌, Bool, true, false, ◌&&◌, List, [], ◌∷◌, ◌++◌, map, None}
 use Rattle.std.specs.Prelude.{codes, replicate, length, is_ok}
 use Rattle.std.specs.List.{filter}
@@ -21,16 +22,16 @@ user word = record { name = word ++ replicate (20 - length word) 0 }
 abbrev pub own : UserId
 own = user (codes "own")
 
--- the tables after a Command, which names no window
+-- the tables after a Command event that names no window
 abbrev pub by : UserId → Tables → List ℕ → Tables
 by who t line = (outcome t (Command who None line)).tables
 
--- the tables after the lines of a setup or of later Commands, all of the owner
+-- the tables after these lines of a setup, or after later Command events, all of them the owner's
 abbrev pub by_own : Tables → List (List ℕ) → Tables
 by_own t [] = t
 by_own t (line ∷ lines) = by_own (by own t line) lines
 
--- none of them is refused
+-- whether none of these lines is refused
 abbrev pub are_done : Tables → List (List ℕ) → Bool
 are_done t [] = true
 are_done t (line ∷ lines) =
@@ -39,7 +40,7 @@ are_done t (line ∷ lines) =
 abbrev pub opens : UserId → List ℕ → Tables → Tables
 opens who title t = (outcome t (Open who 24 80 0 title)).tables
 
--- r, w and x of a user on each window, and the commands that he may give
+-- a user's r, w and x on each window, and the commands that the user may give
 abbrev pub on_windows : Tables → UserId → List (List Bool)
 on_windows t who =
     map (λ (w : Window). map (λ b. may_in t who b (object.Window w.serial))
@@ -60,7 +61,7 @@ reads_and_types = true ∷ true ∷ false ∷ []
 abbrev pub all : List Bool
 all = true ∷ true ∷ true ∷ []
 
--- a row of both editions
+-- a row that holds in both editions
 abbrev pub InBoth : (Edition → Type 0) → Type 0
 InBoth P = P First × P Second
 
@@ -80,7 +81,7 @@ support =
     ∷ codes "aclumask sue-rwx"
     ∷ codes "aclchg sue +x detach,next,prev,scrollview" ∷ []
 
--- then the owner opens shop, lets sue read it, and opens letters; and lets her type for a while
+-- then the owner opens shop, lets sue read it, opens letters, and lets sue type for a while
 abbrev pub supported : Edition → Tables
 supported e =
     opens own (codes "letters") (by own
@@ -127,7 +128,7 @@ class =
     ∷ codes "aclumask -wx"
     ∷ codes "aclchg pia,ben,kay +x detach,next,prev,scrollview" ∷ []
 
--- then the owner opens board and answers, hands the turn to pia, and from her to ben
+-- then the owner opens board and answers, gives the turn to pia, and later to ben
 abbrev pub taught : Edition → Tables
 taught e =
     opens own (codes "answers") (opens own (codes "board") (by_own (fresh e own) class))
@@ -181,13 +182,13 @@ ops =
     ∷ codes "aclumask jo,kim-wx"
     ∷ codes "aclchg jo,kim +x detach,select,next,prev,other,scrollview,windows" ∷ []
 
--- then ann and bob give their masks
+-- then ann and bob set their masks
 abbrev pub both_mask : Edition → Tables
 both_mask e =
     by bob (by ann (by_own (fresh e own) ops) (codes "aclumask jo,kim-wx"))
     (codes "aclumask jo,kim-wx")
 
--- the owner takes aclumask from them, gives them screen, and sets the presets again
+-- the owner takes aclumask from ann and bob, gives them screen, and sets the presets again
 abbrev pub taken : List (List ℕ)
 taken =
     codes "aclchg ann,bob -x aclumask"
@@ -197,12 +198,12 @@ taken =
 abbrev pub masked : Edition → Tables
 masked e = by_own (both_mask e) taken
 
--- and each of the three opens a window
+-- then each of the three opens a window
 abbrev pub operated : Edition → Tables
 operated e =
     opens bob (codes "db") (opens ann (codes "web") (opens own (codes "log") (masked e)))
 
--- ann's program ends, and she opens her window again
+-- the program of ann's window ends, and ann opens the window again
 abbrev pub web_again : Tables → Tables
 web_again t = opens ann (codes "web") (closes 1 t)
 

@@ -1,4 +1,4 @@
--- Traps beside the policies: what goes wrong, and the lines that prevent it.
+-- Worked rows of traps beside the policies: what goes wrong, and the lines that prevent it.
 use Rattle.std.specs.Prelude.{◌≡◌, ℕ, true, false, List, [], ◌∷◌, Some, None, codes, length, is_ok}
 use Rattle.acl.specs.declared.user_id.UserId.{UserId}
 use Rattle.acl.specs.declared.edition.Edition.{Edition}
@@ -14,7 +14,7 @@ use Rattle.policy_rows.specs.Policies.{nothing, reads, reads_and_types, all}
 use Rattle.policy_rows.specs.Policies.{sue, pia, ann, bob, jo, taught, both_mask}
 use Rattle.policy_rows.specs.Policies.{operated, web_again, typing}
 
--- the tables after a Command for the window of this number
+-- the tables after a Command event for the window with this number
 abbrev pub at : UserId → ℕ → List ℕ → Tables → Tables
 at who number line t = (outcome t (Command who (Some number) line)).tables
 
@@ -27,12 +27,12 @@ is_refused who number line t = is_ok (outcome t (Command who (Some number) line)
 abbrev pub attaches : UserId → Tables → Tables
 attaches who t = (outcome t (Attach who 24 80)).tables
 
--- ---- who becomes known after the masks
+-- ---- a user who becomes known after the masks were set
 
 abbrev pub lee : UserId
 lee = user (codes "lee")
 
--- the owner lets lee watch, as mux-guest gives its lines
+-- the owner lets lee watch, with the lines of mux-guest
 abbrev pub lets_in : List (List ℕ)
 lets_in =
     codes "aclchg lee -wx #?"
@@ -43,7 +43,8 @@ lets_in =
 abbrev pub late : Edition → Tables
 late e = by_own (operated e) lets_in
 
--- the owner lends ann and bob aclumask, both mask lee, the owner takes it back and sets the presets
+-- the owner lends ann and bob aclumask, both mask lee, and the owner takes aclumask back and sets
+-- the presets
 abbrev pub late_masked : Edition → Tables
 late_masked e =
     by_own
@@ -51,7 +52,7 @@ late_masked e =
     (codes "aclumask lee-wx"))
     (codes "aclchg ann,bob -x aclumask" ∷ codes "aclumask ?-wx ??-x" ∷ [])
 
--- once ann opens her window again, lee may do everything there, unless ann masks lee, too
+-- after ann opens her window again, lee may do everything there, unless ann masks lee, too
 abbrev pub LateComers : Edition → Type 0
 LateComers e =
     (on_windows (late e) lee ≡ reads ∷ reads ∷ reads ∷ [])
@@ -59,7 +60,7 @@ LateComers e =
     × (on_windows (web_again (late e)) jo ≡ reads ∷ reads ∷ reads ∷ [])
     × (on_windows (web_again (late_masked e)) lee ≡ reads ∷ reads ∷ reads ∷ [])
 
--- a pupil who comes after the class began, without a mask and with one
+-- fay, a pupil who comes after the class began, without a mask and with one
 abbrev pub fay : UserId
 fay = user (codes "fay")
 
@@ -72,7 +73,8 @@ Pupil e =
     × (on_windows (opens own (codes "later") (by own (unmasked e) (codes "aclumask fay-wx"))) fay
     ≡ reads ∷ reads ∷ reads ∷ [])
 
--- support without its second line, live: a window that is opened before the mask is hers
+-- support without its second line, given live: a window that opens before the mask is set is sue's,
+-- too
 abbrev pub between : Edition → Tables
 between e =
     by own
@@ -87,8 +89,7 @@ Between e =
 
 -- ---- presets
 
--- ann sets them while she has x on aclumask; and the owner sets them again when she has lost it, or
--- doesn't
+-- ann sets presets while ann has x on aclumask; later the owner sets them again, or doesn't
 abbrev pub planted : Edition → Tables
 planted e = by own (by ann (both_mask e) (codes "aclumask ?+rwx ??+x")) (codes "aclchg ann,bob -x aclumask")
 
@@ -102,12 +103,12 @@ Presets e =
     × (on_commands (lees (by own (planted e) (codes "aclumask ?-wx ??-x"))) lee ≡ name.Next ∷ [])
     × (on_windows (lees (by own (planted e) (codes "aclumask ?-wx ??-x"))) lee ≡ reads ∷ [])
 
--- ---- who is removed
+-- ---- a user who is removed
 
 abbrev pub removed : Edition → Tables
 removed e = by own (operated e) (codes "acldel ann")
 
--- her window stays, its program goes on printing, and reads what bob types; kill ends it
+-- ann's window stays open, its program goes on printing and reads what bob types; kill ends it
 abbrev pub Removed : Edition → Type 0
 Removed e =
     (length (removed e).windows ≡ 3)
@@ -115,7 +116,8 @@ Removed e =
     × ((outcome (removed e) (Command bob (Some 1) (codes "stuff x"))).effects ≡ Input 1 (codes "x") ∷ [])
     × (length (at own 1 (codes "kill") (removed e)).windows ≡ 2)
 
--- she comes back, and opens windows: the masks that she gave are forgotten, until she gives them again
+-- ann comes back and opens windows: the masks that ann gave are forgotten until ann gives them
+-- again
 abbrev pub back : Edition → Tables
 back e = by own (removed e) (codes "aclchg ann +x screen,aclumask")
 
@@ -130,7 +132,8 @@ Back e =
 abbrev pub single : Edition → Tables
 single e = by own (operated e) (codes "multiuser off")
 
--- known users still give commands, ann ends the mode, and the owner can remove nobody
+-- in single-user mode known users still give commands, ann ends the mode, and the owner can remove
+-- nobody
 abbrev pub Single : Edition → Type 0
 Single e =
     ((outcome (single e) (Command ann (Some 0) (codes "stuff x"))).effects ≡ Input 0 (codes "x") ∷ [])
@@ -140,8 +143,8 @@ Single e =
 
 -- ---- locks
 
--- in auto sue, who has w alone, takes the lock of shop when the owner leaves it, and keeps it by a
--- client that stays there
+-- in mode auto, sue, who has only w, takes the lock of shop when the owner leaves the window, and
+-- keeps it as long as a client of sue's stays there
 abbrev pub parked : Edition → Tables
 parked e =
     attaches own (attaches sue
@@ -154,7 +157,7 @@ Parked e =
     × is_refused own 0 (codes "writelock off") (parked e)
     × (holder_in (by own (parked e) (codes "aclchg sue -w shop")) 0 ≡ None)
 
--- ann's defwritelock: a window that bob opens later is locked by bob, who has no client there
+-- after ann's defwritelock, a window that bob opens is locked by bob, who has no client there
 abbrev pub locked : Edition → Tables
 locked e = opens bob (codes "new") (by ann (operated e) (codes "defwritelock on"))
 
@@ -164,12 +167,13 @@ Locked e =
     × is_refused own 3 (codes "stuff x") (locked e)
     × (holder_in (by own (locked e) (codes "aclchg bob -w new")) 3 ≡ None)
 
--- ---- openers choose titles, and get the lowest free number
+-- ---- a user who opens a window chooses its title, and gets the lowest free number
 
 abbrev pub gil : UserId
 gil = user (codes "gil")
 
--- gil has x on screen alone: window 0 ends, and gil opens shop, whose number is 0
+-- gil has only x on screen: window 0 ends, and gil opens a window with the title shop, which gets
+-- number 0
 abbrev pub misled : Edition → Tables
 misled e =
     by_own (opens gil (codes "shop") (closes 0
@@ -181,7 +185,7 @@ abbrev pub Misled : Edition → Type 0
 Misled e =
     on_windows (misled e) bob ≡ nothing ∷ (false ∷ true ∷ false ∷ []) ∷ []
 
--- ---- the pen, a role: who is in its group types on windows to come, and has no x there
+-- ---- the pen, a role: users in its group may type on windows that open later, and have no x there
 
 abbrev pub pens : Edition → Tables
 pens e =

@@ -1,4 +1,4 @@
--- Frames from terminals that agree with a shadow.
+-- A frame from terminals that agree with a shadow leads to terminals that show the view.
 use Rattle.std.proofs.Common.{◌≡◌, ℕ, ◌<◌, ◌≤◌, true, false, List, [], ◌++◌, length, Option, Some, None, refl, sym, ap}
 use Rattle.std.proofs.Common.{◌∙◌, subst, arith, ⊎_elim, is_some, replicate}
 use Rattle.std.proofs.lemmas.Bool.{cases_lt}
@@ -23,7 +23,7 @@ use Rattle.redraw.specs.Drawing.{Drawing, Takes, Stage, Final}
 use Rattle.redraw.specs.Frames.{Begins, Redraws, pen_of, EndsAs, DrawsBytes}
 use Rattle.redraw.proofs.Takings.{takes_weaker}
 
--- past its edges a page has blanks
+-- beyond its edges a page has blanks
 outside_lines : (rows columns l c : ℕ) (page : Page) → IsPage rows columns page → rows ≤ l
     → cell_at (line_at page l) c ≡ blank
 outside_lines rows columns l c page p h =
@@ -61,7 +61,7 @@ module _ (rows columns : ℕ) where
     cursor_is = f.cursor_is;
   }
 
-  -- what a frame leaves agrees with the view
+  -- a terminal that read a frame agrees with the frame's view
   pub ends_agree : (v : View) (y : Screen) → HasSize rows columns v → IsGrid v.page → EndsAs rows columns v y
       → Agrees rows columns (Some v) (ready y)
   ends_agree v y size grid f =
@@ -97,7 +97,7 @@ module _ (rows columns : ℕ) where
         },
       )
 
-  -- a terminal that shows a view
+  -- a terminal that agrees with a known view shows it
   agreed : (old : View) (t : Terminal) → Agrees rows columns (Some old) t → Begins rows columns old t.screen
   agreed old t a = record { stage = known old.cursor (a.1).shows.cursor; cursor_is = (a.1).shows.cursor }
     where
@@ -139,7 +139,7 @@ module _ (rows columns : ℕ) where
         shows_are = h.0;
       }
 
-  -- the cleared screen of the first frame
+  -- the cleared screen with which a first frame begins
   cleared : (t : Terminal) → IsOfSize rows columns t
       → Stage rows columns (record { line = Some 0; column = Some 0; rendition = Some plain }) (blank_page rows columns)
       false false true (frame_start t.screen)
@@ -223,7 +223,7 @@ module _ (rows columns : ℕ) where
         whole t a = ap (reads t) begun ∙ reads-append t frame_bytes k.bytes
             ∙ ap (λ u. joined (reads t frame_bytes) (reads u k.bytes)) (frame-terminal t a.terminal)
 
--- any frame
+-- any frame redraws the terminals that agree with what was known
 pub redraws : (rows columns : ℕ) (known : Option View) (v : View) (bytes : List ℕ) → HasSize rows columns v
     → IsGrid v.page → DrawsBytes known v [] bytes → Redraws rows columns known v bytes
 redraws rows columns known v bytes size grid k = by_known known k
@@ -242,7 +242,7 @@ redraws rows columns known v bytes size grid k = by_known known k
     by_known (Some old) f = at_size (Some old)
         (next_redraws (length v.page) (length (line_at v.page 0)) v own grid old bytes f)
 
--- the pen may be forgotten
+-- what is known of the pen may be forgotten
 pub ended : (old new : Page) (rows columns : ℕ) (pen : Pen) (v : View) (P : Screen → Type 0) (a b : List ℕ)
     → Takes old new P
     (λ x y. Final rows columns pen v.page v.has_application_arrows v.has_application_keypad v.cursor y) a b
@@ -252,7 +252,7 @@ ended old new rows columns pen v P a b t =
     (λ x y. Final rows columns pen v.page v.has_application_arrows v.has_application_keypad v.cursor y)
     (λ x y. EndsAs rows columns v y) a b t (λ x y p f. ends rows columns pen v y f)
 
--- a page of blanks has no halves
+-- a page of blanks has no halves of wide characters
 pub blank_halves : (rows columns : ℕ) → HaveHalves (blank_page rows columns)
 blank_halves rows columns l hl c left =
     let tall : l < rows = rw length-replicate at hl in

@@ -1,4 +1,5 @@
--- A cell with its marks, at the pen's place; and a stretch that writes behind one that aims.
+-- A cell with its marks is put at the pen's place; and a stretch of bytes that writes may follow
+-- one that aims the pen.
 use Rattle.std.proofs.Common.{◌≡◌, ℕ, ◌+◌, ◌<◌, ◌≤◌, false, ◌&&◌, cond, eqb, ltb, List, ◌++◌, Option, Some, refl, sym}
 use Rattle.std.proofs.Common.{ap, ◌∙◌, subst, arith, inl, inr, append-nil}
 use Rattle.cells.specs.declared.cell.Shape.{Shape}
@@ -82,7 +83,8 @@ module _ (rows columns : ℕ) (old new : Page) (pen_line pen_column : ℕ) (know
         k.0,
         k.1,
         subst
-            (λ sh. Writes rows columns (behind 1) pen_line pen_column 1 (row_of (record cell { shape = sh }) pen_column) x
+            (λ sh. Writes rows columns (behind 1) pen_line pen_column 1 (row_of (record cell { shape = sh }) pen_column)
+            x
             k.0) (sym shape) (k.2).writes,
       )
 
@@ -110,7 +112,8 @@ module _ (rows columns : ℕ) (old new : Page) (pen_line pen_column : ℕ) (know
         k.0,
         k.1,
         subst
-            (λ sh. Writes rows columns (behind 2) pen_line pen_column 2 (row_of (record cell { shape = sh }) pen_column) x
+            (λ sh. Writes rows columns (behind 2) pen_line pen_column 2 (row_of (record cell { shape = sh }) pen_column)
+            x
             k.0) (sym shape) (k.2).writes,
       )
 
@@ -150,7 +153,7 @@ over_row row row' at n f c e = ap
     (λ (z : Cell). cond (ltb c at) (cond (eqb (c + 1) at && is_left z.shape) blank z)
     (cond (ltb c (at + n)) (f c) (cond (eqb c (at + n) && is_right z.shape) blank z))) e
 
--- the pen is aimed, and then it writes
+-- bytes that aim the pen, and then bytes that write
 pub aimed_writes : (old new : Page) (rows columns : ℕ) (p q r : Pen) (line at n : ℕ) (f : Row) (a b c : List ℕ)
     → Takes old new (Drawing rows columns p) (Keeps rows columns q) a b
     → Takes old new (Drawing rows columns q) (Writes rows columns r line at n f) b c
@@ -181,7 +184,7 @@ width_some Narrow = omega arith
 width_some Left = omega arith
 width_some Right = omega arith
 
--- the pen is aimed, and then it prints a cell
+-- bytes that aim the pen, and then the bytes of a cell
 pub put_takes : (old new : Page) (rows columns : ℕ) (p q : Pen) (line column w : ℕ) (next : Option ℕ) (cell : Cell)
     (a b c : List ℕ) → q ≡ at_place line column (Some cell.rendition) → w ≡ width_of cell.shape
     → next ≡ column_behind columns (column + w)

@@ -1,4 +1,4 @@
--- A line, one piece after another; and a page, one line after another.
+-- A line is drawn piece by piece, and a page line by line.
 use Rattle.std.proofs.Common.{◌≡◌, ℕ, zero, suc, ◌+◌, ◌-◌, ◌<◌, ◌≤◌, true, false, List, length, refl, sym, ap, ◌∙◌}
 use Rattle.std.proofs.Common.{subst, arith, ⊎_elim, eq-eqb}
 use Rattle.std.proofs.lemmas.Bool.{cases_lt, cases_eq, cases_Bool, ne_eqb}
@@ -21,7 +21,7 @@ use Rattle.redraw.proofs.Takings.{takes_nothing, takes_then, takes_weaker}
 pub paired_row : (cells : List Cell) → IsPaired cells → IsPairedRow (λ c. unprotected (cell_at cells c))
 paired_row cells p = record { first = p.first; next = λ column. p.next column }
 
--- what was written is the new page's
+-- what was written is what the new page has there
 pub writes_new : (old new : Page) (rows columns : ℕ) (p q : Pen) (line column n next : ℕ) (f : Row) (a b : List ℕ)
     → next ≡ column + n → ((c : ℕ) → column ≤ c → c < column + n → f c ≡ seen_at new line c)
     → Takes old new (Drawing rows columns p) (Writes rows columns q line column n f) a b
@@ -39,7 +39,7 @@ writes_new old new rows columns p q line column n next f a b e same t =
       modes = w.modes;
     }))
 
--- blanks that were erased
+-- a piece of blanks was erased
 pub blank_piece : (old new : Page) (rows columns : ℕ) (p q : Pen) (line column n next : ℕ) (cells : List Cell)
     (a b : List ℕ) → line_at new line ≡ cells → IsPaired cells → next ≡ column + n → 0 < n → column + n ≤ columns
     → ((c : ℕ) → column ≤ c → c < column + n → cell_at cells c ≡ blank)
@@ -75,7 +75,7 @@ right_not_left Narrow h = refl
 right_not_left Left h = absurd cc
 right_not_left Right h = refl
 
--- a cell that was printed
+-- a piece of one cell was printed
 pub put_piece : (old new : Page) (rows : ℕ) (p q : Pen) (line column next : ℕ) (cells : List Cell) (a b : List ℕ)
     → line_at new line ≡ cells → IsPaired cells → IsDrawableLine cells → is_right (cell_at cells column).shape ≡ false
     → column < length cells → next ≡ column + width_of (cell_at cells column).shape
@@ -129,7 +129,7 @@ cell_piece old new rows p q line column next cell cells a b here is paired drawa
     (λ (z : Cell). Takes old new (Drawing rows (length cells) p)
     (Writes rows (length cells) q line column (width_of z.shape) (row_of z column)) a b) here t)
 
--- a cell of a line stands in the page
+-- a cell of a line stands at its place in the page
 pub cell_stands : (old new : Page) (line : ℕ) (before after : List Cell) → AreLines old new line before after
     → (column : ℕ) (cell : Cell) → cell ≡ cell_at after column → Stands new line column cell
 cell_stands old new line before after lines column cell here = record {
@@ -185,13 +185,14 @@ module _ (old new : Page) (rows : ℕ) (line : ℕ) (before after : List Cell) (
           (λ x y h w. record {
             drawing = w.drawing;
             here = λ c hc. w.here c hc
-                ∙ mixed_same (seen_at old line) (seen_at new line) k j c old_paired new_paired order d.whole whole alike;
+                ∙ mixed_same (seen_at old line) (seen_at new line) k j c old_paired new_paired order d.whole whole
+                alike;
             elsewhere = w.elsewhere;
             modes = w.modes;
           });
     }
 
-    -- where lines begin to differ, no right half stands
+    -- at the column from which lines differ, there is no right half
     whole_start : (k i : ℕ) → k ≤ i → is_right (seen_at new line k).shape ≡ false
         → ((c : ℕ) → k ≤ c → c < i → seen_at old line c ≡ seen_at new line c)
         → ((seen_at old line) i ≡ (seen_at new line) i → ⊥) → is_right (seen_at new line i).shape ≡ false
@@ -212,23 +213,27 @@ module _ (old new : Page) (rows : ℕ) (line : ℕ) (before after : List Cell) (
         (cases_eq k (suc i))
       where
         new_half : (c : ℕ) → is_left (seen_at new line c).shape ≡ true
-            → (seen_at new line) (suc c) ≡ right_cell (seen_at new line c).character (seen_at new line c).rendition false
+            → (seen_at new line) (suc c) ≡ right_cell (seen_at new line c).character (seen_at new line c).rendition
+            false
         new_half c l = rw lines.new_is (lines.new_drawable.halves c (rw lines.new_is at l))
 
         old_half : (c : ℕ) → is_left (seen_at old line c).shape ≡ true
-            → (seen_at old line) (suc c) ≡ right_cell (seen_at old line c).character (seen_at old line c).rendition false
+            → (seen_at old line) (suc c) ≡ right_cell (seen_at old line c).character (seen_at old line c).rendition
+            false
         old_half c l = rw lines.old_is (lines.old_halves c (rw lines.old_is at l))
 
     pub start_whole : (p q : Pen) (k i : ℕ) (a b : List ℕ) → DrawsUpTo old new rows columns p q line k a b → k ≤ i
         → ((c : ℕ) → k ≤ c → c < i → unprotected (cell_at before c) ≡ unprotected (cell_at after c))
-        → (unprotected (cell_at before i) ≡ unprotected (cell_at after i) → ⊥) → is_right (cell_at after i).shape ≡ false
+        → (unprotected (cell_at before i) ≡ unprotected (cell_at after i) → ⊥)
+        → is_right (cell_at after i).shape ≡ false
     start_whole p q k i a b d order alike differs =
         let z : is_right (seen_at new line i).shape ≡ false = whole_start k i order d.whole
         (λ c h g. rw (lines.old_is, lines.new_is) (alike c h g)) (λ e. differs (rw (lines.old_is, lines.new_is) at e))
         in
         rw lines.new_is at z
 
-    pub line_piece : (p q r : Pen) (k i next : ℕ) (a b c : List ℕ) → DrawsUpTo old new rows columns p q line k a b → k ≤ i
+    pub line_piece : (p q r : Pen) (k i next : ℕ) (a b c : List ℕ) → DrawsUpTo old new rows columns p q line k a b
+        → k ≤ i
         → i < next → i ≤ columns → is_right (cell_at after i).shape ≡ false
         → ((j : ℕ) → k ≤ j → j < i → unprotected (cell_at before j) ≡ unprotected (cell_at after j))
         → DrawsPiece old new rows columns q r line i next b c → DrawsUpTo old new rows columns p r line next a c
@@ -249,7 +254,8 @@ module _ (old new : Page) (rows : ℕ) (line : ℕ) (before after : List Cell) (
                 drawing = v.drawing;
                 here = λ j hj. v.here j hj
                     ∙ mixed_over (seen_at old line) (seen_at new line) (seen y line) i (next - i) j new_paired
-                    (omega arith) at_i.whole (w.here j hj) ∙ ap (λ m. mixed (seen_at old line) (seen_at new line) m j) e;
+                    (omega arith) at_i.whole (w.here j hj)
+                    ∙ ap (λ m. mixed (seen_at old line) (seen_at new line) m j) e;
                 elsewhere = λ l j ne. v.elsewhere l j ne ∙ w.elsewhere l j ne;
                 modes = v.modes ∙ w.modes;
               });

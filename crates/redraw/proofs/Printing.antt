@@ -1,4 +1,4 @@
--- Characters, marks and erasures on a screen on which a frame is drawn.
+-- What characters, marks and erasures do to a screen on which a frame is drawn.
 use Rattle.std.proofs.Common.{◌≡◌, ℕ, ◌+◌, ◌-◌, ◌<◌, ◌≤◌, min, max, Bool, true, false, ◌&&◌, cond, eqb, ltb, List, []}
 use Rattle.std.proofs.Common.{◌∷◌, length, set, replicate, Option, Some, refl, sym, ap, ◌∙◌, subst, arith, ⊎_elim}
 use Rattle.std.proofs.Common.{eq-eqb}
@@ -200,7 +200,7 @@ advanced_drawn s w e =
     ∙ ap (λ (b : Bool). record (drawn_state (advanced s w)) { is_wrap_pending = b })
     (both_false (ltb (s.column + w) s.columns))
 
--- the column behind a character, where the page has one
+-- the column after a character, if the page has one
 abbrev pub column_behind : ℕ → ℕ → Option ℕ
 column_behind columns next = then_some (ltb next columns) next
 
@@ -210,7 +210,7 @@ knows_behind columns next at is = ⊎_elim
     (λ (h : columns ≤ next). rw (le-ltb next columns h) tt)
     (cases_lt next columns)
 
--- a pen that has written n columns from a place on
+-- a pen after it wrote n columns from a place on
 abbrev pub pen_behind : ℕ → ℕ → ℕ → Option Rendition → ℕ → Pen
 pen_behind columns line column known n = record
     { line = Some line; column = column_behind columns (column + n); rendition = known }
@@ -238,7 +238,8 @@ module _ (rows columns : ℕ) (old new : Page) (pen : Pen) (x : Screen) (d : Dra
       ∙ ap (λ n. printed_as n (drawn c) x) g.columns_are
       ∙ ap (λ n. printed_as w n x) g.stays
 
-  -- what is printed takes a place where it stands, and where the old page differs
+  -- printing a character that has room, at a place at which the old page differs, leads to its
+  -- effect
   pub printed_leads : (w c line column : ℕ) (y : Screen) → IsGlyph w c → effect x (Print c) ≡ y
       → place_by w (record { before = x; func = Print c }) ≡ Some (record { line = line; column = column })
       → StandsAt w new (record { line = line; column = column }) c → Differs old new line column
@@ -272,7 +273,8 @@ module _ (rows columns : ℕ) (old new : Page) (pen_line pen_column : ℕ) (know
     placed_page : (fresh : List Cell) → (placed fresh x).page ≡ written pen_line pen_column columns fresh x.page
     placed_page fresh =
         let s : State = x.state in
-        let goes : following s (length fresh) ≡ s.column + length fresh = rw (no_insert rows columns placed_pen x d) refl
+        let goes : following s (length fresh) ≡ s.column + length fresh = rw (no_insert rows columns placed_pen x d)
+        refl
         in
         ap (λ j. page_from (edited s.line (spliced s.column fresh j s.columns)) x.page) goes
         ∙ ap (λ j. page_from (edited j (spliced s.column fresh (s.column + length fresh) s.columns)) x.page) d.line_is
@@ -286,7 +288,8 @@ module _ (rows columns : ℕ) (old new : Page) (pen_line pen_column : ℕ) (know
 
     placed_writes : (fresh : List Cell) (f : Row) → IsSound (placed fresh x) → 0 < length fresh
         → pen_column + length fresh ≤ columns
-        → ((c : ℕ) → pen_column ≤ c → c < pen_column + length fresh → unprotected (fresh_at fresh (c - pen_column)) ≡ f c)
+        → ((c : ℕ) → pen_column ≤ c → c < pen_column + length fresh
+        → unprotected (fresh_at fresh (c - pen_column)) ≡ f c)
         → Writes rows columns (pen_behind columns pen_line pen_column known (length fresh)) pen_line pen_column
         (length fresh) f x (placed fresh x)
     placed_writes fresh f sound some room is =
@@ -346,7 +349,8 @@ module _ (rows columns : ℕ) (old new : Page) (pen_line pen_column : ℕ) (know
 
     wide_is : (c : ℕ) → IsGlyph 2 c → pen_column + 2 ≤ columns
         → effect x (Print c) ≡ placed
-        (left_cell c x.state.rendition x.state.is_protecting ∷ right_cell c x.state.rendition x.state.is_protecting ∷ [])
+        (left_cell c x.state.rendition x.state.is_protecting ∷ right_cell c x.state.rendition x.state.is_protecting ∷
+        [])
         x
     wide_is c g room =
         let some : eqb (x.state.column + 1) x.state.columns ≡ false = ne_eqb (x.state.column + 1) x.state.columns
@@ -360,7 +364,8 @@ module _ (rows columns : ℕ) (old new : Page) (pen_line pen_column : ℕ) (know
         (Inked rows columns pen_line pen_column known (left_cell c x.state.rendition false) 2 x)
     wide_leads c g room stands differs =
         let s : State = x.state in
-        let fresh : List Cell = left_cell c s.rendition s.is_protecting ∷ right_cell c s.rendition s.is_protecting ∷ [] in
+        let fresh : List Cell = left_cell c s.rendition s.is_protecting ∷ right_cell c s.rendition s.is_protecting ∷ []
+        in
         let is = wide_is c g room in
         let sound : IsSound (placed fresh x) = subst IsSound is (IsSound-effect x (Print c) d.sound) in (
           placed fresh x,

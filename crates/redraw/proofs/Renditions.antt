@@ -1,4 +1,4 @@
--- SGR from any rendition, and from one that is known.
+-- SGR leads to a rendition, from any rendition and from a known one.
 use Rattle.std.proofs.Common.{◌≡◌, ℕ, ◌+◌, ◌<◌, ◌≤◌, ◌==◌, eqb, Bool, true, false, List, [], ◌∷◌, ◌++◌, length, Option}
 use Rattle.std.proofs.Common.{Some, None, refl, sym, ap, ◌∙◌, arith, append_assoc}
 use Rattle.std.specs.Prelude.{if◌then◌else◌, nat_lt, option_to_list}
@@ -27,7 +27,7 @@ use Rattle.redraw.specs.Renditions.{rendition_params}
 
 -- THE VALUES
 
--- a value that changes a rendition, and can be spelled
+-- a value that changes a rendition and can be spelled
 pub record IsValue (n : ℕ) : Type 0 where
   pub attribute : Attribute
   pub names : rendered n ≡ Some (Render attribute)
@@ -181,7 +181,7 @@ either P (n ∷ a) b h k = go (nat_lt (all_bytes b) (all_bytes (n ∷ a)))
     go true = k
     go false = h (omega arith)
 
--- values of a function that can be spelled
+-- each value that a function is given can be spelled
 pub record AreGiven (values : List ℕ) : Type 0 where
   pub named : AreValues values
   pub some : 0 < length values
@@ -248,7 +248,7 @@ switch-reversed x r true false h = refl
 switch-reversed x r false true h = refl
 switch-reversed x r false false h = ap (λ b. with_rendition x (record r { is_reversed = b })) h
 
--- a colour is told by its digit
+-- a colour, by its digit
 abbrev colour_of : ℕ → Colour
 colour_of n =
     if n == 0 then Black
@@ -354,7 +354,7 @@ changes-made x o r =
     (recolour-fore x d r.fore))
     (recolour-back x e r.back)
 
--- a first value ends the joining of marks, and has the present rendition before it
+-- a first value ends the joining of marks; the rendition before it is the present one
 from-present : (x : Screen) (values : List ℕ) → AreValues values → 0 < length values
     → effect x (Csi None values [] 0x6D) ≡ all_acted (with_rendition x x.state.rendition) (each rendered values)
 unfolding acted_from plain_sequence
@@ -364,7 +364,7 @@ from-present x (n ∷ values) h some =
     ∙ sym
     (ap (λ o. all_acted (with_rendition x x.state.rendition) (option_to_list o ++ each rendered values)) h.0.names)
 
--- the same parameters, put together from the left and from the right
+-- the parameters are the same if they are put together from the left and from the right
 whole-is : (r : Rendition) → whole_params r ≡ rendition_values r
 whole-is r =
     let b : List ℕ = value_if r.is_bold 1 in

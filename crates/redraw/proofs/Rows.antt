@@ -1,4 +1,4 @@
--- A line that is drawn from the left.
+-- A line that is drawn from left to right.
 use Rattle.std.proofs.Common.{◌≡◌, ℕ, zero, suc, ◌+◌, ◌<◌, ◌≤◌, false, ◌&&◌, cond, eqb, refl, sym, ap, ◌∙◌, arith}
 use Rattle.std.proofs.Common.{⊎_elim, lt-ltb, le-ltb, eq-eqb}
 use Rattle.std.proofs.lemmas.Bool.{cases_lt, cases_eq, ne_eqb}
@@ -6,7 +6,7 @@ use Rattle.cells.specs.declared.cell.Cell.{Cell}
 use Rattle.cells.specs.Line.{blank, is_left, is_right}
 use Rattle.redraw.specs.Drawing.{Row, row_written, mixed}
 
--- a right half stands exactly behind a left half
+-- a right half stands exactly after each left half
 pub record IsPairedRow (row : Row) : Type 0 where
   pub first : is_right (row 0).shape ≡ false
   pub next : (column : ℕ) → is_left (row column).shape ≡ is_right (row (suc column)).shape
@@ -40,7 +40,7 @@ module _ (old new : Row) where
       (λ (ne : c ≡ at → ⊥). mixed_behind at c h ∙ rw (ne_eqb c at ne) refl)
       (cases_eq c at)
 
-  -- new cells where the drawn part ends
+  -- new cells from the column on up to which the line is drawn
   pub mixed_over : (row : Row) (at n c : ℕ) → IsPairedRow new → 0 < n → is_right (new at).shape ≡ false
       → row c ≡ mixed old new at c → row_written row at n new c ≡ mixed old new (at + n) c
   mixed_over row at n c paired some whole same = ⊎_elim
@@ -58,7 +58,7 @@ module _ (old new : Row) where
       (cases_lt c (at + n)))
       (cases_lt c at)
 
-  -- a run of cells that look alike
+  -- a run of cells that look alike in both lines
   pub mixed_same : (k j c : ℕ) → IsPairedRow old → IsPairedRow new → k ≤ j → is_right (new k).shape ≡ false
       → is_right (new j).shape ≡ false
       → ((i : ℕ) → k ≤ i → i < j → old i ≡ new i) → mixed old new k c ≡ mixed old new j c

@@ -1,4 +1,4 @@
--- A screen on which a frame is drawn, after each command.
+-- A screen on which a frame is drawn, after each command that moves the pen or sets a rendition.
 use Rattle.std.proofs.Common.{◌≡◌, ℕ, ◌+◌, ◌-◌, ◌<◌, min, max, true, false, eqb, List, Option, Some, refl, sym, ap}
 use Rattle.std.proofs.Common.{subst, arith, ⊎_elim}
 use Rattle.std.proofs.lemmas.Bool.{cases_Bool, ne_eqb, eqb-true}

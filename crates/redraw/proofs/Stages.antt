@@ -1,4 +1,4 @@
--- A page, one line after another; then the modes and the cursor.
+-- A page is drawn line by line; then the modes and the cursor are set.
 use Rattle.std.proofs.Common.{◌≡◌, ℕ, ◌+◌, ◌<◌, ◌≤◌, Bool, true, false, List, ◌++◌, Option, Some, None, refl, sym, ap}
 use Rattle.std.proofs.Common.{◌∙◌, subst, arith, ⊎_elim}
 use Rattle.std.proofs.lemmas.Bool.{cases_lt}
@@ -216,7 +216,7 @@ module _ (old new page : Page) (rows columns : ℕ) (pen : Pen) where
         },
       )
 
-  -- a mode goes out only where it changes
+  -- a mode's command is sent only if the mode changes
   pub changed_leads : (S : Bool → Screen → Type 0) (was is : Bool) (command : Command)
       → ((x : Screen) → S was x → LeadsTo rows columns old new x (spelling (func_of command)) (S is))
       → (x : Screen) → S was x → LeadsTo rows columns old new x (changed was is command) (S is)
@@ -291,7 +291,7 @@ module _ (old new page : Page) (rows columns : ℕ) (pen : Pen) where
       let ec : z.state.column ≡ column = subst (λ (p : Pen). Knows p.column z.state.column) is d.column_is in
       record { stage = t; cursor_is = (t.shows_are, el, ec) })
 
--- what was drawn is a stage
+-- drawing the page leads to the stage after it
 pub page_takes : (old new : Page) (rows columns : ℕ) (p q : Pen) (arrows keypad shows : Bool) (a b : List ℕ)
     → Takes old new (HasPage rows columns p old) (DrawsPage rows columns q old new rows) a b
     → Takes old new (Stage rows columns p old arrows keypad shows)
@@ -309,7 +309,7 @@ page_takes old new rows columns p q arrows keypad shows a b t =
       shows_are = ap (λ (m : Modes). m.shows_cursor) d.modes ∙ s.shows_are;
     })
 
--- page, modes and cursor
+-- drawing the page, the modes and the cursor leads to the view
 pub paint_takes : (old new : Page) (rows columns : ℕ) (p q r : Pen) (m m' : KeyModes) (oa ok na nk was : Bool)
     (cursor cursor' : Option Position) (a b c d : List ℕ)
     → m ≡ record { has_application_arrows = oa; has_application_keypad = ok }

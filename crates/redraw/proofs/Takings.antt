@@ -1,4 +1,4 @@
--- Bytes that were appended, one stretch after another.
+-- Bytes that were appended in stretches, one after another.
 use Rattle.std.proofs.Common.{◌≡◌, ℕ, List, [], ◌∷◌, ◌++◌, refl, sym, ap, ◌∙◌, append_assoc, append-nil}
 use Rattle.std.specs.List.{AllByRecursion}
 use Rattle.terminal_model.specs.Screen.{Page, Screen}

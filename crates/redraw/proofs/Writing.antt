@@ -1,4 +1,4 @@
--- A line of a page that gets new cells.
+-- The cells of a page of which one line gets new cells.
 use Rattle.std.proofs.Common.{◌≡◌, ℕ, zero, suc, ◌+◌, ◌-◌, ◌<◌, ◌≤◌, Bool, true, false, ◌&&◌, cond, eqb, List, length}
 use Rattle.std.proofs.Common.{set, refl, sym, ap, ◌∙◌, arith, ⊎_elim, eq-eqb}
 use Rattle.std.proofs.lemmas.List.{get_or-set_same, get_or-set_other}
@@ -44,7 +44,7 @@ module _ (at : ℕ) (fresh cells : List Cell) (room : at + length fresh ≤ leng
       let e : k + (at + length fresh) - (at + length fresh) ≡ k = omega arith in
       at_rest at fresh (at + length fresh) (length cells) k h (omega arith) ∙ ap Old e
 
-  -- a left half whose right half stays
+  -- a left half stays if its right half stays
   left_stays : (k : ℕ) → k < length cells → (suc k < length cells → source (suc k) ≡ Old (suc k))
       → is_left (row k).shape ≡ true → are_halves (Old k) (source_after source (length cells) k) ≡ true
   left_stays k within next left = ⊎_elim
@@ -118,7 +118,7 @@ module _ (at : ℕ) (fresh cells : List Cell) (room : at + length fresh ≤ leng
       (cases_lt k (at + length fresh)))
       (cases_lt k at)
 
--- a page of which one line gets new cells
+-- a page, of which one line gets new cells
 abbrev pub written : ℕ → ℕ → ℕ → List Cell → List (List Cell) → List (List Cell)
 written line at columns fresh page = page_from (edited line (spliced at fresh (at + length fresh) columns)) page
 

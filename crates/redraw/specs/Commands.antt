@@ -1,4 +1,4 @@
--- The control functions that frames are made of.
+-- The control functions that frames consist of.
 use Rattle.std.specs.Prelude.{ℕ, ◌+◌, ◌==◌, ◌<◌, Bool, if◌then◌else◌, List, [], ◌∷◌, Some, None}
 use Prim.Native.Char.{code}
 use Rattle.control_parser.specs.declared.func.Func.{Func}
@@ -10,7 +10,7 @@ use Rattle.redraw.specs.declared.command.Command.TheVariants.{Glyph, MoveTo, Nex
 use Rattle.redraw.specs.declared.command.Command.TheVariants.{Render, EraseCells, EraseToEnd}
 use Rattle.redraw.specs.declared.command.Command.TheVariants.{Arrows, ShowCursor, Keypad}
 
--- CUP: the line, and the column where it isn't the first one (ECMA-48, 8.3.21)
+-- CUP: the line, and the column unless it is the first (ECMA-48, 8.3.21)
 abbrev pub place_params : ℕ → ℕ → List ℕ
 place_params line column = if column == 0 then (line + 1) ∷ [] else (line + 1) ∷ (column + 1) ∷ []
 
@@ -35,7 +35,7 @@ abbrev pub IsPlaced : Command → Type 0
 IsPlaced (MoveTo line column) = (line < 9999) × (column < 9999)
 IsPlaced other = Unit {0}
 
--- what can be spelled: a character that is no control, places and counts of a page
+-- what can be spelled: a character that isn't a control; places and counts that a page can have
 abbrev pub IsCommand : Command → Type 0
 IsCommand (Glyph c) = IsGiven (Print c)
 IsCommand (MoveTo line column) = (line < 9999) × (column < 9999)

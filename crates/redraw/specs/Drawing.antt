@@ -21,7 +21,7 @@ use Rattle.redraw.specs.declared.command.Command.{Command}
 use Rattle.redraw.specs.Commands.{func_of}
 use Rattle.redraw.specs.declared.command.Command.TheVariants.{MoveTo, NextLine, Forward}
 
--- a line by its columns
+-- a line as a function of its columns
 abbrev pub Row : Type 0
 Row = ℕ → Cell
 
@@ -29,25 +29,26 @@ Row = ℕ → Cell
 abbrev pub seen : Screen → ℕ → Row
 seen x line column = seen_at x.page line column
 
--- what stays of a line below a column: a left half that is cut off there is a blank
+-- what stays of a line below a column; a left half that is cut off from its right half is a blank
 abbrev pub kept_below : Row → ℕ → Row
 kept_below row at c = cond ((c + 1 == at) && is_left (row c).shape) blank (row c)
 
--- what stays of a line from a column on: a right half that is cut off there is a blank
+-- what stays of a line from a column on; a right half that is cut off from its left half is a blank
 abbrev pub kept_from : Row → ℕ → Row
 kept_from row at c = cond ((c == at) && is_right (row c).shape) blank (row c)
 
--- New cells in n columns from `at` on: what is cut in two on either side is a blank.
+-- New cells in n columns from `at` on; a wide character that is cut in two on either side is a
+-- blank.
 abbrev pub row_written : Row → ℕ → ℕ → Row → Row
 row_written row at n fresh c =
     cond (nat_lt c at) (kept_below row at c)
     (cond (nat_lt c (at + n)) (fresh c) (kept_from row (at + n) c))
 
--- A line that is drawn up to a column: what was cut in two there is a blank.
+-- A line that is drawn up to a column; a wide character that is cut in two there is a blank.
 abbrev pub mixed : Row → Row → ℕ → Row
 mixed old new at c = cond (nat_lt c at) (new c) (kept_from old at c)
 
--- what is known of a value: which one it is, or nothing
+-- if something is known of a value, the value is this one
 abbrev pub Knows : {A : Type 0} → Option A → A → Type 0
 Knows None x = Prim.Unit {0}
 Knows (Some known) x = x ≡ known
@@ -64,22 +65,22 @@ pub record Drawing (rows columns : ℕ) (pen : Pen) (x : Screen) : Type 0 where
   pub column_is : Knows pen.column x.state.column
   pub rendition_is : Knows pen.rendition x.state.rendition
 
--- the bytes lead from one screen to another, without an answer, by acts that are discreet and
--- spare, and spell these alone
+-- the bytes lead from one screen to the other: the terminal answers nothing, the acts are discreet
+-- and spare, and the bytes spell these acts alone
 pub record Leads (old new : Page) (x : Screen) (bytes : List ℕ) (y : Screen) : Type 0 where
   pub acts : List Act
   pub reading : reads (ready x) bytes ≡ record { terminal = ready y; reports = []; acts = acts }
   pub draws : Draws old new acts
   pub spelled : AreSpelled bytes acts
 
--- bytes were appended that lead each screen of one kind to one that is related to it
+-- bytes were appended that lead each screen that P holds of to a screen that R relates to it
 pub record Takes (old new : Page) (P : Screen → Type 0) (R : Screen → Screen → Type 0)
     (before after : List ℕ) : Type 0 where
   pub bytes : List ℕ
   pub appended : after ≡ before ++ bytes
   pub leads : (x : Screen) → P x → (y : Screen) × Leads old new x bytes y × R x y
 
--- the cells and the modes stay
+-- cells and modes are unchanged
 pub record Keeps (rows columns : ℕ) (pen : Pen) (x y : Screen) : Type 0 where
   pub drawing : Drawing rows columns pen y
   pub cells : (l c : ℕ) → seen y l c ≡ seen x l c
@@ -93,7 +94,7 @@ pub record Writes (rows columns : ℕ) (pen : Pen) (line at n : ℕ) (fresh : Ro
   pub elsewhere : (l c : ℕ) → (l ≡ line → ⊥) → seen y l c ≡ seen x l c
   pub modes : y.state.modes ≡ x.state.modes
 
--- a line is drawn up to a column
+-- a line was drawn further, up to a column
 pub record DrawsLine (rows columns : ℕ) (pen : Pen) (line : ℕ) (before after : Row) (at : ℕ)
     (x y : Screen) : Type 0 where
   pub drawing : Drawing rows columns pen y
@@ -101,7 +102,7 @@ pub record DrawsLine (rows columns : ℕ) (pen : Pen) (line : ℕ) (before after
   pub elsewhere : (l c : ℕ) → (l ≡ line → ⊥) → seen y l c ≡ seen x l c
   pub modes : y.state.modes ≡ x.state.modes
 
--- lines are drawn up to a line
+-- the lines above `at` were drawn
 pub record DrawsPage (rows columns : ℕ) (pen : Pen) (old new : Page) (at : ℕ) (x y : Screen)
     : Type 0 where
   pub drawing : Drawing rows columns pen y
@@ -122,16 +123,16 @@ pub record HasPage (rows columns : ℕ) (pen : Pen) (page : Page) (x : Screen) :
 abbrev pub half_of : Cell → Cell
 half_of cell = right_cell cell.character cell.rendition false
 
--- a cell, and the right half behind it
+-- a cell, followed by its right half
 abbrev pub row_of : Cell → ℕ → Row
 row_of cell at c = cond (c == at) (unprotected cell) (half_of cell)
 
--- a cell stands at a place, and the right half beside a left one
+-- a cell stands at a place of the page; a left half has its right half beside it
 pub record Stands (page : Page) (line column : ℕ) (cell : Cell) : Type 0 where
   pub here : cell_at (line_at page line) column ≡ cell
   pub beside : is_left cell.shape ≡ true → seen_at page line (column + 1) ≡ half_of cell
 
--- the columns that a cell's character takes
+-- the number of columns that a cell's character takes
 abbrev pub width_of : Shape → ℕ
 width_of Narrow = 1
 width_of Left = 2
@@ -146,7 +147,7 @@ mark_bytes (Two a b) = spelling (Print a) ++ spelling (Print b)
 abbrev pub glyph_bytes : Cell → List ℕ
 glyph_bytes cell = spelling (Print cell.character) ++ mark_bytes cell.marks
 
--- a way of the pen to a place
+-- a command that moves the pen to a place; None if the pen is there
 abbrev pub IsWay : Pen → ℕ → ℕ → Option Command → Type 0
 IsWay pen line column None = (pen.line ≡ Some line) × (pen.column ≡ Some column)
 IsWay pen line column (Some (MoveTo l c)) = (l ≡ line) × (c ≡ column)
@@ -155,11 +156,11 @@ IsWay pen line column (Some (Forward n)) =
     (pen.line ≡ Some line) × (pen.column ≡ Some (column - n)) × (0 < n) × (n ≤ column)
 IsWay pen line column (Some other) = ⊥
 
--- no right half stands at a place
+-- there is no right half at this place
 abbrev pub IsWhole : Page → ℕ → ℕ → Type 0
 IsWhole page line column = is_right (cell_at (line_at page line) column).shape ≡ false
 
--- a piece of a line was drawn, from a column on and below the next one
+-- a piece of a line was drawn, from a column to the one before the next
 pub record DrawsPiece (old new : Page) (rows columns : ℕ) (p q : Pen) (line column next : ℕ)
     (before after : List ℕ) : Type 0 where
   pub inside : next ≤ columns
@@ -168,7 +169,7 @@ pub record DrawsPiece (old new : Page) (rows columns : ℕ) (p q : Pen) (line co
       Takes old new (Drawing rows columns p)
       (Writes rows columns q line column (next - column) (seen_at new line)) before after
 
--- a line was drawn up to a column
+-- a line was drawn, up to a column
 pub record DrawsUpTo (old new : Page) (rows columns : ℕ) (p q : Pen) (line column : ℕ)
     (before after : List ℕ) : Type 0 where
   pub inside : column ≤ columns
@@ -177,7 +178,7 @@ pub record DrawsUpTo (old new : Page) (rows columns : ℕ) (p q : Pen) (line col
       Takes old new (HasLine rows columns p line (seen_at old line))
       (DrawsLine rows columns q line (seen_at old line) (seen_at new line) column) before after
 
--- a line of two pages, which a terminal can show
+-- a line of each of two pages; a terminal can show both lines
 pub record AreLines (old new : Page) (line : ℕ) (a b : List Cell) : Type 0 where
   pub old_is : line_at old line ≡ a
   pub new_is : line_at new line ≡ b
@@ -187,14 +188,14 @@ pub record AreLines (old new : Page) (line : ℕ) (a b : List Cell) : Type 0 whe
   pub old_halves : HasHalves a
   pub new_drawable : IsDrawableLine b
 
--- the bytes of a command, where a mode isn't as it is to be
+-- the bytes of a command; none if the mode is already as it has to be
 abbrev pub changed : Bool → Bool → Command → List ℕ
 changed true true command = []
 changed true false command = spelling (func_of command)
 changed false true command = spelling (func_of command)
 changed false false command = []
 
--- the screen shows a page, and has modes
+-- the screen shows a page, and has these modes
 pub record Stage (rows columns : ℕ) (pen : Pen) (page : Page) (arrows keypad shows : Bool)
     (x : Screen) : Type 0 where
   pub drawing : Drawing rows columns pen x
@@ -203,7 +204,7 @@ pub record Stage (rows columns : ℕ) (pen : Pen) (page : Page) (arrows keypad s
   pub keypad_is : x.state.modes.has_application_keypad ≡ keypad
   pub shows_are : x.state.modes.shows_cursor ≡ shows
 
--- and its cursor is where a view has it
+-- the screen shows a page, has these modes, and has its cursor where the view has it
 pub record Final (rows columns : ℕ) (pen : Pen) (page : Page) (arrows keypad : Bool)
     (cursor : Option Position) (x : Screen) : Type 0 where
   pub stage : Stage rows columns pen page arrows keypad (is_some cursor) x

@@ -4,7 +4,7 @@ use Rattle.terminal_model.specs.Screen.{Page}
 use Rattle.terminal_model.specs.Shows.{View, seen_at}
 use Rattle.view.specs.View.{HasSize}
 
--- its size, and the view that it shows; none: it may be in any state
+-- a terminal's size, and the view that it shows; without a view it may be in any state
 pub record Knowledge : Type 0 where
   pub rows : ℕ
   pub columns : ℕ
@@ -14,14 +14,14 @@ pub record Knowledge : Type 0 where
 abbrev pub knowledge_of : ℕ → ℕ → Option View → Knowledge
 knowledge_of rows columns known = record { rows = rows; columns = columns; known = known }
 
--- a known view has the terminal's size
+-- the known view has the terminal's size
 abbrev pub IsSound : Knowledge → Type 0
 IsSound k = (v : View) → k.known ≡ Some v → HasSize k.rows k.columns v
 
--- two pages look the same above a line
+-- two pages look the same above this line
 abbrev pub AreAlikeAbove : ℕ → Page → Page → Type 0
 AreAlikeAbove line a b = (l column : ℕ) → l < line → seen_at a l column ≡ seen_at b l column
 
--- a line of the second page, or its end, above which both look the same
+-- both pages look the same above this line, which the second page has or ends at
 abbrev pub AreAlikeUpTo : ℕ → Page → Page → Type 0
 AreAlikeUpTo line a b = (line ≤ length b) × AreAlikeAbove line a b

@@ -1,4 +1,4 @@
--- What the steps of a frame do: a pen goes from one place to another, and bytes are appended.
+-- What the steps of a frame do: the pen goes from one place to another, and bytes are appended.
 use Rattle.std.specs.Prelude.{◌≡◌, ℕ, ◌+◌, ◌<◌, ◌≤◌, Bool, false, List, length, Some, IfSome}
 use Rattle.std.specs.declared.vec.Vec.{Vec}
 use Rattle.std.specs.declared.alloc.Global.{Global}
@@ -25,24 +25,25 @@ Bytes = Vec ℕ Global
 
 -- ---- the pen
 
--- a pen at a place, with a rendition that is known
+-- a pen at a place, with a known rendition
 abbrev pub aimed_at : ℕ → ℕ → Rendition → Pen
 aimed_at line column r = record { line = Some line; column = Some column; rendition = Some r }
 
--- A pen moves to a place, where the page has it; what is seen stays.
+-- If the page has the place, the pen moves there; what is seen is unchanged.
 abbrev pub MovesTo : ℕ → ℕ → Pen → Pen → Bytes → Bytes → Type 0
 MovesTo line column p q before after =
     (old new : Page) (rows columns : ℕ)
     → line < rows → rows < 9999 → column < columns → columns < 9999
     → Takes old new (Drawing rows columns p) (Keeps rows columns q) before.items after.items
 
--- A pen takes up a rendition; what is seen stays.
+-- The pen takes up a rendition; what is seen is unchanged.
 abbrev pub Renders : Pen → Pen → Bytes → Bytes → Type 0
 Renders p q before after =
     (old new : Page) (rows columns : ℕ)
     → Takes old new (Drawing rows columns p) (Keeps rows columns q) before.items after.items
 
--- A cell is put at a place that differs, where it stands in the new page, of so many columns.
+-- A cell of the new page is printed at a place at which the pages differ, in a page with this
+-- number of columns.
 abbrev pub PutsCell : ℕ → ℕ → ℕ → Cell → Pen → Pen → Bytes → Bytes → Type 0
 PutsCell line column columns cell p q before after =
     (old new : Page) (rows : ℕ)
@@ -53,7 +54,7 @@ PutsCell line column columns cell p q before after =
     (Writes rows columns q line column (width_of cell.shape) (row_of cell column))
     before.items after.items
 
--- So many columns from a place on are made blank, where the page has them.
+-- If the page has these columns, they are erased: `count` columns from a place on.
 abbrev pub Erases : ℕ → ℕ → ℕ → Pen → Pen → Bytes → Bytes → Type 0
 Erases line column count p q before after =
     (old new : Page) (rows columns : ℕ)
@@ -61,7 +62,7 @@ Erases line column count p q before after =
     → Takes old new (Drawing rows columns p)
     (Writes rows columns q line column count (λ c. blank)) before.items after.items
 
--- The columns from a place to the end of its line are made blank, where the page has some.
+-- If the page has columns from this place on, they are erased, to the end of the line.
 abbrev pub ErasesToEnd : ℕ → ℕ → Pen → Pen → Bytes → Bytes → Type 0
 ErasesToEnd line column p q before after =
     (old new : Page) (rows columns n : ℕ)
@@ -71,7 +72,8 @@ ErasesToEnd line column p q before after =
 
 -- ---- lines and pages
 
--- A piece of a line is drawn from a column that differs and has no right half, to below `next`.
+-- A piece of a line is drawn: from a column at which the pages differ and which has no right half,
+-- to the column before `next`.
 abbrev pub PutsPiece : ℕ → List Cell → ℕ → ℕ → Pen → Pen → Bytes → Bytes → Type 0
 PutsPiece line cells column next p q before after =
     (old new : Page) (rows : ℕ) (a : List Cell)
@@ -79,13 +81,13 @@ PutsPiece line cells column next p q before after =
     → is_right (cell_at cells column).shape ≡ false → Differs old new line column
     → DrawsPiece old new rows (length cells) p q line column next before.items after.items
 
--- A line of a page is drawn where another stood.
+-- A line of the new page is drawn over the line of the old page.
 abbrev pub PutsLine : ℕ → List Cell → List Cell → Pen → Pen → Bytes → Bytes → Type 0
 PutsLine line a b p q before after =
     (old new : Page) (rows : ℕ) → line < rows → rows < 9999 → AreLines old new line a b
     → DrawsUpTo old new rows (length b) p q line (length b) before.items after.items
 
--- A view's page is drawn where another's stood.
+-- A view's page is drawn over the page of another view.
 abbrev pub PutsPage : View → View → Pen → Pen → Bytes → Bytes → Type 0
 PutsPage old new p q before after =
     let rows : ℕ = length new.page in
@@ -96,19 +98,19 @@ PutsPage old new p q before after =
 
 -- ---- modes and the cursor
 
--- the screen shows a page, and has modes of the keyboard
+-- the screen shows a page, and has these modes of the keyboard
 abbrev pub HasModes : ℕ → ℕ → Pen → Page → KeyModes → Bool → Screen → Type 0
 HasModes rows columns pen page modes shows =
     Stage rows columns pen page modes.has_application_arrows modes.has_application_keypad shows
 
--- The modes of the keyboard are set, on any page.
+-- The modes of the keyboard are set, whatever page is shown.
 abbrev pub SetsModes : KeyModes → KeyModes → Bytes → Bytes → Type 0
 SetsModes was is before after =
     (old new page : Page) (rows columns : ℕ) (pen : Pen) (shows : Bool)
     → Takes old new (HasModes rows columns pen page was shows)
     (λ x y. HasModes rows columns pen page is shows y) before.items after.items
 
--- The cursor is shown at its place, where the page has it, or hidden.
+-- The cursor is shown at its place, if the page has it, or is hidden.
 abbrev pub PutsCursor : Bool → Cursor → Pen → Pen → Bytes → Bytes → Type 0
 PutsCursor was_shown cursor p q before after =
     (old new page : Page) (rows columns : ℕ) (arrows keypad : Bool)
@@ -118,7 +120,7 @@ PutsCursor was_shown cursor p q before after =
     (λ x y. Final rows columns q page arrows keypad (place_of cursor) y)
     before.items after.items
 
--- A view is drawn where another's page and modes stood.
+-- A view is drawn over the page and the modes of another view.
 abbrev pub PutsView : View → Bool → View → Pen → Pen → Bytes → Bytes → Type 0
 PutsView old was_shown new p q before after =
     let rows : ℕ = length new.page in

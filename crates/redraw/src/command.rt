@@ -10,28 +10,28 @@ use cells::Rendition;
 use control_parser::{Func, Intermediates, Params, spell};
 use std::alloc::AllocError;
 
-/// A function of a frame.
+/// A control function of a frame.
 #[derive(Clone, Copy, Debug, PartialEq, Eq)]
 pub enum Command {
     /// A character of a cell, or a mark.
     Glyph(char),
-    /// CUP, to a line and column from 0.
+    /// CUP: to a line and a column, from 0.
     MoveTo {
         line: u16,
         column: u16,
     },
-    /// NEL.
+    /// NEL: to the first column of the next line.
     NextLine,
-    /// CUF.
+    /// CUF: to the right by this number of columns.
     Forward(u16),
-    /// SGR, from a rendition that is known, or from any.
+    /// SGR: to a rendition, from a known one or from any.
     Render {
         known: Option<Rendition>,
         rendition: Rendition,
     },
-    /// ECH.
+    /// ECH: erases this number of cells.
     EraseCells(u16),
-    /// EL, to the end.
+    /// EL: erases to the end of the line.
     EraseToEnd,
     /// Cursor keys mode (DECCKM).
     Arrows(bool),
@@ -81,7 +81,7 @@ fn place(line: u16, column: u16) -> Params
 }
 
 impl Command {
-    /// The control function.
+    /// The control function of the command.
     pub fn func(self) -> Func
         requires { IsPlaced self }
         ensures { result ≡ func_of self }
@@ -100,7 +100,8 @@ impl Command {
         }
     }
 
-    /// Appends the function's bytes.
+    /// Appends the function's bytes. `AllocError` if memory is refused; `out` may then hold a part
+    /// of them.
     pub fn put(self, out: &mut Vec<u8>) -> Result<(), AllocError>
         requires { IsPlaced self }
         ensures { OnOk result (out.new.items ≡ out.old.items ++ spelling (func_of self)) }
@@ -112,7 +113,7 @@ impl Command {
     }
 }
 
-/// Appends a character: the one byte of an ASCII one at once.
+/// Appends a character in UTF-8. An ASCII character is pushed directly, as one byte.
 fn put_glyph(character: char, out: &mut Vec<u8>) -> Result<(), AllocError>
     ensures { OnOk result (out.new.items ≡ out.old.items ++ spelling (Print character)) }
 {

@@ -18,8 +18,8 @@ use std::alloc::{AllocError, Global};
 use std::mem;
 use view::{Cursor, View};
 
-/// CAN, RIS, UTF-8 and DECRM of DECAWM: from any state a blank page, on which the last column keeps
-/// the cursor.
+/// CAN, RIS, UTF-8 and DECRM of DECAWM. From any state they lead to a blank page, in whose last
+/// column the cursor stays when a character is printed there.
 const RESET: &[u8] = b"\x18\x1bc\x1b%G\x1b[?7l";
 
 /// Whether a cursor is shown.
@@ -47,7 +47,7 @@ fn pen_at(cursor: Cursor) -> Pen
     }
 }
 
-/// Appends the bytes from the reset on.
+/// Appends the reset, and the bytes from its blank page to the view.
 fn first_bytes(alloc: Global, view: &View, out: &mut Vec<u8>) -> Result<(), AllocError>
     ensures { OnOk result (IsDrawable view.now → FirstBytes view.now out.old.items out.new.items) }
 {
@@ -68,7 +68,7 @@ fn first_bytes(alloc: Global, view: &View, out: &mut Vec<u8>) -> Result<(), Allo
     Ok(())
 }
 
-/// Appends the bytes from one view to another, whose pages look the same above the line `from`.
+/// Appends the bytes from one view to another. Both pages look the same above the line `from`.
 fn next_bytes(old: &View, view: &View, from: usize, out: &mut Vec<u8>) -> Result<(), AllocError>
     requires size { KeepsSize old.now view.now }
     requires inside { from ≤ length view.now.page }
@@ -85,12 +85,13 @@ fn next_bytes(old: &View, view: &View, from: usize, out: &mut Vec<u8>) -> Result
     Ok(())
 }
 
-/// A view that isn't needed any more, where nobody else has it.
+/// A view that is no longer needed, if it has no other owner.
 pub(crate) fn unshared(view: Option<SharedView>) -> Option<View> {
     view?.into_view()
 }
 
-/// The bytes from what is known of a terminal to a view; none where it is known to show that.
+/// The bytes from what is known of a terminal to a view; `None` if the terminal is known to show
+/// the view.
 pub(crate) fn draw(
     alloc: Global,
     shadow: &Shadow,
@@ -115,8 +116,8 @@ pub(crate) fn draw(
     Ok(Some(bytes))
 }
 
-/// Whether a view, of the shadow's size, has to be drawn: the shadow knows nothing of the terminal,
-/// or knows that it shows another view.
+/// Whether a view of the shadow's size has to be drawn: the shadow knows no view, or knows one that
+/// looks different.
 pub fn needs_draw(shadow: &Shadow, view: &View) -> bool
     requires size { HasSize shadow.now.rows shadow.now.columns view.now }
     ensures { IsTrue result ↔ NeedsDraw shadow.now.known view.now }
@@ -127,10 +128,11 @@ pub fn needs_draw(shadow: &Shadow, view: &View) -> bool
     }
 }
 
-/// The bytes that lead each terminal that agrees with the shadow to one that shows the view, of the
-/// shadow's size, and that agrees with the shadow then: it keeps the view. They are discreet and
-/// spare, and begin with the reset exactly where the shadow is unknown. There are none, and the
-/// shadow stays, exactly where it is known to show the same. After an `Err` nothing has changed.
+/// A frame: the bytes after which each terminal that agreed with the shadow shows the view, which
+/// has the shadow's size. The shadow then agrees with these terminals: it keeps the view. The bytes
+/// are discreet and spare, and they begin with the reset exactly if the shadow was unknown.
+/// `Ok(None)`, with an unchanged shadow, exactly if the shadow is known to show the view. `Err` if
+/// memory is refused: nothing has changed.
 pub fn frame_keeping(
     alloc: Global,
     shadow: &mut Shadow,
@@ -145,8 +147,8 @@ pub fn frame_keeping(
     frame_sparing(alloc, shadow, view, &mut spare)
 }
 
-/// The same; the view that isn't needed any more, where nobody else has it, is handed back as `spare`,
-/// for its memory.
+/// The frame of `frame_keeping`. The view that the shadow no longer needs is handed back in
+/// `spare`, if it has no other owner, so that its memory can be used again.
 pub fn frame_sparing(
     alloc: Global,
     shadow: &mut Shadow,
@@ -167,10 +169,9 @@ pub fn frame_sparing(
     Ok(Some(bytes))
 }
 
-/// Appends the bytes that lead each terminal that agrees with the shadow to one that shows the view,
-/// of the shadow's size, and that agrees with the shadow then: it keeps a copy of the view. They are
-/// those of `frame_keeping`. Exactly where the shadow is known to show the same, nothing is appended
-/// and nothing changes. After an `Err` nothing has changed.
+/// Appends the frame of `frame_keeping`; the shadow keeps a copy of the view. Exactly if the shadow
+/// is known to show the view, nothing is appended and nothing changes. `Err` if memory is refused:
+/// nothing has changed.
 pub fn frame(
     alloc: Global,
     shadow: &mut Shadow,

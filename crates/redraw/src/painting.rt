@@ -1,4 +1,4 @@
-//! From one page to another.
+//! Bytes from one page to another.
 
 ghost use Rattle.std.specs.Prelude.{◌≡◌, ◌+◌, ◌<◌, ◌≤◌, ℕ, ◌++◌};
 ghost use Rattle.std.specs.Prelude.{OnOk, IfOk, IfSome, IfNone, length};
@@ -17,21 +17,22 @@ use cells::{Cell, next_unlike};
 use std::alloc::AllocError;
 use view::{Cursor, KeyModes, View};
 
-/// What a terminal shows: a view's page and modes, and a cursor or none.
+/// What a terminal shows: a view's page and modes, and whether the cursor is shown.
 #[derive(Clone, Copy)]
 pub struct Shown<'a> {
     pub view: &'a View,
     pub has_cursor: bool,
 }
 
-/// So many blanks are erased where they aren't printed: the bytes of the erasure are fewer.
+/// From this number of blanks on, blanks are erased instead of printed: the erasure takes fewer
+/// bytes.
 const FEWEST_ERASED: usize = 5;
 
-/// So many, where more is drawn behind them: the bytes of the erasure and of the way over it are
-/// fewer.
+/// From this number of blanks on, blanks are erased if more is drawn after them: the erasure and
+/// the move over it take fewer bytes.
 const FEWEST_ERASED_WITHIN: usize = 11;
 
-/// How many blanks stand in the line from a column on.
+/// The number of blanks in the line from a column on.
 fn blank_run(cells: &[Cell], from: usize) -> usize
     requires { from ≤ length cells.now }
     ensures inside { from + result ≤ length cells.now }
@@ -44,8 +45,8 @@ fn blank_run(cells: &[Cell], from: usize) -> usize
     end - from
 }
 
-/// Draws a line at a column where it differs, up to the column that it returns: the differing
-/// columns are those of `run`, from the first to before the end.
+/// Draws a piece of a line in which lines differ; `run` is from the first column that differs to
+/// the one after the last. Returns the column up to which the line is drawn.
 fn draw_piece(
     pen: &mut Pen,
     line: u16,
@@ -82,8 +83,8 @@ fn draw_piece(
     Ok(column + columns_of(cell) as usize)
 }
 
-/// The first run of columns, not below `column`, in which lines differ: up to `known`, where
-/// `column` is below that.
+/// The next run of columns, from `column` on, in which the lines differ. If `column` is below
+/// `known`, the run ends at `known`. `None` if the lines look alike from there on.
 fn next_run(before: &[Cell], after: &[Cell], column: usize, known: usize) -> Option<(usize, usize)>
     requires same_width { length before.now ≡ length after.now }
     requires known { column < known → IsEndOfUnlike before.now after.now column known }
@@ -97,7 +98,7 @@ fn next_run(before: &[Cell], after: &[Cell], column: usize, known: usize) -> Opt
     }
 }
 
-/// Draws the places of a line that differ, from left to right.
+/// Draws the columns of a line that differ, from left to right.
 fn draw_line(
     pen: &mut Pen,
     line: u16,
@@ -118,7 +119,7 @@ fn draw_line(
     Ok(())
 }
 
-/// Draws the places of a page that differ, from a line on and line after line.
+/// Draws the lines of a page that differ, from the line `from` on.
 fn draw_page(
     pen: &mut Pen,
     old: &View,
@@ -137,7 +138,7 @@ fn draw_page(
     Ok(())
 }
 
-/// Appends a command where a mode isn't as it is to be.
+/// Appends a command, unless the mode is already as it has to be.
 fn change(was: bool, is: bool, command: Command, out: &mut Vec<u8>) -> Result<(), AllocError>
     requires { IsPlaced command }
     ensures { OnOk result (out.new.items ≡ out.old.items ++ changed was is command) }
@@ -188,7 +189,7 @@ fn draw_cursor(
     Ok(())
 }
 
-/// Draws what differs between what is shown and a view of that size, whose pages look the same
+/// Draws what differs between what is shown and a view of the same size. Both pages look the same
 /// above the line `from`.
 pub fn paint(
     pen: &mut Pen,

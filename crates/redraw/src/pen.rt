@@ -8,19 +8,19 @@ use crate::command::Command;
 use cells::{Cell, Marks, Rendition, Shape};
 use std::alloc::AllocError;
 
-/// Where characters go and how they look.
+/// Where the next character goes, and how it looks.
 #[derive(Clone, Copy, Debug, PartialEq, Eq)]
 pub struct Pen {
-    /// None: nobody knows in which line the cursor is.
+    /// The cursor's line; `None` if it isn't known.
     pub line: Option<u16>,
-    /// None: nobody knows in which column it is.
+    /// The cursor's column; `None` if it isn't known.
     pub column: Option<u16>,
-    /// None: nobody knows.
+    /// The rendition; `None` if it isn't known.
     pub rendition: Option<Rendition>,
 }
 
 impl Pen {
-    /// The shortest way to a place; none where the pen is there.
+    /// The shortest command that moves the pen to a place; `None` if the pen is there.
     fn way_to(&self, line: u16, column: u16) -> Option<Command>
         ensures { IsWay self.now line column result }
     {
@@ -49,7 +49,8 @@ impl Pen {
         Ok(())
     }
 
-    /// Whether this is known to be the present rendition: blanks in both look alike.
+    /// Whether this is known to be the present rendition. Two renditions are compared by a blank in
+    /// each.
     fn has(&self, rendition: Rendition) -> bool
         ensures { IsTrue result ↔ (self.now.rendition ≡ Some rendition) }
     {
@@ -93,8 +94,8 @@ impl Pen {
         Ok(())
     }
 
-    /// Prints a cell's character and marks at a place of a line with so many columns. Behind the
-    /// last one nobody knows where the cursor is.
+    /// Prints a cell's character and marks at a place of a line with `columns` columns. If this
+    /// fills the last column, the cursor's place is no longer known.
     pub fn put_cell(
         &mut self,
         line: u16,
@@ -114,7 +115,7 @@ impl Pen {
         Ok(())
     }
 
-    /// Makes blanks of cells from a place on. The cursor stays there.
+    /// Erases cells from a place on. The cursor stays at that place.
     pub fn erase_cells(
         &mut self,
         line: u16,
@@ -130,7 +131,7 @@ impl Pen {
         Ok(())
     }
 
-    /// Makes blanks of the cells from a place to the end of its line. The cursor stays there.
+    /// Erases the cells from a place to the end of its line. The cursor stays at that place.
     pub fn erase_to_end(
         &mut self,
         line: u16,
@@ -146,7 +147,7 @@ impl Pen {
     }
 }
 
-/// The columns that a cell's character takes.
+/// The number of columns that a cell's character takes.
 pub fn columns_of(cell: Cell) -> u16
     ensures value { result ≡ width_of cell.shape }
     ensures few { (0 < result) × (result ≤ 2) }

@@ -10,8 +10,8 @@ ghost use Rattle.redraw.specs.Renditions.{value_bytes, all_bytes, shorter};
 use cells::{Colour, Rendition};
 use control_parser::Params;
 
-/// The parameters that lead to a rendition, in as few bytes as may be: what differs from the known
-/// one, or 0 and then what is on.
+/// The parameters of SGR that lead to a rendition, in as few bytes as possible: what differs from
+/// the known rendition, or 0 and then what is on.
 pub fn sgr(known: Option<Rendition>, rendition: Rendition) -> Params
     ensures { result ≡ rendition_params known rendition }
 {
@@ -61,7 +61,7 @@ fn push_colour(params: &mut Params, colour: Colour, first: u16)
     }
 }
 
-/// 0, and then what is on.
+/// The parameter 0, followed by those of what is on.
 fn whole(rendition: Rendition) -> Params
     ensures { result ≡ whole_params rendition }
 {
@@ -106,7 +106,7 @@ fn push_change(params: &mut Option<Params>, old: Colour, new: Colour, first: u16
     }
 }
 
-/// What differs; None where nothing does.
+/// The parameters of what differs; `None` if nothing does.
 fn changes(old: Rendition, new: Rendition) -> Option<Params>
     ensures { listed result ≡ change_params old new }
 {
@@ -120,7 +120,7 @@ fn changes(old: Rendition, new: Rendition) -> Option<Params>
     params
 }
 
-/// The bytes of a value, and of what stands behind it.
+/// The number of bytes of a value and of what follows it.
 fn value_bytes(value: u16) -> usize
     ensures value { result ≡ value_bytes value }
     ensures few { result ≤ 3 }
@@ -132,7 +132,7 @@ fn value_bytes(value: u16) -> usize
     }
 }
 
-/// The bytes of values, with what stands behind each.
+/// The number of bytes of values, with what follows each.
 fn all_bytes(values: &[u16]) -> usize
     requires { length values.now ≤ 16 }
     ensures { result ≡ all_bytes values.now }
@@ -144,7 +144,7 @@ fn all_bytes(values: &[u16]) -> usize
     bytes
 }
 
-/// The changes, where there are some and they don't take more bytes.
+/// The changes, unless there are none or they take more bytes than `whole`.
 fn shorter(changes: Option<Params>, whole: Params) -> Params
     ensures { result ≡ shorter (listed changes) whole }
 {

@@ -13,7 +13,7 @@ use std::alloc::AllocError;
 use std::marker::Model;
 use view::{Cursor, KeyModes, View};
 
-/// A terminal's size, and the view that it shows, if that is known.
+/// What is known of a terminal: its size, and the view that it shows, if that is known.
 pub struct Shadow {
     pub(crate) rows: u16,
     pub(crate) columns: u16,
@@ -43,7 +43,7 @@ impl Model for Shadow {
 impl Shadow {
     ghost use Rattle.redraw.specs.Shadow.{Knowledge};
 
-    /// A terminal of this size, in any state.
+    /// A terminal of this size, which may be in any state.
     pub fn unknown(rows: u16, columns: u16) -> Shadow
         ensures { result ≡ record { rows = rows; columns = columns; known = None } }
     {
@@ -61,14 +61,14 @@ impl Shadow {
         self.rows
     }
 
-    /// The number of its columns.
+    /// The number of the terminal's columns.
     pub fn columns(&self) -> u16
         ensures { result ≡ self.now.columns }
     {
         self.columns
     }
 
-    /// The same knowledge, which shares the view.
+    /// A shadow that knows the same and shares the view. `AllocError` if memory is refused.
     pub(crate) fn shared(&self) -> Result<Shadow, AllocError>
         ensures { IfOk result (λ s. s ≡ self.now) }
     {
@@ -79,7 +79,7 @@ impl Shadow {
         })
     }
 
-    /// The view that is known.
+    /// The view that is known, if there is one.
     pub(crate) fn into_known(self) -> Option<SharedView> {
         let Shadow {
             rows: _,
@@ -90,7 +90,7 @@ impl Shadow {
     }
 }
 
-/// The same view, if there is one, for one more owner.
+/// The view, if there is one, with one more owner.
 fn shared_view(known: &Option<SharedView>) -> Result<Option<SharedView>, AllocError>
     ensures { IfOk result (λ view. view ≡ known.now) }
 {
@@ -118,8 +118,8 @@ fn is_same_modes(a: KeyModes, b: KeyModes) -> bool
     a == b
 }
 
-/// The first line in which two pages look different, protection aside, or the number of their
-/// lines.
+/// The first line in which two pages look different, protection aside; the number of their lines if
+/// there is none.
 fn first_unlike(old: &View, new: &View) -> usize
     requires { KeepsSize old.now new.now }
     ensures inside { result ≤ length new.now.page }
@@ -134,7 +134,7 @@ fn first_unlike(old: &View, new: &View) -> usize
     new.rows()
 }
 
-/// The line from which a page is to be drawn that leads from one view to another; none where they
+/// The line from which the page has to be drawn to get from one view to another; `None` if both
 /// show the same.
 pub fn first_change(old: &View, new: &View) -> Option<usize>
     requires { KeepsSize old.now new.now }

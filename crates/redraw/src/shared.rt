@@ -8,7 +8,7 @@ use std::marker::Model;
 use std::sync::Arc;
 use view::View;
 
-/// A view that has several owners.
+/// A view that several owners share.
 pub struct SharedView {
     view: Arc<View, Global>,
 }
@@ -33,7 +33,7 @@ impl Model for SharedView {
 }
 
 impl SharedView {
-    /// A view of one owner so far.
+    /// A view with one owner. `AllocError` if memory is refused.
     pub fn new(alloc: Global, view: View) -> Result<SharedView, AllocError>
         ensures value { IfOk result (λ s. s ≡ view) }
         ensures grid { IfOk result (λ s. IsGrid s.page) }
@@ -44,7 +44,7 @@ impl SharedView {
         }
     }
 
-    /// The same view, for one more owner.
+    /// The view, with one more owner. `AllocError` if there can't be one more.
     pub fn shared(&self) -> Result<SharedView, AllocError>
         ensures { IfOk result (λ s. s ≡ self.now) }
     {
@@ -53,7 +53,7 @@ impl SharedView {
         })
     }
 
-    /// The view.
+    /// The view that is shared.
     pub fn get(&self) -> &View
         ensures value { result.now ≡ self.now }
         ensures grid { IsGrid self.now.page }
@@ -61,7 +61,7 @@ impl SharedView {
         &*self.view
     }
 
-    /// The view, where nobody else has it.
+    /// The view, if it has no other owner; else `None`.
     pub fn into_view(self) -> Option<View>
         ensures { IfSome result (λ v. v ≡ self) }
     {

@@ -13,7 +13,8 @@ use std::alloc::{AllocError, Global};
 use std::marker::Model;
 use view::View;
 
-/// The bytes that lead each terminal of which this is known to a view.
+/// A frame that several terminals can read: the bytes that lead each terminal of which this is
+/// known to a view.
 pub struct Frame {
     before: Shadow,
     view: SharedView,
@@ -41,8 +42,8 @@ impl Model for Frame {
 }
 
 impl Frame {
-    /// The frame from what is known of a terminal to a view of its size; none exactly where it is
-    /// known to show the same.
+    /// The frame from what is known of a terminal to a view of its size. `Ok(None)` exactly if the
+    /// terminal is known to show the view; `Err` if memory is refused.
     pub fn to(
         alloc: Global,
         shadow: &Shadow,
@@ -64,14 +65,15 @@ impl Frame {
         }))
     }
 
-    /// Its bytes.
+    /// The bytes of the frame.
     pub fn bytes(&self) -> &[u8]
         ensures { result.now ≡ self.now.bytes }
     {
         self.bytes.as_slice()
     }
 
-    /// The view that was known before it, for its memory, where nobody else has it.
+    /// The view that was known before the frame, if it has no other owner, so that its memory can
+    /// be used again.
     pub fn into_spare(self) -> Option<View> {
         let Frame {
             before,
@@ -81,7 +83,7 @@ impl Frame {
         unshared(before.into_known())
     }
 
-    /// The view that it shows.
+    /// The view that the frame shows.
     pub fn view(&self) -> &SharedView
         ensures { result.now ≡ self.now.view }
     {
@@ -90,8 +92,8 @@ impl Frame {
 }
 
 impl Shadow {
-    /// A terminal reads a frame. Where it is one of which the same was known as before the frame, it
-    /// is known to show the frame's view then.
+    /// Records that a terminal reads a frame. If what was known of it is what was known before the
+    /// frame, it is then known to show the frame's view.
     pub fn follow(&mut self, frame: &Frame) -> Result<(), AllocError>
         ensures ok { OnOk result (self.old ≡ frame.now.before
             → DrawsFrame self.old frame.now.view self.new frame.now.bytes) }

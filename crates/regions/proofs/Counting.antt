@@ -1,4 +1,4 @@
--- How many regions and boxes there are.
+-- A shape has as many boxes as regions.
 use Rattle.std.proofs.Common.{◌≡◌, ◌⊎◌, ℕ, ◌+◌, ◌-◌, ◌<◌, true, false, length, refl, arith, inl, inr, length-append}
 use Rattle.std.proofs.lemmas.Bool.{cases_lt, lt-ltb, le-ltb}
 use Rattle.regions.specs.declared.rect.Rect.{Rect}

@@ -1,4 +1,5 @@
--- A page's regions may go to another thread: a tree of boxes says the same to each.
+-- A page's regions may be sent to another thread, since a tree of boxes means the same in each
+-- thread.
 use denote.Param.Send.{IsSend, plain_send, view_send}
 use denote.Param.SendFields.{declared_send, variants_send, as_row_send}
 use denote.Struct.Field.{row_field}
@@ -17,7 +18,7 @@ use Rattle.regions.specs.contracts.node.Node.TheKnot as knot
 use Rattle.regions.specs.contracts.shown.Shown as Shown
 use Rattle.regions.specs.contracts.way.Way as Way
 
--- the boxes of one layer, where what they hold may go
+-- the boxes of one layer may be sent, if what they hold may be
 hole_send : IsSend knot.hole-Node
 hole_send = fix_send knot.ring (Node.by_members (Sends knot.ring) (record {
   send = λ h all. let R = h knot.member-Node in let half = as_row_send

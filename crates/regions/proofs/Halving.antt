@@ -11,7 +11,7 @@ use Rattle.regions.specs.declared.way.Way.TheVariants.{Below, Right}
 use Rattle.regions.specs.Shapes.{Shape, region, split, upper, lower, left, right, boxes, regions, halves, split_at}
 use Rattle.regions.proofs.Counting.{length_boxes}
 
--- in the place of the n-th of these stands what f gives of it
+-- the list, with what f makes of its n-th item in the place of that item
 abbrev edited : (Rect → List Rect) → ℕ → Rect → List Rect → List Rect
 edited f n d xs = take n xs ++ (f (get_or xs n d) ++ drop (n + 1) xs)
 

@@ -1,4 +1,4 @@
--- Room that stays.
+-- Changes of a layout that leave room for each region.
 use Rattle.std.proofs.Common.{◌≡◌, ℕ, ◌+◌, ◌-◌, ◌/◌, ◌<◌, ◌≤◌, Bool, true, ◌&&◌, ltb, refl, sym, ◌∙◌, inl, inr, arith}
 use Rattle.std.proofs.lemmas.Bool.{cases_lt, lt-ltb, le-ltb, ltb-true}
 use Rattle.regions.specs.declared.way.Way.TheVariants.{Below, Right}
@@ -10,7 +10,7 @@ use Rattle.regions.proofs.Counting.{which}
 both : (a b : Bool) → a ≡ true → b ≡ true → (a && b) ≡ true
 both a b p q = rw (p, q) refl
 
--- more room is room
+-- what has room in a smaller box has room in a bigger one
 bigger : (s : Shape) (r c m n : ℕ) → r ≤ m → c ≤ n → fits s r c ≡ true → fits s m n ≡ true
 bigger region r c m n rows columns h =
     let t = both_true (ltb 1 r) (ltb 1 c) h in
@@ -62,13 +62,13 @@ fits_without (split Right a b) n r c h =
       ])
     ]
 
--- a region less leaves room for the others
+-- if a region is removed, the others still have room
 pub without_keeps_room : (s : Shape) (n rows columns : ℕ) → has_room s rows columns ≡ true
     → has_room (without n s) rows columns ≡ true
 without_keeps_room s n rows columns h = room_fits (without n s) rows columns
     ∙ fits_without s n (rows - 1) columns (sym (room_fits s rows columns) ∙ h)
 
--- where all have room, one alone has
+-- if all regions have room, one alone has room
 pub alone_has_room : (s : Shape) (rows columns : ℕ) → has_room s rows columns ≡ true
     → has_room region rows columns ≡ true
 alone_has_room s rows columns h =

@@ -1,4 +1,4 @@
--- What room for each region gives.
+-- What it implies that each region has room.
 use Rattle.std.proofs.Common.{◌≡◌, ℕ, ◌+◌, ◌-◌, ◌/◌, ◌<◌, Bool, true, false, ◌&&◌, ltb, List, [], ◌∷◌, ◌++◌, refl, sym}
 use Rattle.std.proofs.Common.{ap, ◌∙◌, arith}
 use Rattle.std.specs.List.{list_all}
@@ -12,7 +12,7 @@ pub both_true : (a b : Bool) → (a && b) ≡ true → (a ≡ true) × (b ≡ tr
 both_true true b e = (refl, e)
 both_true false b e = absurd cc
 
--- two columns at least
+-- there are at least two columns
 pub wide : (s : Shape) (rows columns : ℕ) → fits s rows columns ≡ true → 1 < columns
 wide region rows columns h = ltb-true _ _ (both_true (ltb 1 rows) (ltb 1 columns) h).1
 wide (split Below a b) rows columns h = wide a ((rows + 1) / 2) columns
@@ -23,7 +23,7 @@ wide (split Right a b) rows columns h = omega (
       (both_true (fits a rows ((columns - 1) / 2)) (fits b rows (columns / 2)) h).0,
 )
 
--- two rows at least
+-- there are at least two rows
 pub tall : (s : Shape) (rows columns : ℕ) → fits s rows columns ≡ true → 1 < rows
 tall region rows columns h = ltb-true _ _ (both_true (ltb 1 rows) (ltb 1 columns) h).0
 tall (split Below a b) rows columns h = omega

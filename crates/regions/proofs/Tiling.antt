@@ -14,7 +14,7 @@ times_append : (xs ys : List Rect) (l c : ℕ) → times (xs ++ ys) l c ≡ time
 times_append [] ys l c = omega arith
 times_append (x ∷ xs) ys l c = omega (arith, times_append xs ys l c)
 
--- numbers in two parts, one after the other
+-- counting numbers in two parts, one after the other
 among_parts : (a m n x : ℕ) → one_if (among a (m + n) x) ≡ one_if (among a m x) + one_if (among (a + m) n x)
 among_parts a m n x = grind (arith, nat_tests)
 
@@ -38,7 +38,7 @@ columns_join : (a m n x : ℕ) (k : Bool)
 columns_join a m n x true = among_parts a m n x
 columns_join a m n x false = refl
 
--- a place of r, by the rows of its two parts
+-- a place of r lies in one of two parts of its rows
 by_rows : (r : Rect) (m n l c : ℕ) → m + n ≡ r.rows
     → one_if (has r l c) ≡ one_if (has (record r { rows = m }) l c) + one_if
     (has (record r { line = r.line + m; rows = n }) l c)

@@ -1,5 +1,7 @@
--- Shapes as lists of numbers, by which a proof tells them apart: a region is 0, and a split stands
--- behind its halves.  A value that holds itself has no code of its own.
+-- Shapes coded as lists of numbers, by which a proof tells them apart: a region is 0, and a split
+-- comes after its halves.
+--
+-- A value that contains a value of its own type has no code by itself, so shapes need these.
 use Rattle.std.specs.Prelude.{◌≡◌, ℕ, zero, suc, List, [], ◌∷◌, ◌++◌, refl}
 use Rattle.std.specs.Coded.{Coded, code_by, coded_list, coded_ℕ}
 use Rattle.std.proofs.Common.{ap, ◌∙◌, append_assoc, sym}

@@ -1,4 +1,4 @@
--- The numbers of the faults.
+-- The number of each fault.
 use Rattle.std.specs.Prelude.{ℕ}
 use Rattle.regions.specs.declared.fault.RegionFault.{RegionFault}
 use Rattle.regions.specs.declared.fault.RegionFault.TheVariants.{TooSmall, TooMany}

@@ -13,13 +13,13 @@ use Rattle.regions.specs.Shapes.{Shape, region, regions, split_at, without, afte
 use Rattle.regions.specs.Pages.{has_room}
 use Rattle.regions.specs.Codes.{shape_code}
 
--- What each region shows stands beside the shape, in the order of the splits.
+-- A shape, and beside it what each region shows, in the order of the splits.
 pub record Arrangement : Type 0 where
   pub shape : Shape
   pub focus : ℕ
   pub shown : List Shown
 
--- One thing is shown for each region of the shape, 16 at most, and one of them has the focus.
+-- Each of the 1 to 16 regions of the shape shows something, and one of them has the focus.
 abbrev pub IsLaidOut : Shape → ℕ → List Shown → Type 0
 IsLaidOut s focus shown =
     (regions s ≡ length shown) × (focus < length shown) × (length shown ≤ 16)
@@ -30,19 +30,21 @@ empty = record { window = None; back = 0 }
 abbrev pub one_region : Shown → Arrangement
 one_region s = record { shape = region; focus = 0; shown = s ∷ [] }
 
--- the focused region, alone
+-- the focused region, with the page to itself
 abbrev pub kept_alone : Arrangement → Arrangement
 kept_alone l = one_region (unwrap_or (slice_get l.shown l.focus) empty)
 
--- The focused region shows this.
+-- the arrangement after the focused region was made to show this
 abbrev pub put_in_focus : Shown → Arrangement → Arrangement
 put_in_focus s l = record l { shown = slice_set l.shown l.focus s }
 
--- On a page of this size the focused region stays alone where one would be too small.
+-- the arrangement on a page of this size: if a region would be too small, the focused region gets
+-- the page to itself
 abbrev pub resized : ℕ → ℕ → Arrangement → Arrangement
 resized rows columns l = if has_room l.shape rows columns then l else kept_alone l
 
--- The focused region is the first half, and keeps the focus; the second half is new and empty.
+-- the focused region is split: it becomes the first half and keeps the focus; the second half is
+-- new and empty
 abbrev pub split_focused : Way → Arrangement → Arrangement
 split_focused way l = record {
   shape = split_at way l.focus l.shape;
@@ -50,11 +52,12 @@ split_focused way l = record {
   shown = insert l.shown (l.focus + 1) empty;
 }
 
--- The focus goes to the region behind: after a split, to the second half.
+-- the focus goes to the next region: after a split, this is the second half
 abbrev pub second_focused : Arrangement → Arrangement
 second_focused l = record l { focus = l.focus + 1 }
 
--- The focused region is closed. Its sibling has its room, and the sibling's first region the focus.
+-- the focused region is closed: its sibling gets its room, and the sibling's first region gets the
+-- focus
 abbrev pub remove_focused : Arrangement → Arrangement
 remove_focused l = record {
   shape = without l.focus l.shape;
@@ -62,21 +65,21 @@ remove_focused l = record {
   shown = remove l.shown l.focus;
 }
 
--- the next region in the order of the splits; the first one after the last
+-- the next region in the order of the splits; after the last, the first
 abbrev pub next_focus : Arrangement → ℕ
 next_focus l = if l.focus + 1 == length l.shown then 0 else l.focus + 1
 
--- why a split is refused: 16 regions at most, each with room
+-- why a split is refused: there may be at most 16 regions, and each needs room
 abbrev pub split_fault : Way → Arrangement → ℕ → ℕ → Option RegionFault
 split_fault way l rows columns =
     if length l.shown == 16 then Some TooMany
     else (if has_room (split_at way l.focus l.shape) rows columns then None else Some TooSmall)
 
--- why one failed: what is refused, or memory
+-- why a split failed: it is refused, or memory was refused
 abbrev pub split_error : Way → Arrangement → ℕ → ℕ → RegionFault
 split_error way l rows columns = unwrap_or (split_fault way l rows columns) NoMemory
 
--- a split that isn't refused
+-- the split isn't refused, and was done
 abbrev pub IsSplit : Way → ℕ → ℕ → Arrangement → Arrangement → Type 0
 IsSplit way rows columns old new =
     (split_fault way old rows columns ≡ None) × (new ≡ split_focused way old)
@@ -85,7 +88,7 @@ abbrev pub shows : ℕ → Option ℕ → Bool
 shows serial None = false
 shows serial (Some window) = window == serial
 
--- a region that showed this window is empty
+-- what a region shows after this window was closed: nothing, if it showed the window
 abbrev pub emptied : ℕ → Shown → Shown
 emptied serial s = if shows serial s.window then record s { window = None } else s
 

@@ -11,22 +11,22 @@ pub data Shape : Type 0 where
   region : Shape
   split : Way → Shape → Shape → Shape
 
--- a tree, without the places of its boxes in memory
+-- the shape of a tree, whose boxes in memory are left out
 abbrev pub shape : Node → Shape
 shape Region = region
 shape (Split' way p a q b) = split way (shape a) (shape b)
 
 -- ---- the halves of a rectangle
 
--- Of halves over one another the first has the rounded-up half of the rows.
+-- Of two halves one above the other, the upper has half of the rows, rounded up.
 abbrev pub upper : Rect → Rect
 upper r = record r { rows = (r.rows + 1) / 2 }
 
 abbrev pub lower : Rect → Rect
 lower r = record r { line = r.line + (r.rows + 1) / 2; rows = r.rows / 2 }
 
--- Between halves side by side stands one column, over all rows; the first has the rounded-down half
--- of the other columns.
+-- Two halves side by side have one column between them, over all rows. The left half has half of
+-- the other columns, rounded down.
 abbrev pub left : Rect → Rect
 left r = record r { columns = (r.columns - 1) / 2 }
 
@@ -42,13 +42,13 @@ boxes region r = r ∷ []
 boxes (split Below a b) r = boxes a (upper r) ++ boxes b (lower r)
 boxes (split Right a b) r = boxes a (left r) ++ boxes b (right r)
 
--- the columns between, each before those of its halves
+-- the separators, each before those of its halves
 abbrev pub separators : Shape → Rect → List Rect
 separators region r = []
 separators (split Below a b) r = separators a (upper r) ++ separators b (lower r)
 separators (split Right a b) r = between r ∷ (separators a (left r) ++ separators b (right r))
 
--- each box has one row beside its caption, and two columns
+-- whether each box has one row besides its caption, and two columns
 abbrev pub fits : Shape → ℕ → ℕ → Bool
 fits region rows columns = nat_lt 1 rows && nat_lt 1 columns
 fits (split Below a b) rows columns = fits a ((rows + 1) / 2) columns && fits b (rows / 2) columns
@@ -67,25 +67,25 @@ is_region (split way a b) = false
 abbrev pub halves : Way → Shape
 halves way = split way region region
 
--- the n-th region of the order is split
+-- the shape after its n-th region was split
 abbrev pub split_at : Way → ℕ → Shape → Shape
 split_at way n region = halves way
 split_at way n (split w a b) =
     if nat_lt n (regions a) then split w (split_at way n a) b
     else split w a (split_at way (n - regions a) b)
 
--- boxes, with two halves in the place of the n-th
+-- the boxes, with two halves in place of the n-th
 abbrev pub with_halves : Way → ℕ → Rect → List Rect → List Rect
 with_halves way n r bs = take n bs ++ (boxes (halves way) (get_or bs n r) ++ drop (n + 1) bs)
 
--- the n-th region goes, and its sibling has its room
+-- the shape without its n-th region, whose sibling has its room
 abbrev pub without : ℕ → Shape → Shape
 without n region = region
 without n (split w a b) =
     if nat_lt n (regions a) then (if is_region a then b else split w (without n a) b)
     else (if is_region b then a else split w a (without (n - regions a) b))
 
--- the first region of the sibling of the n-th, once that is gone
+-- the index of the first region of the n-th region's sibling, after the n-th is gone
 abbrev pub after : ℕ → Shape → ℕ
 after n region = 0
 after n (split w a b) =

@@ -16,7 +16,7 @@ pub enum RegionFault {
 }
 
 impl RegionFault {
-    /// 1 TooSmall, 2 TooMany, 3 LastRegion, 4 NoMemory.
+    /// The fault's number: 1 TooSmall, 2 TooMany, 3 LastRegion, 4 NoMemory.
     pub fn number(self) -> u8
         ensures { result ≡ number self }
     {

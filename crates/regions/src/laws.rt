@@ -7,20 +7,20 @@ ghost use Rattle.regions.specs.declared.rect.Rect.{Rect};
 ghost use Rattle.regions.specs.Layouts.{Arrangement, split_focused, second_focused, remove_focused};
 ghost use Rattle.regions.specs.Pages.{has_room, page_parts, TilesPage};
 
-/// Regions, captions, separators and the status line cover each place of a page once, and no other
-/// place, where each region has room.
+/// If each region has room, the regions, captions, separators and the status line cover each place
+/// of a page once, and no other place.
 pub fn each_place_once()
     ensures { (s : Shape) (rows columns : ℕ) → has_room s rows columns ≡ true →
         TilesPage rows columns (page_parts s rows columns) }
 {}
 
-/// A region that was split off is removed without a trace.
+/// Splitting a region and removing the new half gives the layout from before the split.
 pub fn a_removed_split_is_undone()
     ensures { (way : Way) (l : Arrangement) → regions l.shape ≡ length l.shown →
         l.focus < length l.shown → remove_focused (second_focused (split_focused way l)) ≡ l }
 {}
 
-/// A split puts two halves in the place of one box, and leaves the others as they are.
+/// A split puts two halves in place of one box, and leaves the other boxes unchanged.
 pub fn a_split_halves_one_box()
     ensures { (way : Way) (s : Shape) (n : ℕ) (r : Rect) → n < regions s →
         boxes (split_at way n s) r ≡ with_halves way n r (boxes s r) }

@@ -16,10 +16,11 @@ use crate::way::Way;
 use std::alloc::{AllocError, Global};
 use std::marker::Model;
 
-/// The most regions of a page.
+/// The most regions that a page may have.
 pub const REGIONS: usize = 16;
 
-/// The regions of a client's page, what they show, and which one has the focus.
+/// The regions of a client's page: how they are split, what each one shows, and which has the
+/// focus.
 pub struct Layout {
     tree: Node,
     focus: usize,
@@ -50,7 +51,7 @@ impl Model for Layout {
     ghost invariant = { λ l. IsLaidOut (shape l.tree) l.focus l.shown.items };
 }
 
-/// Whether regions show the same.
+/// Whether the regions of both lists show equal things.
 fn show_the_same(shown: &[Shown], others: &[Shown]) -> bool
     ensures { (result ≡ true) ↔ (shown.now ≡ others.now) }
 {
@@ -58,7 +59,7 @@ fn show_the_same(shown: &[Shown], others: &[Shown]) -> bool
 }
 
 impl Layout {
-    /// One region.
+    /// A layout of one region. `AllocError` if memory is refused.
     pub fn new(alloc: Global, shown: Shown) -> Result<Layout, AllocError>
         ensures { IfOk result (λ l. l ≡ one_region shown) }
     {
@@ -80,7 +81,8 @@ impl Layout {
         self.shown.as_slice()
     }
 
-    /// Whether two layouts have the same regions, which show the same, and the focus in the same.
+    /// Whether two layouts are split equally, their regions show equal things, and the same region
+    /// has the focus.
     pub fn is_same(&self, other: &Layout) -> bool
         ensures { (result ≡ true) ↔ (self.now ≡ other.now) }
     {
@@ -89,7 +91,7 @@ impl Layout {
             && show_the_same(self.shown.as_slice(), other.shown.as_slice())
     }
 
-    /// The place of the focused region in that order.
+    /// The index of the focused region, in the order of `shown`.
     pub fn focus(&self) -> usize
         ensures value { result ≡ self.now.focus }
         ensures inside { result < length self.now.shown }
@@ -104,7 +106,7 @@ impl Layout {
         self.shown[self.focus]
     }
 
-    /// The focused region shows this.
+    /// Makes the focused region show this.
     pub fn set_shown(&mut self, shown: Shown)
         ensures { self.new ≡ put_in_focus shown self.old }
     {
@@ -120,8 +122,7 @@ impl Layout {
         }
     }
 
-    /// Gives the focus to the next region in the order of the splits, after the last one to the
-    /// first.
+    /// Gives the focus to the next region in the order of the splits; after the last, to the first.
     pub fn focus_next(&mut self)
         ensures { self.new ≡ record self.old { focus = next_focus self.old } }
     {
@@ -132,7 +133,7 @@ impl Layout {
         };
     }
 
-    /// Keeps the focused region alone.
+    /// Removes all regions but the focused one.
     pub fn only(&mut self)
         ensures alone { self.new ≡ kept_alone self.old }
         ensures room { KeepsRoom self.old.shape self.new.shape }
@@ -144,7 +145,8 @@ impl Layout {
         self.focus = 0;
     }
 
-    /// The page has this size now: where a region would be too small, the focused one stays alone.
+    /// Fits the layout to a page of this size: if a region would be too small, only the focused one
+    /// stays.
     pub fn resized(&mut self, rows: u16, columns: u16)
         ensures fits { self.new ≡ resized rows columns self.old }
         ensures room { has_room region rows columns ≡ true →
@@ -155,7 +157,9 @@ impl Layout {
         }
     }
 
-    /// Splits the focused region. The new region is the second half and is empty; the focus stays.
+    /// Splits the focused region, which keeps the focus. The new region is the second half and is
+    /// empty. Errors: `TooMany` beyond 16 regions, `TooSmall` if a region would lack room on a page
+    /// of this size, `NoMemory`.
     pub fn split(
         &mut self,
         alloc: Global,
@@ -180,8 +184,8 @@ impl Layout {
         Ok(())
     }
 
-    /// Closes the focused region. Its sibling has its room, and the sibling's first region the
-    /// focus.
+    /// Closes the focused region. Its sibling gets its room, and the sibling's first region gets
+    /// the focus. Error: `LastRegion` if it is the only one.
     pub fn remove(&mut self) -> Result<(), RegionFault>
         ensures ok { OnOk result (self.new ≡ remove_focused self.old) }
         ensures room { KeepsRoom self.old.shape self.new.shape }
@@ -198,17 +202,18 @@ impl Layout {
         Ok(())
     }
 
-    /// The rectangles on a page of this size.
+    /// The rectangles of the regions on a page of this size. Errors: `TooSmall` if a region lacks
+    /// room, `NoMemory`.
     pub fn rects(&self, alloc: Global, rows: u16, columns: u16) -> Result<Rects, RegionFault>
         ensures ok { IfOk result (IsRects self.now.shape self.now.focus rows columns) }
         ensures room { OnOk result (has_room self.now.shape rows columns ≡ true) }
         ensures fault { IfErr result (λ f. f ≡ rects_error self.now.shape rows columns) }
-        // One box a region, the focused one among them.
+        // There is one box for each region, the focused one included.
         ensures each { IfOk result (λ r. length r.boxes.items ≡ length self.now.shown) }
         ensures focused { IfOk result (λ r. r.focus < length r.boxes.items) }
         // The status line is the last row.
         ensures last { IfOk result (λ r. r.status.line + 1 ≡ rows) }
-        // They cover each place of the page once.
+        // The rectangles cover each place of the page once.
         ensures tiles { IfOk result (λ r. RectsTile rows columns r) }
     {
         let page = Rect::of_layout(rows, columns);

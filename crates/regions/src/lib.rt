@@ -1,5 +1,5 @@
-//! How a client's page is split into regions: a tree of halves, the rectangles that it gives a
-//! page, and what each region shows.
+//! How a client's page is split into regions: a tree of halves, the rectangles into which it
+//! divides a page, and what each region shows.
 #![tactic(auto)]
 
 mod fault;

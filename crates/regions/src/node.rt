@@ -18,7 +18,7 @@ pub enum Node {
 }
 
 impl Node {
-    /// A region that is split.
+    /// A split of two regions. `AllocError` if memory is refused.
     pub fn halves(alloc: Global, way: Way) -> Result<Node, AllocError>
         ensures { IfOk result (λ n. shape n ≡ halves way) }
     {
@@ -33,7 +33,7 @@ impl Node {
         matches!(self, Node::Region)
     }
 
-    /// Whether two trees have the same splits.
+    /// Whether two trees have equal splits.
     pub fn is_same(&self, other: &Node) -> bool
         ensures { (result ≡ true) ↔ (shape self.now ≡ shape other.now) }
     {
@@ -46,6 +46,7 @@ impl Node {
         }
     }
 
+    /// The number of regions.
     pub fn regions(&self) -> usize
         requires { regions (shape self.now) ≤ 16 }
         ensures { result ≡ regions (shape self.now) }
@@ -79,7 +80,7 @@ impl Node {
         self.fits(rows.saturating_sub(1), columns)
     }
 
-    /// Whether each region has room on a page of this size once the region `at` is split.
+    /// Whether each region has room on a page of this size after the region `at` is split.
     pub fn has_room_split(&self, at: usize, way: Way, rows: u16, columns: u16) -> bool
         requires { regions (shape self.now) ≤ 16 }
         ensures { result ≡ has_room (split_at way at (shape self.now)) rows columns }
@@ -87,7 +88,7 @@ impl Node {
         self.fits_split(at, way, rows.saturating_sub(1), columns)
     }
 
-    /// Whether each region has room in a box of this size once the region `at` is split.
+    /// Whether each region has room in a box of this size after the region `at` is split.
     fn fits_split(&self, at: usize, way: Way, rows: u16, columns: u16) -> bool
         requires few { regions (shape self.now) ≤ 16 }
         requires rows { rows < 65535 }
@@ -121,7 +122,8 @@ impl Node {
         }
     }
 
-    /// Adds the boxes of the regions, in the order of the splits.
+    /// Appends the boxes of the regions, in the order of the splits. `AllocError` if memory is
+    /// refused.
     #[tactic(auto, using(crate::proofs::Room::wide))]
     pub fn put_boxes(&self, r: Rect, out: &mut Vec<Rect>) -> Result<(), AllocError>
         requires rows { r.rows < 65535 }
@@ -144,7 +146,7 @@ impl Node {
         Ok(())
     }
 
-    /// Adds the separators, each before those of its halves.
+    /// Appends the separators, each before those of its halves. `AllocError` if memory is refused.
     #[tactic(auto, using(crate::proofs::Room::wide))]
     pub fn put_separators(&self, r: Rect, out: &mut Vec<Rect>) -> Result<(), AllocError>
         requires rows { r.rows < 65535 }
@@ -168,7 +170,7 @@ impl Node {
         Ok(())
     }
 
-    /// Puts two halves in the place of the region `at`.
+    /// Puts `made`, a tree of two halves, in place of the region `at`.
     pub fn split(&mut self, at: usize, way: Way, made: Node)
         requires few { regions (shape self.old) ≤ 16 }
         requires halves { shape made ≡ halves way }
@@ -187,7 +189,7 @@ impl Node {
         }
     }
 
-    /// The place of the first region of the sibling of the region `at`, once that is gone.
+    /// The index of the first region of the sibling of the region `at`, after that region is gone.
     pub fn after(&self, at: usize) -> usize
         requires { regions (shape self.now) ≤ 16 }
         ensures value { result ≡ after at (shape self.now) }
@@ -208,7 +210,7 @@ impl Node {
         }
     }
 
-    /// Takes the region `at` out: its sibling has its room.
+    /// Removes the region `at`; its sibling gets its room.
     pub fn remove(&mut self, at: usize)
         requires { regions (shape self.old) ≤ 16 }
         ensures { shape self.new ≡ without at (shape self.old) }

@@ -8,7 +8,7 @@ use crate::rect::Rect;
 use std::alloc::{AllocError, Global};
 
 /// The boxes of a page's regions in the order of the splits, each with its caption in its last row;
-/// the separators between them; the place of the focused one among the boxes; and the status line.
+/// the separators between them; the index of the focused region's box; and the status line.
 #[derive(Drop)]
 pub struct Rects {
     pub boxes: Vec<Rect>,
@@ -18,7 +18,8 @@ pub struct Rects {
 }
 
 impl Rects {
-    /// One region over the whole page, but for the status line in the last row.
+    /// The rectangles of a page with one region: its box, and the status line in the last row.
+    /// `AllocError` if memory is refused.
     pub fn lone(alloc: Global, rows: u16, columns: u16) -> Result<Rects, AllocError>
         ensures { IfOk result (IsRects region 0 rows columns) }
     {

@@ -2,7 +2,8 @@
 
 ghost use Rattle.std.specs.Prelude.{◌≡◌};
 
-/// What a region shows: a window by its serial, or nothing; and how many lines it is scrolled back.
+/// What a region shows: a window by its serial number, or nothing; and by how many lines its page
+/// is moved back.
 #[derive(Clone, Copy, Debug, PartialEq, Eq)]
 pub struct Shown {
     pub window: Option<u32>,
@@ -18,7 +19,7 @@ impl Shown {
         back: 0,
     };
 
-    /// The same where it shows another window; empty where it shows this one.
+    /// An empty region if this one shows the window, else this one.
     pub(crate) fn without_window(self, serial: u32) -> Shown
         ensures { result ≡ emptied serial self }
     {

@@ -1,10 +1,10 @@
 //! The two ways to split a region.
 
-/// Where a region's second half goes.
+/// How a region is split: the place of its second half.
 #[derive(Clone, Copy, PartialEq, Eq)]
 pub enum Way {
-    /// Under the first half: GNU Screen's `split`.
+    /// Below the first half: GNU Screen's `split`.
     Below,
-    /// To the right of it, with a column between: `split -v`.
+    /// To the right of the first half, with a separator between: `split -v`.
     Right,
 }

@@ -1,4 +1,5 @@
-//! Rows by rising serials: what tables of windows and of clients have in common.
+//! Rows in the order of rising serial numbers: what the tables of windows and of clients have in
+//! common.
 #![tactic(auto)]
 
 mod rows;

@@ -11,7 +11,7 @@ ghost use Rattle.serial_rows.specs.Finding.{row_of};
 use std::alloc::{AllocError, Global};
 use std::marker::Model;
 
-/// What has a serial.
+/// A thing that has a serial number.
 pub trait Serial {
     ghost use Rattle.std.specs.Prelude.{ℕ};
 
@@ -21,8 +21,8 @@ pub trait Serial {
         ensures { result ≡ serial_of self.now };
 }
 
-// No `reserve`: what a list has room for is no part of its value.
-/// Rows, in the order in which they came. Contracts see them as a list.
+// It has no `reserve`: the room that a list has isn't part of its value.
+/// Rows in the order in which they came. Contracts see them as a list.
 #[derive(Drop)]
 pub struct Rows<R> {
     items: Vec<R>,
@@ -40,7 +40,7 @@ impl<R: Serial + Drop> Rows<R> {
     ghost use Rattle.std.specs.Borrow.{sem};
     ghost use Rattle.serial_rows.specs.Lending.{LendsRow, LendsAll};
 
-    /// No row.
+    /// A table without rows.
     pub fn new(alloc: Global) -> Rows<R>
         ensures { result ≡ [] }
     {
@@ -49,20 +49,21 @@ impl<R: Serial + Drop> Rows<R> {
         }
     }
 
+    /// The number of rows.
     pub fn len(&self) -> usize
         ensures { result ≡ length self.now }
     {
         self.items.len()
     }
 
-    /// The rows, from the one that came first.
+    /// The rows, beginning with the one that came first.
     pub fn as_slice(&self) -> &[R]
         ensures { result.now ≡ self.now }
     {
         self.items.as_slice()
     }
 
-    /// The place of the first row of a serial.
+    /// The index of the first row with this serial; `None` if there is none.
     fn place(&self, serial: u32) -> Option<usize>
         ensures place { result ≡ position (λ row. R.serial_of row == serial) self.now }
         ensures within { IfSome result (λ place. place < length self.now) }
@@ -70,7 +71,7 @@ impl<R: Serial + Drop> Rows<R> {
         self.items.iter().position(|row| row.serial() == serial)
     }
 
-    /// The first row of a serial.
+    /// The first row with this serial; `None` if there is none.
     pub fn get(&self, serial: u32) -> Option<&R>
         ensures { option_copied result ≡ row_of R.serial_of self.now serial }
     {
@@ -80,7 +81,7 @@ impl<R: Serial + Drop> Rows<R> {
         }
     }
 
-    /// The first row of a serial, to be changed.
+    /// Lends the first row with this serial so that it can be changed; `None` if there is none.
     pub fn get_mut(&mut self, serial: u32) -> Option<&mut R>
         ensures* writes_back { sem 𝓛 (LendsRow R.row R.serial_of self.entry serial result) }
         ensures value { option_copied_mut result ≡ row_of R.serial_of self.old serial }
@@ -91,7 +92,7 @@ impl<R: Serial + Drop> Rows<R> {
         }
     }
 
-    /// All rows, to be changed.
+    /// Lends all rows so that they can be changed.
     pub fn as_mut_slice(&mut self) -> &mut [R]
         ensures* writes_back { sem 𝓛 (LendsAll R.row self.entry result) }
         ensures value { result.now ≡ self.old }
@@ -99,7 +100,7 @@ impl<R: Serial + Drop> Rows<R> {
         self.items.as_mut_slice()
     }
 
-    /// Keeps the rows that pass a test.
+    /// Removes the rows that don't pass the test.
     pub fn retain<F: FnMut(&R) -> bool>(&mut self, f: F)
         requires { F.IsAlwaysCallable f }
         ensures { IsFiltered (CalledAt F.FnMut) f self.old self.new }
@@ -107,14 +108,14 @@ impl<R: Serial + Drop> Rows<R> {
         self.items.retain(f);
     }
 
-    /// Removes the rows of a serial.
+    /// Removes the rows with this serial.
     pub fn remove(&mut self, serial: u32)
         ensures { self.new ≡ filter (λ row. not (R.serial_of row == serial)) self.old }
     {
         self.items.retain(|row| row.serial() != serial);
     }
 
-    /// Adds a row.
+    /// Adds a row at the end. `AllocError` if memory is refused; nothing has changed then.
     pub fn push(&mut self, row: R) -> Result<(), AllocError>
         ensures ok { OnOk result (self.new ≡ self.old ++ row ∷ []) }
         ensures err { OnErr result (self.new ≡ self.old) }

@@ -1,4 +1,4 @@
--- Which windows come in a step.
+-- Which windows a step opens, and what users have on them.
 use Rattle.std.proofs.Common.{subst, ◌≡◌, ℕ, ◌+◌, Bool, true, false, List, [], ◌∷◌, Some, None, Ok, Err, refl, ap, sym}
 use Rattle.std.proofs.Common.{◌∙◌, inl, inr}
 use Rattle.std.specs.Prelude.{◌==◌, ◌||◌, ◌⊎◌, is_ok, Option}
@@ -28,7 +28,7 @@ use Rattle.session_model.specs.Trace.{Entry}
 use Rattle.session_laws.proofs.Lists.{both_true}
 use Rattle.session_laws.proofs.Outcomes as outcomes
 use Rattle.session_laws.proofs.Outcomes.{Change, Changes, changes}
-use Rattle.session_guests.proofs.Rows.{IsRow}
+use Rattle.session_guests.proofs.CommandActs.{IsRow}
 use Rattle.session_guests.proofs.Steps.{Did, with_clients}
 use Rattle.session_guests.proofs.Events.{gives_commands, is_open}
 use Rattle.session_guests.proofs.Gating.{Below, Steps, steps_of, row_did, first_passed, then_passed}
@@ -105,7 +105,7 @@ other_next t event not other = changed_next t event _ (changes event _ refl)
 
 -- ---- every step
 
--- the window that a step opens, and who has what on it
+-- the window that a step opens, and what users have on it
 pub record Opens (t : Tables) (e : Entry) : Type 0 where
   pub opener : UserId
   pub may : may_open t opener ≡ true

@@ -1,4 +1,5 @@
--- On windows to come users don't get what every opener masks for them.
+-- A user who is shut out of a bit by the masks of all openers doesn't get it on windows that open
+-- later.
 use Rattle.std.proofs.Common.{◌≡◌, ℕ, ◌+◌, Bool, true, false, not, List, [], ◌∷◌, refl, ap, sym, ◌∙◌, subst, inl, inr}
 use Rattle.std.proofs.Common.{arith}
 use Rattle.std.specs.Prelude.{◌||◌, ◌&&◌, nat_lt}
@@ -30,7 +31,7 @@ use Rattle.session_guests.proofs.Containing.{Grows, Remains, grows, remains, not
 use Rattle.session_confined.specs.Confined.{may_open, circle, AreShutOut, GrantsAreTheirs, came, AreConfined}
 use Rattle.session_confined.proofs.Comings.{Opens, Comes, comes}
 
--- ---- who may not
+-- ---- a user who may not
 
 none_of_three : (a b c : Bool) → a ≡ false → b ≡ false → c ≡ false → (a || b || c) ≡ false
 none_of_three false false false p q r = refl
@@ -59,7 +60,7 @@ owner_opens false b c d is = refl
 not_owner : (t : Tables) (u : UserId) → may_open t u ≡ false → same_user t.owner u ≡ false
 not_owner t u not = owner_opens (same_user t.owner u) _ _ _ not
 
--- ---- what is shut out stays so
+-- ---- a user who is shut out stays shut out
 
 shut_still : (t u : Tables) (acts : List Act) (users : UserId → Bool) (bit : Bit) → SameRights t u acts
     → AreShutOut t users bit → AreShutOut u users bit
@@ -185,7 +186,7 @@ gated_confines start t e users bit g (inr some) c theirs before = absurd
 
 -- ---- every run
 
--- on what stood, without masks
+-- on what was there, without masks
 gated_stays : (start t : Tables) (e : Entry) (guests : UserId → Bool) → Grows t e.acts (after t e)
     → RightsAreGated t e → GrantsAreTheirs guests t e → Remains start t guests → Remains start (after t e) guests
 gated_stays start t e guests g (inl same) theirs before = step_remains start t e.acts (after t e) guests g same before

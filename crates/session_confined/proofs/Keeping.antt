@@ -1,4 +1,4 @@
--- Whoever holds a lock keeps it in steps of others, but for the ways that the law lists.
+-- The holder of a lock keeps it in the steps of others, except for the ways that the law lists.
 use Rattle.std.proofs.Common.{◌≡◌, ℕ, Bool, true, false, List, [], ◌∷◌, ◌++◌, Some, None, Ok, Err, refl, ap, sym, ◌∙◌}
 use Rattle.std.proofs.Common.{subst, inl, inr}
 use Rattle.std.specs.Prelude.{◌⊎◌}
@@ -35,13 +35,13 @@ use Rattle.session_guests.proofs.Events.{gives_commands}
 use Rattle.session_guests.proofs.Gating.{Below, obeys_of, then_passed}
 use Rattle.session_guests.proofs.Holding.{kept as kept_tables, by_acts, givers}
 use Rattle.session_guests.proofs.Parting.{did_x}
-use Rattle.session_guests.proofs.Staying.{IsOf, callers}
+use Rattle.session_guests.proofs.KeptLocks.{IsOf, callers}
 use Rattle.session_confined.specs.Keeping.{LosesIn, FreesBy, Frees, IsFreed, LocksStayIn}
 use Rattle.session_guests.proofs.Leaving.{left_read}
-use Rattle.session_confined.proofs.Calming.{moves, IsCalm, KeepsWindow, stays_calm, able_calm, loses_or_keeps}
-use Rattle.session_confined.proofs.Sparing.{takes_rights, Silent, silent_all, Mine}
-use Rattle.session_confined.proofs.Commanding.{Affects, calms, lists, frees_it, does_comes}
-use Rattle.session_confined.proofs.Happening.{Touches, leaves_it, closes_it, Apart, plain_happens}
+use Rattle.session_confined.proofs.HolderActs.{moves, IsCalm, KeepsWindow, stays_calm, able_calm, loses_or_keeps}
+use Rattle.session_confined.proofs.OthersActs.{takes_rights, Silent, silent_all, Mine}
+use Rattle.session_confined.proofs.OthersCommands.{Affects, calms, lists, frees_it, does_comes}
+use Rattle.session_confined.proofs.OthersEvents.{Touches, leaves_it, closes_it, Apart, plain_happens}
 
 module _ (t : Tables) (fit : AreFit t) (w : ℕ) (x : UserId) (old : stood t (object.Window w) ≡ true)
     (able : may_in t x Write (object.Window w) ≡ true) (held : holder_in t w ≡ Some x) where

@@ -1,7 +1,7 @@
 pub mod Comings
 pub mod Confining
-pub mod Calming
-pub mod Sparing
-pub mod Commanding
-pub mod Happening
+pub mod HolderActs
+pub mod OthersActs
+pub mod OthersCommands
+pub mod OthersEvents
 pub mod Keeping

@@ -1,6 +1,6 @@
-//! What users of a session can't get later, by the definitions of its run alone: a right that every
-//! opener of windows masks for them, and a lock that another user holds. Each function here is a
-//! law: its contract says what holds of every step and of every run.
+//! What users of a session can't get later: a right that all who open windows mask for them, and a
+//! lock that another user holds. Each function here is a law, which follows from the definitions
+//! alone: it does nothing, and its contract says what holds of every step and of every run.
 #![tactic(auto)]
 
 ghost use Rattle.session_confined.specs.Confined.{StepsConfine, GuestsAreConfined, GuestsStayContained};

@@ -1,4 +1,4 @@
--- Guests are contained.
+-- Guests are contained: they can't change rights, in any run.
 use Rattle.std.proofs.Common.{◌≡◌, ◌≤◌, ℕ, Bool, true, false, List, [], ◌∷◌, refl, ap, sym, ◌∙◌, subst, inl, inr, arith}
 use Rattle.std.specs.Prelude.{◌==◌, ◌||◌, nat_lt}
 use Rattle.std.specs.List.{AllByRecursion, list_any}
@@ -21,7 +21,7 @@ use Rattle.session_laws.proofs.Lists.{contradicts, all_weaken, all_append}
 use Rattle.session_guests.specs.Changing.{changes_rights, opens_window, opened_by, SameLists, SameRights}
 use Rattle.session_guests.specs.Changing.{MayChangeRights, RightsAreGated}
 use Rattle.session_guests.specs.Contained.{AllSteps, AreGuests, ChangesAreTheirs, stood, AreContained}
-use Rattle.session_guests.proofs.Rows.{IsActOf, IsRow}
+use Rattle.session_guests.proofs.CommandActs.{IsActOf, IsRow}
 use Rattle.session_guests.proofs.Steps.{Did, with_clients}
 use Rattle.session_guests.proofs.Events.{IsActIn, all_left}
 use Rattle.session_guests.proofs.Gating.{Below, Steps, steps_of, row_did, gated}
@@ -80,7 +80,7 @@ grows laws t e step = on (steps_of laws t e step) where
   }
   on (inr (inr some)) = some_grows t e (commands_of t e.event) some
 
--- what stood before isn't opened
+-- a window that was there before isn't opened again
 pub not_opened : (n w : ℕ) (acts : List Act) → AllByRecursion (IsNew n) acts → nat_lt w n ≡ true
     → list_any (opens_window w) acts ≡ false
 not_opened n w [] all before = refl

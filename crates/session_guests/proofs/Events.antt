@@ -1,4 +1,4 @@
--- Which acts an event has that gives no command, and what it leaves.
+-- Which acts an event has that gives no command, and what it leaves unchanged.
 use Rattle.std.proofs.Common.{◌≡◌, ◌≤◌, ℕ, ◌+◌, Bool, true, false, List, [], ◌∷◌, ◌++◌, Option, Some, None, refl, ap}
 use Rattle.std.proofs.Common.{sym, subst, arith}
 use Rattle.std.specs.Prelude.{if◌then◌else◌, ◌==◌, ◌||◌}
@@ -33,7 +33,7 @@ abbrev pub is_open : EventValue → Bool
 is_open (Open user rows columns keep title) = true
 is_open _ = false
 
--- which acts another event has
+-- which acts such an event has
 abbrev pub IsActIn : Tables → EventValue → Act → Type 0
 IsActIn t event (act.Left user w) = Unit {0}
 IsActIn t (Attach user rows columns) (act.Attached client v) = (client ≡ t.next_client) × (v ≡ user)
@@ -54,7 +54,7 @@ pub record Plain (t : Tables) (event : EventValue) (acts : List Act) (u : Tables
 abbrev PlainTo : Tables → EventValue → Outcome → Type 0
 PlainTo t event o = Plain t event o.acts o.tables
 
--- users that leave windows
+-- the acts of users who leave windows
 pub all_left : (P : Act → Type 0) (before after : List Client) → ((user : UserId) (w : ℕ) → P (act.Left user w))
     → AllByRecursion P (left_acts before after)
 all_left P [] after on = tt
@@ -97,7 +97,7 @@ enters_in : (t : Tables) (user : UserId) (rows columns : ℕ) (o : Option ℕ)
 enters_in t user rows columns None = tt
 enters_in t user rows columns (Some w) = (refl, tt)
 
--- what changes a client's row is given by that client
+-- an event that changes one client's row belongs to that client
 given_by : (event : EventValue) (x : Change) → change_of event ≡ Some x → giver_of event ≡ OfClient x.client
 given_by (Attach user rows columns) x is = absurd (cc (is))
 given_by (Detach client) x is = absurd (cc (is))
@@ -170,7 +170,7 @@ plain t (Draw client) not =
     (λ c is. made t (Draw client) (changing t) tt refl refl refl (le_same t.next_window))
 plain t event not = changed t event _ (changes event _ refl)
 
--- what is drawn changes clients alone
+-- a draw changes only clients
 drawn_plain : (t : Tables) (event : EventValue) (acts : List Act) (o : Option Client) (effects : List Effect)
     (u : Tables) → Plain t event acts u → Plain t event acts (drawn_on o effects u)
 drawn_plain t event acts None effects u p = p

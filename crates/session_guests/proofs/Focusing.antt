@@ -1,4 +1,4 @@
--- Commands leave what is in focus of others' clients.
+-- Commands leave the windows in focus of other users' clients unchanged.
 use Rattle.std.proofs.Common.{◌≡◌, ℕ, Bool, true, false, not, List, [], ◌∷◌, Option, Some, None, refl, ap, sym, ◌∙◌}
 use Rattle.std.proofs.Common.{map, filter}
 use Rattle.std.specs.Prelude.{if◌then◌else◌, ◌==◌, ◌||◌, ◌&&◌}
@@ -22,7 +22,7 @@ use Rattle.session_laws.proofs.Lists.{itself, row_serial, contradicts, all_appen
 use Rattle.session_laws.proofs.Doing.{Either, caller_is}
 use Rattle.session_guests.specs.Changing.{changes_rights}
 use Rattle.session_guests.specs.Locking.{may_free}
-use Rattle.session_guests.proofs.Rows.{IsCaller}
+use Rattle.session_guests.proofs.CommandActs.{IsCaller}
 use Rattle.session_laws.proofs.Shapes as shapes
 
 -- ---- lists
@@ -54,7 +54,7 @@ any_without p q (x ∷ xs) all = on (q x) all.0 (any_without p q xs all.1) where
 
 -- ---- deeds
 
--- the caller's serial is that of clients of its user alone
+-- clients with the caller's serial are clients of its user
 abbrev pub IsMine : Tables → Caller → Type 0
 IsMine t k = (s : ℕ) → k.client ≡ Some s
     → AllByRecursion (λ (d : Client). (d.serial == s) ≡ true → d.user ≡ k.user) t.clients
@@ -122,7 +122,7 @@ window_itself : (w : ℕ) (o : Option ℕ) → o ≡ Some w → is_window w o �
 window_itself w None is = absurd (cc (is))
 window_itself w (Some v) is = let same : v ≡ w = cc (is) in ap (λ n. n == w) same ∙ itself w
 
--- a client sees what is in its focus
+-- a client shows the window in its focus
 shows_own : (c : Client) (w : ℕ) → focused c ≡ Some w → shows c.user w c ≡ true
 shows_own c w is = ap (λ b. b && is_window w (focused c)) (same_user-refl c.user) ∙ window_itself w (focused c) is
 
@@ -134,7 +134,7 @@ or_late : (a b : Bool) → b ≡ true → (a || b) ≡ true
 or_late true b is = refl
 or_late false b is = is
 
--- those of these clients that are his are in focus among those
+-- what the user's clients of one list have in focus, some of the other list have in focus too
 abbrev InFocus : UserId → List Client → List Client → Type 0
 InFocus x all cs = AllByRecursion (λ (c : Client). (w : ℕ) → focused c ≡ Some w → is_in_focus all c.user w ≡ true) cs
 

@@ -1,4 +1,4 @@
--- Rights change by a granted list command alone.
+-- Rights change only by a list command that is granted.
 use Rattle.std.proofs.Common.{◌≡◌, Bool, true, false, not, List, [], ◌∷◌, Option, Some, None, refl, ap, sym, ◌∙◌, subst}
 use Rattle.std.proofs.Common.{inl, inr, ⊎_elim}
 use Rattle.std.specs.Prelude.{if◌then◌else◌, ◌⊎◌, is_some}
@@ -35,11 +35,11 @@ use Rattle.session_laws.proofs.Doing.{Either}
 use Rattle.session_guests.specs.Changing.{changes_rights, SameRights, MayChangeRights, RightsAreGated}
 use Rattle.session_guests.proofs.Listing.{is_listing}
 use Rattle.session_guests.proofs.Histories.{NoListing, same_rights}
-use Rattle.session_guests.proofs.Rows.{IsActOf, IsRow, row_of}
+use Rattle.session_guests.proofs.CommandActs.{IsActOf, IsRow, row_of}
 use Rattle.session_guests.proofs.Steps.{Did, Rests, Obeys, with_clients, keys_obeys, command_obeys}
 use Rattle.session_guests.proofs.Events.{Plain, IsActIn, gives_commands, all_left, step_plain}
 
--- the laws of steps that stand below
+-- the laws of steps that are proved elsewhere
 pub record Below : Type 0 where
   pub keep : StepsKeepPromise
   pub done : CommandsDoTheirRows
@@ -67,7 +67,7 @@ obeys_by laws t (Command user number bytes) reply acts vs effects step is =
     command_obeys t reply acts vs effects user number bytes kept.refusals (laws.refused t e step) (laws.done t e step)
 obeys_by laws t event reply acts vs effects step is = absurd (cc (is))
 
--- a step that gives commands does nothing, or what one of them does
+-- a step that gives commands does nothing, or does what one of them does
 pub obeys_of : Below → (t : Tables) (e : Entry) → IsStep t e → gives_commands e.event ≡ true → Obeys t e
 obeys_of laws t e step is = obeys_by laws t e.event e.reply e.acts e.verdicts e.effects step is
 
@@ -119,7 +119,7 @@ did_listing t e g not d =
     r.acts)
     (all_left (λ a. is_listing a ≡ false) t.clients d.deed.tables.clients (λ user w. refl)))
 
--- ---- the first checks of a list command
+-- ---- the first checks of a list command pass
 
 pub first_passed : (b : Bool) (o : Option Refusal) (r : Refusal) → (if b then o else Some r) ≡ None → b ≡ true
 first_passed true o r is = refl
@@ -138,7 +138,7 @@ multiuser_passed t k (command.Aclgrp user leader) changes is = first_passed t.is
 multiuser_passed t k (command.Aclumask masks) changes is = first_passed t.is_multiuser None NotMultiuser is
 multiuser_passed t k c changes is = absurd (cc (changes))
 
--- x on a command that was done
+-- a command that was done had x
 pub had_x : (t : Tables) (e : Entry) (g : Given) → Did t e g
     → may_in t g.caller.user Execute (object.Command (name_of g.order)) ≡ true
 had_x t e g d = first_passed (may_in t g.caller.user Execute (object.Command (name_of g.order)))
@@ -172,7 +172,7 @@ pub plain_rights : (t : Tables) (e : Entry) → Plain t e.event e.acts (after t 
 plain_rights t e p = same_rights t (after t e) e.acts p.owner p.edition p.acts_are
     (all_weaken (IsActIn t e.event) (λ a. is_listing a ≡ false) e.acts (plain_listing t e.event) p.acts_in)
 
--- of the commands of a step there is one that may change rights, or rights are the same
+-- one of a step's commands may change rights, or rights are unchanged
 some_rights : (t : Tables) (e : Entry) (gs : List Given) → SomeOf (Did t e) gs
     → SameRights t (after t e) e.acts ⊎ SomeOf (MayChangeRights t) gs
 some_rights t e [] some = absurd some

@@ -1,4 +1,4 @@
--- Acts give locks to users who may write.
+-- Acts give write locks only to users who may write.
 use Rattle.std.proofs.Common.{◌≡◌, ℕ, Bool, true, false, not, List, [], ◌∷◌, Option, Some, None, refl, ap, sym, ◌∙◌}
 use Rattle.std.proofs.Common.{subst, inl, inr, ⊎_elim}
 use Rattle.std.specs.Prelude.{if◌then◌else◌, ◌==◌, ◌||◌, ◌&&◌, ◌⊎◌, is_none}
@@ -20,7 +20,7 @@ module _ (edition : Edition) (owner : UserId) (P : UserId → Type 0) (base : Hi
   abbrev pub writes : History → UserId → ℕ → Bool
   writes h u w = may edition owner h u Write (object.Window w)
 
-  -- whom an act gives a lock
+  -- the user to whom an act gives a lock, and why
   pub record GivenTo (h : History) (a : Act) (w : ℕ) (u : UserId) : Type 0 where
     pub own : P u
     pub had : (opens_window w a ≡ true) ⊎ (writes base u w ≡ true)
@@ -52,7 +52,7 @@ module _ (edition : Edition) (owner : UserId) (P : UserId → Type 0) (base : Hi
   held_on h a w None x is = absurd (cc (is))
   held_on h a w (Some u) x is = keeps (releases edition owner a h u w) h a w u x refl is
 
-  -- who holds a lock after an act
+  -- the holder of a lock after an act held it before, or is given it
   holds : (h : History) (a : Act) (w : ℕ) (held g : Option UserId) (x : UserId) → given edition owner a h w held ≡ g
       → Gives h a → or_else g (kept edition owner a h w held) ≡ Some x
       → ((held ≡ Some x) × (writes (a ∷ h) x w ≡ true)) ⊎ GivenTo h a w x
@@ -78,7 +78,8 @@ module _ (edition : Edition) (owner : UserId) (P : UserId → Type 0) (base : Hi
   now h a acts w x g = (
     g.own,
     ⊎_elim
-        (λ (opened : opens_window w a ≡ true). inl (or_before (opens_window w a) (list_any (opens_window w) acts) opened))
+        (λ (opened : opens_window w a ≡ true). inl
+        (or_before (opens_window w a) (list_any (opens_window w) acts) opened))
         (λ (may : writes base x w ≡ true). inr may) g.had,
   )
 
@@ -94,7 +95,7 @@ module _ (edition : Edition) (owner : UserId) (P : UserId → Type 0) (base : Hi
       on (inl k) = inl k.0
       on (inr g) = inr (now h a acts w x g)
 
-  -- who holds a lock after acts held it before, or took it
+  -- the holder of a lock after acts held it before, or was given it
   pub taken : (h : History) (acts : List Act) → GivesAll h acts → (w : ℕ) (x : UserId)
       → holder edition owner (followed_by h acts) w ≡ Some x → (holder edition owner h w ≡ Some x) ⊎ Taken acts w x
   taken h [] all w x is = inl is
@@ -103,7 +104,7 @@ module _ (edition : Edition) (owner : UserId) (P : UserId → Type 0) (base : Hi
   abbrev pub Able : History → Type 0
   Able h = (w : ℕ) (u : UserId) → holder edition owner h w ≡ Some u → writes h u w ≡ true
 
-  -- and may write
+  -- holders still may write after an act
   able_one : (h : History) (a : Act) → Gives h a → Able (a ∷ h)
   able_one h a gives w x is = ⊎_elim (λ (k : (holder edition owner h w ≡ Some x) × (writes (a ∷ h) x w ≡ true)). k.1)
       (λ (g : GivenTo h a w x). g.has_it)
@@ -121,7 +122,7 @@ module _ (edition : Edition) (owner : UserId) (P : UserId → Type 0) (base : Hi
   gives_lock (act.Mode by w mode) = true
   gives_lock _ = false
 
-  -- an act of this user, who has w where he sets a lock
+  -- an act of this user; if it sets a lock, the user has w there
   abbrev pub IsOwn : UserId → Act → Type 0
   IsOwn user (act.Mode by w mode) = (by ≡ user) × (is_off mode ≡ false → writes base by w ≡ true)
   IsOwn user (act.Entered v w) = v ≡ user
@@ -142,7 +143,7 @@ module _ (edition : Edition) (owner : UserId) (P : UserId → Type 0) (base : Hi
   silent h [] all = tt
   silent h (a ∷ acts) all = (silent_one h a all.0, silent (a ∷ h) acts all.1)
 
-  -- rights to write are as in the base
+  -- rights to write are those of the base history
   abbrev pub Based : History → Type 0
   Based h = (u : UserId) (w : ℕ) → writes h u w ≡ writes base u w
 
@@ -203,7 +204,7 @@ module _ (edition : Edition) (owner : UserId) (P : UserId → Type 0) (base : Hi
   own user p h (a ∷ acts) based all =
       (own_one user p h a based all.0, own user p (a ∷ h) acts (still_based user h a based all.0) all.1)
 
-  -- who opens a window has every right there
+  -- a user who opens a window has every right there
   pub opening : (user : UserId) → P user → (h : History) (n : ℕ) → Gives h (act.Opened user n)
   opening user p h n = gives where
     opener : (v w : ℕ) (u : UserId) → (v == w) ≡ true → user ≡ u

@@ -14,7 +14,7 @@ use Rattle.writelock.specs.Holding.{holder, given, kept, ends, or_else, is_off, 
 use Rattle.writelock.specs.Holding.{clients_of, has_client}
 use Rattle.session_guests.proofs.Histories.{same_may}
 
--- clients with this serial are none of the user
+-- no client with this serial belongs to the user
 abbrev pub NoneOf : UserId → ℕ → List (ℕ × UserId) → Type 0
 NoneOf user client ps = AllByRecursion (λ (p : ℕ × UserId). (p.0 == client) ≡ true → same_user p.1 user ≡ false) ps
 
@@ -52,7 +52,7 @@ module _ (edition : Edition) (owner : UserId) (base : History) (x : UserId) (w :
   abbrev Able : History → Type 0
   Able h = may edition owner h x Write (object.Window w) ≡ true
 
-  -- such acts
+  -- an act that leaves the lock to its holder
   abbrev pub IsHarmless : Act → Type 0
   IsHarmless (act.Mode by v mode) = (v == w) ≡ false
   IsHarmless (act.Left v y) = same_user v x ≡ false
@@ -146,7 +146,7 @@ module _ (edition : Edition) (owner : UserId) (base : History) (x : UserId) (w :
   along h (a ∷ acts) carry able all held = along (a ∷ h) acts (carries_after h a all.0 carry)
       (able_after h a all.0 able) all.1 (one h a carry able all.0 held)
 
-  -- the holder holds it still
+  -- after these acts the holder still holds it
   pub stays_held : (acts : List Act) → Able base → AllByRecursion IsHarmless acts → holder edition owner base w ≡ Some x
       → holder edition owner (followed_by base acts) w ≡ Some x
   stays_held acts able all held = along base acts (λ none client n. n) able all held

@@ -1,4 +1,4 @@
--- Acts that are no list acts leave all rights, but on windows that they open.
+-- Acts that aren't list acts leave all rights unchanged, except on windows that they open.
 use Rattle.std.proofs.Common.{◌≡◌, ℕ, Bool, true, false, List, [], ◌∷◌, Option, None, refl, ap, ◌∙◌}
 use Rattle.std.specs.Prelude.{if◌then◌else◌, ◌==◌, ◌||◌, unwrap_or}
 use Rattle.std.specs.List.{AllByRecursion, list_any}
@@ -19,7 +19,7 @@ use Rattle.session_guests.proofs.Listing.{is_listing}
 abbrev pub NoListing : List Act → Type 0
 NoListing acts = AllByRecursion (λ a. is_listing a ≡ false) acts
 
--- what two histories say of everyone is the same, but on windows that these acts open
+-- two histories agree on everyone's rights, except on windows that these acts open
 record Alike (edition : Edition) (owner : UserId) (h k : History) (acts : List Act) : Type 0 where
   users : users_of owner k ≡ users_of owner h
   known : (u : UserId) → is_known owner k u ≡ is_known owner h u
@@ -130,7 +130,7 @@ pub same_may : (edition : Edition) (owner : UserId) (h : History) (acts : List A
 same_may edition owner h acts none = may_same edition owner h (followed_by h acts) acts
     (alike edition owner h acts none)
 
--- tables whose acts are followed by some that are no list acts
+-- tables whose acts are followed by acts that aren't list acts have the same rights
 pub same_rights : (t u : Tables) (acts : List Act) → u.owner ≡ t.owner → u.edition ≡ t.edition
     → u.acts ≡ followed_by t.acts acts → NoListing acts → SameRights t u acts
 same_rights t u acts owner edition acts_are none =

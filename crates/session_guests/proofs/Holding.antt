@@ -1,4 +1,4 @@
--- Who holds a lock took it in a step of his own, and may write.
+-- A user who holds a lock took it in a step of their own, and may write.
 use Rattle.std.proofs.Common.{◌≡◌, ℕ, Bool, true, false, List, [], ◌∷◌, ◌++◌, Option, Some, None, refl, ap, sym, ◌∙◌}
 use Rattle.std.proofs.Common.{subst, inl, inr, ⊎_elim}
 use Rattle.std.specs.Prelude.{if◌then◌else◌, ◌⊎◌}
@@ -33,14 +33,14 @@ use Rattle.session_model.specs.Trace.{EventValue, Attach, Detach, Keys, Command,
 use Rattle.session_laws.proofs.Lists.{contradicts, all_weaken, all_append}
 use Rattle.session_guests.specs.Changing.{changes_rights}
 use Rattle.session_guests.specs.Locking.{user_of, HoldersMayWrite, TakesIt}
-use Rattle.session_guests.proofs.Rows.{IsActOf, IsRow}
+use Rattle.session_guests.proofs.CommandActs.{IsActOf, IsRow}
 use Rattle.session_guests.proofs.Steps.{Did, with_clients}
 use Rattle.session_guests.proofs.Events.{IsActIn, all_left}
 use Rattle.session_guests.proofs.Gating.{Below, Steps, steps_of, row_did, first_passed, then_passed}
 use Rattle.session_guests.proofs.Giving as giving
 use Rattle.session_guests.proofs.Giving.{gives_lock}
 
--- ---- whose commands a step gives
+-- ---- the user whose command a step gives
 
 given_by : (user : UserId) (k : Caller) (o : Option Order) → Some user ≡ Some k.user
     → AllByRecursion (λ (g : Given). Some user ≡ Some g.caller.user) (with_order k o)
@@ -186,7 +186,7 @@ module _ (t : Tables) (P : UserId → Type 0) where
         one (act.Left v w) is = giving.silent_one t.edition t.owner P t.acts h (act.Left v w) refl
         one a is = absurd is
 
-  -- events that bring other acts than of users who leave windows
+  -- events with other acts than those of users who leave windows
   abbrev brings_acts : EventValue → Bool
   brings_acts (Attach user rows columns) = true
   brings_acts (Detach client) = true
@@ -252,7 +252,7 @@ kept laws t e step = on (steps_of laws t e step) where
   }
   on (inr (inr some)) = some_kept t e (commands_of t e.event) some
 
--- by the owner, the edition and the acts alone
+-- a fact of the owner, the edition and the acts alone
 pub by_acts : (P : Edition → UserId → History → Type 0) (t : Tables) (e : Entry) → Kept t e
     → P t.edition t.owner (followed_by t.acts e.acts) → P (after t e).edition (after t e).owner (after t e).acts
 by_acts P t e k p =

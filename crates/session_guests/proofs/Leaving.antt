@@ -1,4 +1,4 @@
--- Which users leave windows.
+-- Which users leave windows in a step, and which windows.
 use Rattle.std.proofs.Common.{◌≡◌, ℕ, zero, suc, Bool, true, false, not, List, [], ◌∷◌, ◌++◌, Option, Some, None, refl}
 use Rattle.std.proofs.Common.{ap, sym, ◌∙◌, map, filter, inl, inr}
 use Rattle.std.specs.Prelude.{if◌then◌else◌, ◌==◌, ◌||◌, ◌&&◌, ◌⊎◌}
@@ -16,7 +16,7 @@ use Rattle.session_model.specs.Promises.{unread}
 use Rattle.session_model.specs.Tables.{Window, Client, row_of, with_row, focused, is_window, shows, is_in_focus}
 use Rattle.session_laws.proofs.Lists.{equal, itself, contradicts, all_weaken, all_append}
 use Rattle.session_laws.proofs.Showing.{at_place}
-use Rattle.session_guests.proofs.Staying.{focus_read}
+use Rattle.session_guests.proofs.KeptLocks.{focus_read}
 
 pub or_early : (a b : Bool) → a ≡ true → (a || b) ≡ true
 or_early true b is = refl
@@ -28,12 +28,12 @@ or_late false b is = is
 
 -- ---- acts
 
--- a user left a window for whom this holds
+-- the act is that a user left a window, and this holds of them
 abbrev pub LeftBy : (UserId → ℕ → Type 0) → Act → Type 0
 LeftBy Q (act.Left u w) = Q u w
 LeftBy Q a = ⊥
 
--- he may have left what is in focus, or sees it still
+-- the user may have left the window in focus, or still sees it
 abbrev pub Leaves : (UserId → ℕ → Type 0) → List Client → Client → Type 0
 Leaves Q after c = (w : ℕ) → focused c ≡ Some w → Q c.user w ⊎ (is_in_focus after c.user w ≡ true)
 
@@ -54,7 +54,7 @@ left_where Q (c ∷ before) after all =
       one None at = tt
       one (Some w) at = on w (is_in_focus before c.user w) (is_in_focus after c.user w) refl (all.0 w at)
 
--- nobody
+-- no user leaves a window
 pub nobody : (acts : List Act) → AllByRecursion (LeftBy (λ u w. ⊥)) acts → acts ≡ []
 nobody [] all = refl
 nobody (a ∷ acts) all = absurd (on a all.0) where
@@ -72,7 +72,7 @@ left_before (c ∷ bs) after = ap (λ acts. acts ++ left_acts bs after) (one (fo
           (λ b. if b || is_in_focus after c.user w then (let none : List Act = [] in none) else act.Left c.user w ∷ [])
           (focus_read bs c.user w)
 
--- whoever reads keys sees the same
+-- a user who reads keys sees the same windows
 pub left_read : (bs cs after : List Client) → map unread cs ≡ map unread bs → left_acts bs after ≡ left_acts cs after
 left_read bs cs after same = left_before bs after ∙ ap (λ ds. left_acts ds after) (sym same)
     ∙ sym (left_before cs after)
@@ -104,7 +104,7 @@ more Q d after c leaves w at = on (leaves w at) where
   on (inl q) = inl q
   on (inr there) = inr (or_late (shows c.user w d) (is_in_focus after c.user w) there)
 
--- those that pass a test go
+-- the clients that pass a test go
 pub parted : (Q : UserId → ℕ → Type 0) (goes : Client → Bool) (cs : List Client)
     → AllByRecursion (λ (c : Client). goes c ≡ true → (w : ℕ) → Q c.user w) cs
     → AllByRecursion (Leaves Q (filter (λ c. not (goes c)) cs)) cs
@@ -124,7 +124,7 @@ parted Q goes (c ∷ cs) all = on (goes c) all.0 (parted Q goes cs all.1) where
         (λ d l. more Q c (filter (λ d. not (goes d)) cs) d l) later,
   )
 
--- one row is another
+-- one client's row is replaced
 pub turned : (Q : UserId → ℕ → Type 0) (cs : List Client) (n : ℕ) (y : Client)
     → ((r : Client) → row_of (λ (c : Client). c.serial) cs n ≡ Some r → (w : ℕ) → Q r.user w)
     → AllByRecursion (Leaves Q (with_row (λ (c : Client). c.serial) cs n y)) cs
@@ -149,7 +149,7 @@ turned Q (r ∷ cs) n y own = on (r.serial == n) own (turned Q cs n y) where
         (λ d l. more Q r (with_row (λ (c : Client). c.serial) cs n y) d l) (later own),
   )
 
--- one more
+-- one more client
 focus_more : (cs ds : List Client) (u : UserId) (w : ℕ) → is_in_focus cs u w ≡ true → is_in_focus (cs ++ ds) u w ≡ true
 focus_more [] ds u w is = absurd (cc (is))
 focus_more (c ∷ cs) ds u w is = on (shows u w c) is (focus_more cs ds u w) where

@@ -1,5 +1,5 @@
 pub mod Listing
-pub mod Rows
+pub mod CommandActs
 pub mod Histories
 pub mod Steps
 pub mod Events
@@ -11,8 +11,8 @@ pub mod Holding
 pub mod Parting
 pub mod Harmless
 pub mod Focusing
-pub mod Staying
-pub mod Labels
-pub mod Named
+pub mod KeptLocks
+pub mod CommandLabels
+pub mod KeptLabels
 pub mod Pages
 pub mod Leaving

@@ -17,7 +17,7 @@ use Rattle.acl.specs.Commands.{change_acts, name_acts, user_acts, sets, sets_on,
 use Rattle.acl.specs.Commands.{new_acts, names_sets, name_sets, added, group_acts, mask_acts, scope_acts}
 use Rattle.session_laws.proofs.Lists.{all_append}
 
--- an act on lists
+-- an act on access lists
 abbrev pub is_listing : Act → Bool
 is_listing (act.Known user) = true
 is_listing (act.Gone user) = true

@@ -1,4 +1,4 @@
--- A new window is given by its opener's masks.
+-- A new window gives each user what its opener's masks say.
 use Rattle.std.proofs.Common.{◌≡◌, ℕ, Bool, true, false, List, [], ◌∷◌, Some, None, Ok, Err, refl, ap, sym, ◌∙◌}
 use Rattle.std.specs.Prelude.{if◌then◌else◌, ◌==◌, ◌||◌, unwrap_or, is_ok}
 use Rattle.std.specs.List.{AllByRecursion, list_any}

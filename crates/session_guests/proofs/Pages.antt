@@ -1,4 +1,4 @@
--- Pages depend on nothing of a window that may not be read but its number.
+-- A page depends on nothing of a window that may not be read, except the window's number.
 use Rattle.std.proofs.Common.{◌≡◌, ℕ, Bool, true, false, List, [], ◌∷◌, ◌++◌, Option, Some, None, refl, ap, sym, ◌∙◌}
 use Rattle.std.proofs.Common.{map}
 use Rattle.std.specs.Prelude.{if◌then◌else◌, ◌==◌, nat_lt}

@@ -1,4 +1,4 @@
--- The mode changes, and others' clients part, by granted commands alone.
+-- The mode changes only by granted commands, and so do other users' clients part.
 use Rattle.std.proofs.Common.{◌≡◌, ℕ, Bool, true, false, not, List, [], ◌∷◌, ◌++◌, Some, refl, ap, sym, ◌∙◌, subst, inl}
 use Rattle.std.proofs.Common.{inr, ⊎_elim, map, filter, reverse}
 use Rattle.std.specs.Prelude.{if◌then◌else◌, ◌==◌, ◌||◌, ◌⊎◌, is_some}
@@ -23,7 +23,7 @@ use Rattle.session_laws.specs.Fit.{TablesStayFit}
 use Rattle.session_laws.proofs.Lists.{equal, all_weaken, all_append}
 use Rattle.session_laws.proofs.Passing.{passed_has_x}
 use Rattle.session_guests.specs.Gates.{IsGranted, sets_mode, ModeIsGated, parts_others, DetachesItself, IsParted}
-use Rattle.session_guests.proofs.Rows.{IsActOf, is_mode}
+use Rattle.session_guests.proofs.CommandActs.{IsActOf, is_mode}
 use Rattle.session_guests.proofs.Steps.{Did}
 use Rattle.session_guests.proofs.Events.{IsActIn, all_left}
 use Rattle.session_guests.proofs.Gating.{Below, Steps, steps_of, row_did}
@@ -56,7 +56,7 @@ mode_gated laws t e step = on (steps_of laws t e step) where
   on (inr (inl rests)) = inl rests.tables.multiuser
   on (inr (inr some)) = some_mode t e (commands_of t e.event) some
 
--- ---- who is attached, by acts
+-- ---- which clients are attached, by the acts
 
 abbrev pub parts_it : ℕ → Act → Bool
 parts_it client (act.Parted c) = c == client
@@ -76,11 +76,14 @@ among_filter client gone (p ∷ ps) other is = on (p.0 == gone) refl (p.0 == cli
           (if not a then p ∷ filter (λ (p : ℕ × UserId). not (p.0 == gone)) ps else filter
           (λ (p : ℕ × UserId). not (p.0 == gone)) ps) ≡ true
       on true at true here is more = absurd
-          (let same : p.0 ≡ gone = equal p.0 gone at in let f : (gone == client) ≡ true = ap (λ n. n == client) (sym same)
+          (let same : p.0 ≡ gone = equal p.0 gone at in let f : (gone == client) ≡ true = ap (λ n. n == client)
+          (sym same)
           ∙ here in cc (f, other))
       on true at false here is more = more is
-      on false at true here is more = ap (λ b. b || among client (filter (λ (p : ℕ × UserId). not (p.0 == gone)) ps)) here
-      on false at false here is more = ap (λ b. b || among client (filter (λ (p : ℕ × UserId). not (p.0 == gone)) ps)) here
+      on false at true here is more = ap (λ b. b || among client (filter (λ (p : ℕ × UserId). not (p.0 == gone)) ps))
+          here
+      on false at false here is more = ap (λ b. b || among client (filter (λ (p : ℕ × UserId). not (p.0 == gone)) ps))
+          here
           ∙ more is
 
 or_second : (a b : Bool) → b ≡ true → (a || b) ≡ true
@@ -98,7 +101,7 @@ attached_all : (client : ℕ) (acts : List Act) (h : History) → AllByRecursion
 attached_all client [] h none is = is
 attached_all client (a ∷ acts) h none is = attached_all client acts (a ∷ h) none.1 (attached_one client a h none.0 is)
 
--- ---- and by the tables
+-- ---- which clients are attached, by the tables
 
 any_append : {A : Type 0} (p : A → Bool) (xs ys : List A) → list_any p (xs ++ ys) ≡ (list_any p xs || list_any p ys)
 any_append p [] ys = refl
@@ -156,7 +159,7 @@ not_equal m n other = on (m == n) refl where
   on true is = absurd (other (equal m n is))
   on false is = refl
 
--- a list whose elements each pass the test, or an element that doesn't
+-- each element of a list passes the test, or one of them doesn't
 search_act : (p : Act → Bool) (acts : List Act) → AllByRecursion (λ a. p a ≡ false) acts ⊎ SomeOf (λ a. p a ≡ true) acts
 search_act p [] = inl tt
 search_act p (a ∷ acts) = on (p a) refl (search_act p acts) where

@@ -1,4 +1,4 @@
--- What a step does: nothing, what a command that passes its checks does, or what its event does.
+-- What a step does: nothing, or what a command that passed its checks does, or what its event does.
 use Rattle.std.proofs.Common.{◌≡◌, ℕ, Bool, true, false, List, [], ◌∷◌, ◌++◌, Option, Some, None, Ok, Err, Result, refl}
 use Rattle.std.proofs.Common.{ap, sym, ◌∙◌, subst, map, take, inl, inr}
 use Rattle.std.specs.Prelude.{if◌then◌else◌, ◌==◌, ◌⊎◌, is_ok}
@@ -35,7 +35,7 @@ use Rattle.session_laws.specs.Laws.{DidItsRow, LineDidItsRow, refusal_in, why_re
 use Rattle.session_laws.proofs.Unread.{SameClients, typing_clients}
 use Rattle.session_laws.proofs.Granting.{told_read, same_tables}
 use Rattle.session_laws.proofs.Asking.{keys_given}
-use Rattle.session_guests.proofs.Rows.{IsCaller}
+use Rattle.session_guests.proofs.CommandActs.{IsCaller}
 
 -- tables whose clients have read keys
 abbrev pub with_clients : Tables → List Client → Tables
@@ -52,7 +52,7 @@ pub record Did (t : Tables) (e : Entry) (g : Given) : Type 0 where
   pub acts : e.acts ≡ deed.acts ++ left_acts t.clients deed.tables.clients
   pub tables : OnlyRead (record deed.tables { acts = followed_by t.acts e.acts }) (after t e)
 
--- nothing
+-- a step that did nothing
 pub record Rests (t : Tables) (e : Entry) : Type 0 where
   pub acts : e.acts ≡ []
   pub tables : OnlyRead t (after t e)
@@ -161,7 +161,7 @@ module _ (t : Tables) (e : Entry) (client : ℕ) (bytes : List ℕ) (c : Client)
         next_client = refl;
       })
 
-  -- where nothing but what was typed and said was done
+  -- if nothing was done but what was typed and said
   calm : (v : Tables) → OnlyRead t v → e.acts ≡ [] → after t e ≡ record v { acts = followed_by t.acts e.acts }
       → Rests t e
   calm v r none is = record {

@@ -1,4 +1,4 @@
--- Who changes rights.
+-- Which steps may change rights.
 use Rattle.std.specs.Prelude.{◌≡◌, ℕ, Bool, true, false, ◌==◌, List, ◌⊎◌}
 use Rattle.std.specs.List.{list_any}
 use Rattle.acl.specs.declared.user_id.UserId.{UserId}
@@ -38,7 +38,7 @@ abbrev pub opened_by : List Act → Object → Bool
 opened_by acts (object.Window w) = list_any (opens_window w) acts
 opened_by acts (object.Command c) = false
 
--- the same users are known; their leaders, the masks and the presets are the same
+-- the same users are known, and their leaders, the masks and the presets are the same
 pub record SameLists (t u : Tables) : Type 0 where
   pub users : known_users u ≡ known_users t
   pub known : (user : UserId) → is_known u user ≡ is_known t user
@@ -47,20 +47,20 @@ pub record SameLists (t u : Tables) : Type 0 where
   pub presets :
       (kind : PresetKind) (bit : Bit) → preset_of u.acts kind bit ≡ preset_of t.acts kind bit
 
--- and everyone may do what he might, but on windows that these acts opened
+-- and each user may do what they might before, except on windows that these acts opened
 pub record SameRights (t u : Tables) (acts : List Act) : Type 0 where
   pub lists : SameLists t u
   pub rights :
       (user : UserId) (bit : Bit) (object : Object) → opened_by acts object ≡ false →
       may_in u user bit object ≡ may_in t user bit object
 
--- in multiuser mode a user gives one of these commands, and has x on it
+-- in multiuser mode, a user gives one of these commands and has x on it
 pub record MayChangeRights (t : Tables) (g : Given) : Type 0 where
   pub changes : changes_rights (name_of g.order) ≡ true
   pub multiuser : t.is_multiuser ≡ true
   pub granted : may_in t g.caller.user Execute (object.Command (name_of g.order)) ≡ true
 
--- a step leaves rights as they are, or gives such a command
+-- a step leaves rights unchanged, or gives such a command
 abbrev pub RightsAreGated : Tables → Entry → Type 0
 RightsAreGated t e =
     SameRights t (after t e) e.acts ⊎ SomeOf (MayChangeRights t) (commands_of t e.event)

@@ -1,4 +1,4 @@
--- What else changes by granted commands alone: the mode, and who is attached.
+-- What else changes only by granted commands: the mode, and which clients are attached.
 use Rattle.std.specs.Prelude.{◌≡◌, ◌⊎◌, ℕ, Bool, true, false, Some, is_some}
 use Rattle.acl.specs.declared.command_name.CommandName.{CommandName}
 use Rattle.acl.specs.declared.command_name.CommandName.TheVariants as name
@@ -10,12 +10,12 @@ use Rattle.session_model.specs.Given.{Given, commands_of, has_x}
 use Rattle.session_model.specs.Promises.{SomeOf}
 use Rattle.session_model.specs.Run.{IsStep, after}
 
--- a command of such a name, with x on it, and on its window where it acts on one
+-- a command with such a name, with x on it, and on its window if it acts on one
 pub record IsGranted (t : Tables) (such : CommandName → Bool) (g : Given) : Type 0 where
   pub is_such : such (name_of g.order) ≡ true
   pub granted : has_x t g ≡ true
 
--- single-user or multiuser
+-- the commands that set single-user or multiuser mode
 abbrev pub sets_mode : CommandName → Bool
 sets_mode name.Multiuser = true
 sets_mode _ = false
@@ -28,19 +28,19 @@ ModeIsGated t e =
 abbrev pub ModeGate : Type 0
 ModeGate = (t : Tables) (e : Entry) → IsStep t e → ModeIsGated t e
 
--- whose clients part by others' commands
+-- the commands by which other users' clients part
 abbrev pub parts_others : CommandName → Bool
 parts_others name.Acldel = true
 parts_others name.Multiuser = true
 parts_others name.Quit = true
 parts_others _ = false
 
--- the client's own keys give detach
+-- the client's own keys give `detach`
 pub record DetachesItself (t : Tables) (client : ℕ) (g : Given) : Type 0 where
   pub is_detach : name_of g.order ≡ name.Detach
   pub own : g.caller.client ≡ Some client
 
--- why a client isn't attached any more
+-- why a client is no longer attached
 abbrev pub IsParted : Tables → Entry → ℕ → Type 0
 IsParted t e client =
     (e.event ≡ Detach client)

@@ -18,7 +18,7 @@ use Rattle.session_model.specs.Run.{IsStep, IsRun, after, tables_of}
 use Rattle.session_guests.specs.Changing.{changes_rights, opened_by}
 use Rattle.session_guests.specs.Contained.{stood}
 
--- who gives an event: a user, or a client; nobody where a window's program writes or ends
+-- who gives an event: a user, or a client; nobody, if a window's program writes or ends
 pub data Giver : Type 0 where
   OfUser : (user : UserId) → Giver
   OfClient : (client : ℕ) → Giver
@@ -43,11 +43,11 @@ user_by t (OfUser user) = Some user
 user_by t (OfClient client) = client_user t client
 user_by t OfNobody = None
 
--- whose step it is
+-- the user whose step it is
 abbrev pub user_of : Tables → EventValue → Option UserId
 user_of t event = user_by t (giver_of event)
 
--- who holds a lock may write there
+-- the holder of a window's lock may write there
 abbrev pub HoldersMayWrite : Tables → Type 0
 HoldersMayWrite t =
     (window : ℕ) (user : UserId) → holder_in t window ≡ Some user →
@@ -60,14 +60,14 @@ StepsKeepHolders =
 abbrev pub RunsHaveHolders : Type 0
 RunsHaveHolders = (h : Trace) → IsRun h → HoldersMayWrite (tables_of h)
 
--- it is the user's own step, and he had w there before it or opens the window by it
+-- it is the user's own step, in which they had w on the window, or opened it
 pub record TakesIt (t : Tables) (e : Entry) (window : ℕ) (user : UserId) : Type 0 where
   pub own : user_of t e.event ≡ Some user
   pub may :
       (opened_by e.acts (object.Window window) ≡ true)
       ⊎ (may_in t user Write (object.Window window) ≡ true)
 
--- who holds a lock held it before, or takes it
+-- the holder of a lock held it before, or takes it in this step
 abbrev pub LocksAreTakenBy : Tables → Entry → Type 0
 LocksAreTakenBy t e =
     (window : ℕ) (user : UserId) → holder_in (after t e) window ≡ Some user →
@@ -78,7 +78,7 @@ LocksAreTaken = (t : Tables) (e : Entry) → IsStep t e → LocksAreTakenBy t e
 
 -- ---- who keeps a lock
 
--- commands that may free others' locks, beside those that change rights
+-- commands that may free other users' locks, besides those that change rights
 abbrev pub may_free : Order → Bool
 may_free command.Kill = true
 may_free command.Quit = true
@@ -96,8 +96,8 @@ pub record IsPowerless (t : Tables) (user : UserId) (window : ℕ) : Type 0 wher
       (c : CommandName) → changes_rights c ≡ true →
       may_in t user Execute (object.Command c) ≡ false
 
--- in a step of his the holder of a window that had been opened stays, but for kill, quit and
--- `multiuser off` that are granted
+-- in a step of such a user, the holder of a window that had been opened stays, except by a granted
+-- kill, quit or `multiuser off`
 abbrev pub HoldersStayIn : Tables → Entry → Type 0
 HoldersStayIn t e =
     (window : ℕ) (user holder : UserId) → user_of t e.event ≡ Some user →

@@ -1,4 +1,4 @@
--- Who opens, closes, numbers and names windows.
+-- Who may open, close, number and name windows.
 use Rattle.std.specs.Prelude.{◌≡◌, ◌⊎◌, ℕ, Bool, true, false, List, Option}
 use Rattle.std.specs.Option.{option_map}
 use Rattle.acl.specs.declared.bits.Bit.TheVariants.{Execute}
@@ -14,26 +14,26 @@ use Rattle.session_model.specs.Given.{Given, commands_of, has_x}
 use Rattle.session_model.specs.Promises.{SomeOf, IsOn}
 use Rattle.session_model.specs.Run.{IsStep, after}
 
--- an open window's number and title
+-- the number and title of a window; None if it isn't open
 abbrev pub label_at : Tables → ℕ → Option (ℕ × List ℕ)
 label_at t window = option_map (λ (w : Window). (w.number, w.title)) (window_at t window)
 
--- commands that change those of the window that they act on, or close it
+-- commands that change the number or title of the window that they act on, or close it
 abbrev pub names_its_window : CommandName → Bool
 names_its_window name.Title = true
 names_its_window name.Number = true
 names_its_window name.Kill = true
 names_its_window _ = false
 
--- x on the command, and on this window; or x on quit
+-- x on the command and on this window; or x on quit
 pub record MayName (t : Tables) (window : ℕ) (g : Given) : Type 0 where
   pub granted : has_x t g ≡ true
   pub acts :
       ((names_its_window (name_of g.order) ≡ true) × IsOn g.caller.window window)
       ⊎ (name_of g.order ≡ name.Quit)
 
--- why a window's number or title changes, or whether it is open: its program ended, it is opened by
--- one who has x on screen, or such a command
+-- why a window's number or title changes, or the window opens or closes: its program ended, a user
+-- with x on `screen` opened it, or such a command was given
 abbrev pub IsNamed : Tables → Entry → EventValue → ℕ → Type 0
 IsNamed t e (Open user rows columns keep title) window =
     (t.next_window ≡ window) × (may_in t user Execute (object.Command name.Screen) ≡ true)

@@ -1,4 +1,4 @@
--- Who gets what on a window that is opened.
+-- What each user gets on a window that is opened.
 use Rattle.std.specs.Prelude.{◌≡◌, true, ◌||◌, Ok}
 use Rattle.acl.specs.declared.user_id.UserId.{UserId}
 use Rattle.acl.specs.declared.bits.Bit.{Bit}
@@ -10,8 +10,8 @@ use Rattle.session_model.specs.Tables.{Tables, is_known}
 use Rattle.session_model.specs.Rights.{has_in}
 use Rattle.session_model.specs.Run.{IsStep, after}
 
--- a known user has a bit on the new window exactly where he opened it or the opener's mask for him
--- allows it
+-- a known user has a bit on the new window exactly if they opened it, or the opener's mask for them
+-- allows the bit
 abbrev pub IsGivenByMasks : Tables → Entry → EventValue → Reply → Type 0
 IsGivenByMasks t e (Open opener rows columns keep title) (Ok done) =
     (user : UserId) (bit : Bit) → is_known t user ≡ true →

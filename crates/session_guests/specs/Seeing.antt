@@ -7,7 +7,7 @@ use Rattle.session_model.specs.Tables.{Window, Client, Tables}
 use Rattle.session_model.specs.Rights.{may_in}
 use Rattle.session_model.specs.Granted.{granted_view}
 
--- a window, where it may be read; else its serial and its number alone
+-- a window, if it may be read; else only its serial and its number
 abbrev pub seen_if : Bool → Window → Window
 seen_if true w = w
 seen_if false w = record w { title = []; rows = 0; columns = 0; keep = 0; writing = [] }
@@ -15,8 +15,8 @@ seen_if false w = record w { title = []; rows = 0; columns = 0; keep = 0; writin
 abbrev pub seen_by : Tables → UserId → Window → Window
 seen_by t user w = seen_if (may_in t user Read (object.Window w.serial)) w
 
--- windows that are the same but for what the client's user may not read give him the same page:
--- title, size and contents of such a window don't show
+-- two sets of windows that differ only in what the client's user may not read give the user the
+-- same page: title, size and contents of such a window don't show
 abbrev pub PagesShowWhatIsRead : Type 0
 PagesShowWhatIsRead =
     (t : Tables) (c : Client) (windows : List Window) →

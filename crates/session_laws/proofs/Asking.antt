@@ -1,4 +1,4 @@
--- What an event asks for, and why it is refused.
+-- What an event asks for is what its checks ask for, and a refused event names why.
 use Rattle.std.proofs.Common.{◌≡◌, ℕ, Bool, true, false, List, [], ◌∷◌, Option, Some, None, Ok, Err, Result, refl, ap}
 use Rattle.std.proofs.Common.{sym, ◌∙◌, subst, inl, inr}
 use Rattle.std.specs.Prelude.{if◌then◌else◌, ◌==◌}
@@ -88,7 +88,7 @@ command_names t asks k c into listed =
     (checks_each t asks k c (into Execute (object.Command (name_of c)) (refl, inl (refl, refl)))
     (asked_window t asks k.user k.client c k.window into listed))
 
--- by a line
+-- by a command line
 pub line_names : (t : Tables) (user : UserId) (number : Option ℕ) (bytes : List ℕ) (c : Order)
     → commands_of t (Command user number bytes) ≡ giving (line_caller t user number) c ∷ []
     → OnFault (NamesTruly t (Asks t (Command user number bytes)))
@@ -145,7 +145,7 @@ abbrev pub ReplyIs : (Refusal → Type 0) → Reply → Type 0
 ReplyIs P (Err r) = P r
 ReplyIs P (Ok d) = Unit {0}
 
--- a refusal names what stands against it
+-- a refusal names what prevents the event
 why : (t : Tables) (event : EventValue) (vs : List Verdict) (r : Refusal) → outcomes.Refuses t event vs r
     → NamesTruly t (Asks t event) r
 why t _ _ _ (outcomes.plainly event r is) = plain_names t (Asks t event) r is

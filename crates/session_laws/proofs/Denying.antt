@@ -1,4 +1,4 @@
--- Denials name what stands against them.
+-- Each denial names the entry or the holder of the lock that prevents what is asked for.
 use Rattle.std.proofs.Common.{◌≡◌, ℕ, Bool, true, false, not, List, [], ◌∷◌, Option, Some, None, Ok, Err, refl, ap, ◌∙◌}
 use Rattle.std.proofs.Common.{arith}
 use Rattle.std.specs.Prelude.{if◌then◌else◌, ◌==◌, ◌||◌, MatchOption}
@@ -55,12 +55,12 @@ each_where : (t : Tables) (P : Refusal → Type 0) (b : Bool) (cs : List Check) 
 each_where t P true cs all = all
 each_where t P false cs all = tt
 
--- facts of an answer
+-- a fact of the refusal or of the deed of an answer
 abbrev pub MatchAnswer : (Refusal → Type 0) → (Deed → Type 0) → Answer → Type 0
 MatchAnswer P Q (Ok d) = Q d
 MatchAnswer P Q (Err r) = P r
 
--- what a ruling answers, by what its checks and its own refusals do
+-- what a ruling answers: the refusal of its checks, or its own answer
 pub ruled_answer : (P : Refusal → Type 0) (Q : Deed → Type 0) (o : Option Refusal) (a : Answer) → OnFault P o
     → ((r : Refusal) → is_plain r ≡ true → P r) → (o ≡ None → Either Q a)
     → MatchAnswer P Q (elim o as (λ _. Answer) [ Some r ↦ Err r | None ↦ a ])
@@ -80,7 +80,7 @@ lacks_each t bit o (u ∷ us) is =
 match_some : {X : Type 0} (P : X → Type 0) (o : Option X) (x : X) → o ≡ Some x → P x → MatchOption o ⊥ P
 match_some P o x is p = rw is p
 
--- what a denial of a user's bit says of his entries
+-- the entries of the user and of the leaders are false, if the user may not have the bit
 pub missing : (t : Tables) (asks : UserId → Bit → Object → Type 0) (user : UserId) (bit : Bit) (o : Object)
     → asks user bit o → object_named t (denied_on t o) ≡ Some o → may_in t user bit o ≡ false
     → NamesTruly t asks (entry_denial t user bit o)
@@ -135,7 +135,7 @@ locked t asks user s (Some h) is l asked stops =
 
 -- ---- checks
 
--- the window is there, and asked for
+-- the window is there, and is asked for
 abbrev pub IsAsked : Tables → (UserId → Bit → Object → Type 0) → UserId → Option ℕ → Type 0
 IsAsked t asks user None = Unit {0}
 IsAsked t asks user (Some s) = ((bit : Bit) → asks user bit (object.Window s)) × IsListed t s

@@ -1,4 +1,4 @@
--- What each command does outside the session, and what it lists: one row a command.
+-- A fact of each command's deed follows from facts of the ways in which commands answer.
 use Rattle.std.proofs.Common.{◌≡◌, ℕ, Bool, true, false, List, Option, Some, None, Ok, Err, refl, ap, sym}
 use Rattle.std.specs.Option.{option_and_then}
 use Rattle.acl.specs.declared.act.Act.{Act}
@@ -16,13 +16,13 @@ use Rattle.session_model.specs.Commands.{caller_client, on_client}
 use Rattle.session_model.specs.Given.{Given}
 use Rattle.session_laws.proofs.Lists.{row_serial}
 
--- a refusal of a command's own
+-- a refusal that is a command's own
 abbrev pub is_plain : Refusal → Bool
 is_plain (EntryDenied d) = false
 is_plain (LockDenied d) = false
 is_plain _ = true
 
--- a fact of the deed, or of the refusal that stands in its place
+-- a fact of the deed; of a refusal, only that it is a command's own
 abbrev pub Either : (Deed → Type 0) → Answer → Type 0
 Either P (Ok d) = P d
 Either P (Err r) = is_plain r ≡ true
@@ -45,7 +45,7 @@ unfolding refused_if
 by_refused P true r d is p = is
 by_refused P false r d is p = p refl
 
--- where there is no fault
+-- a deed that is done if there is no fault
 pub by_clear : {F : Type 0} (P : Deed → Type 0) (of : F → Refusal) (o : Option F) (d : Deed)
     → ((f : F) → is_plain (of f) ≡ true) → (o ≡ None → P d) → Either P (unless of o d)
 unfolding unless

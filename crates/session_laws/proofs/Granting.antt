@@ -1,4 +1,4 @@
--- Commands act where x is granted.
+-- A command acts exactly if x is granted.
 use Rattle.std.proofs.Common.{◌≡◌, ℕ, Bool, true, false, not, List, [], ◌∷◌, ◌++◌, Option, Some, None, Ok, Err, Result}
 use Rattle.std.proofs.Common.{refl, ap, sym, ◌∙◌, arith, subst}
 use Rattle.std.specs.Prelude.{if◌then◌else◌, ◌==◌, ◌||◌, take}
@@ -52,7 +52,7 @@ use Rattle.session_model.specs.Tables.{is_known, Tables, Window, Client, client_
 use Rattle.session_model.specs.Texts.{text_of}
 use Rattle.session_model.specs.Trace.{EventValue, Keys, Command, Draw, Reply, Entry}
 
--- ---- with x, nothing is refused for want of x
+-- ---- a command with x isn't refused for a missing x
 
 abbrev NotX : Refusal → Type 0
 NotX r = wants_x r ≡ false
@@ -154,7 +154,7 @@ line_acts t event k false r = tt
 line_acts t event k true (Err f) = tt
 line_acts t event k true (Ok c) = (command_acts t event k c, tt)
 
--- a message changes nothing else
+-- a message changes nothing else of the tables
 pub told_read : (t v : Tables) (client : ℕ) (m : Message) → OnlyRead t v → OnlyRead t (told v client m)
 told_read t v client m all = on (client_at v client) refl where
   on : (o : Option Client) → client_at v client ≡ o

@@ -1,4 +1,4 @@
--- The bytes that effects put into windows.
+-- The bytes that the effects of deeds put into windows.
 use Rattle.std.proofs.Common.{◌≡◌, ℕ, Bool, true, false, not, List, [], ◌∷◌, ◌++◌, Option, Some, None, Ok, Err, refl}
 use Rattle.std.proofs.Common.{ap, sym, ◌∙◌, append_assoc}
 use Rattle.std.specs.Prelude.{if◌then◌else◌, ◌==◌}
@@ -34,7 +34,7 @@ inputs_append (Size at rows columns ∷ a) b w = inputs_append a b w
 inputs_append (GoneWindow at why ∷ a) b w = inputs_append a b w
 inputs_append (GoneClient at why ∷ a) b w = inputs_append a b w
 
--- what isn't said is never said again
+-- an effect that isn't a Say is never dropped
 never_same : (e : Effect) (said : List Effect) → is_say e ≡ false → list_any (says_same e) said ≡ false
 never_same (Say to bytes) said is = absurd (cc (is))
 never_same e [] is = refl
@@ -62,7 +62,7 @@ inputs_unsaid said (Say to bytes ∷ es) w = said_inputs (list_any (says_same (S
 inputs_unsaid said (e ∷ es) w = kept_inputs (list_any (says_same e) said) e (unsaid said es) es w
     (never_same e said refl) (inputs_unsaid said es w)
 
--- the bytes of an answer
+-- the bytes of an answer's effects
 abbrev pub answer_inputs : Answer → ℕ → List ℕ
 answer_inputs (Ok d) w = inputs d.effects w
 answer_inputs (Err r) w = []
@@ -83,7 +83,7 @@ pub keyed_inputs : (u : Tables) (client : ℕ) (m : List ℕ → Message) (a : A
 keyed_inputs u client m (Ok d) w = listed_inputs client m d.lists d w
 keyed_inputs u client m (Err r) w = refl
 
--- an event whose deed puts in nothing
+-- an event whose deed puts no bytes into windows
 pub passed_inputs : (t : Tables) (o : Option Refusal) (vs : List Verdict) (reply : Reply) (d : Deed) (w : ℕ)
     → inputs d.effects w ≡ []
     → inputs (elim o as (λ _. Outcome) [ Some r ↦ refused t vs r | None ↦ finished t vs reply d ]).effects w ≡ []

@@ -1,4 +1,4 @@
--- Commands leave the keys of clients, and what was delivered to them, as they are.
+-- Commands leave each client's keys, and what was delivered to it, unchanged.
 use Rattle.std.proofs.Common.{◌≡◌, ℕ, Bool, true, false, not, List, [], ◌∷◌, Option, Some, None, refl, ap, sym, ◌∙◌}
 use Rattle.std.proofs.Common.{map, filter, ⊎_elim}
 use Rattle.std.specs.Prelude.{if◌then◌else◌, ◌==◌}
@@ -18,11 +18,11 @@ use Rattle.session_laws.proofs.Lists.{all_weaken, all_map, all_filter, members, 
 use Rattle.session_laws.proofs.Doing.{Either}
 use Rattle.session_laws.proofs.Shapes as shapes
 
--- a client, but for its regions, the windows that it showed and its message
+-- a client without its regions, the windows that were in its focus, and its message
 abbrev pub core : Client → Client
 core c = record c { layout = one_region empty; last = None; former = None; message = message.Silence }
 
--- each client was there, with the same core
+-- each client was there before, with the same core
 abbrev pub Keeps : List Client → List Client → Type 0
 Keeps before after = AllByRecursion (λ d. SomeOf (λ c. core c ≡ core d) before) after
 

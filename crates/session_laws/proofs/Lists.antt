@@ -1,4 +1,4 @@
--- Facts of all elements, and of some.
+-- Facts that hold for all elements of a list, or for some.
 use Rattle.std.proofs.Common.{◌≡◌, ℕ, Bool, true, false, List, [], ◌∷◌, ◌++◌, Some, refl, ap, sym, ◌∙◌, arith, map}
 use Rattle.std.proofs.Common.{filter, inl, inr, ⊎_elim}
 use Rattle.std.specs.Prelude.{if◌then◌else◌, ◌==◌, ◌&&◌}
@@ -60,7 +60,7 @@ all_filter P p (x ∷ xs) all = on (p x) all.0 (all_filter P p xs all.1) where
   on true here rest = (here, rest)
   on false here rest = rest
 
--- those that pass a test pass it
+-- the elements that a test lets pass, pass it
 pub all_passed : {A : Type 0} (P : A → Type 0) (p : A → Bool) (xs : List A) → AllByRecursion (λ x. p x ≡ true → P x) xs
     → AllByRecursion P (filter p xs)
 all_passed P p [] all = tt
@@ -81,7 +81,7 @@ some_weaken P Q [] on some = some
 some_weaken P Q (x ∷ xs) on some = ⊎_elim (λ (here : P x). inl (on x here)) (λ later. inr (some_weaken P Q xs on later))
     some
 
--- each element is one of them
+-- each element of a list is one of its elements
 pub members : {A : Type 0} (xs : List A) → AllByRecursion (λ x. SomeOf (λ y. y ≡ x) xs) xs
 members [] = tt
 members (x ∷ xs) = (

@@ -1,4 +1,5 @@
--- How commands change which windows and clients there are, and by which acts: one row a command.
+-- Which acts of commands leave windows and clients, and how a step may move them: some windows
+-- close, and some clients go.
 use Rattle.std.proofs.Common.{◌≡◌, ℕ, ◌+◌, ◌≤◌, Bool, true, false, not, List, [], ◌∷◌, ◌++◌, Option, Some, None, refl}
 use Rattle.std.proofs.Common.{ap, sym, ◌∙◌, map, filter, length, arith}
 use Rattle.std.specs.Prelude.{if◌then◌else◌, ◌==◌}
@@ -20,9 +21,9 @@ use Rattle.session_model.specs.Tables.{Tables, Client, row_of, with_row}
 use Rattle.session_model.specs.Deeds.{Deed, acting, listing}
 use Rattle.session_model.specs.Sound.{NumbersDiffer}
 use Rattle.session_laws.proofs.Lists.{filter_all, all_weaken}
-use Rattle.session_laws.proofs.Numbers.{serial_of, Differ}
+use Rattle.session_laws.proofs.DifferentNumbers.{serial_of, Differ}
 
--- ---- acts that say nothing of which windows and clients there are
+-- ---- acts aside: these say nothing of which windows and clients there are
 
 abbrev pub is_aside : Act → Bool
 is_aside (act.Opened by window) = false
@@ -38,7 +39,7 @@ pub aside_append : (a b : List Act) → AllAside a → AllAside b → AllAside (
 aside_append [] b p q = q
 aside_append (x ∷ a) b p q = (p.0, aside_append a b p.1 q)
 
--- acts on rights alone
+-- acts on rights
 abbrev pub is_right : Act → Bool
 is_right (act.Opened by window) = false
 is_right (act.Closed window) = false
@@ -136,7 +137,7 @@ mask_rights by (e ∷ entries) = rights_append (scope_acts by e.scope e.bit e.va
 abbrev pub id_of : Client → ℕ × UserId
 id_of c = (c.serial, c.user)
 
--- the clients that are attached, with their users, and the windows that are open, by their serials
+-- the attached clients, with their users; and the open windows, by their serials
 abbrev pub ids : Tables → List (ℕ × UserId)
 ids t = map id_of t.clients
 
@@ -149,7 +150,8 @@ closed ns = map (λ n. act.Closed n) ns
 abbrev pub parted : List (ℕ × UserId) → List Act
 parted ps = map (λ (p : ℕ × UserId). act.Parted p.0) ps
 
--- Some windows are closed and some clients part, in order; the others stay, and what else is done says nothing of them.
+-- Some windows are closed and some clients go, in order; the others stay, and all other acts are
+-- aside.
 pub record Moves (t : Tables) (u : Tables) (acts : List Act) (effects : ℕ) : Type 0 where
   pub closing : ℕ → Bool
   pub parting : ℕ × UserId → Bool
@@ -180,7 +182,7 @@ pub filter_none : {A : Type 0} (xs : List A) → filter (λ x. false) xs ≡ []
 filter_none [] = refl
 filter_none (x ∷ xs) = filter_none xs
 
--- nobody goes
+-- no window and no client goes
 pub stays : (t u : Tables) (acts : List Act) (effects : ℕ) → AllAside acts → serials u ≡ serials t → ids u ≡ ids t
     → u.next_window ≡ t.next_window → u.next_client ≡ t.next_client → effects ≤ length t.windows + length t.clients + 1
     → (Differ t.windows → NumbersDiffer t.windows → NumbersDiffer u.windows) → Moves t u acts effects
@@ -200,14 +202,14 @@ stays t u acts effects aside windows clients next_window next_client few numbers
   numbers = numbers;
 }
 
--- only acts aside
+-- a deed with acts aside alone
 pub acts_only : (t : Tables) (acts : List Act) → AllAside acts → DeedMoves t (acting t acts)
 acts_only t acts aside = stays t t acts 0 aside refl refl refl refl (omega arith) (λ differ numbers. numbers)
 
 pub lists_only : (t : Tables) (bytes : List ℕ) → DeedMoves t (listing t bytes)
 lists_only t bytes = stays t t [] 0 tt refl refl refl refl (omega arith) (λ differ numbers. numbers)
 
--- a client's row
+-- a change of a client's row keeps what is read of the rows
 pub map_with_row : {A B : Type 0} (f : A → B) (s : A → ℕ) (rows : List A) (n : ℕ) (x : A)
     → ((r : A) → row_of s rows n ≡ Some r → f x ≡ f r) → map f (with_row s rows n x) ≡ map f rows
 map_with_row f s [] n x same = refl

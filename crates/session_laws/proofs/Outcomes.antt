@@ -1,4 +1,5 @@
--- Facts of outcomes: where a row is looked up, where checks come first, where a command is answered; and what comes of each event.
+-- Facts of outcomes: how rows are looked up, how checks come first, how commands are answered, and
+-- what comes of each event.
 use Rattle.std.proofs.Common.{◌≡◌, Bool, true, false, Option, Some, None, Ok, Err, Result, List, [], ◌∷◌, ◌++◌, ℕ, refl}
 use Rattle.std.proofs.Common.{ap, sym, ◌∙◌, subst}
 use Rattle.std.specs.Prelude.{if◌then◌else◌, ◌==◌, take, slice_get, unwrap_or}
@@ -50,14 +51,14 @@ pub passed : (P : Outcome → Type 0) (t : Tables) (vs : List Verdict) (o : Opti
 passed P t vs (Some r) reply d fails passes = fails r refl
 passed P t vs None reply d fails passes = passes refl
 
--- a command's answer
+-- the outcome of a command's answer
 pub by_answer : (P : Outcome → Type 0) (t : Tables) (vs : List Verdict) (a : Answer)
     → ((r : Refusal) → a ≡ Err r → P (refused t vs r))
     → ((d : Deed) → a ≡ Ok d → P (finished t vs (reply_of 0 0 0 d.lists) d)) → P (answered t vs a)
 by_answer P t vs (Ok d) fails works = works d refl
 by_answer P t vs (Err r) fails works = fails r refl
 
--- and that of a line
+-- the outcome of a command line
 pub by_line : (P : Outcome → Type 0) (t : Tables) (k : Caller) (known : Bool) (r : Result Order ParseFault)
     → ((vs : List Verdict) (f : Refusal) → P (refused t vs f))
     → ((c : Order) (d : Deed) → known ≡ true → r ≡ Ok c → first_fault t (checks t k c) ≡ None → does t k c ≡ Ok d
@@ -74,12 +75,12 @@ by_line P t k true (Ok c) fails works = on (first_fault t (checks t k c)) refl w
 
 -- ---- checks of plain facts
 
--- a check that asks for no bit and no lock
+-- a check that asks for neither a bit nor a lock
 abbrev pub IsMust : Check → Type 0
 IsMust (must fact r) = is_plain r ≡ true
 IsMust c = ⊥
 
--- nothing is noted of them
+-- such checks note nothing
 no_verdicts : (t : Tables) (cs : List Check) → AllByRecursion IsMust cs → verdicts t cs ≡ []
 no_verdicts t [] all = refl
 no_verdicts t (must fact r ∷ cs) all = on fact (no_verdicts t cs all.1) where
@@ -110,7 +111,7 @@ where_musts P t cs reply d all fails passes =
 
 -- ---- events that change one client's row
 
--- whose row, what is checked first, and what becomes of the row
+-- an event that changes one client's row: whose row, what is checked first, and how the row changes
 pub record Change : Type 0 where
   pub client : ℕ
   pub checks : List Check
@@ -120,16 +121,16 @@ abbrev resizing : ℕ → ℕ → ℕ → Change
 resizing client rows columns = record
     { client = client; checks = must (is_client_size rows columns) BadSize ∷ []; row = resized rows columns }
 
--- one row an event
+-- the change of each such event
 abbrev pub change_of : EventValue → Option Change
 change_of (Resize client rows columns) = Some (resizing client rows columns)
 change_of event = None
 
--- a client of whose draws nothing stands but, perhaps, the last view
+-- a client whose draws are forgotten, but perhaps for the last view
 abbrev pub undrawn : Bool → Client → Client
 undrawn keeps c = record c { delivered = []; drawn = if keeps then c.drawn else None }
 
--- the facts that laws ask for
+-- the facts of such a change that laws need
 pub record Changes (event : EventValue) (x : Change) : Type 0 where
   pub happens : (t : Tables)
       → outcome t event ≡ with_client_of t x.client
@@ -138,18 +139,18 @@ pub record Changes (event : EventValue) (x : Change) : Type 0 where
   pub serial : (c : Client) → (x.row c).serial ≡ c.serial
   pub user : (c : Client) → (x.row c).user ≡ c.user
   pub keys : (c : Client) → (x.row c).keys ≡ c.keys
-  -- the page shows no other window, and the same in focus
+  -- the page shows no other window, and the same window is in focus
   pub focus : (c : Client) → focused (x.row c) ≡ focused c
   pub shows : (has : ℕ → Bool) (c : Client) → AllByRecursion (Shows has) c.layout.shown
       → AllByRecursion (Shows has) (x.row c).layout.shown
-  -- what was delivered is forgotten where the terminal has another size
+  -- what was delivered is forgotten if the terminal has another size
   pub delivered : (c : Client) → c.serial ≡ x.client
       → (x.row c).delivered ≡ (if is_resize event done c.serial then [] else c.delivered)
   pub others : (n : ℕ) → (x.client == n) ≡ false → is_resize event done n ≡ false
-  -- and what was drawn makes no difference to the rest
+  -- the draws make no difference to the rest of the row
   pub drawn : (keeps : Bool) (c : Client) → x.row (undrawn keeps c) ≡ undrawn keeps (x.row c)
 
--- a page that has too little room keeps what is in focus
+-- a page that gets too small keeps the region in focus
 focus_alone : (o : Option Shown)
     → option_and_then (λ (s : Shown). s.window) (Some (unwrap_or o empty)) ≡ option_and_then (λ (s : Shown). s.window) o
 focus_alone None = refl
@@ -194,7 +195,7 @@ changes event x is = absurd (cc (is))
 
 -- ---- why an event is refused
 
--- by no right; or a check of its own failed, or its command refuses it
+-- why an event is refused: for a plain reason, because a check failed, or by its command
 pub data Refuses (t : Tables) : EventValue → List Verdict → Refusal → Type 0 where
   plainly : (event : EventValue) (r : Refusal) → is_plain r ≡ true → Refuses t event [] r
   unopened : (user : UserId) (rows columns keep : ℕ) (title : List ℕ) (r : Refusal)
@@ -209,11 +210,12 @@ pub data Refuses (t : Tables) : EventValue → List Verdict → Refusal → Type
 
 -- ---- what comes of each event
 
--- a window that is made has its serial and its number
+-- the reply for a new window has its serial and its number
 abbrev pub made_by : Window → Reply
 made_by w = reply_of 0 w.serial w.number None
 
--- A law of events is proved of each of these. What changes one client's row names no event.
+-- What comes of each event. A law of events is proved for each of these cases; the case of one
+-- changed client's row names no event.
 pub data Happens (t : Tables) : EventValue → Outcome → Type 0 where
   failed : (event : EventValue) (vs : List Verdict) (r : Refusal) → Refuses t event vs r
       → Happens t event (refused t vs r)
@@ -323,7 +325,7 @@ module _ (t : Tables) where
 
 -- ---- how a step ends
 
--- refused, or a deed that is done
+-- a step is refused, or its deed is done
 pub data Ends (t : Tables) : Outcome → Type 0 where
   refuses : (vs : List Verdict) (r : Refusal) → Ends t (refused t vs r)
   does_it : (vs : List Verdict) (done : Done) (d : Deed) → Ends t (finished t vs (Ok done) d)
@@ -374,7 +376,7 @@ makes_none t _ _ h is = absurd (cc (is))
 pub quiet : (t : Tables) (event : EventValue) → is_quiet event ≡ true → (outcome t event).effects ≡ []
 quiet t event is = makes_none t event (outcome t event) (happens t event) is
 
--- and which leave the windows as they are
+-- the events that leave the windows unchanged
 abbrev pub leaves_windows : EventValue → Bool
 leaves_windows (Keys client bytes) = false
 leaves_windows (Command user number bytes) = false

@@ -1,4 +1,4 @@
--- Where the checks of a command passed, its x is there.
+-- If the checks of a command passed, x on it and on its window is granted.
 use Rattle.std.proofs.Common.{◌≡◌, Bool, true, false, not, List, [], ◌∷◌, ◌++◌, Option, Some, None, refl}
 use Rattle.std.specs.Prelude.{if◌then◌else◌, ◌||◌}
 use Rattle.std.specs.Option.{option_map, is_some}

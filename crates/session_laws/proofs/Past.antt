@@ -1,4 +1,4 @@
--- The rows of clients after a step: keys and deliveries of the step stand behind those before it.
+-- A client's row after a step: the keys and the deliveries of the step follow those before it.
 use Rattle.std.proofs.Common.{◌≡◌, ℕ, ◌<◌, Bool, true, false, List, [], ◌∷◌, ◌++◌, Option, Some, None, Ok, Err, Result}
 use Rattle.std.proofs.Common.{refl, ap, sym, ◌∙◌, subst, inl, inr, ⊎_elim, arith}
 use Rattle.std.specs.Prelude.{if◌then◌else◌, ◌==◌}
@@ -27,7 +27,7 @@ use Rattle.session_laws.specs.Entries.{keys_read, is_resize, delivered_by}
 use Rattle.session_laws.proofs.Inputs.{append_nil}
 use Rattle.session_laws.proofs.Lists.{all_weaken, some_weaken, equal}
 use Rattle.session_laws.proofs.Doing.{Either}
-use Rattle.session_laws.proofs.Saying.{never_delivers}
+use Rattle.session_laws.proofs.EffectsCaused.{never_delivers}
 use Rattle.session_laws.proofs.Settling.{told_same}
 use Rattle.session_laws.proofs.Unread.{typing_told}
 use Rattle.session_laws.proofs.Keeping.{core, Keeps, keeps_same, keeps_client, keeps_then, keeps}
@@ -42,7 +42,7 @@ GoesOn event reply effects c d =
 abbrev pub AllGoOn : EventValue → Reply → List Effect → List Client → List Client → Type 0
 AllGoOn event reply effects cs ds = AllByRecursion (λ d. SomeOf (λ c. GoesOn event reply effects c d) cs) ds
 
--- where nothing was read or delivered
+-- if nothing was read or delivered
 module _ (event : EventValue) (reply : Reply) (effects : List Effect) (c d : Client)
     (unread : keys_read event reply c.serial ≡ []) (same_size : is_resize event reply c.serial ≡ false)
     (undelivered : deliveries effects c.serial ≡ []) where
@@ -65,7 +65,7 @@ all_go_on event reply effects cs ds unread same_size undelivered kept =
     (λ c same. goes_on event reply effects c d (unread c.serial) (same_size c.serial) (undelivered c.serial) same)
     some) kept
 
--- one row in place of another, and the others as they were
+-- one row replaces another, and the others are unchanged
 module _ (F : Client → Client → Type 0) (c x : Client)
     (own : (d : Client) → core x ≡ core d → F c d)
     (others : (r : Client) → (r.serial == c.serial) ≡ false → (d : Client) → core r ≡ core d → F r d) where
@@ -180,7 +180,7 @@ item_keeps v d (Some (bound order)) = order_keeps v d order
 item_keeps v d (Some (line [])) = keeps_same v.clients
 item_keeps v d (Some (line (b ∷ bs))) = read_keeps v d (read_line (b ∷ bs))
 
--- typing, and then a command
+-- typed bytes, and then a command
 pub keys_keep : (u : Tables) (d : Client) (bytes : List ℕ) (item : Option Item)
     → Keeps u.clients (ordered (types u d bytes).tables d item).deed.tables.clients
 keys_keep u d bytes item =

@@ -5,10 +5,10 @@ use Rattle.session_model.specs.Tables.{Tables, fresh}
 use Rattle.session_model.specs.Run.{IsStep, IsRun, IsRunFrom, tables_from}
 use Rattle.session_model.specs.Keeps.{KeepsPromise, KeepsPromises, KeepsPromisesFrom}
 use Rattle.session_laws.proofs.Reaching.{reach}
-use Rattle.session_laws.proofs.Telling.{told}
+use Rattle.session_laws.proofs.DenialsTold.{told}
 use Rattle.session_laws.proofs.Granting.{commands}
 use Rattle.session_laws.proofs.Refusing.{refusals, draws}
-use Rattle.session_laws.proofs.Saying.{denials, frames, no_other}
+use Rattle.session_laws.proofs.EffectsCaused.{denials, frames, no_other}
 
 pub step_keeps : (t : Tables) (e : Entry) → IsStep t e → KeepsPromise t e
 step_keeps t e step = record {

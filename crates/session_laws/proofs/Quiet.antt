@@ -1,4 +1,4 @@
--- Which commands put bytes into windows: stuff alone.
+-- Only the command `stuff` puts bytes into windows.
 use Rattle.std.proofs.Common.{◌≡◌, ℕ, Bool, true, false, not, List, [], ◌∷◌, ◌++◌, Option, Some, None, Ok, Err, map}
 use Rattle.std.proofs.Common.{filter, refl, ap, sym, ◌∙◌, true≢false}
 use Rattle.std.specs.Prelude.{◌==◌, codes}
@@ -17,7 +17,7 @@ use Rattle.session_model.specs.Tables.{Tables, Window, Client}
 use Rattle.session_laws.proofs.Doing.{Either}
 use Rattle.session_laws.proofs.Shapes as shapes
 
--- a fact of the deed, where there is one
+-- a fact of the deed, if there is one
 abbrev pub Of : (Deed → Type 0) → Answer → Type 0
 Of P (Ok d) = P d
 Of P (Err r) = Unit {0}

@@ -1,4 +1,4 @@
--- Typed bytes reach windows by rights and locks.
+-- Typed bytes reach a window exactly by rights and locks.
 use Rattle.std.proofs.Common.{◌≡◌, ℕ, Bool, true, false, not, List, [], ◌∷◌, ◌++◌, Option, Some, None, Ok, Err, Result}
 use Rattle.std.proofs.Common.{refl, ap, sym, ◌∙◌, filter, arith, length}
 use Rattle.std.specs.Prelude.{if◌then◌else◌, ◌==◌, ◌&&◌, ◌||◌, take, MatchOption}
@@ -88,7 +88,7 @@ typing t c (b ∷ bytes) w = on (focused_window t c) where
   on (Some v) = typing_in t c v w b bytes (may_in t c.user Write (object.Window v.serial))
       (stops_nobody_but c.user (holder_in t v.serial)) _ _
 
--- what typing leaves: the tables, or one client's row changed
+-- typing leaves the tables unchanged, or with one client's row changed
 pub typing_leaves : (P : Tables → Type 0) (t : Tables) (c : Client) (bytes : List ℕ) → P t
     → ((d : Client) → P (with_client t d)) → P (types t c bytes).tables
 typing_leaves P t c [] here changed = here

@@ -1,4 +1,4 @@
--- What is refused changes nothing; what is drawn shows the view.
+-- A step that is refused changes nothing, and what is drawn shows the view.
 use Rattle.std.proofs.Common.{◌≡◌, ℕ, ◌++◌, false, List, [], Option, Some, None, refl, ap, sym, ◌∙◌, subst}
 use Rattle.std.specs.Prelude.{MatchOption, is_ok}
 use Rattle.terminal_model.specs.Shows.{ShowsFromAny}
@@ -27,7 +27,7 @@ unchanged_end t o (outcomes.does_it vs y d) err = absurd (cc (err))
 unchanged : (t : Tables) (event : EventValue) → Still t (outcome t event)
 unchanged t event = unchanged_end t (outcome t event) (outcomes.ends t event)
 
--- a Draw that is refused has err client
+-- a Draw is refused only if its client isn't there
 draw_refused : (t : Tables) (effects : List Effect) (o : Option Client)
     → MatchOption o (effects ≡ []) (IsDraw t effects)
     → is_ok (elim o as (λ _. Outcome) [ None ↦ refused t [] NoWindow | Some c ↦ finished t [] done (changing t) ]).reply

@@ -1,4 +1,4 @@
--- Which windows and clients there are after each event.
+-- Each event moves windows and clients as `Moves` says, unless it brings new ones.
 use Rattle.std.proofs.Common.{◌≡◌, ℕ, Bool, true, false, not, List, [], ◌∷◌, ◌++◌, Option, Some, None, Ok, Err, Result}
 use Rattle.std.proofs.Common.{refl, ap, sym, ◌∙◌, subst, map, filter, length, take, arith, append_assoc}
 use Rattle.std.specs.Prelude.{if◌then◌else◌, ◌==◌, ◌||◌}
@@ -37,16 +37,16 @@ use Rattle.session_model.specs.Deeds.{input_of}
 use Rattle.session_model.specs.Events.{outcome}
 use Rattle.session_model.specs.Sound.{AreSound}
 use Rattle.session_laws.proofs.Lists.{row_serial, itself, equal}
-use Rattle.session_laws.proofs.Numbers.{serial_of, Differ}
+use Rattle.session_laws.proofs.DifferentNumbers.{serial_of, Differ}
 use Rattle.session_laws.proofs.Doing.{Either}
 use Rattle.session_laws.proofs.Moving.{AllAside, Moves, DeedMoves, id_of, ids, serials, closed, parted, stays}
 use Rattle.session_laws.proofs.Moving.{aside_append}
-use Rattle.session_laws.proofs.Rows.{client_ids, moves, only_parts, closes_moves, same_window, input_few}
+use Rattle.session_laws.proofs.CommandMoves.{client_ids, moves, only_parts, closes_moves, same_window, input_few}
 use Rattle.session_laws.proofs.Unread.{SameClients, typing_clients, row_at}
-use Rattle.session_laws.proofs.Lasting.{differ}
+use Rattle.session_laws.proofs.SoundMoves.{differ}
 use Rattle.session_laws.proofs.Outcomes as outcomes
 
--- ---- leaving is aside
+-- ---- leaving a window is an act aside
 
 pub left_aside : (before after : List Client) → AllAside (left_acts before after)
 left_aside [] after = tt
@@ -59,7 +59,7 @@ left_aside (c ∷ before) after = aside_append (left_acts_of c (focused c) befor
         on true = tt
         on false = (refl, tt)
 
--- what an outcome moves
+-- the outcome moves windows and clients
 abbrev pub MovesTo : Tables → Outcome → Type 0
 MovesTo t o = Moves t o.tables o.acts 0
 
@@ -96,7 +96,7 @@ told_same P w client m here changed = on (client_at w client) refl where
   on None is = here
   on (Some c) is = changed c is
 
--- the same clients in the end
+-- the clients at the end are the same
 same_ids : (t u v : Tables) (acts : List Act) (n k : ℕ) → Moves t u acts n → serials v ≡ serials u
     → v.windows ≡ u.windows → ids v ≡ ids u → v.next_window ≡ u.next_window → v.next_client ≡ u.next_client
     → k ≡ 0 → Moves t v acts k
@@ -162,7 +162,7 @@ item_moves v d (Some (bound order)) = order_moves v d order
 item_moves v d (Some (line [])) = still_moves v
 item_moves v d (Some (line (b ∷ bs))) = read_moves v d (read_line (b ∷ bs))
 
--- the same clients in the beginning
+-- the clients at the beginning are the same
 ids_unread : (cs : List Client) → map id_of cs ≡ map id_of (map unread cs)
 ids_unread [] = refl
 ids_unread (c ∷ cs) = ap (λ ps. id_of c ∷ ps) (ids_unread cs)
@@ -233,7 +233,7 @@ pub deed_moves : (t : Tables) (a : Answer) (d : Deed) → a ≡ Ok d → Either 
 deed_moves t (Ok e) d is m = let same : e ≡ d = cc (is) in subst (DeedMoves t) same m
 deed_moves t (Err r) d is m = absurd (cc (is))
 
--- ---- all events but those that bring something new
+-- ---- all events but those that bring a new window or client
 
 abbrev pub is_new : EventValue → Bool
 is_new (Attach user rows columns) = true

@@ -1,5 +1,7 @@
--- What kind of deed each command does: one row a command. A fact of deeds is proved once a kind.
--- What only one command does names it by an equation: a match on the command would want each again.
+-- Which kind of deed each command does, command by command. A fact of deeds is then proved once for
+-- each kind.
+-- A kind that only one command does names that command by an equation: a match on the command would
+-- have to be made again for each of them.
 use Rattle.std.proofs.Common.{◌≡◌, ℕ, ◌-◌, true, false, not, List, [], ◌∷◌, ◌++◌, Option, Some, None, Ok, Err, refl, ap}
 use Rattle.std.specs.Prelude.{◌==◌, slice_get, codes}
 use Rattle.std.specs.Option.{option_map, option_map_or, option_and_then}
@@ -47,7 +49,7 @@ use Rattle.session_laws.proofs.Showing.{remove_all, set_all, get_all}
 
 -- ---- acts
 
--- Acts on rights and locks, which a command has where there is no fault.
+-- Acts on rights and locks, as a command without a fault has them.
 pub data Acted (t : Tables) (k : Caller) (c : Order) : List Act → Type 0 where
   added : (names : Users) (all : List Object) → c ≡ command.Acladd names
       → change_fault t.owner (known_users t) (names_of t names) ≡ None
@@ -76,11 +78,12 @@ acted_rights t k c acts (preset mode is) = (refl, tt)
 
 -- ---- the kinds
 
--- it writes to no window, and isn't one on rights
+-- the command writes to no window, and isn't one on rights
 abbrev pub IsOfPages : Order → Type 0
 IsOfPages c = (order_writing c ≡ []) × ((needs c).multiuser ≡ false)
 
--- A command's deed in these tables, for this caller. What only one command does names it.
+-- A command's deed in these tables, for this caller. A kind that only one command does names the
+-- command.
 pub data Shape (t : Tables) (k : Caller) (c : Order) : Deed → Type 0 where
   lists : (bytes : List ℕ) → order_writing c ≡ [] → told_by t (giving k c) c ≡ Some bytes
       → Shape t k c (listing t bytes)
@@ -131,7 +134,7 @@ module _ (t : Tables) (k : Caller) where
       → Either (Shape t k c) (given k.window NoWindow f)
   on_own c f on = by_given (Shape t k c) k.window NoWindow f refl on
 
-  -- the region in focus shows a window that is found
+  -- the region in focus shows a window that is found by a number or title
   shows_found : (c : Order) (o : Client → Option Window) (r : Refusal) → is_plain r ≡ true → IsOfPages c
       → ((d : Client) (w : Window) → o d ≡ Some w → IsThere t.windows w)
       → Either (Shape t k c) (on_client t k (λ d. given (o d) r (λ w. Ok (selects t d w))))
@@ -202,7 +205,7 @@ module _ (t : Tables) (k : Caller) where
   shape command.Kill = on_own _ _ (λ w at. killed w refl at)
   shape command.Quit = quits refl
 
--- a fact of each kind is one of each command's deed
+-- if a fact holds for each kind of deed, it holds for each command's deed
 pub by_shape : (P : Deed → Type 0) (t : Tables) (k : Caller) (c : Order) → ((d : Deed) → Shape t k c d → P d)
     → Either P (does t k c)
 by_shape P t k c on = through (does t k c) (shape t k c) where
@@ -210,6 +213,6 @@ by_shape P t k c on = through (does t k c) (shape t k c) where
   through (Ok d) is = on d is
   through (Err r) is = is
 
--- nothing but its own refusals stands in the place of its deed
+-- a command that does no deed is refused for a reason of its own
 pub own : (t : Tables) (k : Caller) (c : Order) → Either (λ d. Unit {0}) (does t k c)
 own t k c = by_shape (λ d. Unit {0}) t k c (λ d is. tt)

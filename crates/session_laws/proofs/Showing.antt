@@ -12,7 +12,7 @@ use Rattle.session_model.specs.Naming.{with_number, lower, lowest, higher, highe
 use Rattle.session_model.specs.Naming.{window_before}
 use Rattle.session_model.specs.Promises.{SomeOf}
 use Rattle.session_laws.proofs.Lists.{all_append, some_row}
-use Rattle.session_laws.proofs.Numbers.{serial_of}
+use Rattle.session_laws.proofs.DifferentNumbers.{serial_of}
 
 -- ---- lists
 
@@ -135,11 +135,11 @@ at_there t (Some n) w is = some_row serial_of t.windows n w is
 
 -- ---- what a page shows
 
--- a region shows a window of these, or nothing
+-- a region shows one of these windows, or nothing
 abbrev pub Shows : (ℕ → Bool) → Shown → Type 0
 Shows has s = MatchOption s.window (Unit {0}) (λ n. has n ≡ true)
 
--- this page shows no window but open ones and those that the client's page shows
+-- the page shows only open windows and those that the client's page showed
 abbrev pub ShowsNoOther : Tables → Client → Arrangement → Type 0
 ShowsNoOther t c l = (has : ℕ → Bool) → ((w : Window) → IsThere t.windows w → has w.serial ≡ true)
     → AllByRecursion (Shows has) c.layout.shown → AllByRecursion (Shows has) l.shown

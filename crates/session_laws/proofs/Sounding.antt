@@ -1,4 +1,4 @@
--- Tables stay sound.
+-- After each event, the tables are sound.
 use Rattle.std.proofs.Common.{◌≡◌, ℕ, ◌+◌, ◌<◌, ◌≤◌, ◌^◌, Bool, true, List, [], ◌∷◌, ◌++◌, Option, Some, None, refl, ap}
 use Rattle.std.proofs.Common.{sym, ◌∙◌, subst, map, length, arith}
 use Rattle.std.specs.Prelude.{◌&&◌, nat_lt, is_some}
@@ -26,11 +26,11 @@ use Rattle.session_model.specs.Granted.{granted_view}
 use Rattle.session_model.specs.Run.{drawn, drawn_on, with_drawn, tables_from}
 use Rattle.session_model.specs.Sound.{Rises, AreSound, client_serials, window_serials}
 use Rattle.session_laws.proofs.Lists.{and_first}
-use Rattle.session_laws.proofs.Numbers.{more_numbers, number_free}
+use Rattle.session_laws.proofs.DifferentNumbers.{more_numbers, number_free}
 use Rattle.session_laws.proofs.Passing.{behind, first_passes}
 use Rattle.session_laws.proofs.Moving.{id_of, ids}
-use Rattle.session_laws.proofs.Rows.{length_append, client_ids, length_ids}
-use Rattle.session_laws.proofs.Lasting.{rise_next, moved_sound, client_firsts, firsts}
+use Rattle.session_laws.proofs.CommandMoves.{length_append, client_ids, length_ids}
+use Rattle.session_laws.proofs.SoundMoves.{rise_next, moved_sound, client_firsts, firsts}
 use Rattle.session_laws.proofs.Settling.{moving}
 use Rattle.session_laws.proofs.Unread.{row_at}
 use Rattle.session_laws.proofs.Outcomes as outcomes
@@ -45,7 +45,7 @@ one_more xs x most less =
     let lt : length xs < most = grind (arith, nat_tests, less) in
     omega (arith, sum, lt)
 
--- where a list of checks passes, so does the last of some
+-- if a list of checks passes, so does each fact in it
 pub check_passed : (t : Tables) (cs ds : List Check) (b : Bool)
     (r : Rattle.session_model.specs.declared.refusal.Refusal.Refusal) → first_fault t (cs ++ must b r ∷ ds) ≡ None
     → b ≡ true

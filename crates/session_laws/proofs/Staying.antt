@@ -1,4 +1,4 @@
--- Tables stay fit.
+-- After each event, the tables are fit.
 use Rattle.std.proofs.Common.{◌≡◌, ℕ, zero, suc, ◌+◌, ◌<◌, Bool, true, false, List, [], ◌∷◌, ◌++◌, Option, Some, None}
 use Rattle.std.proofs.Common.{Ok, Err, Result, refl, ap, sym, ◌∙◌, subst, map, take, find, arith}
 use Rattle.std.specs.Prelude.{if◌then◌else◌, ◌==◌, ◌||◌, MatchOption, unwrap_or, not}
@@ -33,18 +33,18 @@ use Rattle.session_model.specs.Run.{drawn, drawn_on, with_drawn, after, tables_f
 use Rattle.session_model.specs.Promises.{unread}
 use Rattle.session_model.specs.Sound.{IsOpen, ShowsOpen, AreFit}
 use Rattle.session_laws.proofs.Lists.{all_weaken, all_append, all_map, all_filter}
-use Rattle.session_laws.proofs.Numbers.{serial_of}
+use Rattle.session_laws.proofs.DifferentNumbers.{serial_of}
 use Rattle.session_laws.proofs.Doing.{Either}
 use Rattle.session_laws.proofs.Moving.{serials}
 use Rattle.session_laws.proofs.Unread.{SameClients, typing_clients}
 use Rattle.session_laws.proofs.Settling.{told_same}
-use Rattle.session_laws.proofs.Agreeing.{has, has_row, has_append}
+use Rattle.session_laws.proofs.ActsOfMoves.{has, has_row, has_append}
 use Rattle.session_laws.proofs.Sounding.{lasting, map_append, fresh_sound}
-use Rattle.session_laws.proofs.Noting.{acts_agree, fresh_agrees}
-use Rattle.session_laws.proofs.Small.{is_small, is_small_order, read_small, keys_small}
+use Rattle.session_laws.proofs.ActsOfRuns.{acts_agree, fresh_agrees}
+use Rattle.session_laws.proofs.SmallNumbers.{is_small, is_small_order, read_small, keys_small}
 use Rattle.session_laws.proofs.Showing.{lowest_there, number_there, at_there, some_has}
-use Rattle.session_laws.proofs.Fitting.{ShowsIn, PageIn, IsBelow, Holds, holds_client, holds_window, holds_closed}
-use Rattle.session_laws.proofs.Fitting.{holds, page_of, has_there}
+use Rattle.session_laws.proofs.FitCommands.{ShowsIn, PageIn, IsBelow, Holds, holds_client, holds_window, holds_closed}
+use Rattle.session_laws.proofs.FitCommands.{holds, page_of, has_there}
 use Rattle.session_laws.proofs.Outcomes as outcomes
 
 -- ---- messages
@@ -88,7 +88,7 @@ item_holds v d (Some (line [])) small h = h
 item_holds v d (Some (line (b ∷ bs))) small h = read_holds v d (read_line (b ∷ bs))
     (λ order is. read_small (b ∷ bs) order is) h
 
--- the same clients, but for keys and messages, have the same pages
+-- the same clients, keys and messages aside, have the same pages
 pages_read : (ns : List ℕ) (cs : List Client) → AllByRecursion (PageIn ns) (map unread cs)
     → AllByRecursion (PageIn ns) cs
 pages_read ns [] all = tt
@@ -149,7 +149,7 @@ opened t user w below h = record {
 abbrev HoldsIn : Outcome → Type 0
 HoldsIn o = Holds o.tables
 
--- whatever the acts are
+-- the facts hold for any acts
 by_deed : (u v : Tables) → v.windows ≡ u.windows → v.clients ≡ u.clients → Holds u → Holds v
 by_deed u v windows clients h = record {
   numbers = subst (AllByRecursion IsBelow) (sym windows) h.numbers;

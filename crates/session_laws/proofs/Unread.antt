@@ -1,4 +1,4 @@
--- Keys that are read, and messages, change nothing else of the clients.
+-- Reading keys, and messages, change nothing else of the clients.
 use Rattle.std.proofs.Common.{◌≡◌, ℕ, Bool, true, false, List, [], ◌∷◌, ◌++◌, Option, Some, None, refl, ap, sym, ◌∙◌}
 use Rattle.std.proofs.Common.{map, subst}
 use Rattle.std.specs.Prelude.{if◌then◌else◌, ◌==◌, ◌||◌, codes}
@@ -42,7 +42,7 @@ read_row (r ∷ cs) s c d is same = on (r.serial == s) is (read_row cs s c d) wh
 pub row_at : (t : Tables) (s : ℕ) (c : Client) → client_at t s ≡ Some c → client_at t c.serial ≡ Some c
 row_at t s c is = ap (client_at t) (row_serial (λ (x : Client). x.serial) t.clients s c is) ∙ is
 
--- the same clients, but for keys and messages
+-- the same clients, keys and messages aside
 abbrev pub SameClients : Tables → List Client → Type 0
 SameClients t cs = map unread cs ≡ map unread t.clients
 
@@ -69,7 +69,7 @@ typing_told P t c (b ∷ bytes) here changed = on (first_fault t (typing_checks 
   on None = here
   on (Some r) = on_row (Text (text_of r)) (client_at t c.serial) refl
 
--- the clients that typing leaves, once keys were read
+-- the clients that typing leaves, after keys were read
 pub typing_clients : (P : Tables → Type 0) (t : Tables) (s : ℕ) (c d : Client) (bytes : List ℕ) → client_at t s ≡ Some c
     → unread d ≡ unread c → d.serial ≡ c.serial
     → ((cs : List Client) → SameClients t cs → P (record t { clients = cs }))
@@ -100,7 +100,7 @@ left_same (c ∷ before) a b same = ap (λ acts. acts ++ left_acts before a) (on
           (λ x. if is_in_focus before c.user w || x then (let none : List Act = [] in none) else Left c.user w ∷ [])
           (same c.user w)
 
--- whoever reads keys leaves nothing
+-- reading keys makes no user leave a window
 pub left_unread : (before a b : List Client) → map unread a ≡ map unread b → left_acts before a ≡ left_acts before b
 left_unread before a b is = left_same before a b
     (λ user w. focus_unread a user w ∙ ap (λ cs. is_in_focus cs user w) is ∙ sym (focus_unread b user w))
@@ -110,7 +110,7 @@ nobody_left before a is = left_same before a before
     (λ user w. focus_unread a user w ∙ ap (λ cs. is_in_focus cs user w) is ∙ sym (focus_unread before user w))
     ∙ none_left before
 
--- ---- what commands do is the same
+-- ---- what commands do doesn't depend on keys and messages
 
 items_unread : (t : Tables) (cs : List Client) → map (client_item t) cs ≡ map (client_item t) (map unread cs)
 items_unread t [] = refl

@@ -1,4 +1,4 @@
--- What the entries of a trace say of a client, apart from the tables.
+-- What the entries of a trace say of a client's keys and deliveries, without the tables.
 use Rattle.std.specs.Prelude.{◌≡◌, ℕ, Bool, false, ◌==◌, List, [], ◌∷◌, ◌++◌, Ok, Some}
 use Rattle.std.specs.Prelude.{if◌then◌else◌, take}
 use Rattle.session_model.specs.declared.event.Effect.{Effect}
@@ -21,7 +21,7 @@ abbrev pub is_resize : EventValue → Reply → ℕ → Bool
 is_resize (Resize at rows columns) (Ok done) client = at == client
 is_resize event reply client = false
 
--- all that was delivered to a client since it attached or last changed its size
+-- everything that was delivered to a client since it attached or last changed its size
 abbrev pub delivered_by : EventValue → Reply → List Effect → ℕ → List ℕ → List ℕ
 delivered_by event reply effects client before =
     (if is_resize event reply client then [] else before) ++ deliveries effects client
@@ -31,7 +31,7 @@ all_delivered [] client = []
 all_delivered (e ∷ past) client =
     delivered_by e.event e.reply e.effects client (all_delivered past client)
 
--- the tables of a run have just these
+-- the clients of a run have exactly these keys and deliveries
 abbrev pub ClientsAreRemembered : Type 0
 ClientsAreRemembered = (h : Trace) → IsRun h → (client : ℕ) (c : Client) →
     client_at (tables_of h) client ≡ Some c →

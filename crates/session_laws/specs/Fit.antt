@@ -1,4 +1,4 @@
--- Tables stay as those of each run are.
+-- Tables that are fit stay fit.
 use Rattle.acl.specs.declared.edition.Edition.{Edition}
 use Rattle.acl.specs.declared.user_id.UserId.{UserId}
 use Rattle.session_model.specs.Trace.{Entry, Trace}
@@ -6,7 +6,7 @@ use Rattle.session_model.specs.Tables.{Tables, fresh}
 use Rattle.session_model.specs.Sound.{AreFit}
 use Rattle.session_model.specs.Run.{after, tables_of}
 
--- new tables are fit, those after each step, and those of each run
+-- new tables are fit, and so are the tables after each step and in each run
 abbrev pub FreshIsFit : Type 0
 FreshIsFit = (edition : Edition) (owner : UserId) → AreFit (fresh edition owner)
 

@@ -9,13 +9,13 @@ use Rattle.session_model.specs.Trace.{EventValue, Attach, Keys, Reply, Entry, Tr
 use Rattle.session_model.specs.Tables.{Client, client_at, focused}
 use Rattle.session_model.specs.Run.{IsRun, tables_of}
 
--- who enters a window by some acts, and which
+-- the user who enters a window by these acts, and the window; the last one counts
 abbrev pub entered_by : List Act → Option (UserId × ℕ)
 entered_by [] = None
 entered_by (act.Entered user window ∷ acts) = Some (user, window)
 entered_by (_ ∷ acts) = entered_by acts
 
--- whether a step is a client's own: it attached then, or gave keys
+-- whether a step is a client's own: the client attached by it, or gave keys
 abbrev pub is_own_step : EventValue → Reply → ℕ → Bool
 is_own_step (Attach user rows columns) (Ok done) client = done.made == client
 is_own_step (Keys at bytes) reply client = at == client
@@ -25,13 +25,14 @@ abbrev pub entered_in : EventValue → Reply → List Act → ℕ → Option (Us
 entered_in event reply acts client =
     if is_own_step event reply client then entered_by acts else None
 
--- what was entered last by a client's own steps
+-- the window that a client's own steps entered last, and its user
 abbrev pub last_entered : List Entry → ℕ → Option (UserId × ℕ)
 last_entered [] client = None
 last_entered (e ∷ past) client =
     option_or (entered_in e.event e.reply e.acts client) (last_entered past client)
 
--- the window in a client's focus, if there is one, is what its user entered last by its own steps
+-- the window in a client's focus, if there is one, is the one that its user entered last by the
+-- client's own steps
 abbrev pub FocusIsEntered : Type 0
 FocusIsEntered = (h : Trace) → IsRun h → (client : ℕ) (c : Client) →
     client_at (tables_of h) client ≡ Some c → (window : ℕ) → focused c ≡ Some window →

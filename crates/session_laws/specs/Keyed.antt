@@ -1,4 +1,4 @@
--- A command that keys complete does its row, or it is said why not.
+-- What a step of keys does, by the command that the keys complete.
 use Rattle.std.specs.Prelude.{◌≡◌, ℕ, true, List, [], ◌∷◌, ◌++◌, Option, Some, None, Ok, Err, take}
 use Rattle.std.specs.List.{AllByRecursion}
 use Rattle.acl.specs.History.{followed_by}
@@ -22,13 +22,13 @@ use Rattle.session_model.specs.Given.{Given, commands_of, has_x}
 use Rattle.session_model.specs.Promises.{SomeOf}
 use Rattle.session_model.specs.Run.{IsStep, after}
 
--- what a step of keys types, on the tables where they were read
+-- what the keys of a step type, on the tables in which they were read
 abbrev pub typing : Tables → Client → List ℕ → Deed
 typing t c bytes =
     let d : Client = reading (take (taken c.keys bytes) bytes) c in
     types (with_client t d) d (typed_bytes (step_items c bytes))
 
--- what a command lists is said to its client, and is its message
+-- what a command lists is said to its client, and becomes its message
 abbrev pub listed : ℕ → Option (List ℕ) → List Effect
 listed client None = []
 listed client (Some bytes) = Say client bytes ∷ []
@@ -41,8 +41,8 @@ abbrev pub IsSaid : Entry → ℕ → Option (List ℕ) → Type 0
 IsSaid e client None = Unit {0}
 IsSaid e client (Some bytes) = SomeOf (λ f. f ≡ Say client bytes) e.effects
 
--- behind what was typed the row was done: its acts, and then users left windows; its effects and
--- what it lists, but for what was said before; and its tables
+-- after what was typed, the command's row was done: its acts, followed by those of users who left
+-- windows; its effects and its list, without what was said before in the step; and its tables
 pub record DidItsRowByKeys
     (t : Tables) (e : Entry) (c : Client) (typed : Deed) (g : Given) (deed : Deed) : Type 0 where
   pub granted : has_x t g ≡ true
@@ -56,7 +56,7 @@ pub record DidItsRowByKeys
         acts = followed_by t.acts e.acts;
       }
 
--- behind what was typed nothing was done, and the refusal is said
+-- after what was typed, nothing more was done, and the refusal is said
 pub record WasRefusedByKeys
     (t : Tables) (e : Entry) (c : Client) (typed : Deed) (r : Refusal) : Type 0 where
   pub acts : e.acts ≡ []
@@ -79,7 +79,7 @@ pub record WasTypedAlone (t : Tables) (e : Entry) (typed : Deed) : Type 0 where
   pub effects : e.effects ≡ typed.effects
   pub tables : after t e ≡ record typed.tables { acts = followed_by t.acts e.acts }
 
--- a line of the prompt that is no command is refused; an empty one does nothing, and neither do
+-- a line of the prompt that is no command is refused; an empty line does nothing, and neither do
 -- keys that complete nothing
 abbrev pub IsNoCommand : Tables → Entry → Client → Deed → Option Item → Type 0
 IsNoCommand t e c typed (Some (bound order)) = Unit {0}
@@ -89,7 +89,7 @@ IsNoCommand t e c typed (Some (line (b ∷ bytes))) = elim (read_line (b ∷ byt
 ]
 IsNoCommand t e c typed _ = WasTypedAlone t e typed
 
--- by the row on the tables that typing left
+-- the command is answered by its row, on the tables that typing left
 pub record KeysAreAnswered (t : Tables) (e : Entry) (c : Client) (bytes : List ℕ) : Type 0 where
   pub command :
       AllByRecursion (λ g. IsAnswered t e c (typing t c bytes) g
@@ -101,6 +101,6 @@ KeysDidTheirRow t e (Keys client bytes) =
     (c : Client) → client_at t client ≡ Some c → KeysAreAnswered t e c bytes
 KeysDidTheirRow t e _ = Unit {0}
 
--- a command that keys complete is granted and does its row, or it is said why not
+-- a command that keys complete is granted and does its row, or its client is told why not
 abbrev pub KeysDoTheirRows : Type 0
 KeysDoTheirRows = (t : Tables) (e : Entry) → IsStep t e → KeysDidTheirRow t e e.event

@@ -21,16 +21,16 @@ use Rattle.session_model.specs.Keeps.{KeepsPromise, KeepsPromises}
 use Rattle.session_model.specs.Sound.{AreSound, ActsAgree}
 use Rattle.acl.specs.History.{followed_by}
 
--- what is a step keeps the promise
+-- each step keeps the promise, for any tables
 abbrev pub StepsKeepPromise : Type 0
 StepsKeepPromise = (t : Tables) (e : Entry) → IsStep t e → KeepsPromise t e
 
--- and so does each step of a run
+-- each step of each run keeps the promise
 abbrev pub RunsKeepPromise : Type 0
 RunsKeepPromise = (h : Trace) → IsRun h → KeepsPromises h
 
--- serials rise and are never given again, numbers differ, and there are no more windows and
--- clients than may be
+-- serials rise and are never given again, window numbers differ, and there are no more windows and
+-- clients than allowed
 abbrev pub TablesStaySound : Type 0
 TablesStaySound = (t : Tables) (e : Entry) → AreSound t → AreSound (after t e)
 
@@ -41,7 +41,7 @@ RunsAreSound = (h : Trace) → AreSound (tables_of h)
 abbrev pub StepsAreFew : Type 0
 StepsAreFew = (t : Tables) (e : Entry) → AreSound t → IsStep t e → length e.effects ≤ 256
 
--- what is said isn't said again
+-- this effect, if it says something, isn't among the effects after it
 abbrev pub IsSaidOnce : Effect → List Effect → Type 0
 IsSaidOnce (Say client said) later = AllByRecursion (λ f. f ≡ Say client said → ⊥) later
 IsSaidOnce f later = Unit {0}
@@ -50,23 +50,23 @@ abbrev pub AreSaidOnce : List Effect → Type 0
 AreSaidOnce [] = Unit {0}
 AreSaidOnce (f ∷ effects) = IsSaidOnce f effects × AreSaidOnce effects
 
--- no client is told the same twice in a step
+-- no client is told the same text twice in a step
 abbrev pub StepsSayOnce : Type 0
 StepsSayOnce = (t : Tables) (e : Entry) → AreSound t → IsStep t e → AreSaidOnce e.effects
 
--- the acts of the tables are those of all entries
+-- the acts in the tables are the acts of all entries
 abbrev pub ActsAreNoted : Type 0
 ActsAreNoted = (t : Tables) (e : Entry) → IsStep t e → (after t e).acts ≡ followed_by t.acts e.acts
 
--- and they agree with the windows and clients of the tables
+-- the acts agree with the windows and clients of the tables
 abbrev pub ActsStayAgreed : Type 0
 ActsStayAgreed = (t : Tables) (e : Entry) → AreSound t → ActsAgree t → ActsAgree (after t e)
 
 abbrev pub RunsAgree : Type 0
 RunsAgree = (h : Trace) → ActsAgree (tables_of h)
 
--- a command of a line did its row: its acts, and then its users left windows; its effects; what it
--- lists; and its tables
+-- a command line did its row: its acts, followed by those of users who left windows; its effects;
+-- its list; and its tables
 pub record DidItsRow (t : Tables) (e : Entry) (done : Done) (g : Given) : Type 0 where
   pub granted : has_x t g ≡ true
   pub deed : Deed
@@ -81,16 +81,17 @@ LineDidItsRow t e (Command user number line) (Ok done) =
     SomeOf (DidItsRow t e done) (commands_of t (Command user number line))
 LineDidItsRow t e _ _ = Unit {0}
 
--- a Command that isn't refused is granted, and did its row
+-- a Command event that isn't refused is granted, and did its row
 abbrev pub CommandsDoTheirRows : Type 0
 CommandsDoTheirRows = (t : Tables) (e : Entry) → IsStep t e → LineDidItsRow t e e.event e.reply
 
--- a refusal, if it is one
+-- the refusal, if there is one
 abbrev pub refusal_in : {X : Type 0} → Result X Refusal → Option Refusal
 refusal_in (Ok x) = None
 refusal_in (Err r) = Some r
 
--- why a Command is refused: its user isn't known, its line is no command, or by its row
+-- why a Command event is refused: its user isn't known, its line is no command, or its command's
+-- row refuses it
 abbrev pub why_refused : Tables → UserId → Option ℕ → List ℕ → Option Refusal
 why_refused t user number line =
     if is_known t user then elim (read_line line) [
@@ -103,6 +104,6 @@ IsRefusedSo t e (Command user number line) =
     refusal_in e.reply ≡ why_refused t user number line
 IsRefusedSo t e event = Unit {0}
 
--- it is refused exactly so
+-- a Command event is refused exactly for these reasons
 abbrev pub CommandsAreRefusedSo : Type 0
 CommandsAreRefusedSo = (t : Tables) (e : Entry) → IsStep t e → IsRefusedSo t e e.event

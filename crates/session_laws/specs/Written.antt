@@ -15,13 +15,14 @@ use Rattle.session_model.specs.Commands.{coding_of}
 use Rattle.session_model.specs.Given.{Given, commands_of}
 use Rattle.session_model.specs.Run.{IsRun, tables_from, tables_of}
 
--- output of its program
+-- what the output of a window's program writes to it
 abbrev pub output_to : EventValue → Reply → ℕ → List Writing
 output_to (Output at bytes) (Ok done) window =
     if at == window then written.Output bytes ∷ [] else []
 output_to event reply window = []
 
--- a command that clears it, resets it or gives it a coding, where its checks pass
+-- what a command writes to its window, if its checks pass: it clears it, resets it or gives it a
+-- coding
 abbrev pub order_writing : Order → List Writing
 order_writing command.Clear = written.Clear ∷ []
 order_writing command.Reset = written.Reset ∷ []
@@ -38,14 +39,14 @@ given_writing t window g = elim (first_fault t (checks t g.caller g.order)) [
   | None ↦ if is_own g.caller.window window then order_writing g.order else []
 ]
 
--- a size that its program is told
+-- the sizes that a window's program is told
 abbrev pub sizes_of : List Effect → ℕ → List Writing
 sizes_of [] window = []
 sizes_of (Size at rows columns ∷ effects) window =
     (if at == window then written.Size rows columns ∷ [] else []) ++ sizes_of effects window
 sizes_of (_ ∷ effects) window = sizes_of effects window
 
--- what a step wrote, by the tables before it, and all steps
+-- what one step wrote to a window, by the tables before it; and what all steps wrote
 abbrev pub step_writing : Tables → EventValue → Reply → List Effect → ℕ → List Writing
 step_writing t event reply effects window =
     output_to event reply window
@@ -57,7 +58,7 @@ all_written start (e ∷ past) window =
     all_written start past window
     ++ step_writing (tables_from start past) e.event e.reply e.effects window
 
--- the windows of a run have just these
+-- the windows of a run have exactly these writings
 abbrev pub WindowsAreRemembered : Type 0
 WindowsAreRemembered = (h : Trace) → IsRun h → (window : ℕ) (w : Window) →
     window_at (tables_of h) window ≡ Some w →

@@ -1,4 +1,4 @@
--- What a command line and keys do.
+-- What a command line and a client's keys do.
 use Rattle.std.specs.Prelude.{ℕ, ◌==◌, Bool, false, not, ◌&&◌, List, [], ◌∷◌, ◌++◌, Option}
 use Rattle.std.specs.Prelude.{Some, None, Result, Ok, Err, filter, length}
 use Rattle.std.specs.List.{list_any}
@@ -40,7 +40,7 @@ commanded t r = answered t r.verdicts r.answer
 
 -- ---- keys
 
--- a client is told something
+-- the tables after a client was sent a message
 abbrev pub told : Tables → ℕ → Message → Tables
 told t client m = elim (client_at t client) [ None ↦ t | Some c ↦ with_client t (hearing m c) ]
 
@@ -48,15 +48,15 @@ abbrev pub says : Tables → ℕ → Message → List ℕ → Deed
 says t client m bytes =
     record (changing (told t client m)) { effects = Say client bytes ∷ [] }
 
--- a refusal is told
+-- the client that gave the keys is told why it was refused
 abbrev pub says_why : Tables → ℕ → Refusal → Deed
 says_why t client r = says t client (message.Text (text_of r)) (text_of r)
 
--- typed bytes go to the window in focus
+-- the effect of typed bytes: input for the window in focus
 abbrev pub input_in : Option Window → List ℕ → List Effect
 input_in focus bytes = option_map_or (λ (w : Window). Input w.serial bytes ∷ []) focus []
 
--- or the client is told why not
+-- typed bytes go to the window in focus, or the client is told why not
 abbrev pub types : Tables → Client → List ℕ → Deed
 types t c [] = changing t
 types t c (b ∷ bytes) = elim (first_fault t (typing_checks c.user (focused_window t c))) [
@@ -64,12 +64,12 @@ types t c (b ∷ bytes) = elim (first_fault t (typing_checks c.user (focused_win
   | None ↦ record (changing t) { effects = input_in (focused_window t c) (b ∷ bytes) }
 ]
 
--- which is checked once a step
+-- the verdicts of typed bytes: their checks are made once a step, if there are any bytes
 abbrev pub typing_verdicts : Tables → Client → List ℕ → List Verdict
 typing_verdicts t c [] = []
 typing_verdicts t c (b ∷ bytes) = verdicts t (typing_checks c.user (focused_window t c))
 
--- what a command lists is a message of its client; the lists of windows and of clients are made
+-- what a command lists becomes a message of its client; lists of windows and of clients are made
 -- anew at each draw
 abbrev pub message_of : Order → List ℕ → Message
 message_of command.Windows bytes = message.AllWindows
@@ -82,12 +82,13 @@ with_listed client as_message (Some bytes) d =
     let e : Deed = says d.tables client (as_message bytes) bytes in
     record e { acts = d.acts; effects = d.effects ++ e.effects }
 
--- so is a refusal
+-- what a command that came by keys does: it is done, with its list as a message; or the client is
+-- told its refusal
 abbrev pub keyed : Tables → ℕ → (List ℕ → Message) → Answer → Deed
 keyed t client as_message (Err r) = says_why t client r
 keyed t client as_message (Ok d) = with_listed client as_message d.lists d
 
--- the command or the line that the keys complete: its verdicts, and what comes of it
+-- what comes of the command or the line that keys complete: its verdicts and its deed
 pub record Ordered : Type 0 where
   pub verdicts : List Verdict
   pub deed : Deed
@@ -102,13 +103,13 @@ abbrev pub by_line : Tables → Client → Result Order ParseFault → Ordered
 by_line t c (Err f) = by_ruling t c message.Text (line_ruling t (caller_of t c) (Err f))
 by_line t c (Ok order) = by_ruling t c (message_of order) (ruling t (caller_of t c) order)
 
--- an empty line does nothing
+-- what comes of the item that keys complete; an empty line does nothing
 abbrev pub ordered : Tables → Client → Option Item → Ordered
 ordered t c (Some (bound order)) = by_line t c (Ok order)
 ordered t c (Some (line (b ∷ bytes))) = by_line t c (read_line (b ∷ bytes))
 ordered t c _ = record { verdicts = []; deed = changing t }
 
--- what was said to a client in this step isn't said again
+-- whether two effects say the same to the same client: what was said in a step isn't said again
 abbrev pub says_same : Effect → Effect → Bool
 says_same (Say a x) (Say b y) = (a == b) && bytes_eq x y
 says_same _ _ = false
@@ -116,11 +117,12 @@ says_same _ _ = false
 abbrev pub unsaid : List Effect → List Effect → List Effect
 unsaid said effects = filter (λ e. not (list_any (says_same e) said)) effects
 
--- the client, once it has read these keys: its message ends
+-- the client after it read these keys: its message ends
 abbrev pub reading : List ℕ → Client → Client
 reading bytes c = record c { keys = c.keys ++ bytes; message = message.Silence }
 
--- the typed bytes are one item, and the command or line is another
+-- the outcome of keys: their typed bytes are one item, and the command or line that they complete
+-- is another
 abbrev pub keys_outcome : Tables → Client → List ℕ → Outcome
 keys_outcome t c bytes =
     let given : List Item = items_behind c.keys bytes in

@@ -1,5 +1,5 @@
--- What is checked before something is done, in order. The first check that fails is the answer, and
--- nothing is done.
+-- What is checked before something is done. The checks are made in this order; if one fails, its
+-- refusal is the answer, and nothing is done.
 use Rattle.std.specs.Prelude.{ℕ, Bool, false, List, [], ◌∷◌, ◌++◌, Option, Some, None}
 use Rattle.std.specs.Prelude.{if◌then◌else◌}
 use Rattle.std.specs.Option.{option_map, is_some}
@@ -29,35 +29,35 @@ passes t (right user bit object) = may_in t user bit object
 passes t (unlocked user window) = stops_nobody_but user (holder_in t window)
 passes t (must fact refusal) = fact
 
--- what is noted of it: bits and locks alone
+-- the verdict that is noted of a check: only bits and locks have one
 abbrev pub verdict : Tables → Check → List Verdict
 verdict t (right user bit object) = Right user bit object (may_in t user bit object) ∷ []
 verdict t (unlocked user window) = Lock user window (holder_in t window) ∷ []
 verdict t (must fact refusal) = []
 
--- what is answered where it fails
+-- the refusal if the check fails
 abbrev pub refusal_of : Tables → Check → Refusal
 refusal_of t (right user bit object) = entry_denial t user bit object
 refusal_of t (unlocked user window) = lock_denial t window (holder_in t window)
 refusal_of t (must fact r) = r
 
--- the verdicts of checks, as far as they are made
+-- the verdicts of checks, up to the first that fails
 abbrev pub verdicts : Tables → List Check → List Verdict
 verdicts t [] = []
 verdicts t (c ∷ checks) = verdict t c ++ (if passes t c then verdicts t checks else [])
 
--- why the first one that fails is refused
+-- the refusal of the first check that fails
 abbrev pub first_fault : Tables → List Check → Option Refusal
 first_fault t [] = None
 first_fault t (c ∷ checks) = if passes t c then first_fault t checks else Some (refusal_of t c)
 
 -- ---- the checks of a command
 
--- the checks where something is needed
+-- these checks, if they are needed
 abbrev pub where_needed : Bool → List Check → List Check
 where_needed needed checks = if needed then checks else []
 
--- x on the window, then w, then its lock
+-- x on the window, then w on it, then its lock, as far as each is needed
 abbrev pub window_checks : UserId → Needs → Option ℕ → List Check
 window_checks user n None = must false NoWindow ∷ []
 window_checks user n (Some w) =
@@ -72,13 +72,13 @@ checks_by t k n =
     ++ where_needed n.window
     (window_checks k.user n (option_map (λ (w : Window). w.serial) k.window)))
 
--- x on the command, and then what it needs
+-- the checks of a command: x on the command, and then what it needs
 abbrev pub checks : Tables → Caller → Command → List Check
 checks t k c = right k.user Execute (object.Command (name_of c)) ∷ checks_by t k (needs c)
 
 -- ---- typed bytes
 
--- a window in focus, w on it, and its lock
+-- the checks of typed bytes: there is a window in focus, w on it, and its lock
 abbrev pub typing_checks : UserId → Option Window → List Check
 typing_checks user None = must false NoWindow ∷ []
 typing_checks user (Some w) =

@@ -1,4 +1,4 @@
--- What attaching, opening, a size and output do.
+-- What attaching a client, opening a window, a new size and output do.
 use Rattle.std.specs.Prelude.{ℕ, ◌+◌, Bool, ◌&&◌, ◌||◌, nat_lt, nat_le, List, [], ◌∷◌, ◌++◌}
 use Rattle.std.specs.Prelude.{Option, None, if◌then◌else◌, length, unwrap_or}
 use Rattle.std.specs.Option.{option_map, is_some}
@@ -33,7 +33,7 @@ abbrev pub is_client_size : ℕ → ℕ → Bool
 is_client_size rows columns =
     nat_le 4 rows && nat_le rows 200 && nat_le 20 columns && nat_le columns 300
 
--- in single-user mode the owner alone
+-- whether a user may attach: in single-user mode only the owner may
 abbrev pub is_let_in : Tables → UserId → Bool
 is_let_in t user = same_user t.owner user || t.is_multiuser
 
@@ -45,7 +45,7 @@ attach_checks t user rows columns =
     ∷ must (nat_lt (length t.clients) CLIENTS && nat_lt t.next_client SERIALS) TooManyClients
     ∷ []
 
--- a new client whose one region shows this window, if there is one
+-- a new client, with one region that shows this window, if there is one
 abbrev pub attached : ℕ → UserId → ℕ → ℕ → Option ℕ → Client
 attached serial user rows columns window =
     let c : Client = record {
@@ -62,7 +62,7 @@ attached serial user rows columns window =
       message = message.Silence;
     } in seeing (focused c) c
 
--- it shows the window of the lowest number
+-- a new client, which shows the window with the lowest number
 abbrev pub new_client : Tables → UserId → ℕ → ℕ → Client
 new_client t user rows columns =
     attached t.next_client user rows columns
@@ -73,7 +73,7 @@ attaches t c =
     acting (record t { clients = t.clients ++ c ∷ []; next_client = t.next_client + 1 })
     (act.Attached c.serial c.user ∷ entering c.user (focused c))
 
--- there is room for one more window, and a number is free
+-- whether there is room for one more window, and a number is free
 abbrev pub has_place : List Window → Bool
 has_place windows = nat_lt (length windows) WINDOWS && is_some (free_number windows)
 
@@ -87,7 +87,7 @@ open_checks t user rows columns keep title =
     ∷ must (is_title title) (Windows BadTitle)
     ∷ []
 
--- a new window has the lowest number that is free
+-- a new window, which gets the lowest free number
 abbrev pub new_window : Tables → ℕ → ℕ → ℕ → List ℕ → Window
 new_window t rows columns keep title = record {
   serial = t.next_window;
@@ -104,8 +104,8 @@ opens t user w =
     acting (record t { windows = t.windows ++ w ∷ []; next_window = t.next_window + 1 })
     (act.Opened user w.serial ∷ [])
 
--- a client's page has another size, and its terminal may show anything; where a region would be too
--- small the focused one stays alone
+-- the client after its terminal got another size: what the terminal shows is no longer known; if a
+-- region would be too small, only the focused one stays
 abbrev pub resized : ℕ → ℕ → Client → Client
 resized rows columns c = record c {
   rows = rows;
@@ -117,7 +117,7 @@ resized rows columns c = record c {
 
 -- ---- output
 
--- a window's program writes, and its terminal answers
+-- output of a window's program: it is written to the window, and the window's terminal may answer
 abbrev pub outputs : Tables → Window → List ℕ → Deed
 outputs t w bytes =
     record (writes t w (written.Output bytes)) {

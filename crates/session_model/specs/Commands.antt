@@ -1,6 +1,6 @@
--- What each command does, once its checks have passed: its own refusals, its acts, its new tables,
--- its effects and what it lists. One row a command. The commands are those of the GNU Screen
--- manual, but for scrollview, which is this project's own.
+-- What each command does after its checks passed: its own refusals, its acts, the new tables, its
+-- effects and what it lists. Each command has one row. The commands are those of the GNU Screen
+-- manual; only scrollview is this project's own.
 use Rattle.std.specs.Prelude.{ℕ, ◌==◌, Bool, true, false, not, List, [], ◌∷◌, ◌++◌}
 use Rattle.std.specs.Prelude.{Option, Some, None, Ok, Err}
 use Rattle.std.specs.Prelude.{codes, length}
@@ -55,14 +55,14 @@ use Rattle.session_model.specs.Deeds.{focused_box, writes, fits, input_of, tells
 abbrev pub caller_client : Tables → Caller → Option Client
 caller_client t k = option_and_then (client_at t) k.client
 
--- a command that acts on the client, and one that acts on the window
+-- the answer of a command that acts on the client, and of one that acts on the window
 abbrev pub on_client : Tables → Caller → (Client → Answer) → Answer
 on_client t k f = given (caller_client t k) NoWindow f
 
 abbrev pub on_window : Tables → Caller → (Window → Answer) → Answer
 on_window t k f = given k.window NoWindow f
 
--- the window in focus of the client that asks
+-- the window in focus of the client that gives the command
 abbrev pub focus_of : Caller → Option ℕ
 focus_of k = option_and_then (λ client. option_map (λ (w : Window). w.serial) k.window) k.client
 
@@ -167,7 +167,7 @@ does t k command.Quit =
 
 -- ---- a command that is given
 
--- its verdicts, and its deed or its refusal
+-- what is ruled of a command: its verdicts, and its deed or its refusal
 pub record Ruling : Type 0 where
   pub verdicts : List Verdict
   pub answer : Answer

@@ -1,4 +1,4 @@
--- What can be done: to lists, to clients and windows, to pages, and to what a window shows.
+-- What can be done: to access lists, to clients and windows, to pages, and to what a window shows.
 use Rattle.std.specs.Prelude.{ℕ, ◌-◌, ◌==◌, Bool, not, nat_lt, List, [], ◌∷◌, ◌++◌}
 use Rattle.std.specs.Prelude.{Option, Some, None, Result, Ok, Err, if◌then◌else◌}
 use Rattle.std.specs.Prelude.{filter, map, length, slice_get, slice_set, unwrap_or}
@@ -29,14 +29,14 @@ use Rattle.session_model.specs.declared.message.Message.TheVariants as message
 use Rattle.session_model.specs.Tables.{Window, Client, Tables, with_window, with_client}
 use Rattle.session_model.specs.Tables.{focused, with_layout, known_users}
 
--- What is done: acts, what the tables are then (but for the acts), effects, and what is listed.
+-- What is done: the acts, the new tables without these acts, the effects, and what is listed.
 pub record Deed : Type 0 where
   pub acts : List Act
   pub tables : Tables
   pub effects : List Effect
   pub lists : Option (List ℕ)
 
--- a deed, or why nothing is done
+-- what is done, or why nothing is done
 abbrev pub Answer : Type 0
 Answer = Result Deed Refusal
 
@@ -49,7 +49,7 @@ acting t acts = record (changing t) { acts = acts }
 abbrev pub listing : Tables → List ℕ → Deed
 listing t bytes = record (changing t) { lists = Some bytes }
 
--- one deed, and then another on its tables
+-- one deed, and then another one on the tables that the first leaves
 abbrev pub both : Deed → (Tables → Deed) → Deed
 both d next = let e : Deed = next d.tables in record {
   acts = d.acts ++ e.acts;
@@ -58,7 +58,7 @@ both d next = let e : Deed = next d.tables in record {
   lists = e.lists;
 }
 
--- done, unless there is a fault
+-- the deed is done, unless there is a fault
 unfoldable pub unless : {F : Type 0} → (F → Refusal) → Option F → Deed → Answer
 unless as_refusal None deed = Ok deed
 unless as_refusal (Some f) deed = Err (as_refusal f)
@@ -66,14 +66,14 @@ unless as_refusal (Some f) deed = Err (as_refusal f)
 unfoldable pub refused_if : Bool → Refusal → Deed → Answer
 refused_if b r deed = if b then Err r else Ok deed
 
--- what is there, or the refusal
+-- the answer for a thing that has to be there, or the refusal if it isn't
 unfoldable pub given : {X : Type 0} → Option X → Refusal → (X → Answer) → Answer
 given None r f = Err r
 given (Some x) r f = f x
 
 -- ---- lists
 
--- a change of users' bits on objects: the fault of a name goes before that of an object
+-- a change of users' bits on objects; the fault of a name comes before the fault of an object
 abbrev pub changes :
     Tables → List (Option UserId) → Option (List Object) → (List Object → List Act) → Answer
 changes t names objects acts =
@@ -84,7 +84,7 @@ changes t names objects acts =
 
 -- ---- clients and windows that go
 
--- clients that pass the test go
+-- the clients that pass the test go
 abbrev pub parts : (Client → Bool) → Reason → Tables → Deed
 parts goes why t = record {
   acts = map (λ (c : Client). act.Parted c.serial) (filter goes t.clients);
@@ -96,13 +96,13 @@ parts goes why t = record {
 abbrev pub is_of : UserId → Client → Bool
 is_of user c = same_user c.user user
 
--- a user's clients go, and then he
+-- a user's clients go, and then the user is gone
 abbrev pub removes : Option UserId → Tables → Deed
 removes None t = changing t
 removes (Some u) t =
     let d : Deed = parts (is_of u) reason.Removed t in record d { acts = d.acts ++ act.Gone u ∷ [] }
 
--- a client with the regions that showed this window empty
+-- the client, in which the regions that showed this window are empty
 abbrev pub without_window : ℕ → Client → Client
 without_window serial c =
     record c { layout = record c.layout { shown = map (emptied serial) c.layout.shown } }
@@ -112,7 +112,7 @@ without_windows [] clients = clients
 without_windows (w ∷ windows) clients =
     without_windows windows (map (without_window w.serial) clients)
 
--- windows that pass the test are closed
+-- the windows that pass the test are closed
 abbrev pub closes : (Window → Bool) → Reason → Tables → Deed
 closes goes why t = record {
   acts = map (λ (w : Window). act.Closed w.serial) (filter goes t.windows);
@@ -131,30 +131,31 @@ abbrev pub entering : UserId → Option ℕ → List Act
 entering user None = []
 entering user (Some window) = act.Entered user window ∷ []
 
--- the client's page is so now
+-- the client's page gets this arrangement
 abbrev pub arranges : Tables → Client → Arrangement → Deed
 arranges t c l = changing (with_client t (with_layout l c))
 
--- and its user enters the window in focus
+-- the client's page gets this arrangement, and its user enters the window in focus
 abbrev pub enters : Tables → Client → Arrangement → Deed
 enters t c l =
     let d : Client = with_layout l c in acting (with_client t d) (entering d.user (focused d))
 
--- its focused region shows this
+-- the arrangement after the focused region was made to show this
 abbrev pub showing : Client → Shown → Arrangement
 showing c s = record c.layout { shown = slice_set c.layout.shown c.layout.focus s }
 
 abbrev pub selects : Tables → Client → Window → Deed
 selects t c w = enters t c (showing c (record { window = Some w.serial; back = 0 }))
 
--- the window that the client's focused regions showed before: from an empty region the last one
+-- the window that was in focus before the present one; for an empty region, the window that was in
+-- focus last
 abbrev pub former_of : Client → Option ℕ
 former_of c = elim (focused c) [ None ↦ c.last | Some w ↦ c.former ]
 
 abbrev pub shown_in_focus : Client → Shown
 shown_in_focus c = unwrap_or (slice_get c.layout.shown c.layout.focus) empty
 
--- the lines beside the caption, and the columns, of the focused region
+-- the box of the focused region, without its caption
 abbrev pub focused_box : Client → Option Rect
 focused_box c =
     slice_get (boxes c.layout.shape (box_of c.rows c.columns)) c.layout.focus
@@ -164,7 +165,7 @@ focused_box c =
 abbrev pub writes : Tables → Window → Writing → Deed
 writes t w what = changing (with_window t (record w { writing = w.writing ++ what ∷ [] }))
 
--- the window gets the size of the region, beside its caption
+-- the window gets the size of the region's box, without the caption
 abbrev pub fits : Tables → Window → Rect → Answer
 fits t w box =
     refused_if (nat_lt (box.rows - 1) 2) (Regions TooSmall)
@@ -172,7 +173,7 @@ fits t w box =
       effects = Size w.serial (box.rows - 1) box.columns ∷ [];
     })
 
--- bytes for a window's program, if there are any
+-- input for a window's program, if there are any bytes
 abbrev pub input_of : ℕ → List ℕ → List Effect
 input_of window bytes = if length bytes == 0 then [] else Input window bytes ∷ []
 
@@ -181,7 +182,7 @@ input_of window bytes = if length bytes == 0 then [] else Input window bytes ∷
 abbrev pub hearing : Message → Client → Client
 hearing m c = record c { message = m }
 
--- every client is told the text
+-- the text is sent to each client
 abbrev pub tells : List ℕ → Tables → Deed
 tells bytes t = record {
   acts = [];

@@ -1,4 +1,4 @@
--- What a denial carries: the entry that is missing, or who holds the lock.
+-- What a denial carries: the entry that is missing, or the user who holds the lock.
 use Rattle.std.specs.Prelude.{ℕ, Option, Some, None}
 use Rattle.std.specs.Option.{option_map_or}
 use Rattle.acl.specs.declared.user_id.UserId.{UserId}
@@ -17,12 +17,12 @@ use Rattle.session_model.specs.Rights.{leaders_in}
 abbrev pub number_of : Tables → ℕ → ℕ
 number_of t serial = option_map_or (λ (w : Window). w.number) (window_at t serial) 0
 
--- a window has its serial and its number in a denial
+-- the object of a denial: a window with its serial and its number, or a command
 abbrev pub denied_on : Tables → Object → Denied
 denied_on t (object.Window serial) = denied.Window serial (number_of t serial)
 denied_on t (object.Command c) = denied.Command c
 
--- the user's entry, with those of his leaders
+-- the denial of a missing entry: the user, and the leaders who lack it too
 abbrev pub entry_denial : Tables → UserId → Bit → Object → Refusal
 entry_denial t user bit object = EntryDenied (record {
   user = user;
@@ -31,7 +31,7 @@ entry_denial t user bit object = EntryDenied (record {
   leaders = leaders_in t user;
 })
 
--- the user who holds the lock
+-- the denial of a lock: the user who holds it
 abbrev pub lock_denial : Tables → ℕ → Option UserId → Refusal
 lock_denial t window None = NoWindow
 lock_denial t window (Some holder) =

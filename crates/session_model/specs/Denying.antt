@@ -1,4 +1,4 @@
--- What a denial says, and what is said at all.
+-- When a denial is true, and what a step may say.
 use Rattle.std.specs.Prelude.{ℕ, ◌==◌, true, false, List, ◌++◌, ◌≡◌, ◌⊎◌}
 use Rattle.std.specs.Prelude.{Option, Some, None, Ok, Err, if◌then◌else◌, MatchOption}
 use Rattle.std.specs.Prelude.{codes}
@@ -36,7 +36,7 @@ abbrev pub IsWindow : Option Window → Object → Type 0
 IsWindow None o = ⊥
 IsWindow (Some w) o = o ≡ object.Window w.serial
 
--- a command asks for x on itself, and for bits on its window
+-- a command asks for x on itself, and for any bit on its window
 abbrev pub AsksFor : UserId → Bit → Object → Given → Type 0
 AsksFor user bit o g =
     (user ≡ g.caller.user)
@@ -47,7 +47,8 @@ AsksFor user bit o g =
 abbrev pub TypesOn : UserId → Bit → Object → Typed → Type 0
 TypesOn user bit o typed = (user ≡ typed.user) × (bit ≡ Write) × IsWindow typed.window o
 
--- and Open for x on `screen`
+-- what an event asks for: Open asks for x on `screen`; other events ask for what their commands and
+-- their typed bytes need
 abbrev pub Asks : Tables → EventValue → UserId → Bit → Object → Type 0
 Asks t (Open who rows columns keep title) user bit o =
     (user ≡ who) × (bit ≡ Execute) × (o ≡ object.Command Screen)
@@ -57,7 +58,7 @@ Asks t event user bit o =
 
 -- ---- what a denial names
 
--- a command, or a window by its serial and its number
+-- an object as a denial names it: a command, or a window by its serial and its number
 abbrev pub numbered : ℕ → Window → Option Object
 numbered number w = if w.number == number then Some (object.Window w.serial) else None
 
@@ -66,8 +67,8 @@ object_named t (denied.Window serial number) =
     option_and_then (numbered number) (window_at t serial)
 object_named t (denied.Command c) = Some (object.Command c)
 
--- the user asks for the bit and may not: the entry that is named is false, as is each leader's, and
--- his leaders are named
+-- a denial is true: the user asks for the bit and may not have it; the entry of the user and those
+-- of all leaders are false; and exactly the user's leaders are named
 pub record IsEntryMissing
     (t : Tables) (asks : UserId → Bit → Object → Type 0) (d : EntryDenial) (o : Object)
     : Type 0 where
@@ -77,7 +78,8 @@ pub record IsEntryMissing
   pub entries : AllByRecursion (λ leader. has_in t leader d.bit o ≡ false) (leaders_in t d.user)
   pub leaders : d.leaders ≡ leaders_in t d.user
 
--- a user asks for w on the window, and the other user who is named holds its lock
+-- a denial is true: a user asks for w on the window, and the named user, who is another one, holds
+-- its lock
 pub record IsLockHeld
     (t : Tables) (asks : UserId → Bit → Object → Type 0) (d : LockDenial) (o : Object)
     : Type 0 where
@@ -104,7 +106,7 @@ focus_in g =
     option_and_then (λ client. option_map (λ (w : Window). w.serial) g.caller.window)
     g.caller.client
 
--- what a command tells
+-- the text that a command sends to clients
 abbrev pub told_by : Tables → Given → Order → Option (List ℕ)
 told_by t g (command.Wall text) = Some (name_of g.caller.user ++ (codes ": " ++ text))
 told_by t g (command.Aclgrp word None) =
@@ -114,7 +116,7 @@ told_by t g command.Windows = Some (windows_text t g.caller.user (focus_in g))
 told_by t g command.Displays = Some (clients_text t)
 told_by t g _ = None
 
--- whose x is granted
+-- the text is what a command sends whose x is granted
 abbrev pub TellsByRight : Tables → List ℕ → Given → Type 0
 TellsByRight t said g = (has_x t g ≡ true) × (told_by t g g.order ≡ Some said)
 
@@ -125,14 +127,16 @@ AreKeysOf to _ = ⊥
 abbrev pub IsTrueRefusal : Tables → EventValue → List ℕ → Refusal → Type 0
 IsTrueRefusal t event said r = (said ≡ text_of r) × NamesTruly t (Asks t event) r
 
--- a refusal that names truly, to the client of the keys; or what a command tells
+-- a Say is true: it tells the client of the keys a refusal that names its cause truly, or it is the
+-- text of a command
 abbrev pub IsTrueSay : Tables → EventValue → Effect → Type 0
 IsTrueSay t event (Say to said) =
     (AreKeysOf to event × ((r : Refusal) × IsTrueRefusal t event said r))
     ⊎ SomeOf (TellsByRight t said) (commands_of t event)
 IsTrueSay t event _ = Unit {0}
 
--- DENIALS: each names the entry or the holder that stands against what the event asks for
+-- DENIALS: each denial names the entry or the holder of the lock that prevents what the event asks
+-- for
 pub record DenialsName (t : Tables) (e : Entry) : Type 0 where
   pub reply : ReplyNamesTruly t e.event e.reply
   pub says : AllByRecursion (IsTrueSay t e.event) e.effects

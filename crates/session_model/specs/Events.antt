@@ -1,4 +1,4 @@
--- What each event does: one case for each kind.
+-- What each event does, event by event.
 use Rattle.std.specs.Prelude.{ℕ, ◌==◌, [], ◌∷◌, Some, None, if◌then◌else◌, take}
 use Rattle.session_model.specs.declared.check.Check.TheVariants.{Must as must}
 use Rattle.session_model.specs.declared.event.Reason.TheVariants as reason
@@ -24,7 +24,7 @@ abbrev pub with_window_of : Tables → ℕ → (Window → Outcome) → Outcome
 with_window_of t window f =
     elim (window_at t window) [ None ↦ refused t [] NoWindow | Some w ↦ f w ]
 
--- what a Draw delivers is the run's
+-- the outcome of an event; what a Draw delivers isn't part of it, since the run says it
 abbrev pub outcome : Tables → EventValue → Outcome
 outcome t (Attach user rows columns) =
     where_passed t (attach_checks t user rows columns) (reply_of 0 t.next_client 0 None)

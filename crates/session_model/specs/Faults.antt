@@ -1,10 +1,10 @@
--- Faults of the table of windows as a session's refusals.
+-- Refusals of a session for faults of the table of windows.
 use Rattle.session_model.specs.declared.refusal.Refusal.{Refusal}
 use Rattle.session_model.specs.declared.refusal.Refusal.TheVariants as refusal
 use Rattle.windows_model.specs.declared.windows_fault.WindowsFault.{WindowsFault}
 use Rattle.windows_model.specs.declared.windows_fault.WindowsFault.TheVariants as fault
 
--- A window whose serial isn't there is no window; want of memory is the session's own.
+-- NoSuchWindow becomes NoWindow, and NoMemory is the session's own.
 abbrev pub refusal_of : WindowsFault → Refusal
 refusal_of fault.NoSuchWindow = refusal.NoWindow
 refusal_of fault.NoMemory = refusal.NoMemory

@@ -1,4 +1,4 @@
--- What an event gives a session to do: commands, and bytes that are typed.
+-- What an event gives a session to do: commands, and typed bytes.
 use Rattle.std.specs.Prelude.{ℕ, Bool, false, not, ◌&&◌, ◌||◌, List, [], ◌∷◌, ◌++◌}
 use Rattle.std.specs.Prelude.{Option, Some, None, Result, Ok, Err, if◌then◌else◌}
 use Rattle.std.specs.List.{flat_map}
@@ -32,13 +32,14 @@ abbrev pub ok_of : {X E : Type 0} → Result X E → Option X
 ok_of (Ok x) = Some x
 ok_of (Err e) = None
 
--- an empty line of the prompt gives none
+-- the command of a bound key or of a line; an empty line of the prompt gives none
 abbrev pub order_in : Option Item → Option Order
 order_in (Some (bound c)) = Some c
 order_in (Some (line (b ∷ bytes))) = ok_of (read_line (b ∷ bytes))
 order_in _ = None
 
--- a known user's Command, and the command that a step of keys completes
+-- the commands that an event gives: that of a known user's Command, and the one that the keys of a
+-- step complete
 abbrev pub commands_of : Tables → EventValue → List Given
 commands_of t (Command user number bytes) =
     if is_known t user then with_order (line_caller t user number) (ok_of (read_line bytes)) else []
@@ -47,7 +48,7 @@ commands_of t (Keys client bytes) =
     (client_at t client) []
 commands_of t _ = []
 
--- x on the command, and on the window where the command acts on one
+-- whether x is granted on the window, if the command acts on one
 abbrev pub has_x_on : Tables → UserId → Option Window → Bool
 has_x_on t user None = false
 has_x_on t user (Some w) = may_in t user Execute (object.Window w.serial)
@@ -65,7 +66,7 @@ pub record Typed : Type 0 where
   pub window : Option Window
   pub bytes : List ℕ
 
--- what a step of keys types
+-- the bytes that the keys of a step type
 abbrev pub typed_by_client : Tables → Client → List ℕ → Typed
 typed_by_client t c bytes = record {
   user = c.user;
@@ -78,7 +79,7 @@ keys_typed t (Keys client bytes) =
     option_map_or (λ c. typed_by_client t c bytes ∷ []) (client_at t client) []
 keys_typed t _ = []
 
--- a stuff whose x is granted types its text
+-- a `stuff` whose x is granted types its text
 abbrev pub stuffed : Tables → Given → Order → List Typed
 stuffed t g (command.Stuff bytes) =
     if has_x t g

@@ -23,7 +23,7 @@ use Rattle.session_model.specs.Texts.{windows_text, clients_text}
 use Rattle.session_model.specs.Keying.{open_line}
 use Rattle.session_model.specs.Terminals.{terminal_of}
 
--- the cursor's place; none where the page is moved back
+-- the cursor's place; None if the page is moved back
 abbrev pub cursor_at : ℕ → Screen → Option Position
 cursor_at back x =
     if back == 0 then Some (record { line = x.state.line; column = x.state.column }) else None
@@ -63,21 +63,21 @@ layout_of c = record {
   status = status_of c.rows c.columns;
 }
 
--- the lists of windows and of clients are made anew
+-- the text of a message; lists of windows and of clients are made anew
 abbrev pub message_text : Tables → Client → Message → List ℕ
 message_text t c message.Silence = []
 message_text t c (message.Text bytes) = bytes
 message_text t c message.AllWindows = windows_text t c.user (focused c)
 message_text t c message.AllClients = clients_text t
 
--- `:` and the prompt's line while it is open, else the message
+-- the text of the status line: `:` and the prompt's line while the prompt is open, else the message
 abbrev pub status_text : Tables → Client → List ℕ
 status_text t c = elim (open_line (items c.keys).1) [
   | Some line ↦ code ":" ∷ line
   | None ↦ message_text t c c.message
 ]
 
--- all regions, with what the client's user may read, and the status line
+-- the view of a client: all its regions, with what its user may read, and the status line
 abbrev pub granted_view : Tables → Client → View
 granted_view t c =
     view.view_in (layout_of c) (map (part_shown t c.user) c.layout.shown) (status_text t c)

@@ -7,10 +7,10 @@ use Rattle.session_model.specs.Promises.{TypedBytesReach, DenialIsTold, Commands
 use Rattle.session_model.specs.Promises.{DrawShows, DeliversFrames, NoOtherEffect}
 use Rattle.session_model.specs.Denying.{DenialsName}
 
--- A step is one of the session's. A typed byte reaches a window exactly where its user or a leader
--- of his has w there and no other user holds its lock, and else it is told why; a command acts
--- exactly where x is granted; after each draw a client's VT220, in whatever state it was, shows
--- exactly its granted view; every denial names its entry or lock.
+-- A step is one of the session's. A typed byte reaches a window exactly if its user or one of the
+-- user's leaders has w there and no other user holds the window's lock; otherwise the user is told
+-- why. A command acts exactly if x is granted. After each draw, the client's VT220, whatever its
+-- state was, shows exactly the client's granted view. Every denial names its entry or its lock.
 pub record KeepsPromise (t : Tables) (e : Entry) : Type 0 where
   pub step : IsStep t e
   pub typed_bytes : TypedBytesReach t e
@@ -22,7 +22,7 @@ pub record KeepsPromise (t : Tables) (e : Entry) : Type 0 where
   pub denials : DenialsName t e
   pub no_other_effect : NoOtherEffect t e
 
--- each step of some tables' run keeps it
+-- each step of a run that begins with these tables keeps the promise
 abbrev pub KeepsPromisesFrom : Tables → List Entry → Type 0
 KeepsPromisesFrom start [] = Unit {0}
 KeepsPromisesFrom start (e ∷ past) =

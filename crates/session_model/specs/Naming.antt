@@ -30,7 +30,7 @@ pub use Rattle.windows_model.specs.Naming.{free_number, is_one_or_two, has_colum
 
 -- ---- users and objects of list commands
 
--- `*` is all known users but the owner; a word that is no name names nobody
+-- `*` means all known users but the owner; a word that is no name names nobody
 abbrev pub names_of : Tables → Users → List (Option UserId)
 names_of t users.All = map (λ u. Some u) (others t)
 names_of t (users.Listed words) = map named_by words
@@ -41,7 +41,7 @@ every_window t = map (λ (w : Window). object.Window w.serial) t.windows
 abbrev pub every_command : List Object
 every_command = map object.Command all_names
 
--- an item made of # and ?: all windows, and all commands
+-- whether the item consists of # (all windows) and ? (all commands) alone
 abbrev pub is_wide : List ℕ → Bool
 is_wide item = nat_lt 0 (length item) && list_all (λ b. b == code "#" || b == code "?") item
 
@@ -50,28 +50,28 @@ wide_objects t item =
     (if list_any (nat_eq (code "#")) item then every_window t else [])
     ++ (if list_any (nat_eq (code "?")) item then every_command else [])
 
--- an item of a list: # and ?, or a command's name or alias, or a window; none where it names
--- nothing
+-- the objects of an item of a list: `#` and `?`, a command by its name or alias, or a window; None
+-- if the item names nothing
 abbrev pub item_objects : Tables → List ℕ → Option (List Object)
 item_objects t item =
     if is_wide item then Some (wide_objects t item)
     else option_or (option_map (λ c. object.Command c ∷ []) (command_named item))
     (option_map (λ (w : Window). object.Window w.serial ∷ []) (window_named t.windows item))
 
--- the objects of all items; none where an item names nothing
+-- the objects of all items; None if one of them names nothing
 abbrev pub objects_of : Tables → List (List ℕ) → Option (List Object)
 objects_of t [] = Some []
 objects_of t (item ∷ items) =
     option_and_then (λ objects. option_map (λ more. objects ++ more) (objects_of t items))
     (item_objects t item)
 
--- `none`, or a leader
+-- the leader that the word means: nobody for `none`
 abbrev pub new_leader_of : Leader → NewLeader
 new_leader_of leader.Nobody = new_leader.Nobody
 new_leader_of (leader.Named word) = new_leader.Named (named_by word)
 
--- whom a mask concerns: `?` and `??` alone are the presets, for windows and for commands; no names,
--- or `*`, are all known users but the owner
+-- which mask is set: `?` and `??` by themselves are the presets for windows and for commands; no
+-- names, or `*`, mean all known users but the owner
 abbrev pub word_scope : List ℕ → MaskScope
 word_scope word =
     if bytes_eq word (codes "?") then scope.Preset preset.Windows
@@ -83,7 +83,7 @@ scopes_of t (Some (users.Listed (word ∷ []))) = word_scope word ∷ []
 scopes_of t (Some (users.Listed words)) = map (λ word. scope.User (named_by word)) words
 scopes_of t _ = map (λ u. scope.User (Some u)) (others t)
 
--- user by user, and bit by bit
+-- the entries of a mask, user by user, and bit by bit
 abbrev pub entries_of : Tables → Mask → List MaskEntry
 entries_of t mask =
     flat_map (λ s. map (λ (b : BitChange). record { scope = s; bit = b.bit; value = b.value })

@@ -1,4 +1,4 @@
--- What comes of a step: what it answers, notes and does, and the tables then.
+-- What comes of a step: its answer, its notes, its deeds, and the tables after it.
 use Rattle.std.specs.Prelude.{ℕ, ◌||◌, List, [], ◌∷◌, ◌++◌, Option, Some, None, Ok, Err}
 use Rattle.std.specs.Prelude.{if◌then◌else◌}
 use Rattle.acl.specs.declared.act.Act.{Act}
@@ -15,8 +15,8 @@ use Rattle.session_model.specs.Deeds.{Deed}
 
 -- ---- leaving
 
--- a user leaves a window where a focused region of his clients showed it before the step, and none
--- does after it
+-- a user leaves a window if a focused region of one of the user's clients showed it before the
+-- step, and none does after it
 abbrev pub left_acts_of : Client → Option ℕ → List Client → List Client → List Act
 left_acts_of c None rest after = []
 left_acts_of c (Some w) rest after =
@@ -28,7 +28,7 @@ left_acts (c ∷ before) after = left_acts_of c (focused c) before after ++ left
 
 -- ---- outcomes
 
--- what a step answers, notes and does, and what the tables are then
+-- what a step answers, notes and does, and the tables after it
 pub record Outcome : Type 0 where
   pub reply : Reply
   pub acts : List Act
@@ -43,7 +43,7 @@ reply_of taken made number lists =
 abbrev pub done : Reply
 done = reply_of 0 0 0 None
 
--- a deed is done, and then users leave windows
+-- the outcome of a deed: it is done, and then users leave windows
 abbrev pub finished : Tables → List Verdict → Reply → Deed → Outcome
 finished t vs reply d =
     let acts : List Act = d.acts ++ left_acts t.clients d.tables.clients in record {
@@ -54,11 +54,11 @@ finished t vs reply d =
       tables = record d.tables { acts = followed_by t.acts acts };
     }
 
--- what was checked is noted of a refused step too
+-- the outcome of a refusal: nothing is done, but the checks that were made are noted
 abbrev pub refused : Tables → List Verdict → Refusal → Outcome
 refused t vs r = record { reply = Err r; acts = []; verdicts = vs; effects = []; tables = t }
 
--- it is done where its checks pass
+-- the outcome of a deed that is done only if its checks pass
 abbrev pub where_passed : Tables → List Check → Reply → Deed → Outcome
 where_passed t cs reply d = elim (first_fault t cs) [
   | Some r ↦ refused t (verdicts t cs) r

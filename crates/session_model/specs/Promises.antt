@@ -34,15 +34,15 @@ use Rattle.session_model.specs.Granted.{granted_view}
 use Rattle.session_model.specs.Framed.{IsFrame}
 use Rattle.session_model.specs.Run.{deliveries}
 
--- some element
+-- one element of the list at least
 abbrev pub SomeOf : {X : Type 0} → (X → Type 0) → List X → Type 0
 SomeOf P [] = ⊥
 SomeOf P (x ∷ xs) = P x ⊎ SomeOf P xs
 
 -- ---- typed bytes
 
--- they reach the window exactly where their user may write there and no other user holds its lock,
--- by all acts before them
+-- the bytes that reach the window: all of them if their user may write there and no other user
+-- holds its lock, by the acts before them; else none
 abbrev pub reaching_in : Tables → UserId → ℕ → List ℕ → List ℕ
 reaching_in t user w bytes =
     if may_in t user Write (object.Window w) && stops_nobody_but user (holder_in t w)
@@ -54,7 +54,7 @@ reaching t window typed = elim typed.window [
   | Some w ↦ if w.serial == window then reaching_in t typed.user w.serial typed.bytes else []
 ]
 
--- what a window's own terminal answers to its output
+-- the bytes that a window's own terminal answers to the window's output
 abbrev pub reporting : Tables → EventValue → ℕ → List ℕ
 reporting t (Output at bytes) window =
     if at == window
@@ -67,14 +67,14 @@ inputs (Input at bytes ∷ effects) window =
     (if at == window then bytes else []) ++ inputs effects window
 inputs (_ ∷ effects) window = inputs effects window
 
--- TYPED BYTES: into each window come just the typed bytes that reach it, in order, and its own
--- reports
+-- TYPED BYTES: what is put into each window is exactly the typed bytes that reach it, in order, and
+-- its own terminal's reports
 abbrev pub TypedBytesReach : Tables → Entry → Type 0
 TypedBytesReach t e = (window : ℕ) →
     inputs e.effects window
     ≡ flat_map (reaching t window) (all_typed t e.event) ++ reporting t e.event window
 
--- what stands between a user's bytes and a window
+-- why a user's bytes don't reach a window, if they don't
 abbrev pub why_not_into : Tables → UserId → ℕ → Option Refusal
 why_not_into t user w =
     if may_in t user Write (object.Window w)
@@ -88,7 +88,7 @@ why_not t typed = elim typed.window [
   | Some w ↦ why_not_into t typed.user w.serial
 ]
 
--- keys are told by a message, and a Command by its reply
+-- a refusal is told: for keys by a message, for a Command event by its reply
 abbrev pub IsToldOf : Entry → EventValue → Refusal → Type 0
 IsToldOf e (Keys client bytes) r = SomeOf (λ f. f ≡ Say client (text_of r)) e.effects
 IsToldOf e (Command user number bytes) r = e.reply ≡ Err r
@@ -99,14 +99,14 @@ IsTold e [] why = Unit {0}
 IsTold e (b ∷ bytes) None = Unit {0}
 IsTold e (b ∷ bytes) (Some r) = IsToldOf e e.event r
 
--- TOLD: of typed bytes that don't reach their window it is told why
+-- TOLD: if typed bytes don't reach their window, it is told why
 abbrev pub DenialIsTold : Tables → Entry → Type 0
 DenialIsTold t e =
     AllByRecursion (λ typed. IsTold e typed.bytes (why_not t typed)) (all_typed t e.event)
 
 -- ---- commands
 
--- a refusal for want of x
+-- whether a refusal is because x is missing
 abbrev pub wants_x : Refusal → Bool
 wants_x (EntryDenied d) = elim d.bit [ Read ↦ false | Write ↦ false | Execute ↦ true ]
 wants_x _ = false
@@ -115,11 +115,11 @@ abbrev pub reply_wants_x : Reply → Bool
 reply_wants_x (Err r) = wants_x r
 reply_wants_x (Ok done) = false
 
--- a client but for its keys and its message
+-- the client without its keys and its message
 abbrev pub unread : Client → Client
 unread c = record c { keys = []; message = message.Silence }
 
--- the tables are the same, but that keys were read, by which messages end and come
+-- the tables are the same, except that keys were read, by which messages end and come
 pub record OnlyRead (t u : Tables) : Type 0 where
   pub owner : u.owner ≡ t.owner
   pub edition : u.edition ≡ t.edition
@@ -130,26 +130,26 @@ pub record OnlyRead (t u : Tables) : Type 0 where
   pub next_window : u.next_window ≡ t.next_window
   pub next_client : u.next_client ≡ t.next_client
 
--- what a step may do for a command that it refuses: type what reaches its window, and tell the
--- client that gave the keys
+-- whether a step may have this effect for a command that it refuses: it types what reaches the
+-- window, and tells the client that gave the keys
 abbrev pub is_answer_to : EventValue → Effect → Bool
 is_answer_to (Keys client bytes) (Input window typed) = true
 is_answer_to (Keys client bytes) (Say to said) = to == client
 is_answer_to _ _ = false
 
--- it acts only where x is granted on it, and on its window; where x is granted it isn't refused for
--- want of x
+-- a command acts only if x is granted on the command and on its window; if x is granted, it isn't
+-- refused for a missing x
 pub record ActsAsGranted (t : Tables) (e : Entry) (u : Tables) (g : Given) : Type 0 where
   pub granted : has_x t g ≡ true → reply_wants_x e.reply ≡ false
   pub acts : has_x t g ≡ false → e.acts ≡ []
   pub tables : has_x t g ≡ false → OnlyRead t u
   pub effects : has_x t g ≡ false → AllByRecursion (λ f. is_answer_to e.event f ≡ true) e.effects
 
--- COMMANDS: each acts as it is granted
+-- COMMANDS: each command acts as it is granted
 abbrev pub CommandsAct : Tables → Entry → Tables → Type 0
 CommandsAct t e u = AllByRecursion (ActsAsGranted t e u) (commands_of t e.event)
 
--- REFUSALS: what is refused changes nothing
+-- REFUSALS: a step that is refused changes nothing
 abbrev pub ChangesNothing : Tables → Entry → Tables → Type 0
 ChangesNothing t e u = is_ok e.reply ≡ false → (u ≡ t) × (e.acts ≡ []) × (e.effects ≡ [])
 
@@ -160,12 +160,13 @@ DrawShowsOf t e (Draw client) = MatchOption (client_at t client) (Unit {0}) (λ 
     ShowsFromAny (c.delivered ++ deliveries e.effects client) c.rows c.columns (granted_view t c))
 DrawShowsOf t e _ = Unit {0}
 
--- DRAWS: every terminal of the client's size, in any state, that has read all that was delivered
--- since the client attached or last changed its size shows its granted view
+-- DRAWS: each terminal of the client's size, whatever its state was, shows the client's granted
+-- view after it read everything that was delivered since the client attached or last changed its
+-- size
 abbrev pub DrawShows : Tables → Entry → Type 0
 DrawShows t e = DrawShowsOf t e e.event
 
--- FRAMES: what is delivered to a client is a frame of its granted view, behind all that was
+-- FRAMES: what is delivered to a client is a frame of its granted view, after everything that was
 -- delivered to it before
 abbrev pub IsFrameTo : Tables → Effect → Type 0
 IsFrameTo t (Deliver client bytes) = MatchOption (client_at t client) ⊥ (λ c.
@@ -177,12 +178,12 @@ DeliversFrames t e = AllByRecursion (IsFrameTo t) e.effects
 
 -- ---- no other effect
 
--- it is the giver's own window
+-- the window is the one that the command's giver acts on
 abbrev pub IsOn : Option Window → ℕ → Type 0
 IsOn None window = ⊥
 IsOn (Some w) window = w.serial ≡ window
 
--- it is an open window, and an attached client that passes the test
+-- the window is open; the client is attached and passes the test
 abbrev pub IsOpen : Tables → ℕ → Type 0
 IsOpen t window = SomeOf (λ (w : Window). w.serial ≡ window) t.windows
 
@@ -190,14 +191,14 @@ abbrev pub IsClient : Tables → (Client → Bool) → ℕ → Type 0
 IsClient t passes client =
     SomeOf (λ (c : Client). (c.serial ≡ client) × (passes c ≡ true)) t.clients
 
--- whether it is a client of the user whom the word names, and of the owner
+-- whether it is a client of the user whom the word names; and whether it is a client of the owner
 abbrev pub is_named : List ℕ → Client → Bool
 is_named word c = option_map_or (same_user c.user) (named_by word) false
 
 abbrev pub is_owners : Tables → Client → Bool
 is_owners t c = same_user c.user t.owner
 
--- what a command does outside the session
+-- the effects that a command may have outside the session
 abbrev pub IsDoneBy : Tables → Given → Order → Effect → Type 0
 IsDoneBy t g (command.Stuff text) (Input window bytes) =
     IsOn g.caller.window window × (bytes ≡ text)
@@ -217,11 +218,12 @@ IsDoneBy t g (command.Multiuser false) (GoneClient client why) =
     IsClient t (λ c. not (is_owners t c)) client × (why ≡ reason.SingleUser)
 IsDoneBy t g _ _ = ⊥
 
--- whose x is granted
+-- the effect is one of a command whose x is granted
 abbrev pub IsDoneByRight : Tables → Effect → Given → Type 0
 IsDoneByRight t f g = (has_x t g ≡ true) × IsDoneBy t g g.order f
 
--- typed bytes go into the window in focus, and messages to the client of the keys
+-- the effects that keys may have by themselves: input for the window in focus, and messages to the
+-- client of the keys
 abbrev pub IsByKeys : Tables → ℕ → Effect → Type 0
 IsByKeys t client (Input window typed) =
     MatchOption (client_at t client) ⊥ (λ c. IsOn (focused_window t c) window)
@@ -239,6 +241,6 @@ IsEffectOf t (Output window bytes) (Input to reports) = to ≡ window
 IsEffectOf t (Draw client) (Deliver to bytes) = to ≡ client
 IsEffectOf t _ _ = ⊥
 
--- NO OTHER EFFECT: each effect is one that the event, or a command that is granted, has
+-- NO OTHER EFFECT: each effect is one that the event has, or a command that is granted
 abbrev pub NoOtherEffect : Tables → Entry → Type 0
 NoOtherEffect t e = AllByRecursion (IsEffectOf t e.event) e.effects

@@ -11,7 +11,7 @@ use Rattle.session_model.specs.Events.{outcome}
 use Rattle.session_model.specs.Granted.{granted_view}
 use Rattle.session_model.specs.Framed.{IsFrame}
 
--- the bytes that effects deliver to a client
+-- the bytes that these effects deliver to a client
 abbrev pub deliveries : List Effect → ℕ → List ℕ
 deliveries [] client = []
 deliveries (Deliver to bytes ∷ effects) client =
@@ -20,7 +20,7 @@ deliveries (_ ∷ effects) client = deliveries effects client
 
 -- ---- tables
 
--- a client to whom its view was drawn
+-- the client after its view was drawn
 abbrev pub with_drawn : List Effect → View → Client → Client
 with_drawn [] v c = c
 with_drawn (f ∷ effects) v c =
@@ -47,7 +47,7 @@ tables_of h = tables_from (fresh h.edition h.owner) h.entries
 
 -- ---- steps
 
--- no effect where none is needed, else one frame for the client alone
+-- there is no effect if nothing has to be drawn; else there is one frame, for this client alone
 abbrev pub DrawsWhereNeeded : Tables → Client → List Effect → Type 0
 DrawsWhereNeeded t c [] = NeedsNoDraw c.drawn (granted_view t c)
 DrawsWhereNeeded t c (Deliver to bytes ∷ []) =
@@ -55,7 +55,8 @@ DrawsWhereNeeded t c (Deliver to bytes ∷ []) =
     × IsFrame c.rows c.columns c.delivered (granted_view t c) bytes
 DrawsWhereNeeded t c _ = ⊥
 
--- all that was delivered, read by any terminal of the client's size, shows its view
+-- if a terminal of the client's size reads everything that was delivered, it shows the client's
+-- view
 pub record IsDraw (t : Tables) (effects : List Effect) (c : Client) : Type 0 where
   pub drawn : DrawsWhereNeeded t c effects
   pub shows :

@@ -10,7 +10,7 @@ use Rattle.session_model.specs.declared.limits.TheConstants.{CLIENTS}
 use Rattle.session_model.specs.Tables.{Window, Client, Tables, window_at}
 use Rattle.session_model.specs.Naming.{with_number}
 
--- serials rise, and the last of them is below this one
+-- the serials rise, and each of them is below this one
 abbrev pub Rises : List ℕ → ℕ → Type 0
 Rises [] next = Unit {0}
 Rises (n ∷ ns) next = (n < next) × AllByRecursion (λ later. n < later) ns × Rises ns next
@@ -25,8 +25,8 @@ abbrev pub NumbersDiffer : List Window → Type 0
 NumbersDiffer [] = Unit {0}
 NumbersDiffer (w ∷ windows) = (with_number windows w.number ≡ None) × NumbersDiffer windows
 
--- Windows and clients rise by their serials, each of which was given; the numbers of windows
--- differ; and there are no more than a session may have.
+-- Windows and clients are in the order of rising serials, and each serial was given before; no two
+-- windows have the same number; and there are at most as many as a session may have.
 pub record AreSoundRows
     (windows : List Window) (clients : List Client) (next_window next_client : ℕ)
     : Type 0 where
@@ -39,25 +39,25 @@ pub record AreSoundRows
 abbrev pub AreSound : Tables → Type 0
 AreSound t = AreSoundRows t.windows t.clients t.next_window t.next_client
 
--- what the acts of all steps say of windows and clients is what the tables have: which windows are
--- open and how many, and who is attached, the newest first
+-- the acts of all steps agree with the tables: on which windows are open and how many they are, and
+-- on which clients are attached, the newest first
 pub record ActsAgree (t : Tables) : Type 0 where
   pub open_is : (window : ℕ) → is_open t.acts window ≡ is_some (window_at t window)
   pub count_is : open_count t.acts ≡ length t.windows
   pub clients_are :
       clients_of t.acts ≡ reverse (map (λ (c : Client). (c.serial, c.user)) t.clients)
 
--- a window, if one is named, is open
+-- the window is open, if one is named
 abbrev pub IsOpen : Tables → Option ℕ → Type 0
 IsOpen t None = Unit {0}
 IsOpen t (Some window) = is_some (window_at t window) ≡ true
 
--- each region of a client that shows a window shows an open one
+-- each region of the client shows an open window, or nothing
 abbrev pub ShowsOpen : Tables → Client → Type 0
 ShowsOpen t c = AllByRecursion (λ (s : Shown). IsOpen t s.window) c.layout.shown
 
--- Tables as those of each run are: serials rise, numbers differ and are below the limit of windows,
--- the acts agree with the rows, and what is shown is open.
+-- What holds of the tables of each run: serials rise, window numbers differ and are below the
+-- limit, the acts agree with the rows, and each window that a region shows is open.
 pub record AreFit (t : Tables) : Type 0 where
   pub sound : AreSound t
   pub agree : ActsAgree t

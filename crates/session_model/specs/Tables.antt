@@ -1,4 +1,4 @@
--- What a session has at a moment.
+-- The state of a session at a moment.
 use Rattle.std.specs.Prelude.{ℕ, Bool, false, not, ◌==◌, ◌&&◌, List, [], Option, Some, None}
 use Rattle.std.specs.Prelude.{if◌then◌else◌, filter, slice_get}
 use Rattle.std.specs.List.{list_any}
@@ -14,9 +14,10 @@ pub use Rattle.windows_model.specs.Table.{Window}
 use Rattle.session_model.specs.declared.message.Message.{Message}
 use Rattle.acl.specs.declared.edition.Edition.{Edition}
 
--- A client: its user, the size of its terminal, all its keys; all that was delivered to it since it
--- attached or last changed its size, and the view that was drawn last since then; its regions and
--- what they show, the windows that its focused regions showed last and before that; its message.
+-- A client: its user; the size of its terminal; all its keys; everything that was delivered to it
+-- since it attached or last changed its size, and the view that was drawn last since then; its
+-- regions and what they show; the window that was in focus last, and the one before that; its
+-- message.
 pub record Client : Type 0 where
   pub serial : ℕ
   pub user : UserId
@@ -30,8 +31,9 @@ pub record Client : Type 0 where
   pub former : Option ℕ
   pub message : Message
 
--- The owner, the edition of groups, the acts of all steps, whether other users may be there
--- (multiuser), the open windows and the clients by rising serials, and the serials that come next.
+-- The owner, the edition of groups, the acts of all steps, whether other users may attach
+-- (multiuser), the open windows and the clients by rising serials, and the next serial of each
+-- kind.
 pub record Tables : Type 0 where
   pub owner : UserId
   pub edition : Edition
@@ -42,7 +44,7 @@ pub record Tables : Type 0 where
   pub next_window : ℕ
   pub next_client : ℕ
 
--- a new session is single-user and empty
+-- the tables of a new session: it is single-user, and has no window and no client
 abbrev pub fresh : Edition → UserId → Tables
 fresh edition owner = record {
   owner = owner;
@@ -63,7 +65,7 @@ window_at t serial = row_of (λ (w : Window). w.serial) t.windows serial
 abbrev pub client_at : Tables → ℕ → Option Client
 client_at t serial = row_of (λ (c : Client). c.serial) t.clients serial
 
--- a table with a row changed
+-- the tables with one row changed
 abbrev pub with_window : Tables → Window → Tables
 with_window t w =
     record t { windows = with_row (λ (v : Window). v.serial) t.windows w.serial w }
@@ -81,19 +83,19 @@ focused c = option_and_then (λ (s : Shown). s.window) (slice_get c.layout.shown
 abbrev pub focused_window : Tables → Client → Option Window
 focused_window t c = option_and_then (window_at t) (focused c)
 
--- whether it is this window
+-- whether the focused region shows this window
 abbrev pub is_window : ℕ → Option ℕ → Bool
 is_window w None = false
 is_window w (Some v) = v == w
 
--- whether a focused region of the user's clients shows the window
+-- whether this is a client of the user whose focused region shows the window
 abbrev pub shows : UserId → ℕ → Client → Bool
 shows user window c = same_user c.user user && is_window window (focused c)
 
 abbrev pub is_in_focus : List Client → UserId → ℕ → Bool
 is_in_focus clients user window = list_any (shows user window) clients
 
--- the windows that focused regions showed last and before that, once perhaps another one is in
+-- the window that was in focus last, and the one before that, after perhaps another one got the
 -- focus
 abbrev pub last_after : Option ℕ → Option ℕ → Option ℕ
 last_after None last = last
@@ -110,7 +112,8 @@ seeing focus c =
 abbrev pub with_layout : Arrangement → Client → Client
 with_layout l c = let d : Client = record c { layout = l } in seeing (focused d) d
 
--- the known users, the owner first, and these without him, in the order in which they became known
+-- the known users, the owner first, and the known users without the owner, in the order in which
+-- they became known
 abbrev pub known_users : Tables → List UserId
 known_users t = acl.users_of t.owner t.acts
 

@@ -28,7 +28,7 @@ letter bit.Read = codes "r"
 letter bit.Write = codes "w"
 letter bit.Execute = codes "x"
 
--- windows are named by their numbers
+-- the object of a denial; a window is named by its number
 abbrev pub denied_text : Denied → List ℕ
 denied_text (denied.Window serial number) = codes "window " ++ decimal number
 denied_text (denied.Command c) = name_text c
@@ -69,7 +69,7 @@ text_of (refusal.Regions f) = codes "regions: " ++ decimal (regions.number f)
 
 -- ---- lists
 
--- each item behind the separator
+-- the items, each with the separator before it
 abbrev pub behind : List ℕ → List (List ℕ) → List ℕ
 behind separator [] = []
 behind separator (item ∷ items) = separator ++ (item ++ behind separator items)
@@ -89,7 +89,8 @@ abbrev pub in_order : List Window → List Window
 in_order [] = []
 in_order (w ∷ windows) = by_number w (in_order windows)
 
--- number, `*` where it is the one in focus, blank, title; `?` for a title that isn't readable
+-- a window's item: its number, `*` if it is in focus, a blank, and its title, or `?` if that isn't
+-- readable
 abbrev pub window_item : Tables → UserId → Option ℕ → Window → List ℕ
 window_item t user focus w =
     decimal w.number
@@ -108,7 +109,8 @@ abbrev pub focus_text : Tables → Option ℕ → List ℕ
 focus_text t None = codes "-"
 focus_text t (Some serial) = number_text (window_at t serial)
 
--- client serial, blank, user, blank, number of the window in focus or `-`
+-- a client's item: its serial, a blank, its user, a blank, and the number of the window in focus or
+-- `-`
 abbrev pub client_item : Tables → Client → List ℕ
 client_item t c =
     decimal c.serial ++ (codes " " ++ (name_of c.user ++ (codes " " ++ focus_text t (focused c))))

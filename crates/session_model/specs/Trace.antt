@@ -1,4 +1,4 @@
--- What a session was told, and what it answered.
+-- The events that a session was given, and its answers.
 use Rattle.std.specs.Prelude.{ℕ, List, [], ◌∷◌, Option, Result}
 use Rattle.acl.specs.declared.user_id.UserId.{UserId}
 use Rattle.acl.specs.declared.act.Act.{Act}
@@ -10,7 +10,7 @@ use Rattle.session_model.specs.declared.refusal.Refusal.{Refusal}
 use Rattle.session_model.specs.declared.verdict.Verdict.{Verdict}
 use Rattle.acl.specs.declared.edition.Edition.{Edition}
 
--- an event, without the places that lent its bytes and texts
+-- an event by its value: the places in memory that lent its bytes and texts are left out
 pub data EventValue : Type 0 where
   Attach : (user : UserId) (rows columns : ℕ) → EventValue
   Detach : (client : ℕ) → EventValue
@@ -44,7 +44,7 @@ pub record Entry : Type 0 where
   pub verdicts : List Verdict
   pub effects : List Effect
 
--- a session's edition and owner, and its steps so far, the newest first
+-- a session's edition and owner, and its steps until now, the newest first
 pub record Trace : Type 0 where
   pub edition : Edition
   pub owner : UserId

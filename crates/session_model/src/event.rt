@@ -1,15 +1,15 @@
-//! What happens to a session, and what comes of it.
+//! The events of a session, and what comes of them.
 
 use crate::refusal::Refusal;
 use acl::UserId;
 use strings::Bytes;
 
-/// An event. It lends its bytes and its texts. Windows and clients are named by serial numbers,
-/// each counted from 0 in the order in which they came, and a command's window by its number; sizes
-/// are lines by columns.
+/// An event. It lends its bytes and its texts. Windows and clients are named by their serial
+/// numbers, which count from 0 in the order in which they came; only a command names its window by
+/// the window's number. Sizes are given in lines and columns.
 #[derive(Clone, Copy, Debug)]
 pub enum Event<'a> {
-    /// A client of a user, whose terminal has 4 to 200 lines by 20 to 300 columns.
+    /// A client of a user attaches; its terminal has 4 to 200 lines by 20 to 300 columns.
     Attach {
         user: UserId,
         rows: u16,
@@ -19,24 +19,25 @@ pub enum Event<'a> {
     Detach {
         client: u32,
     },
-    /// Keys of a client, at most 8,192 bytes.
+    /// Keys of a client: at most 8,192 bytes.
     Keys {
         client: u32,
         bytes: &'a [u8],
     },
-    /// A line of a user who shows no client, perhaps for a window.
+    /// A command line of a user outside of any client, perhaps for a window.
     Command {
         user: UserId,
         window: Option<u8>,
         line: &'a [u8],
     },
-    /// A client's terminal has another size now.
+    /// The terminal of a client has another size now.
     Resize {
         client: u32,
         rows: u16,
         columns: u16,
     },
-    /// A window of 2 to 200 lines by 2 to 300 columns that keeps up to 2,000 lines above its page.
+    /// A user opens a window of 2 to 200 lines by 2 to 300 columns, which keeps up to 2,000 lines
+    /// above its page.
     Open {
         user: UserId,
         rows: u16,
@@ -44,7 +45,7 @@ pub enum Event<'a> {
         keep: u16,
         title: &'a str,
     },
-    /// Output of a window's program, at most 8,192 bytes.
+    /// Output of a window's program: at most 8,192 bytes.
     Output {
         window: u32,
         bytes: &'a [u8],
@@ -53,37 +54,38 @@ pub enum Event<'a> {
     Closed {
         window: u32,
     },
-    /// Asks for what a client's terminal is to be sent.
+    /// Asks for the bytes that make a client's terminal show the client's view.
     Draw {
         client: u32,
     },
 }
 
-/// Why a peer goes.
+/// Why a window or a client goes.
 #[derive(Clone, Copy, PartialEq, Eq, Debug)]
 pub enum Reason {
     /// It ended, or was detached.
     Detached,
-    /// acldel took its user away.
+    /// `acldel` removed its user.
     Removed,
-    /// The session is single-user now.
+    /// The session became single-user.
     SingleUser,
-    /// kill.
+    /// `kill` closed it.
     Killed,
-    /// quit.
+    /// `quit` ended the session.
     Quit,
 }
 
-/// What a step does outside the session.
+/// What a step does outside of the session.
 #[derive(Debug, Drop)]
 pub enum Effect {
-    /// Bytes for a window's program: what was typed into it, or reports of its own screen.
+    /// Bytes for the program of a window: what was typed into it, or reports of the window's
+    /// terminal.
     Input(u32, Bytes),
     /// Bytes for a client's terminal.
     Deliver(u32, Bytes),
     /// A message to a client.
     Say(u32, Bytes),
-    /// A window's program has this many lines and columns from here on.
+    /// From now on, a window's program has this many lines and columns.
     Size(u32, u16, u16),
     /// A window is closed.
     GoneWindow(u32, Reason),
@@ -94,13 +96,13 @@ pub enum Effect {
 /// What a step did that wasn't refused.
 #[derive(Debug)]
 pub struct Done {
-    /// How many bytes of a Keys event were read; 0 for others.
+    /// The number of bytes of a Keys event that were read; 0 for other events.
     pub taken: usize,
-    /// The serial of what was attached or opened, else 0.
+    /// The serial of what was attached or opened; 0 for other events.
     pub made: u32,
-    /// The number of an opened window, else 0.
+    /// The number of the window that was opened; 0 for other events.
     pub number: u8,
-    /// What a command lists, if it does.
+    /// What the command lists, if it lists something.
     pub text: Option<Bytes>,
 }
 
@@ -115,16 +117,16 @@ impl Drop for Done {
     }
 }
 
-/// What was answered to an event.
+/// The answer to an event.
 pub type Reply = Result<Done, Refusal>;
 
 /// How far a run of events came.
 #[derive(Clone, Copy, PartialEq, Eq, Debug)]
 pub struct Ran {
-    /// How many events were wholly taken.
+    /// The number of events that were taken completely.
     pub taken: usize,
-    /// How many bytes of the next one were taken.
+    /// The number of bytes of the next event that were taken.
     pub part: usize,
-    /// Whether a step, or the room for a reply, was refused for want of memory.
+    /// Whether the run stopped because memory was refused, for a step or for its reply.
     pub stopped: bool,
 }

@@ -1,6 +1,6 @@
-//! A session as this project means it: its tables, what each event and each command does to them,
-//! and what a run promises. The definitions stand in `specs/`; here are the plain types that code
-//! and definitions share.
+//! The definition of a session: its tables, what each event and each command does to them, and what
+//! a run promises. The definitions are in `specs/`; this crate holds the plain types that code and
+//! definitions share.
 #![tactic(auto)]
 
 mod check;

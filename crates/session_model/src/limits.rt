@@ -1,7 +1,8 @@
-//! The limits of a session; that of its windows is acl's.
+//! The limits of a session; the limit of its windows is acl's.
 
-/// The most clients that are attached at once.
+/// The most clients that may be attached at once.
 pub const CLIENTS: usize = 64;
 
-/// How many serials there are for windows, and how many for clients: each is given once.
+/// The number of serials that there are for windows, and as many for clients. Each serial is given
+/// once.
 pub const SERIALS: u64 = 1 << 32;

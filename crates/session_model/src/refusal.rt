@@ -10,14 +10,14 @@ use regions::RegionFault;
 use std::alloc::{AllocError, AllocFailed};
 use windows_model::WindowsFault;
 
-/// What a bit was missing on: a window, by its serial and its number, or a command.
+/// The object on which a bit is missing: a window, by its serial and its number, or a command.
 #[derive(Clone, Copy, PartialEq, Eq, Debug)]
 pub enum Denied {
     Window { serial: u32, number: u8 },
     Command(CommandName),
 }
 
-/// An entry that denies a bit, and the user's leaders, whose entries deny it too.
+/// The entry that denies a bit, and the user's leaders, whose entries deny it too.
 #[derive(Clone, Copy, PartialEq, Eq, Debug)]
 pub struct EntryDenied {
     pub user: UserId,
@@ -26,7 +26,7 @@ pub struct EntryDenied {
     pub leaders: Leaders,
 }
 
-/// A lock that another user holds, on a window of this serial and number.
+/// A lock that another user holds on the window with this serial and number.
 #[derive(Clone, Copy, PartialEq, Eq, Debug)]
 pub struct LockDenied {
     pub serial: u32,
@@ -39,11 +39,12 @@ pub struct LockDenied {
 pub enum Refusal {
     EntryDenied(EntryDenied),
     LockDenied(LockDenied),
-    /// Only the owner may attach and open windows, and lists don't change.
+    /// The session isn't in multiuser mode: only the owner may attach and open windows, and access
+    /// lists can't be changed.
     NotMultiuser,
     /// The user isn't known.
     UnknownUser,
-    /// No such window or client, or none in focus.
+    /// There is no such window or client, or no window is in focus.
     NoWindow,
     TooManyClients,
     NoMemory,

@@ -1,4 +1,4 @@
-//! What refusals say.
+//! The texts of refusals.
 
 ghost use Rattle.std.specs.Prelude.{◌≡◌, ◌++◌, decimal, OnOk, OnErr};
 ghost use Rattle.std.specs.List.{flat_map};
@@ -12,7 +12,7 @@ use command_lang::name_text;
 use itoa::Buffer;
 use std::alloc::AllocError;
 
-/// Appends a number in decimal. After an `Err` nothing has changed.
+/// Appends a number in decimal. `AllocError` if memory is refused; nothing has changed then.
 pub fn push_decimal(number: u64, out: &mut Vec<u8>) -> Result<(), AllocError>
     ensures ok { OnOk result (out.new.items ≡ out.old.items ++ decimal number) }
     ensures err { OnErr result (out.new.items ≡ out.old.items) }
@@ -47,7 +47,7 @@ fn letter(bit: Bit) -> &'static [u8]
     }
 }
 
-/// Appends what a bit was missing on: a window is named by its number.
+/// Appends the object on which a bit is missing; a window is named by its number.
 fn push_denied(on: Denied, out: &mut Vec<u8>) -> Result<(), AllocError>
     ensures { OnOk result (out.new.items ≡ out.old.items ++ denied_text on) }
 {
@@ -57,7 +57,7 @@ fn push_denied(on: Denied, out: &mut Vec<u8>) -> Result<(), AllocError>
     }
 }
 
-/// Appends a user and the bit that their entry lacks, as `bob -w`.
+/// Appends a user and the bit that their entry lacks, such as `bob -w`.
 fn push_missing(user: UserId, bit: Bit, out: &mut Vec<u8>) -> Result<(), AllocError>
     ensures { OnOk result (out.new.items ≡ out.old.items ++ missing_text user bit) }
 {
@@ -66,7 +66,7 @@ fn push_missing(user: UserId, bit: Bit, out: &mut Vec<u8>) -> Result<(), AllocEr
     out.extend_from_slice(letter(bit))
 }
 
-/// Appends the entries of leaders, which lack the bit too.
+/// Appends the leaders and the bit that their entries lack too.
 fn push_leaders(leaders: &Leaders, bit: Bit, out: &mut Vec<u8>) -> Result<(), AllocError>
     ensures { OnOk result (out.new.items
         ≡ out.old.items ++ flat_map (leader_text bit) leaders.now) }
@@ -100,7 +100,7 @@ fn push_lock(denied: &LockDenied, out: &mut Vec<u8>) -> Result<(), AllocError>
     push_name(denied.holder, out)
 }
 
-/// Appends the text of a refusal.
+/// Appends the text of a refusal; a part of it may be appended if memory is refused.
 fn push_refusal(refusal: &Refusal, out: &mut Vec<u8>) -> Result<(), AllocError>
     ensures { OnOk result (out.new.items ≡ out.old.items ++ text_of refusal.now) }
 {
@@ -124,9 +124,10 @@ fn push_refusal(refusal: &Refusal, out: &mut Vec<u8>) -> Result<(), AllocError>
     }
 }
 
-// Here beside the type: a method can't stand in another crate.
+// It stands in this crate, beside its type, since a method can't be in another crate.
 impl Refusal {
-    /// Appends the text that names the cause. After an `Err` nothing has changed.
+    /// Appends the text that names the cause. `AllocError` if memory is refused; nothing has
+    /// changed then.
     pub fn text(&self, out: &mut Vec<u8>) -> Result<(), AllocError>
         ensures ok { OnOk result (out.new.items ≡ out.old.items ++ text_of self.now) }
         ensures err { OnErr result (out.new.items ≡ out.old.items) }

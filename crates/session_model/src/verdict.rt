@@ -2,7 +2,7 @@
 
 use acl::{Bit, Object, UserId};
 
-/// A check of a bit, with its answer, or of a lock, with its holder.
+/// The verdict of a check: of a bit, with its answer, or of a lock, with its holder.
 #[derive(Clone, Copy, PartialEq, Eq, Debug)]
 pub enum Verdict {
     Right {

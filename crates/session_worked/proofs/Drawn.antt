@@ -1,4 +1,4 @@
--- What clients see. By computing, but for what any draw is.
+-- What clients see, proved by computing; what holds of any draw is proved by its definition.
 use Rattle.std.proofs.Common.{◌≡◌, ℕ, Bool, true, List, [], ◌∷◌, ◌++◌, Some, None, refl, ap, sym, ◌∙◌, subst, arith}
 use Rattle.std.specs.Prelude.{if◌then◌else◌, ◌==◌}
 use Rattle.std.proofs.lemmas.Bool.Decides.{nat_tests}
@@ -44,7 +44,7 @@ append_nil : (xs : List ℕ) → xs ++ [] ≡ xs
 append_nil [] = refl
 append_nil (x ∷ xs) = ap (λ ys. x ∷ ys) (append_nil xs)
 
--- a draw of a client to which nothing was delivered
+-- the first draw of a client to which nothing was delivered before
 begins : (t : Tables) (d : Client) (effects : List Effect)
     → let c : Client = record d { delivered = []; drawn = None } in IsDraw t effects c
     → (rest : List ℕ) × (effects ≡ Deliver d.serial (0x18 ∷ 0x1B ∷ 0x63 ∷ 0x1B ∷ 0x25 ∷ 0x47 ∷ rest) ∷ [])

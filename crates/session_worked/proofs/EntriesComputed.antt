@@ -1,4 +1,4 @@
--- Rights of several users. By computing.
+-- The rows on rights of several users, proved by computing.
 use Rattle.std.proofs.Common.{refl}
 use Rattle.std.specs.Fmt.{digits}
 use Rattle.keys.specs.Grammar.{items_from}

@@ -1,4 +1,4 @@
--- Write locks. By computing.
+-- The rows on write locks, proved by computing.
 use Rattle.std.proofs.Common.{refl}
 use Rattle.std.specs.Fmt.{digits}
 use Rattle.keys.specs.Grammar.{items_from}

@@ -1,4 +1,4 @@
--- Windows and clients. By computing.
+-- The rows on windows and clients, proved by computing.
 use Rattle.std.proofs.Common.{refl}
 use Rattle.std.specs.Fmt.{digits}
 use Rattle.keys.specs.Grammar.{items_from}

@@ -1,4 +1,4 @@
--- What clients see.
+-- Worked rows on what clients see.
 use Rattle.std.specs.Prelude.{◌≡◌, ℕ, List, [], ◌∷◌, Some, None, codes, replicate}
 use Rattle.std.specs.Prelude.{map, take}
 use Rattle.acl.specs.declared.edition.Edition.TheVariants.{Second}
@@ -15,7 +15,7 @@ use Rattle.session_model.specs.Granted.{granted_view}
 use Rattle.session_model.specs.Run.{HasEffects, drawn}
 use Rattle.session_worked.specs.Setup.{bob, client, several, after, takes, changes, then_comes}
 
--- window 2 prints `hi`; and then aclchg bob -r 2
+-- window 2 prints `hi`; after that, aclchg bob -r 2
 abbrev pub printed : Tables
 printed = then_comes (several Second) (Output 2 (codes "hi"))
 
@@ -30,13 +30,13 @@ seen_by t = granted_view t (client 2 bob 2)
 abbrev pub text_of : View → ℕ → ℕ → List ℕ
 text_of v line count = map (λ (c : Cell). c.character) (take count (line_at v.page line))
 
--- bob's client after it was drawn in any way, and then has another size
+-- bob's client after any draw, and after a new size
 abbrev pub resized : List ℕ → View → Tables
 resized bytes v =
     then_comes (with_client (several Second)
     (record (client 2 bob 2) { delivered = bytes; drawn = Some v })) (Resize 2 10 40)
 
--- and the client itself
+-- the row of bob's client
 abbrev pub small : Client
 small = record (client 2 bob 2) { rows = 10; columns = 40 }
 
@@ -53,14 +53,15 @@ Readable =
     × (text_of (seen_by printed) 22 6 ≡ codes "2 two ")
     × ((seen_by printed).cursor ≡ Some (record { line = 0; column = 2 }))
 
--- once r is taken, all its lines are blank, its caption has `?`, and there is no cursor
+-- after r is taken: all lines of the window are blank, its caption has `?`, and there is no cursor
 abbrev pub Revoked : Type 0
 Revoked =
     (take 22 (seen_by revoked).page ≡ replicate 22 (replicate 80 blank))
     × (text_of (seen_by revoked) 22 4 ≡ codes "2 ? ")
     × ((seen_by revoked).cursor ≡ None)
 
--- a draw at a new size begins with the reset, and shows the view on any terminal of that size
+-- the first draw after a new size begins with the reset, and shows the view on any terminal of that
+-- size
 abbrev pub BeginsAnew : Type 0
 BeginsAnew = (bytes : List ℕ) (v : View) (effects : List Effect)
     → HasEffects (resized bytes v) (Draw 2) effects
@@ -69,7 +70,7 @@ BeginsAnew = (bytes : List ℕ) (v : View) (effects : List Effect)
     × ShowsFromAny (0x18 ∷ 0x1B ∷ 0x63 ∷ 0x1B ∷ 0x25 ∷ 0x47 ∷ rest) 10 40
     (granted_view (resized bytes v) small)
 
--- a second draw has no effect
+-- a second draw without a change has no effect
 abbrev pub DrawnOnce : Type 0
 DrawnOnce = (effects later : List Effect)
     → HasEffects (several Second) (Draw 2) effects

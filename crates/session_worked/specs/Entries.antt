@@ -1,4 +1,4 @@
--- Rights of several users: entries, leaders, masks and presets.
+-- Worked rows on the rights of several users: entries, leaders, masks and presets.
 use Rattle.std.specs.Prelude.{◌≡◌, ℕ, true, false, List, [], ◌∷◌, ◌++◌, Some, None, Err, codes}
 use Rattle.acl.specs.declared.edition.Edition.TheVariants.{First, Second}
 use Rattle.acl.specs.declared.bits.Bit.TheVariants.{Read, Write, Execute}
@@ -22,7 +22,7 @@ use Rattle.session_worked.specs.Setup.{gives, follows, then_comes, with_opened, 
 abbrev pub without_w : Tables
 without_w = after (several Second) (changes (codes "bob" ∷ []) (takes Write) (codes "2" ∷ []))
 
--- then aclgrp bob ann, and then aclchg ann -w 2
+-- aclchg bob -w 2, then aclgrp bob ann; after that, aclchg ann -w 2
 abbrev pub led : Tables
 led = after without_w (follows (codes "bob") (codes "ann"))
 
@@ -39,7 +39,7 @@ led_by_two =
 abbrev pub two_without_w : Tables
 two_without_w = after led_by_two (changes (codes "eve" ∷ []) (takes Write) (codes "2" ∷ []))
 
--- the same in the first edition, and then aclgrp bob ann
+-- in the first edition: the commands of `led_by_two`, then aclgrp bob ann
 abbrev pub led_once : Tables
 led_once =
     after (after (after (after (several First)
@@ -47,7 +47,7 @@ led_once =
     (follows (codes "bob") (codes "ann"))) (follows (codes "bob") (codes "eve")))
     (follows (codes "bob") (codes "ann"))
 
--- aclchg bob -x kill; and aclchg bob +x-r kill, aclchg bob -x 0
+-- aclchg bob -x kill; the other tables: aclchg bob +x-r kill, aclchg bob -x 0
 abbrev pub without_kill : Tables
 without_kill =
     after (several Second) (changes (codes "bob" ∷ []) (takes Execute) (codes "kill" ∷ []))
@@ -58,16 +58,16 @@ without_x =
     (changes (codes "bob" ∷ []) (gives Execute ++ takes Read) (codes "kill" ∷ [])))
     (changes (codes "bob" ∷ []) (takes Execute) (codes "0" ∷ []))
 
--- w is taken by a mask
+-- a mask that takes w
 abbrev pub mask_of : List ℕ → Mask
 mask_of word = record { users = Some (Listed (word ∷ [])); bits = takes Write }
 
--- aclumask bob-w, and then a window is opened
+-- aclumask bob-w, then a window opens
 abbrev pub masked : Tables
 masked =
     with_opened (after (several Second) (command.Aclumask (mask_of (codes "bob") ∷ [])))
 
--- aclumask ?-w, and then aclchg cat +x kill
+-- aclumask ?-w, then aclchg cat +x kill
 abbrev pub preset : Tables
 preset =
     after (after (several Second) (command.Aclumask (mask_of (codes "?") ∷ [])))
@@ -75,39 +75,39 @@ preset =
 
 -- ---- the rows
 
--- an entry that is missing is named
+-- the denial names the entry that is missing
 abbrev pub Denied : Type 0
 Denied =
     typed without_w 2 (codes "x") ≡ Say 2 (codes "denied: w on window 2: entry bob -w") ∷ []
 
--- once for all bytes of a step
+-- a denial is said once for all bytes of a step
 abbrev pub Once : Type 0
 Once =
     typed without_w 2 (codes "xy") ≡ Say 2 (codes "denied: w on window 2: entry bob -w") ∷ []
 
--- a leader's entry lets type
+-- a leader's entry lets a user type
 abbrev pub ByLeader : Type 0
 ByLeader =
     typed led 2 (codes "x") ≡ Input 2 (codes "x") ∷ []
 
--- and is named where it doesn't
+-- a leader whose entry is missing is named, too
 abbrev pub LeaderDenied : Type 0
 LeaderDenied =
     typed led_without_w 2 (codes "x")
     ≡ Say 2 (codes "denied: w on window 2: entry bob -w; leader ann -w") ∷ []
 
--- any leader's entry lets type
+-- the entry of any leader lets a user type
 abbrev pub SecondLeader : Type 0
 SecondLeader =
     typed led_by_two 2 (codes "x") ≡ Input 2 (codes "x") ∷ []
 
--- and all are named in their order
+-- all leaders whose entries are missing are named, in their order
 abbrev pub TwoDenied : Type 0
 TwoDenied =
     typed two_without_w 2 (codes "x")
     ≡ Say 2 (codes "denied: w on window 2: entry bob -w; leader ann -w; leader eve -w") ∷ []
 
--- in the first edition the last one alone
+-- in the first edition, only the last leader counts
 abbrev pub FirstEdition : Type 0
 FirstEdition =
     typed led_once 2 (codes "x")
@@ -119,58 +119,58 @@ NoLeader =
     listed (ordered (several Second) own None (command.Aclgrp (codes "bob") None))
     ≡ Some (codes "bob: none")
 
--- with two leaders
+-- the list of bob's two leaders
 abbrev pub Leaders : Type 0
 Leaders =
     listed (ordered led_by_two own None (command.Aclgrp (codes "bob") None))
     ≡ Some (codes "bob: ann,eve")
 
--- without one who was removed
+-- the list without a leader who was removed
 abbrev pub LeaderRemoved : Type 0
 LeaderRemoved =
     listed (ordered (after led_by_two (command.Acldel (codes "ann"))) own None
     (command.Aclgrp (codes "bob") None)) ≡ Some (codes "bob: eve")
 
--- `acldel bob`: his client goes
+-- `acldel bob`: bob's client goes
 abbrev pub Removed : Type 0
 Removed =
     (ordered (several Second) own None (command.Acldel (codes "bob"))).effects
     ≡ GoneClient 2 reason.Removed ∷ []
 
--- `acldel own`: the owner is not removed, and nothing changes
+-- `acldel own`: the owner isn't removed, and nothing changes
 abbrev pub OwnerKept : Type 0
 OwnerKept =
     let o : Outcome = ordered (several Second) own None (command.Acldel (codes "own")) in
     (o.reply ≡ Err (Acl fault.OwnerKept)) × (o.effects ≡ []) × (o.tables ≡ several Second)
 
--- `aclchg bob,own -r 0`: a list that names him changes nothing
+-- `aclchg bob,own -r 0`: a list that names the owner changes nothing
 abbrev pub AllOrNothing : Type 0
 AllOrNothing =
     let both : Order = changes (codes "bob" ∷ codes "own" ∷ []) (takes Read) (codes "0" ∷ []) in
     let o : Outcome = ordered (several Second) own None both in
     (o.reply ≡ Err (Acl fault.OwnerKept)) × (o.effects ≡ []) × (o.tables ≡ several Second)
 
--- x on a command
+-- a command needs x on itself
 abbrev pub NoKill : Type 0
 NoKill =
     (typed without_kill 2 (0x01 ∷ 0x6B ∷ [])
     ≡ Say 2 (codes "denied: x on kill: entry bob -x") ∷ [])
     × ((then_comes without_kill (Keys 2 (0x01 ∷ 0x6B ∷ []))).windows ≡ (several Second).windows)
 
--- x on its window
+-- a command needs x on its window
 abbrev pub NoKillThere : Type 0
 NoKillThere =
     why (ordered without_x bob (Some 0) command.Kill)
     ≡ codes "denied: x on window 0: entry bob -x"
 
--- what a mask says of a later window
+-- what a mask gives on a later window
 abbrev pub LaterWindow : Type 0
 LaterWindow =
     (may_in masked bob Read (object.Window 3) ≡ true)
     × (may_in masked bob Execute (object.Window 3) ≡ true)
     × (may_in masked bob Write (object.Window 3) ≡ false)
 
--- what a preset says of a later name
+-- what a preset gives to a later name
 abbrev pub LaterName : Type 0
 LaterName =
     why (ordered preset (user (codes "cat")) (Some 0) (command.Stuff (codes "x")))

@@ -1,4 +1,4 @@
--- Write locks: whom they stop, and what frees them.
+-- Worked rows on write locks: whom they stop, and what frees them.
 use Rattle.std.specs.Prelude.{◌≡◌, [], ◌∷◌, Some, codes}
 use Rattle.acl.specs.declared.edition.Edition.TheVariants.{Second}
 use Rattle.acl.specs.declared.bits.Bit.TheVariants.{Write}
@@ -14,7 +14,7 @@ use Rattle.session_worked.specs.Setup.{own, eve, several, ordered, after, typed,
 use Rattle.session_worked.specs.Setup.{gives, follows, then_comes, with_opened, why}
 use Rattle.std.specs.Prelude.{◌++◌}
 
--- eve: writelock auto, on window 2; and writelock on
+-- eve: writelock auto on window 2; the other tables: writelock on
 abbrev pub auto : Tables
 auto = (ordered (several Second) eve (Some 2) (command.Writelock Auto)).tables
 
@@ -31,14 +31,14 @@ led =
     after (after auto (changes (codes "bob" ∷ []) (takes Write) (codes "2" ∷ [])))
     (follows (codes "bob") (codes "ann"))
 
--- eve: C-a 0; and then bob: C-a 2
+-- eve: C-a 0; after that, bob: C-a 2
 abbrev pub left : Tables
 left = then_comes auto (Keys 3 (0x01 ∷ 0x30 ∷ []))
 
 abbrev pub entered : Tables
 entered = then_comes left (Keys 2 (0x01 ∷ 0x32 ∷ []))
 
--- eve: C-a 0, in mode on; and then aclchg eve -w #
+-- eve: C-a 0, in mode on; after that, aclchg eve -w #
 abbrev pub away : Tables
 away = then_comes locked (Keys 3 (0x01 ∷ 0x30 ∷ []))
 
@@ -52,50 +52,50 @@ abbrev pub Stops : Type 0
 Stops =
     typed auto 2 (codes "y") ≡ Say 2 (codes "denied: window 2 locked by eve") ∷ []
 
--- -w+w frees it
+-- -w+w frees the lock
 abbrev pub Frees : Type 0
 Frees =
     typed withdrawn 2 (codes "z") ≡ Input 2 (codes "z") ∷ []
 
--- the owner too
+-- a lock stops the owner, too
 abbrev pub StopsOwner : Type 0
 StopsOwner =
     why (ordered auto own (Some 2) (command.Stuff (codes "z")))
     ≡ codes "denied: window 2 locked by eve"
 
--- and those whose leader may write
+-- a lock stops users whose leader may write
 abbrev pub BeatsLeader : Type 0
 BeatsLeader =
     typed led 2 (codes "y") ≡ Say 2 (codes "denied: window 2 locked by eve") ∷ []
 
--- in mode auto leaving frees it
+-- in mode auto, leaving the window frees the lock
 abbrev pub LeavingFrees : Type 0
 LeavingFrees =
     typed left 2 (codes "x") ≡ Input 2 (codes "x") ∷ []
 
--- and entering takes it
+-- in mode auto, entering the window takes a free lock
 abbrev pub EnteringTakes : Type 0
 EnteringTakes =
     why (ordered entered own (Some 2) (command.Stuff (codes "y")))
     ≡ codes "denied: window 2 locked by bob"
 
--- which another user doesn't free
+-- a lock of another user isn't freed by leaving
 abbrev pub OthersLock : Type 0
 OthersLock =
     why (ordered entered own (Some 2) (command.Writelock Off))
     ≡ codes "denied: window 2 locked by bob"
 
--- in mode on it stays
+-- in mode on, the lock stays when its holder leaves
 abbrev pub Stays : Type 0
 Stays =
     typed away 2 (codes "x") ≡ Say 2 (codes "denied: window 2 locked by eve") ∷ []
 
--- until w is withdrawn
+-- the lock is freed when w is taken from its holder
 abbrev pub WithdrawnEverywhere : Type 0
 WithdrawnEverywhere =
     typed away_withdrawn 2 (codes "x") ≡ Input 2 (codes "x") ∷ []
 
--- or the last client goes
+-- the lock is freed when the holder's last client goes
 abbrev pub LastClient : Type 0
 LastClient =
     ((outcome locked (Detach 3)).effects ≡ GoneClient 3 Detached ∷ [])

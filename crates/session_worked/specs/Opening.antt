@@ -1,4 +1,4 @@
--- Windows and clients.
+-- Worked rows on windows and clients.
 use Rattle.std.specs.Prelude.{◌≡◌, false, [], ◌∷◌, Some, None}
 use Rattle.std.specs.Prelude.{Err, codes, map}
 use Rattle.std.specs.List.{range_with_len}
@@ -21,7 +21,7 @@ use Rattle.session_worked.specs.Setup.{then_comes, listed}
 abbrev pub full : Tables
 full = record (several Second) { windows = map (λ n. window n (codes "w")) (range_with_len 0 40) }
 
--- window 2 is killed; multiuser off
+-- after window 2 is killed; after multiuser off
 abbrev pub killed : Tables
 killed = (ordered (several Second) own (Some 2) command.Kill).tables
 
@@ -30,7 +30,7 @@ single = after (several Second) (command.Multiuser false)
 
 -- ---- the rows
 
--- there are 40 windows
+-- beyond 40 windows none opens
 abbrev pub NoMore : Type 0
 NoMore =
     ((outcome full (Open own 24 80 0 (codes "w"))).reply ≡ Err (Windows fault.Full))
@@ -46,7 +46,7 @@ abbrev pub NoneInFocus : Type 0
 NoneInFocus =
     typed killed 2 (codes "x") ≡ Say 2 (codes "no window") ∷ []
 
--- its number is given again, its serial is not
+-- a new window gets the number of a closed one, but a new serial
 abbrev pub NewSerial : Type 0
 NewSerial =
     ((new_window killed 24 80 0 (codes "w")).serial ≡ 3)
@@ -75,14 +75,14 @@ ClientList =
     listed (ordered (several Second) own None command.Displays)
     ≡ Some (codes "0 own 0  1 ann 0  2 bob 2  3 eve 2")
 
--- `a`, C-a n, `b`: bytes go where the focus is
+-- `a`, C-a n, `b`: bytes go to the window in focus
 abbrev pub KeysInSteps : Type 0
 KeysInSteps =
     (typed (several Second) 0 (0x61 ∷ 0x01 ∷ 0x6E ∷ 0x62 ∷ []) ≡ Input 0 (codes "a") ∷ [])
     × (typed (then_comes (several Second) (Keys 0 (0x61 ∷ 0x01 ∷ 0x6E ∷ 0x62 ∷ []))) 0 (codes "b")
     ≡ Input 1 (codes "b") ∷ [])
 
--- also where the keys are cut
+-- the bytes go to the same windows if the keys are cut
 abbrev pub KeysCut : Type 0
 KeysCut =
     (typed (several Second) 0 (0x61 ∷ 0x01 ∷ []) ≡ Input 0 (codes "a") ∷ [])
@@ -96,17 +96,17 @@ SingleUser =
     ≡ GoneClient 1 reason.SingleUser ∷ GoneClient 2 reason.SingleUser
     ∷ GoneClient 3 reason.SingleUser ∷ []
 
--- then other users don't attach
+-- in single-user mode other users can't attach
 abbrev pub NotLetIn : Type 0
 NotLetIn =
     (outcome single (Attach bob 4 20)).reply ≡ Err NotMultiuser
 
--- nor who isn't known
+-- a user who isn't known can't attach
 abbrev pub Unknown : Type 0
 Unknown =
     (outcome (several Second) (Attach (user (codes "cat")) 4 20)).reply ≡ Err UnknownUser
 
--- a terminal has 4 lines at least
+-- a terminal has at least 4 lines
 abbrev pub TooSmall : Type 0
 TooSmall =
     (outcome (several Second) (Resize 2 3 20)).reply ≡ Err BadSize

@@ -1,5 +1,6 @@
--- A session of four users: own, the owner, and ann, bob and eve; with three windows, zero, one
--- and two, and a client each, of which own's and ann's show window 0, bob's and eve's window 2.
+-- A session of four users: own, the owner, and ann, bob and eve. It has three windows, zero, one
+-- and two. Each user has a client: those of own and ann show window 0, those of bob and eve show
+-- window 2.
 use Rattle.std.specs.Prelude.{ℕ, ◌-◌, true, false, List, [], ◌∷◌, ◌++◌, Option, Some, None}
 use Rattle.std.specs.Prelude.{Ok, Err, codes, replicate, length}
 use Rattle.acl.specs.declared.user_id.UserId.{UserId}
@@ -81,19 +82,19 @@ several edition = record (fresh edition own) {
   next_client = 4;
 }
 
--- what a Command does whose line says this
+-- what a Command event does whose line is this command
 abbrev pub ordered : Tables → UserId → Option ℕ → Order → Outcome
 ordered t who number c = commanded t (ruling t (line_caller t who number) c)
 
--- the tables after a command of the owner, who names no window
+-- the tables after a command of the owner that names no window
 abbrev pub after : Tables → Order → Tables
 after t c = (ordered t own None c).tables
 
--- what comes of the keys of a client
+-- the effects of a client's keys
 abbrev pub typed : Tables → ℕ → List ℕ → List Effect
 typed t serial bytes = (outcome t (Keys serial bytes)).effects
 
--- aclchg, aclgrp
+-- the commands aclchg and aclgrp
 abbrev pub changes : List (List ℕ) → List BitChange → List (List ℕ) → Order
 changes names bits items = command.Aclchg (Listed names) bits items
 
@@ -106,14 +107,14 @@ gives b = record { bit = b; value = true } ∷ []
 abbrev pub follows : List ℕ → List ℕ → Order
 follows word leader = command.Aclgrp word (Some (Named leader))
 
--- the tables after an event, and those after the owner opens a window
+-- the tables after an event; and after the owner opened a window
 abbrev pub then_comes : Tables → EventValue → Tables
 then_comes t event = (outcome t event).tables
 
 abbrev pub with_opened : Tables → Tables
 with_opened t = (finished t [] done (opens t own (new_window t 24 80 0 (codes "new")))).tables
 
--- what a refused step says
+-- the text of a step's refusal
 abbrev pub why : Outcome → List ℕ
 why o = elim o.reply [ Ok d ↦ [] | Err r ↦ text_of r ]
 

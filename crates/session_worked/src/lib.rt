@@ -1,6 +1,6 @@
 //! Worked rows of a session, computed from its definitions: what four users get who type, change
-//! lists, take locks and open windows. Each function here does nothing; its contract has the
-//! rows.
+//! access lists, take locks and open windows. Each function here does nothing; its contract states
+//! the rows.
 #![tactic(auto)]
 
 ghost use Rattle.session_worked.specs.Drawing as drawing;
@@ -8,7 +8,7 @@ ghost use Rattle.session_worked.specs.Entries as entries;
 ghost use Rattle.session_worked.specs.Locking as locking;
 ghost use Rattle.session_worked.specs.Opening as opening;
 
-/// Who may type and command: entries, leaders in both editions, masks and presets.
+/// Who may type and give commands: entries, leaders in both editions, masks and presets.
 pub fn rights_of_users()
     ensures denied { entries.Denied }
     ensures once { entries.Once }
@@ -64,8 +64,8 @@ pub fn windows_and_clients()
     ensures stuff { opening.Stuff }
 {}
 
-/// What a client sees: a window that it may read, and no more of it once r is taken; after another
-/// size, and where nothing has changed.
+/// What a client sees: a window that may be read, and no more of it after r is taken; a new size;
+/// and a draw without a change.
 pub fn draws_of_clients()
     ensures readable { drawing.Readable }
     ensures revoked { drawing.Revoked }

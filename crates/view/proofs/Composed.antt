@@ -1,4 +1,4 @@
--- The pieces of a page are laid one after the other.
+-- The pieces of a page are laid over it one after another.
 use Rattle.std.proofs.Common.{◌≡◌, ℕ, zero, suc, ◌+◌, ◌-◌, ◌<◌, ◌≤◌, Bool, true, false, ◌&&◌, ltb, List, [], ◌∷◌, ◌++◌}
 use Rattle.std.proofs.Common.{length, map, take, drop, get_or, refl, sym, ap, ◌∙◌, arith, ⊎_elim, lt-ltb}
 use Rattle.std.specs.Prelude.{if◌then◌else◌, nat_lt}
@@ -24,12 +24,12 @@ both false b h = cc
 abbrev pub rects_of : List Piece → List Rect
 rects_of ps = map (λ (p : Piece). p.rect) ps
 
--- what stands on the page of a view, where a piece has a place
+-- on the view's page, each place that a piece has shows the cell of that piece
 pub record Covers (ps : List Piece) (v : View) : Type 0 where
   pub cells_are : (line column : ℕ) → (times (rects_of ps) line column ≡ 0 → ⊥)
       → place v.page line column ≡ cell_of ps line column
 
--- what stands on it
+-- at each place the view's page shows the cell of these pieces; a blank if none has the place
 pub record Holds (ps : List Piece) (v : View) : Type 0 where
   pub cells_are : (line column : ℕ) → place v.page line column ≡ cell_of ps line column
 
@@ -40,7 +40,7 @@ none_has r rs l c h = go (has r l c) h
     go true e = absurd (omega arith)
     go false e = (refl, omega (arith, e))
 
--- where no piece has a place, the cell is that of the pieces behind them
+-- a place that none of the first pieces has shows the cell of the pieces after them
 outside : (ps qs : List Piece) (l c : ℕ) → times (rects_of ps) l c ≡ 0 → cell_of (ps ++ qs) l c ≡ cell_of qs l c
 outside [] qs l c h = refl
 outside (p ∷ ps) qs l c h = let n = none_has p.rect (rects_of ps) l c h in rw n.0 (outside ps qs l c n.1)
@@ -49,7 +49,7 @@ uncovered : (ps : List Piece) (l c : ℕ) → times (rects_of ps) l c ≡ 0 → 
 uncovered [] l c h = refl
 uncovered (p ∷ ps) l c h = let n = none_has p.rect (rects_of ps) l c h in rw n.0 (uncovered ps l c n.1)
 
--- a piece behind others changes nothing where it has no place
+-- a piece after others changes nothing at a place that it doesn't have
 behind : (ps : List Piece) (p : Piece) (l c : ℕ) → has p.rect l c ≡ false → cell_of (ps ++ p ∷ []) l c ≡ cell_of ps l c
 behind [] p l c h = rw h refl
 behind (q ∷ ps) p l c h = ap (λ (x : Cell). if has q.rect l c then q.cell (l - q.rect.line) (c - q.rect.column) else x)
@@ -122,7 +122,7 @@ module _ (all : List Piece) (rows columns : ℕ) (tiles : Tiles all rows columns
         → IsFree (piece_at all n).rect v.page
     free_on_blanks some blanks = free_of_blanks (piece_at all n).rect v.page some inside blanks
 
-  -- the pieces before it have other places
+  -- the pieces before this one have other places
   pub apart : (m : ℕ) → m < n → (l c : ℕ) → has (piece_at all n).rect l c ≡ true → has (piece_at all m).rect l c ≡ false
   apart m before l c h = none_before all m n l c before (omega (arith, before, lt)) (clear l c h)
 
@@ -156,7 +156,7 @@ module _ (all : List Piece) (rows columns : ℕ) (tiles : Tiles all rows columns
         ∙ ap (λ (ps : List Piece). cell_of ps l c) (sym (take_more all n nowhere lt));
   }
 
--- Where the pieces of a page cover it, nothing else stands on it.
+-- If the pieces of a page cover it, it shows nothing else.
 pub all_hold : (all : List Piece) (rows columns : ℕ) → Tiles all rows columns → (v : View) → IsGrid v.page
     → length v.page ≡ rows → length (line_at v.page 0) ≡ columns → Covers all v → Holds all v
 all_hold all rows columns tiles v grid high wide covers = record

@@ -1,4 +1,4 @@
--- What a composed view shows can be shown by a terminal.
+-- What a composed view shows can be shown by a terminal: its characters, and the lines of windows.
 use Rattle.std.proofs.Common.{◌≡◌, ℕ, zero, suc, ◌+◌, ◌<◌, ◌≤◌, Bool, true, false, ◌&&◌, ◌||◌, cond, eqb, ltb, leb}
 use Rattle.std.proofs.Common.{List, [], ◌∷◌, ◌++◌, length, get_or, refl, sym, ap, subst, ◌∙◌, arith, ⊎_elim, ◌⊎◌, inl}
 use Rattle.std.proofs.Common.{inr, eq-eqb, lt-ltb}
@@ -32,7 +32,7 @@ or_true false = refl
 abbrev is_printable : ℕ → Bool
 is_printable c = (ltb 0x1F c && ltb c 0x7F) || ltb 0x9F c
 
--- what has a width is printable
+-- a character that has a width is printable
 printable_by : (c : ℕ) (low some high : Bool) (v w : ℕ) → ltb c 0x7F ≡ low → leb 0x20 c ≡ some → leb 0xA0 c ≡ high
     → cond low (cond some (Some 1) None) (cond high (Some v) None) ≡ Some w → is_printable c ≡ true
 printable_by c true true high v w l s h e =
@@ -156,13 +156,13 @@ text_halves r (c ∷ cs) k left = go (text_halves r cs) (eqb (columns_of c) 2) k
 
 -- ---- rows that are cut at an edge
 
--- cells of which each can be printed, with right halves behind left ones
+-- each of these cells can be printed, and each left half is followed by its right half
 pub record AreDrawn (whole : ℕ → Cell) : Type 0 where
   pub printed : (k : ℕ) → IsDrawableCell (whole k)
   pub halves : (k : ℕ) → is_left (whole k).shape ≡ true
       → unprotected (whole (suc k)) ≡ right_cell (whole k).character (whole k).rendition false
 
--- the same of a row of so many
+-- each cell of a row of n columns can be printed, and each left half is followed by its right half
 pub record IsDrawnRow (columns : ℕ) (cell : ℕ → Cell) : Type 0 where
   pub printed : (k : ℕ) → IsDrawableCell (cell k)
   pub halves : (k : ℕ) → k < columns → is_left (cell k).shape ≡ true → (suc k < columns)

@@ -1,4 +1,4 @@
--- Pieces that are laid over a page.
+-- Facts of pieces that are laid over a page.
 use Rattle.std.proofs.Common.{◌≡◌, ℕ, suc, ◌+◌, ◌-◌, ◌<◌, ◌≤◌, Bool, true, false, ◌&&◌, eqb, leb, ltb, List, length}
 use Rattle.std.proofs.Common.{refl, sym, ap, subst, ◌∙◌, arith, ⊎_elim, inl, inr, ◌⊎◌, eq-eqb, lt-ltb, le-leb}
 use Rattle.std.specs.Prelude.{if◌then◌else◌, ◌==◌}
@@ -195,7 +195,7 @@ module _ (r : Rect) (old : View) (cells : List Cell) (grid : IsGrid old.page) (f
 
 -- ---- rectangles that are free
 
--- on a page whose places in it are blanks
+-- a rectangle is free if its places on the page are blanks
 pub free_of_blanks : (r : Rect) (page : List (List Cell)) → 0 < r.columns
     → ((l c : ℕ) → has r l c ≡ true → IsOnPage page l c) → ((l c : ℕ) → place page l c ≡ blank) → IsFree r page
 free_of_blanks r page some inside blanks = record {
@@ -205,7 +205,7 @@ free_of_blanks r page some inside blanks = record {
   ends = λ l c h last. ap (λ (x : Cell). is_left x.shape) (blanks l c);
 }
 
--- as wide as a page
+-- a rectangle is free if it is as wide as the page
 pub free_if_wide : (r : Rect) (page : List (List Cell)) → IsGrid page → r.column ≡ 0
     → r.columns ≡ length (line_at page 0) → r.line + r.rows ≤ length page → IsFree r page
 free_if_wide r page grid first wide above = record {
@@ -222,7 +222,7 @@ free_if_wide r page grid first wide above = record {
       ∙ ap (λ (x : Cell). is_right x.shape) (get_or_past (line_at page l) (suc c) blank end);
 }
 
--- where another piece was laid beside it
+-- a rectangle stays free after another piece was laid beside it
 pub still_free : (r : Rect) (p : Piece) (old new : View) → ((l c : ℕ) → has r l c ≡ true → has p.rect l c ≡ false)
     → Lays p old new → IsFree r old.page → IsFree r new.page
 still_free r p old new apart lays free = record {

@@ -30,7 +30,7 @@ right_is true false cell other h o = refl
 right_is false true cell other h o = refl
 right_is false false cell other h o = refl
 
--- a cut changes no right half
+-- cutting a row changes no right half
 pub uncut_right : (columns column : ℕ) (cell other : Cell) → is_right other.shape ≡ false
     → is_right (uncut columns column cell other).shape ≡ is_right cell.shape
 uncut_right columns column cell other o = right_is (is_left cell.shape) (eqb (column + 1) columns) cell other refl o
@@ -40,13 +40,13 @@ last_is : (left : Bool) (cell other : Cell) → is_left cell.shape ≡ left → 
 last_is true cell other h o = o
 last_is false cell other h o = h
 
--- no left half stands at the edge
+-- a cut row has no left half at its edge
 pub uncut_last : (columns column : ℕ) (cell other : Cell) → column + 1 ≡ columns → is_left other.shape ≡ false
     → is_left (uncut columns column cell other).shape ≡ false
 uncut_last columns column cell other e o = rw (eq-eqb (column + 1) columns e)
     (last_is (is_left cell.shape) cell other refl o)
 
--- before the edge all cells stay
+-- cutting a row leaves all cells before the edge
 pub uncut_before : (columns column : ℕ) (cell other : Cell) → (column + 1 ≡ columns → ⊥)
     → uncut columns column cell other ≡ cell
 uncut_before columns column cell other ne = rw (ne_eqb (column + 1) columns ne) refl
@@ -54,7 +54,7 @@ uncut_before columns column cell other ne = rw (ne_eqb (column + 1) columns ne) 
 past : (cells : List Cell) (n : ℕ) → length cells ≤ n → cell_at cells n ≡ blank
 past cells n h = get_or_past cells n blank h
 
--- a paired line, cut at an edge, is paired
+-- a paired line that is cut at an edge is paired
 pub cut_pairs : (whole : ℕ → Cell) (columns : ℕ) (cells : List Cell) (other : Cell) → is_left other.shape ≡ false
     → is_right other.shape ≡ false → is_right (whole 0).shape ≡ false
     → ((k : ℕ) → is_left (whole k).shape ≡ is_right (whole (suc k)).shape)

@@ -210,7 +210,7 @@ page-is ps v rows columns grid high wide_is holds =
     holds.cells_are l c ∙ sym (get_or-map-range_with_len (cell l) 0 columns c c blank inside (omega arith)))
     ∙ sym (get_or-map-range_with_len (λ n. map (cell n) (range_with_len 0 columns)) 0 rows l l [] lt (omega arith)))
 
--- ---- so many pieces are laid over a page
+-- ---- the first n pieces are laid over a page
 
 pub record Stage (r : Rects) (ps : List Part) (text : List ℕ) (n : ℕ) (v : View) : Type 0 where
   pub covers : Covers (take n (pieces r ps text)) v
@@ -288,7 +288,8 @@ module _ (r : Rects) (ps : List Part) (text : List ℕ) (s : Shape) (rows column
         → (rect.columns ≡ 1 → IsFree rect old.page → Lays (separator_piece rect) old new)
         → Stage r ps text (length r.boxes.items + (n + 1)) new
     separator_stage n rect d old new lt re stage lays =
-        let inside : length r.boxes.items + n < length (pieces r ps text) = omega (arith, lt, pieces_length r ps text) in
+        let inside : length r.boxes.items + n < length (pieces r ps text) = omega (arith, lt, pieces_length r ps text)
+        in
         let one : rect.columns ≡ 1 = ap (λ (x : Rect). x.columns) re
         ∙ separator_narrow r ps text s rows columns is n d lt in
         let more : length r.boxes.items + n + 1 ≡ length r.boxes.items + (n + 1) = omega arith in
@@ -302,7 +303,8 @@ module _ (r : Rects) (ps : List Part) (text : List ℕ) (s : Shape) (rows column
         → Stage r ps text (length (pieces r ps text)) new
     status_stage n old new e stage lays =
         let inside : length r.boxes.items + n < length (pieces r ps text) = omega (arith, e, pieces_length r ps text) in
-        let more : length r.boxes.items + n + 1 ≡ length (pieces r ps text) = omega (arith, e, pieces_length r ps text) in
+        let more : length r.boxes.items + n + 1 ≡ length (pieces r ps text) = omega (arith, e, pieces_length r ps text)
+        in
         subst (λ (k : ℕ). Stage r ps text k new) more
         (next (length r.boxes.items + n) inside (status_piece r.status text) old new
         (ap (λ (k : ℕ). piece_at (pieces r ps text) (length r.boxes.items + k)) e ∙ status_at r ps text)
@@ -334,7 +336,8 @@ module _ (r : Rects) (ps : List Part) (text : List ℕ) (s : Shape) (rows column
           cursor = cursor_of (box_at r r.focus) (part_at ps r.focus);
           has_application_arrows = arrows_of (part_at ps r.focus);
           has_application_keypad = keypad_of (part_at ps r.focus);
-        }) (page-is (pieces r ps text) old (r.status.line + 1) r.status.columns grid size.rows_are size.columns_are holds)
+        }) (page-is (pieces r ps text) old (r.status.line + 1) r.status.columns grid size.rows_are size.columns_are
+        holds)
 
 -- ---- pages on which all pieces are free
 
@@ -362,7 +365,7 @@ module _ (r : Rects) (ps : List Part) (text : List ℕ) (s : Shape) (rows column
   broad_page : length (line_at v.page 0) ≡ columns
   broad_page = size.columns_are ∙ status_columns r ps text s rows columns is
 
-  -- a blank one
+  -- on a blank page all pieces are free
   pub blank_free : ((l c : ℕ) → place v.page l c ≡ blank) → AreFree (pieces r ps text) v.page
   blank_free blanks n lt = free_on_blanks (pieces r ps text) rows columns (pieces_tile r ps text s rows columns is) n lt
       v high_page broad_page some blanks
@@ -386,7 +389,7 @@ module _ (r : Rects) (ps : List Part) (text : List ℕ) (s : Shape) (rows column
           (cases_lt (n - length r.boxes.items) (length r.separators.items)))
           (cases_lt n (length r.boxes.items))
 
-  -- any one, where a region has it alone
+  -- on any page all pieces are free, if one region has the page to itself
   pub lone_free : length r.boxes.items ≡ 1 → IsGrid v.page → AreFree (pieces r ps text) v.page
   lone_free one grid n lt = ⊎_elim
       (λ (h : n < length r.boxes.items).

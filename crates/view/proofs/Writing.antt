@@ -1,4 +1,4 @@
--- The cells of texts.
+-- The cells that a text and a caption are written with.
 use Rattle.std.proofs.Common.{◌≡◌, ℕ, zero, suc, ◌+◌, ◌<◌, ◌≤◌, false, cond, eqb, List, [], ◌∷◌, ◌++◌, length, get_or}
 use Rattle.std.proofs.Common.{drop, append_assoc, refl, sym, ap, ◌∙◌, arith}
 use Rattle.std.specs.Prelude.{Option, Some, None, IfSome, unwrap_or, chars, decimal, IsAscii, ◌^◌}
@@ -18,7 +18,7 @@ use Rattle.view.specs.declared.pane.Contents.{Contents}
 use Rattle.view.specs.Granted.{part_of, caption_text}
 use Rattle.view.specs.Texts.{visible, char_cells, text_cells}
 
--- what is shown, by the width
+-- the character that is shown, by its width
 abbrev shown_by : Option ℕ → ℕ → ℕ
 shown_by w c = cond (eqb (glyph_columns w) 0) 0xFFFD (drawn_as w c)
 
@@ -75,7 +75,7 @@ pub text_end : (r : Rendition) (cs : List ℕ) (all now : List Cell) (n : ℕ) �
 text_end r cs all now n e a = sym
     (a ∙ ap (λ (l : List Cell). now ++ l) (at_drop_all (text_cells r) cs n (omega (arith, e))) ∙ append-nil now)
 
--- the cells of a character, by its columns
+-- the cells of a character, by the number of its columns
 pub wide_cells : (r : Rendition) (c w : ℕ) → w ≡ glyph_columns (char_width false c) → w ≡ 2
     → char_cells r c ≡ left_cell c r false ∷ right_cell c r false ∷ []
 unfolding columns_of

@@ -25,8 +25,8 @@ use Rattle.view.specs.Texts.{uncut, text_at}
 -- ---- what stands in a region
 
 -- A window that the client's user may read: its number, the characters of its title, the lines of
--- its page or of the page moved back, its cursor, which is none where the page is moved back, and
--- its modes DECTCEM, DECSCNM, DECCKM and DECKPAM.
+-- its page or of the page moved back, its cursor (none if the page is moved back), and its modes
+-- DECTCEM, DECSCNM, DECCKM and DECKPAM.
 pub record Window : Type 0 where
   pub number : ℕ
   pub title : List ℕ
@@ -37,7 +37,8 @@ pub record Window : Type 0 where
   pub has_application_arrows : Bool
   pub has_application_keypad : Bool
 
--- nothing, a window of this number that he may not read, or one that he may
+-- what a region shows: nothing, a window of this number that the user may not read, or one that the
+-- user may read
 pub data Part : Type 0 where
   vacant : Part
   unread : ℕ → Part
@@ -65,25 +66,25 @@ parts_of panes = map part_of panes
 
 -- ---- a region's box: the lines of its window, and its caption in the last row
 
--- the first line that so many rows show: the cursor's is among them
+-- the first of a window's lines that n rows show, such that the cursor's line is among them
 abbrev pub first_shown : ℕ → Option Position → ℕ
 first_shown rows None = 0
 first_shown rows (Some p) = p.line - (rows - 1)
 
--- a rendition in which reverse is inverted where the window's screen is (DECSCNM)
+-- a rendition as it is shown: if the window's screen is reversed (DECSCNM), reverse is inverted
 abbrev pub shown_rendition : Bool → Rendition → Rendition
 shown_rendition is_inverted r =
     record r { is_reversed = if is_inverted then not r.is_reversed else r.is_reversed }
 
--- a cell without protection, in that rendition
+-- a cell as it is shown: in that rendition, and without protection
 abbrev pub shown_cell : Bool → Cell → Cell
 shown_cell is_inverted cell = record cell {
   is_protected = false;
   rendition = shown_rendition is_inverted cell.rendition;
 }
 
--- a place that shows this column of a line, among so many columns: a blank outside the window and
--- in place of a cut half
+-- what one of n columns shows of a line; a blank outside of the window, and in place of a wide
+-- character of which only half has room
 abbrev pub line_cell : Bool → List Cell → ℕ → ℕ → Cell
 line_cell is_inverted line columns column =
     if nat_lt column (length line)
@@ -94,13 +95,15 @@ abbrev pub window_cell : Window → ℕ → ℕ → ℕ → ℕ → Cell
 window_cell w rows columns row column =
     line_cell w.is_inverted (line_at w.lines (first_shown rows w.cursor + row)) columns column
 
--- Nothing of a window that may not be read is shown but its number.
+-- What a place of a region shows. Of a window that may not be read, nothing is shown but its
+-- number.
 abbrev pub part_cell : Part → ℕ → ℕ → ℕ → ℕ → Cell
 part_cell vacant rows columns row column = blank
 part_cell (unread number) rows columns row column = blank
 part_cell (read w) rows columns row column = window_cell w rows columns row column
 
--- number, one blank, title; `?` in place of a title that may not be read; `--` where no window is
+-- the number, one blank, the title; `?` instead of a title that may not be read; `--` if there is
+-- no window
 abbrev pub caption_text : Part → List ℕ
 caption_text vacant = codes "--"
 caption_text (unread number) = decimal number ++ codes " ?"
@@ -109,11 +112,11 @@ caption_text (read w) = decimal w.number ++ (code " " ∷ w.title)
 abbrev pub reverse : Rendition
 reverse = record plain { is_reversed = true }
 
--- reverse, and bold where the region has the focus
+-- reverse; also bold if the region has the focus
 abbrev pub caption_rendition : Bool → Rendition
 caption_rendition is_focused = record reverse { is_bold = is_focused }
 
--- a column of the caption, in so many columns
+-- one of the n columns of a caption
 abbrev pub caption_cell : Bool → Part → ℕ → ℕ → Cell
 caption_cell is_focused part columns column =
     text_at (caption_rendition is_focused) (caption_text part) columns column
@@ -130,8 +133,8 @@ pub record Piece : Type 0 where
   pub rect : Rect
   pub cell : ℕ → ℕ → Cell
 
--- the boxes of the regions, the separators between them, the place of the focused one among the
--- boxes, and the status line
+-- the boxes of the regions, the separators between them, the index of the focused region's box, and
+-- the status line
 pub record Layout : Type 0 where
   pub boxes : List Rect
   pub separators : List Rect
@@ -155,7 +158,7 @@ box_at r n = box_in (layout_of r) n
 abbrev pub part_at : List Part → ℕ → Part
 part_at parts n = slice_index_or parts n vacant
 
--- a region's box, which has the focus or not
+-- the box of a region, which has the focus or not
 abbrev pub box_piece : Rect → Bool → Part → Piece
 box_piece rect is_focused part = record { rect = rect; cell = box_cell rect is_focused part }
 
@@ -168,8 +171,8 @@ region_piece r parts n = region_in (layout_of r) parts n
 abbrev pub separator_piece : Rect → Piece
 separator_piece rect = record { rect = rect; cell = λ row column. narrow_cell 0x7C reverse false }
 
--- the text of the status line, without rendition; U+FFFD stands for each maximal part that isn't
--- UTF-8 (Unicode core specification, 3.9)
+-- the text of the status line, in the plain rendition; U+FFFD stands for each maximal part that
+-- isn't UTF-8 (Unicode core specification, 3.9)
 abbrev pub status_piece : Rect → List ℕ → Piece
 status_piece rect text = record {
   rect = rect;
@@ -188,7 +191,7 @@ pieces r parts status = pieces_in (layout_of r) parts status
 abbrev pub cell_in : Piece → ℕ → ℕ → Cell
 cell_in p line column = p.cell (line - p.rect.line) (column - p.rect.column)
 
--- the cell of the piece that has a place, and a blank where none has it
+-- the cell of the first piece that has the place; a blank if none has it
 abbrev pub cell_of : List Piece → ℕ → ℕ → Cell
 cell_of [] line column = blank
 cell_of (p ∷ ps) line column =
@@ -200,8 +203,8 @@ abbrev pub page_of : ℕ → ℕ → (ℕ → ℕ → Cell) → List (List Cell)
 page_of rows columns cell =
     map (λ line. map (cell line) (range_with_len 0 columns)) (range_with_len 0 rows)
 
--- The cursor of a window that may be read is shown where its mode shows it and its place lies in
--- the region.
+-- The place of the cursor of a window that may be read, if the cursor's mode shows it and the place
+-- lies in the region.
 abbrev pub cursor_in : Rect → Window → Option Position → Option Position
 cursor_in box w None = None
 cursor_in box w (Some p) =
@@ -214,8 +217,8 @@ cursor_of box vacant = None
 cursor_of box (unread number) = None
 cursor_of box (read w) = cursor_in box w w.cursor
 
--- The modes of the keyboard are those of the focused window where it may be read, and else the
--- starting ones.
+-- The modes of the keyboard are those of the focused window, if it may be read; else those with
+-- which a terminal starts.
 abbrev pub arrows_of : Part → Bool
 arrows_of vacant = false
 arrows_of (unread number) = false
@@ -232,7 +235,7 @@ key_modes_of part = record {
   has_application_keypad = keypad_of part;
 }
 
--- the page down to its status line, which is the last
+-- the page, its status line included, which is its last row
 abbrev pub page_in : Layout → List Piece → List (List Cell)
 page_in l ps = page_of (l.status.line + 1) l.status.columns (cell_of ps)
 
@@ -258,8 +261,8 @@ HasPairedLines vacant = Prim.Unit {0}
 HasPairedLines (unread number) = Prim.Unit {0}
 HasPairedLines (read w) = EachLine IsPaired w.lines
 
--- the rectangles of a page on which each region has room, one part a region, and lines in which
--- halves are paired
+-- what a view is made of: the rectangles of a page on which each region has room, one part for each
+-- region, and lines in which the halves of wide characters are paired
 pub record AreParts (s : Shape) (rows columns : ℕ) (r : Rects) (parts : List Part) : Type 0 where
   pub rects : IsRects s r.focus rows columns r
   pub room : has_room s rows columns ≡ true
@@ -272,6 +275,6 @@ HasDrawableLines vacant = Prim.Unit {0}
 HasDrawableLines (unread number) = Prim.Unit {0}
 HasDrawableLines (read w) = EachLine IsDrawableLine w.lines
 
--- a terminal can show the lines of the windows that are read
+-- a terminal can show the lines of the windows that may be read
 abbrev pub AreDrawable : List Part → Type 0
 AreDrawable parts = (n : ℕ) → HasDrawableLines (part_at parts n)

@@ -13,27 +13,27 @@ use Rattle.view.specs.Granted.{Window, Part, Piece, cursor_of, arrows_of, keypad
 use Rattle.view.specs.Granted.{shown_cell, window_cell, part_cell, caption_cell, box_cell, cell_in}
 use Rattle.view.specs.Texts.{uncut}
 
--- so many cells, one for each column
+-- these are n cells, one for each column
 pub record IsRow (cell : ℕ → Cell) (columns : ℕ) (cells : List Cell) : Type 0 where
   pub width : length cells ≡ columns
   pub cells_are : (column : ℕ) → column < columns → cell_at cells column ≡ cell column
 
--- a column of a line as it is shown, wherever the line is cut, and blanks behind it
+-- a column of a line as it is shown, if the line isn't cut; blanks follow the line
 abbrev pub whole_cell : Bool → List Cell → ℕ → Cell
 whole_cell is_inverted line column =
     if nat_lt column (length line) then shown_cell is_inverted (cell_at line column) else blank
 
--- a column of a line with a blank in place of a half that was cut at its end
+-- a column of a line that is cut at its end: a blank stands for a half of a wide character there
 abbrev pub cut_cell : List Cell → ℕ → Cell
 cut_cell line column = uncut (length line) column (cell_at line column) blank
 
 -- ---- rows of a region
 
--- a row, of so many, of a window
+-- one of the n rows that show a window
 abbrev pub IsWindowRow : Window → ℕ → ℕ → ℕ → List Cell → Type 0
 IsWindowRow w rows columns row cells = IsRow (window_cell w rows columns row) columns cells
 
--- a row, of so many, above a caption
+-- one of the n rows above a caption
 abbrev pub IsPartRow : Part → ℕ → ℕ → ℕ → List Cell → Type 0
 IsPartRow part rows columns row cells = IsRow (part_cell part rows columns row) columns cells
 
@@ -68,7 +68,7 @@ pub record IsFree (r : Rect) (page : List (List Cell)) : Type 0 where
   pub ends : (line column : ℕ) → has r line column ≡ true
       → column + 1 ≡ r.column + r.columns → is_left (place page line column).shape ≡ false
 
--- a piece without a place
+-- a piece with an empty rectangle
 abbrev pub nowhere : Piece
 nowhere = record {
   rect = record { line = 0; column = 0; rows = 0; columns = 0 };
@@ -79,7 +79,7 @@ nowhere = record {
 abbrev pub AreFree : List Piece → List (List Cell) → Type 0
 AreFree ps page = (n : ℕ) → n < length ps → IsFree (slice_index_or ps n nowhere).rect page
 
--- what stands at a place of a page once a piece was laid over it
+-- the cell at a place of a page, after a piece was laid over the page
 abbrev pub laid : Piece → List (List Cell) → ℕ → ℕ → Cell
 laid p page line column =
     if has p.rect line column then cell_in p line column else place page line column
@@ -91,7 +91,7 @@ pub record Lays (p : Piece) (old new : View) : Type 0 where
   pub cells_are : (line column : ℕ) → place new.page line column ≡ laid p old.page line column
   pub rest : new ≡ record old { page = new.page }
 
--- one of its rows
+-- one row of a rectangle
 abbrev pub row_of : Rect → ℕ → Rect
 row_of r row = record r { line = r.line + row; rows = 1 }
 
@@ -106,6 +106,6 @@ focused_on box part v = record v {
   has_application_keypad = keypad_of part;
 }
 
--- the cursor and the modes of a view are those of a region, and its page is as before
+-- the view has the cursor and the modes of a region, and its page is unchanged
 abbrev pub FocusesOn : Rect → Part → View → View → Type 0
 FocusesOn box part old new = new ≡ focused_on box part old

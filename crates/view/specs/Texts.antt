@@ -6,8 +6,8 @@ use Rattle.cells.specs.declared.cell.Rendition.{Rendition}
 use Rattle.cells.specs.Line.{is_left, narrow_cell, left_cell, right_cell}
 use Rattle.terminal_model.specs.Printing.{columns_of, drawn}
 
--- a character of width 0, such as a mark, and a control show as U+FFFD; so does what a terminal
--- draws so (UAX #11)
+-- U+FFFD stands for a control, for a character of width 0 such as a mark, and for a character that
+-- a terminal draws so (UAX #11)
 abbrev pub visible : ℕ → ℕ
 visible c = if columns_of c == 0 then 0xFFFD else drawn c
 
@@ -21,13 +21,13 @@ abbrev pub text_cells : Rendition → List ℕ → List Cell
 text_cells r [] = []
 text_cells r (c ∷ cs) = char_cells r c ++ text_cells r cs
 
--- a cell in a column of so many: at the edge another one stands in place of half a wide character
+-- the cell in one of n columns; at the edge another cell stands for half of a wide character
 abbrev pub uncut : ℕ → ℕ → Cell → Cell → Cell
 uncut columns column cell other =
     if (column + 1 == columns) && is_left cell.shape then other else cell
 
--- a column, from 0, of a text in so many columns: cut at the edge, with blanks of its rendition
--- behind it
+-- a column, from 0, of a text in n columns: the text is cut at the edge, and blanks of its
+-- rendition follow it
 abbrev pub text_at : Rendition → List ℕ → ℕ → ℕ → Cell
 text_at r text columns column =
     let space : Cell = narrow_cell 32 r false in

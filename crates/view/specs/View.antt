@@ -1,5 +1,5 @@
--- What a client is to see is a view of the terminal's definitions: a page, the cursor's place, and
--- two modes.
+-- What a client is to see is a view, as the terminal's definitions have it: a page, the cursor's
+-- place, and two modes.
 use Rattle.std.specs.Prelude.{◌≡◌, ℕ, ◌+◌, ◌<◌, ◌≤◌, false, List, length, replicate}
 use Rattle.std.specs.Prelude.{Option, Some, None, IfSome}
 use Rattle.cells.specs.declared.cell.Cell.{Cell}
@@ -16,7 +16,7 @@ abbrev pub place_of : Cursor → Option Position
 place_of Hidden = None
 place_of (At line column) = Some (record { line = line; column = column })
 
--- a view whose modes are these
+-- a view with these modes
 abbrev pub view_with : List (List Cell) → Option Position → KeyModes → View
 view_with page cursor modes = record {
   page = page;
@@ -41,40 +41,40 @@ blank_without_cursor rows columns = record {
   has_application_keypad = false;
 }
 
--- a place of a page, which counts its lines and columns from 0
+-- a place that the page has, counted from line 0 and column 0
 abbrev pub LiesOn : List (List Cell) → Position → Type 0
 LiesOn page p = IsInside (length page) (length (line_at page 0)) p.line p.column
 
--- a grid's page, on which the cursor lies
+-- the page is a grid, and the cursor lies on it
 pub record IsView (page : List (List Cell)) (cursor : Option Position) : Type 0 where
   pub grid : IsGrid page
   pub inside : IfSome cursor (λ p. LiesOn page p)
 
--- so many lines of so many columns
+-- the view's page has this number of lines and of columns
 pub record HasSize (rows columns : ℕ) (v : View) : Type 0 where
   pub rows_are : length v.page ≡ rows
   pub columns_are : length (line_at v.page 0) ≡ columns
 
--- the same number of lines and of columns as before
+-- the new view's page has as many lines and columns as the old one's
 abbrev pub KeepsSize : View → View → Type 0
 KeepsSize old new = HasSize (length old.page) (length (line_at old.page 0)) new
 
--- The cursor is put where it lies on the page, and nothing else changes.
+-- if the cursor's place lies on the page, the cursor is put there, and nothing else changes
 abbrev pub PutsCursor : Cursor → View → View → Type 0
 PutsCursor cursor old new =
     IfSome (place_of cursor) (λ p. LiesOn old.page p)
     → new ≡ record old { cursor = place_of cursor }
 
--- a line with new cells in place of old ones, from a column on
+-- a line in which these cells replace the old ones from a column on
 abbrev pub written_in : ℕ → List Cell → List Cell → ℕ → Source
 written_in column cells line = spliced column cells (column + length cells) (length line)
 
--- a page with new cells in place of old ones
+-- a page in which these cells replace old ones
 abbrev pub written : ℕ → ℕ → List Cell → List (List Cell) → List (List Cell)
 written line column cells page =
     page_from (edited line (written_in column cells (line_at page line))) page
 
--- The cells are put where they have room on the page, and nothing else changes.
+-- if the page has room for the cells at this place, they are put there; nothing else changes
 abbrev pub PutsCells : ℕ → ℕ → List Cell → View → View → Type 0
 PutsCells line column cells old new =
     line < length old.page → column + length cells ≤ length (line_at old.page 0)

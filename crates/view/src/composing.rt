@@ -1,4 +1,4 @@
-//! Panes, separators and the status line on one page.
+//! Composes panes, separators and the status line into one page.
 
 ghost use Rattle.std.specs.Prelude.{◌≡◌, ◌<◌, ◌+◌, true, IsTrue, IfOk, OnOk, chars, length};
 ghost use Rattle.std.specs.Str.{all_scalars};
@@ -18,10 +18,10 @@ use cells::{Cell, Rendition};
 use regions::{Rect, Rects};
 use std::alloc::{AllocError, Global};
 
-/// The view of panes in their boxes, one for each, with a status text, on a page of 2 to 200 lines by
-/// 2 to 300 columns. Nothing of a window that isn't readable stands in it but its number. Half a wide
-/// character at an edge is a blank; a text is cut there, and what isn't UTF-8 in the status text shows
-/// as U+FFFD, one for each maximal subpart (Unicode core specification, 3.9).
+/// The view of panes in their boxes, one pane for each box, with a status text, on a page of 2 to
+/// 200 lines by 2 to 300 columns. Of a window that isn't readable, it shows only the number. Half
+/// of a wide character at an edge is shown as a blank. A text is cut at the edge. In the status
+/// text, U+FFFD stands for each maximal subpart that isn't UTF-8 (Unicode core specification, 3.9).
 pub fn compose(
     alloc: Global,
     rects: &Rects,
@@ -42,8 +42,8 @@ pub fn compose(
     compose_on(alloc, view, rects, panes, status)
 }
 
-/// The same in the memory of another view, whatever that shows, where it has the page's size and
-/// one region has the page alone.
+/// What `compose` gives, made in the memory of another view if that has the page's size and one
+/// region has the page to itself. What the other view shows doesn't matter.
 pub fn compose_over(
     alloc: Global,
     spare: Option<View>,
@@ -64,8 +64,8 @@ pub fn compose_over(
     }
 }
 
-/// Whether a view has the size of a page that one region has alone: all that is put there is as wide
-/// as the page, and nothing of the view stays.
+/// Whether the view can be composed over: it has the page's size, and one region has the page to
+/// itself. Each row that is put is then as wide as the page, so that nothing of the old view stays.
 fn is_covered(view: &View, rects: &Rects) -> bool
     ensures size { IsTrue result → HasPageSize rects.now view.now }
     ensures lone { IsTrue result → length rects.now.boxes.items ≡ 1 }
@@ -76,8 +76,8 @@ fn is_covered(view: &View, rects: &Rects) -> bool
         && view.columns() == rects.status.columns as usize
 }
 
-/// A view over which panes are put in their boxes, with separators and the status line: they cover
-/// the page.
+/// Puts panes in their boxes, the separators and the status line over a view. Together they cover
+/// its page.
 fn compose_on(
     alloc: Global,
     mut view: View,
@@ -106,7 +106,7 @@ fn compose_on(
 }
 
 impl View {
-    /// Puts the cells of a row of a rectangle.
+    /// Puts the cells of one row of a rectangle.
     fn put_row(&mut self, rect: Rect, row: u16, cells: &[Cell])
         ensures size { KeepsSize self.old self.new }
         ensures lays { LaysRow rect row cells.now self.old self.new }
@@ -133,8 +133,8 @@ impl View {
         Ok(())
     }
 
-    /// Puts a row of a region's box. Its cells are made in `cells`, unless a line of the window
-    /// shows as it stands.
+    /// Puts a row of a region's box. Its cells are made in `cells`, unless a line of the window is
+    /// shown unchanged.
     fn put_box_row(
         &mut self,
         rect: Rect,
@@ -182,8 +182,8 @@ impl View {
         Ok(())
     }
 
-    /// The cursor and the modes of the keyboard are those of the focused region: of its window,
-    /// where that is readable.
+    /// Shows the cursor of the focused region and takes the modes of its window, if that is
+    /// readable.
     fn focus(&mut self, rect: Rect, pane: &Pane)
         ensures size { KeepsSize self.old self.new }
         ensures focused { TakesFocus rect (part_of pane.now) self.old self.new }
@@ -193,7 +193,7 @@ impl View {
     }
 }
 
-/// The modes of the keyboard that a focused region asks for.
+/// The modes of the keyboard for a focused region.
 fn modes_of(pane: &Pane) -> KeyModes
     ensures { result ≡ key_modes_of (part_of pane.now) }
 {
@@ -203,7 +203,7 @@ fn modes_of(pane: &Pane) -> KeyModes
     }
 }
 
-/// Where a focused region in this box shows its cursor.
+/// The cursor of a focused region in this box.
 fn cursor_of(rect: Rect, pane: &Pane) -> Cursor
     ensures { IsCursorOf rect (part_of pane.now) result }
 {
@@ -213,7 +213,7 @@ fn cursor_of(rect: Rect, pane: &Pane) -> Cursor
     }
 }
 
-/// Where a box shows the cursor of its window.
+/// The cursor of a window in this box.
 fn cursor_in(rect: Rect, contents: &Contents) -> Cursor
     ensures { IsCursorOf rect (read (window_of contents.now)) result }
 {

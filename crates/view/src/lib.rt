@@ -1,4 +1,4 @@
-//! What a client is to see: the granted view over its regions.
+//! What a client is to see: a view of its regions, in which only what its user may read is shown.
 #![tactic(auto)]
 
 mod composing;

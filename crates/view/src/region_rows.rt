@@ -21,7 +21,7 @@ pub(crate) const REVERSE: Rendition = Rendition {
     ..Rendition::PLAIN
 };
 
-/// A window's cell as a view has it: without protection, and reversed where the screen is.
+/// A window's cell as a view shows it: without protection, and reversed if the screen is.
 fn shown_cell(cell: Cell, is_inverted: bool) -> Cell
     ensures { result ≡ shown_cell_of is_inverted cell }
 {
@@ -40,7 +40,7 @@ fn shown_cell(cell: Cell, is_inverted: bool) -> Cell
     }
 }
 
-/// Makes cells of a window those that a view has.
+/// Turns cells of a window into those that a view shows.
 fn show_cells(cells: &mut [Cell], is_inverted: bool)
     ensures width { length cells.new ≡ length cells.old }
     ensures shown { (column : ℕ) → column < length cells.old
@@ -55,7 +55,7 @@ fn show_cells(cells: &mut [Cell], is_inverted: bool)
     }
 }
 
-/// Takes the protection from cells.
+/// Removes the protection of cells.
 fn unprotect(cells: &mut [Cell])
     ensures width { length cells.new ≡ length cells.old }
     ensures shown { (column : ℕ) → column < length cells.old
@@ -66,7 +66,8 @@ fn unprotect(cells: &mut [Cell])
     }
 }
 
-/// The first of the lines that so many rows show, so that the cursor's is among them.
+/// The index of the first line to be shown in `rows` rows, such that the cursor's line is among
+/// them.
 pub(crate) fn first_shown(contents: &Contents, rows: usize) -> usize
     ensures { result ≡ first_shown_of rows (window_of contents.now).cursor }
 {
@@ -76,7 +77,8 @@ pub(crate) fn first_shown(contents: &Contents, rows: usize) -> usize
     }
 }
 
-/// The cells of a line in so many columns, wherever they end, and blanks behind it.
+/// The cells of a line in this number of columns, with blanks after the line. A wide character may
+/// be cut in two at the end.
 fn whole_row(
     line: &[Cell],
     columns: usize,
@@ -93,7 +95,7 @@ fn whole_row(
     Ok(())
 }
 
-/// Puts a blank in place of half a wide character in the last column.
+/// Puts a blank in place of the left half of a wide character in the last column.
 fn cut_end(row: &mut [Cell])
     ensures { IsRow (cut_cell row.old) (length row.old) row.new }
 {
@@ -103,7 +105,8 @@ fn cut_end(row: &mut [Cell])
     }
 }
 
-/// The cells of a line in so many columns.
+/// The cells of a line in this number of columns; a blank stands for half of a wide character at
+/// the end.
 fn line_row(
     line: &[Cell],
     columns: usize,
@@ -117,7 +120,7 @@ fn line_row(
     Ok(())
 }
 
-/// What a row of so many shows of a window.
+/// The cells that one of the rows of a window shows.
 fn window_row(
     contents: &Contents,
     rows: usize,
@@ -135,7 +138,7 @@ fn window_row(
     }
 }
 
-/// A row of a region, above its caption.
+/// The cells of a row of a region, above its caption.
 fn part_row(
     pane: &Pane,
     rows: usize,
@@ -158,22 +161,22 @@ fn are_unprotected(cells: &[Cell]) -> bool
 {
     let mut is_any = false;
     for cell in cells {
-        // With `||` this is a branch for each cell.
+        // With `||`, this would be a branch for each cell.
         is_any |= cell.is_protected;
     }
     !is_any
 }
 
-/// Whether so many columns show a line as it stands: it has as many, and is neither protected nor
-/// cut.
+/// Whether the line can be shown unchanged: it has this number of columns, no protected cell, and
+/// no wide character cut at its end.
 fn is_shown_whole(line: &[Cell], columns: usize) -> bool
     ensures { IsTrue result → IsRow (line_cell false line.now columns) columns line.now }
 {
     0 < columns && line.len() == columns && !line[columns - 1].is_left() && are_unprotected(line)
 }
 
-/// The line of a window that a row of a region's box shows as it stands, if it does so: it needn't
-/// be copied.
+/// The line of a window that a row of a region's box shows unchanged, so that it needn't be copied;
+/// `None` if the row shows no such line.
 pub(crate) fn line_shown_whole<'a>(rect: Rect, pane: &Pane<'a>, row: u16) -> Option<&'a [Cell]>
     requires { row < rect.rows }
     ensures row { (is_focused : Bool)
@@ -194,7 +197,7 @@ pub(crate) fn line_shown_whole<'a>(rect: Rect, pane: &Pane<'a>, row: u16) -> Opt
     }
 }
 
-/// The text of a caption.
+/// The text of a region's caption. `AllocError` if memory is refused.
 fn caption_text(alloc: Global, pane: &Pane) -> Result<String, AllocError>
     ensures { IfOk result (λ text. chars (string_bytes text) ≡ caption_of (part_of pane.now)) }
 {
@@ -212,7 +215,7 @@ fn caption_text(alloc: Global, pane: &Pane) -> Result<String, AllocError>
     }
 }
 
-/// The caption of a region, which is bold where it has the focus.
+/// The cells of a region's caption, which is bold if the region has the focus.
 fn caption_row(
     alloc: Global,
     pane: &Pane,
@@ -230,8 +233,9 @@ fn caption_row(
     text_row(alloc, text.as_str(), columns, rendition)
 }
 
-/// A row of a region's box: of its window, or its caption. It takes the place of some cells, so that
-/// rows are made one after another without an allocation each.
+/// The cells of a row of a region's box: a line of its window, or its caption. They are made in the
+/// memory of the given cells, so that rows that are made one after another don't allocate each
+/// time.
 pub(crate) fn box_row(
     rect: Rect,
     pane: &Pane,

@@ -10,8 +10,8 @@ use cells::{Cell, Rendition, glyph_width};
 use std::alloc::{AllocError, Global};
 use unicode_width::UnicodeWidthChar;
 
-/// What a text shows of a character: U+FFFD for one without a width, and for the one of width 3,
-/// which a terminal draws so (UAX #11).
+/// The character that is shown for a character: U+FFFD for one without a width, and for the one of
+/// width 3, which a terminal shows so too (UAX #11).
 fn visible(character: char) -> char
     ensures { result ≡ visible_of character }
 {
@@ -23,7 +23,7 @@ fn visible(character: char) -> char
     }
 }
 
-/// A cell in a column of so many, or another one where it is half a wide character at the edge.
+/// The cell in one of the columns, or `other` for half of a wide character at the edge.
 fn uncut(cell: Cell, column: usize, columns: usize, other: Cell) -> Cell
     requires { column < columns }
     ensures { result ≡ uncut_of columns column cell other }
@@ -52,7 +52,8 @@ fn push_character(
     Ok(())
 }
 
-/// All cells of a text, which mostly has room in so many columns.
+/// The cells of a whole text. Memory is first taken for this number of columns, in which most texts
+/// have room.
 fn text_cells(
     alloc: Global,
     text: &str,
@@ -68,7 +69,7 @@ fn text_cells(
     Ok(cells)
 }
 
-/// Puts a space in place of half a wide character in the last column.
+/// Puts a space in place of the left half of a wide character in the last column.
 fn cut_end(row: &mut [Cell], space: Cell)
     ensures { IsRow (λ column. uncut_of (length row.old) column (cell_at row.old column) space)
         (length row.old) row.new }
@@ -79,7 +80,7 @@ fn cut_end(row: &mut [Cell], space: Cell)
     }
 }
 
-/// The cells of a row of `columns` columns that holds this text, cut at the edge and filled with
+/// The cells of a row of `columns` columns that shows this text, cut at the edge and filled up with
 /// blanks of its rendition.
 pub(crate) fn text_row(
     alloc: Global,

@@ -8,14 +8,15 @@ use cells::{Cell, Grid, GridFault};
 use std::alloc::{AllocError, Global};
 use std::marker::Model;
 
-/// Where the cursor is shown. Lines and columns count from 0.
+/// Whether and at which place the cursor is shown. Lines and columns count from 0.
 #[derive(Clone, Copy, Debug, PartialEq, Eq)]
 pub enum Cursor {
     Hidden,
     At { line: u16, column: u16 },
 }
 
-/// What the keyboard sends: cursor keys (DECCKM) and keypad (DECKPAM) in application mode.
+/// What the keyboard sends: whether the cursor keys (DECCKM) and the keypad (DECKPAM) are in
+/// application mode.
 #[derive(Clone, Copy, Debug, PartialEq, Eq)]
 pub struct KeyModes {
     pub has_application_arrows: bool,
@@ -23,14 +24,14 @@ pub struct KeyModes {
 }
 
 impl KeyModes {
-    /// As a terminal starts.
+    /// The modes with which a terminal starts.
     pub const NORMAL: KeyModes = KeyModes {
         has_application_arrows: false,
         has_application_keypad: false,
     };
 }
 
-/// A page with its cursor and the two modes of the keyboard.
+/// A client's page as it is to be shown, with its cursor and the two modes of the keyboard.
 #[derive(Drop)]
 pub struct View {
     pub(crate) grid: Grid,
@@ -55,8 +56,8 @@ impl View {
     ghost use Rattle.view.specs.View.{HasSize, KeepsSize, LiesOn, blank_without_cursor, key_modes, place_of};
     ghost use Rattle.view.specs.View.{PutsCursor, PutsCells};
 
-    /// A blank page of this size, its cursor hidden. It is `BadSize` outside 2 to 200 lines by 2 to
-    /// 300 columns.
+    /// A blank page of this size, with its cursor hidden. `BadSize` outside of 2 to 200 lines by 2
+    /// to 300 columns; `NoMemory` if memory is refused.
     pub fn blank(alloc: Global, rows: usize, columns: usize) -> Result<View, GridFault>
         ensures ok { IfOk result (λ v. v ≡ blank_without_cursor rows columns) }
         ensures size { IfOk result (HasSize rows columns) }
@@ -69,7 +70,7 @@ impl View {
         })
     }
 
-    /// A view that is the same.
+    /// A copy of the view. `AllocError` if memory is refused.
     pub fn copied(&self, alloc: Global) -> Result<View, AllocError>
         ensures { IfOk result (λ v. v ≡ self.now) }
     {
@@ -80,14 +81,14 @@ impl View {
         })
     }
 
-    /// Its page.
+    /// The view's page.
     pub fn grid(&self) -> &Grid
         ensures { result.now ≡ self.now.page }
     {
         &self.grid
     }
 
-    /// The number of its rows.
+    /// The number of rows of its page.
     pub fn rows(&self) -> usize
         ensures value { result ≡ length self.now.page }
         ensures grid { IsGrid self.now.page }
@@ -96,7 +97,7 @@ impl View {
         self.grid.rows()
     }
 
-    /// The number of cells of each row.
+    /// The number of columns of its page.
     pub fn columns(&self) -> usize
         ensures value { result ≡ length (line_at self.now.page 0) }
         ensures few { result ≤ 300 }
@@ -104,7 +105,7 @@ impl View {
         self.grid.columns()
     }
 
-    /// The cells of a row, counted from 0.
+    /// The cells of a row of its page, counted from 0.
     pub fn row(&self, line: usize) -> &[Cell]
         requires { line < length self.now.page }
         ensures cells { result.now ≡ line_at self.now.page line }
@@ -115,6 +116,7 @@ impl View {
         self.grid.row(line)
     }
 
+    /// The place of the cursor, or that it is hidden.
     pub fn cursor(&self) -> Cursor
         ensures cursor { place_of result ≡ self.now.cursor }
         ensures grid { IsGrid self.now.page }
@@ -123,13 +125,14 @@ impl View {
         self.cursor
     }
 
+    /// The modes of the keyboard.
     pub fn modes(&self) -> KeyModes
         ensures { result ≡ key_modes self.now }
     {
         self.modes
     }
 
-    /// Shows the cursor at a place, or hides it; it is hidden where the page has no such place.
+    /// Shows the cursor at a place, or hides it. If the page has no such place, hides it.
     pub(crate) fn set_cursor(&mut self, cursor: Cursor)
         ensures size { KeepsSize self.old self.new }
         ensures value { PutsCursor cursor self.old self.new }
@@ -142,7 +145,7 @@ impl View {
         };
     }
 
-    /// Puts cells at a place, counted from 0; nothing where the page has no such place.
+    /// Puts cells at a place, counted from 0; does nothing if the page has no such place.
     pub(crate) fn put(&mut self, line: usize, column: usize, cells: &[Cell])
         ensures grid { IsGrid self.old.page }
         ensures size { KeepsSize self.old self.new }

@@ -1,4 +1,4 @@
--- What is asked of a table of windows.
+-- What a table of windows can be asked.
 use Rattle.std.specs.Prelude.{ℕ, ◌≡◌, ◌++◌, ◌∷◌, [], List, Option, Some, Result, OnOk}
 use Rattle.std.specs.Option.{option_map}
 use Rattle.terminal_model.specs.Reading.{reads}
@@ -14,7 +14,7 @@ use Rattle.windows.specs.Standing.{WindowStands, StandFor, AnswersIfRoom, at_ser
 abbrev pub number : model.Window → ℕ
 number w = w.number
 
--- the window behind the one of this number, and the one before it
+-- the window after the one with this number, and the one before it
 abbrev pub FindsAfter : Option ℕ → List Window → Option Window → Type 0
 FindsAfter from ws found = (rows : List model.Window) (w : Option model.Window) →
     StandFor rows ws → option_map number w ≡ from →
@@ -33,16 +33,16 @@ IsFree ws n = (rows : List model.Window) → StandFor rows ws → free_number ro
 abbrev pub IsNumberFor : ℕ → List Window → Option ℕ → Type 0
 IsNumberFor s ws n = (rows : List model.Window) → StandFor rows ws → n ≡ number_for s rows
 
--- a window opens
+-- a window was opened, or the call was refused
 abbrev pub Opens : {A : Type 0} →
     ℕ → ℕ → ℕ → ℕ → List ℕ → List Window → Result A WindowsFault → List Window → Type 0
 Opens s rows columns keep title = AnswersIfRoom (opened s rows columns keep title)
 
--- one window more, behind the others
+-- the table has one window more, at its end
 abbrev pub IsOneMore : List Window → List Window → Type 0
 IsOneMore old new = (w : Window) × (new ≡ old ++ w ∷ [])
 
--- what the terminal of a window answers to these bytes stands behind what was there
+-- what the window's terminal answers to these bytes is appended
 abbrev pub AnswersReports : ℕ → List ℕ → List Window → List ℕ → List ℕ → Type 0
 AnswersReports s bytes old before after = (rows : List model.Window) (w : model.Window) →
     StandFor rows old → at_serial s rows ≡ Some w →

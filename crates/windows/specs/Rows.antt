@@ -1,4 +1,4 @@
--- What is true of each table of windows, and what a call leaves of it.
+-- What holds of each table of windows, and what a call leaves unchanged.
 use Rattle.std.specs.Prelude.{ℕ, ◌≡◌, ◌≢◌, ◌<◌, ◌==◌, not, ◌++◌, ◌∷◌, [], List, AllPairs, map}
 use Rattle.std.specs.Prelude.{filter}
 use Rattle.windows_model.specs.declared.limits.TheConstants.{WINDOWS}
@@ -16,27 +16,28 @@ pub record AreRows (ws : List Window) : Type 0 where
   pub rise : AllPairs (λ (earlier : Window) (later : Window). earlier.serial < later.serial) ws
   pub differ : AllPairs (λ (earlier : Window) (later : Window). earlier.number ≢ later.number) ws
 
--- a window has the serial and the number that it had
+-- the window's serial and number are unchanged
 pub record KeepsName (old new : Window) : Type 0 where
   pub serial : new.serial ≡ old.serial
   pub number : new.number ≡ old.number
 
--- Each serial stays at its place, and the windows of other serials stay as they are.
+-- Each serial stays at its place, and the windows with other serials are unchanged.
 pub record ChangesRow (serial : ℕ) (old new : List Window) : Type 0 where
   pub serials : map serial_of new ≡ map serial_of old
   pub others : (s : ℕ) → s ≢ serial → row_of serial_of new s ≡ row_of serial_of old s
 
--- and so does each number
+-- as `ChangesRow`; also each number stays
 pub record WritesRow (serial : ℕ) (old new : List Window) : Type 0 where
   pub row : ChangesRow serial old new
   pub numbers : map number_of new ≡ map number_of old
 
--- The window of a serial is gone. Those of other serials stay as they are, in their order.
+-- The window with the serial is gone; the others are unchanged and in their order.
 pub record LosesRow (serial : ℕ) (old new : List Window) : Type 0 where
   pub rest : new ≡ filter (λ (w : Window). not (w.serial == serial)) old
   pub others : (s : ℕ) → s ≢ serial → row_of serial_of new s ≡ row_of serial_of old s
 
--- one window more, of this serial and this number, which is below the most
+-- there is one window more, at the end, with this serial and with this number, which is below the
+-- limit
 pub record AddsRow (serial number : ℕ) (old new : List Window) : Type 0 where
   pub window : Window
   pub serial_is : window.serial ≡ serial

@@ -8,6 +8,6 @@ use Rattle.windows.specs.declared.window.Window.{Window}
 abbrev pub cells_of : List (Bor (List Cell)) → List (List Cell)
 cells_of lines = map (λ line. line.now) lines
 
--- the lines of its page, moved back by so many kept lines, or by all where they are fewer
+-- the lines of the window's page, moved back by this many kept lines, or by all if there are fewer
 abbrev pub AreLines : ℕ → Window → List (Bor (List Cell)) → Type 0
 AreLines back w lines = cells_of lines ≡ moved_back back w.emulator.screen

@@ -18,7 +18,8 @@ use Rattle.windows_model.specs.Terminals.{terminal_of}
 use Rattle.serial_rows.specs.Matched.{Matched, BothOrNone}
 use Rattle.windows.specs.declared.window.Window.{Window}
 
--- its serial, its number, its title, and a terminal that has read all that was written to it
+-- the window has the serial, number and title of its definition, and a terminal that has read
+-- everything that was written to it
 pub record WindowStands (m : model.Window) (w : Window) : Type 0 where
   pub serial_is : w.serial ≡ m.serial
   pub number_is : w.number ≡ m.number
@@ -26,11 +27,11 @@ pub record WindowStands (m : model.Window) (w : Window) : Type 0 where
   pub stands : emulator.StandsFor w.emulator (terminal_of m)
   pub drawable : IsDrawableScreen (terminal_of m).screen
 
--- row by row
+-- each window stands for the row at its place
 abbrev pub StandFor : List model.Window → List Window → Type 0
 StandFor = Matched WindowStands
 
--- the window that is looked for, in whichever rows the table stands for
+-- what is found is the window that the definitions find, in any rows that the table stands for
 abbrev pub Finds :
     (List model.Window → Option model.Window) → List Window → Option Window → Type 0
 Finds f ws found =
@@ -45,13 +46,13 @@ abbrev pub Answered : {A : Type 0} → Answer → Result A WindowsFault → List
 Answered answer (Ok a) new = (rows : List model.Window) × (answer ≡ Ok rows) × StandFor rows new
 Answered answer (Err r) new = answer ≡ Err r
 
--- the same, but that memory may be refused
+-- the answer is the one of the definitions, or memory was refused
 abbrev pub AnsweredIfRoom : {A : Type 0} → Answer → Result A WindowsFault → List Window → Type 0
 AnsweredIfRoom answer (Ok a) new =
     (rows : List model.Window) × (answer ≡ Ok rows) × StandFor rows new
 AnsweredIfRoom answer (Err r) new = (r ≡ NoMemory) ⊎ (answer ≡ Err r)
 
--- whichever rows the table stood for
+-- the answer is right for any rows that the table stood for
 abbrev pub Answers : {A : Type 0} →
     (List model.Window → Answer) → List Window → Result A WindowsFault → List Window → Type 0
 Answers f old result new =
@@ -81,27 +82,27 @@ abbrev pub in_row : List model.Window → ℕ → Option model.Window → Change
 in_row rows s None change = Err NoSuchWindow
 in_row rows s (Some w) change = in_place rows s (change w)
 
--- the row of a serial becomes what the change makes of it
+-- the row with the serial becomes what the change makes of it
 abbrev pub changed : ℕ → Change → List model.Window → Answer
 changed s change rows = in_row rows s (at_serial s rows) change
 
 abbrev pub written_to : Writing → model.Window → model.Window
 written_to what w = record w { writing = w.writing ++ what ∷ [] }
 
--- something is written to it
+-- a change by which something is written to the window
 abbrev pub written : Writing → Change
 written what w = Ok (written_to what w)
 
--- it has another size
+-- a change of the window's size
 abbrev pub resized : ℕ → ℕ → Change
 resized rows columns = written (terminal.Size rows columns)
 
--- it has another title
+-- a change of the window's title
 abbrev pub retitled : List ℕ → Change
 retitled title w =
     if is_title title then Ok (record w { title = title }) else Err BadTitle
 
--- the same of the row of a serial
+-- something is written to the row with the serial
 abbrev pub written_in : ℕ → Writing → List model.Window → Answer
 written_in s what = changed s (written what)
 
@@ -119,7 +120,7 @@ abbrev pub is_taken : List model.Window → model.Window → ℕ → Bool
 is_taken rows w n =
     option_map_or (λ (v : model.Window). not (v.serial == w.serial)) (with_number rows n) false
 
--- it has another number, unless another window has that
+-- a change of the window's number, unless another window has the new one
 abbrev pub with_new_number : List model.Window → ℕ → Change
 with_new_number rows n w =
     if is_taken rows w n then Err NumberTaken else Ok (record w { number = n })
@@ -145,12 +146,12 @@ numbered ws None window title = Err Full
 numbered ws (Some n) window title =
     if is_title title then Ok (ws ++ window n ∷ []) else Err BadTitle
 
--- whether a serial is above those of all windows
+-- whether the serial is above those of all windows
 abbrev pub is_above : ℕ → List model.Window → Bool
 is_above s ws = list_all (λ (w : model.Window). nat_lt w.serial s) ws
 
--- the number of a window that opens: the lowest one that is free; none where its serial isn't above
--- all others
+-- the number of a window that opens: the lowest one that is free; None if its serial isn't above
+-- all others, or no number is free
 abbrev pub number_for : ℕ → List model.Window → Option ℕ
 number_for s ws = if is_above s ws then free_number ws else None
 
@@ -163,6 +164,6 @@ abbrev pub without : List model.Window → ℕ → Option model.Window → Answe
 without rows s None = Err NoSuchWindow
 without rows s (Some w) = Ok (filter (λ (v : model.Window). not (v.serial == s)) rows)
 
--- the window of a serial is closed
+-- the window with the serial is closed
 abbrev pub closed : ℕ → List model.Window → Answer
 closed s rows = without rows s (at_serial s rows)

@@ -1,4 +1,4 @@
--- What is written to one window, and what changes of it.
+-- What is written to one window, and what a change makes of it.
 use Rattle.std.specs.Prelude.{ℕ, ◌≡◌, ◌⊎◌, ◌++◌, List, Result, Ok, Err}
 use Rattle.terminal_model.specs.Reading.{reads}
 use Rattle.terminal_model.specs.Writing.{Writing, Output}
@@ -9,11 +9,12 @@ use Rattle.windows_model.specs.Terminals.{terminal_of}
 use Rattle.windows.specs.declared.window.Window.{Window}
 use Rattle.windows.specs.Standing.{WindowStands, Change, written_to, resized, retitled}
 
--- something was written to it
+-- something was written to the window
 abbrev pub Writes : Writing → Window → Window → Type 0
 Writes what old new = (m : model.Window) → WindowStands m old → WindowStands (written_to what m) new
 
--- it has become what the change makes of it, or is refused as this refuses it, or for memory
+-- the window became what the change makes of it, or the call was refused as the change refuses it,
+-- or because memory was refused
 abbrev pub Became : {A : Type 0} → Result model.Window WindowsFault → Result A WindowsFault → Window → Type 0
 Became change (Ok a) new = (m : model.Window) × (change ≡ Ok m) × WindowStands m new
 Became change (Err r) new = (r ≡ NoMemory) ⊎ (change ≡ Err r)
@@ -28,7 +29,7 @@ Resizes rows columns old result new = Becomes (resized rows columns) old result 
 abbrev pub Retitles : {A : Type 0} → List ℕ → Window → Result A WindowsFault → Window → Type 0
 Retitles title old result new = Becomes (retitled title) old result new
 
--- its terminal has read these bytes, and what it answers stands behind what was there before
+-- the window's terminal has read these bytes, and its answer is appended
 pub record HasFed (old : Window) (bytes before after : List ℕ) (new : Window) : Type 0 where
   pub writes : Writes (Output bytes) old new
   pub reports : (m : model.Window) → WindowStands m old →

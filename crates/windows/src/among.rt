@@ -5,21 +5,21 @@ ghost use Rattle.windows.specs.Among.{is_among, nearer, nearest};
 
 use crate::window::Window;
 
-/// Which windows are looked at.
+/// The windows that are looked at.
 #[derive(Clone, Copy)]
 pub(crate) enum Among<'a> {
     All,
-    /// Those of higher numbers than this one; none where there is none.
+    /// Those with a number above this one; none for `None`.
     Above(Option<u8>),
-    /// Those of lower numbers than this one; none where there is none.
+    /// Those with a number below this one; none for `None`.
     Below(Option<u8>),
     Titled(&'a str),
 }
 
-/// Which of them is looked for.
+/// Which of these windows is looked for: the one with the lowest or the highest number.
 #[derive(Clone, Copy)]
 pub(crate) enum End {
-    /// The one of the lowest number.
+    /// The one with the lowest number.
     Lowest,
     Highest,
 }
@@ -37,7 +37,8 @@ fn is_among(among: Among, window: &Window) -> bool
     }
 }
 
-/// Of a window and one that was found behind it, the one that is nearer to the end.
+/// Of a window and one that was found after it, the one that is nearer to the end; `window` if both
+/// have the same number.
 fn nearer<'a>(end: End, window: &'a Window, found: Option<&'a Window>) -> Option<&'a Window>
     ensures { option_copied result ≡ nearer end window.now (option_copied found.entry) }
 {
@@ -53,7 +54,8 @@ fn nearer<'a>(end: End, window: &'a Window, found: Option<&'a Window>) -> Option
     }
 }
 
-/// The window of the lowest or of the highest number; the first one among equal numbers.
+/// The window with the lowest or the highest number among these; of equal numbers, the first one.
+/// `None` if there are no such windows.
 pub(crate) fn nearest<'a>(rows: &'a [Window], end: End, among: Among) -> Option<&'a Window>
     ensures { option_copied result ≡ nearest end (filter (is_among among.entry) rows.now) }
 {

@@ -1,4 +1,4 @@
-//! Numbers of windows, as words have them.
+//! Window numbers, as words spell them.
 
 ghost use Rattle.std.specs.Prelude.{◌≡◌, option_copied};
 ghost use Rattle.std.specs.List.{list_any};
@@ -16,7 +16,7 @@ fn is_digit(c: u8) -> bool
     b'0' <= c && c <= b'9'
 }
 
-/// The number that 1 to 4 digits spell.
+/// The number that 1 to 4 digits spell; `None` for another word.
 fn number_of(word: &[u8]) -> Option<u16>
     ensures { result ≡ spelled word.now }
 {
@@ -33,14 +33,14 @@ fn number_of(word: &[u8]) -> Option<u16>
     Some(n)
 }
 
-/// The window of a number.
+/// The window with this number; `None` if there is none.
 pub(crate) fn numbered(rows: &[Window], number: u16) -> Option<&Window>
     ensures { option_copied result ≡ numbered rows.now number }
 {
     rows.iter().find(|window| window.number as u16 == number)
 }
 
-/// The window whose number a word spells.
+/// The window whose number the word spells; `None` if there is none.
 pub(crate) fn numbered_by<'a>(rows: &'a [Window], word: &str) -> Option<&'a Window>
     ensures { option_copied result ≡ option_and_then (numbered rows.now) (spelled word.now) }
 {
@@ -50,7 +50,7 @@ pub(crate) fn numbered_by<'a>(rows: &'a [Window], word: &str) -> Option<&'a Wind
     }
 }
 
-/// Whether a window of another serial has the number.
+/// Whether a window with another serial has the number.
 pub(crate) fn is_taken(rows: &[Window], serial: u32, number: u8) -> bool
     ensures { result ≡ taken_by_other rows.now serial number }
 {
@@ -74,7 +74,7 @@ fn has_number(rows: &[Window], number: u8) -> bool
     rows.iter().any(|window| window.number == number)
 }
 
-/// The lowest number below that of all windows that may be open, which no window has.
+/// The lowest number below the limit of windows that no window has; `None` if there is none.
 pub(crate) fn first_free(rows: &[Window]) -> Option<u8>
     ensures { result ≡ first_free rows.now }
 {

@@ -7,31 +7,31 @@ ghost use Rattle.windows_model.specs.Naming.{is_title, has_columns};
 
 use unicode_width::UnicodeWidthChar;
 
-/// The most characters of a title.
+/// The greatest length of a title, in characters.
 const LONGEST_TITLE: usize = 40;
 
-/// Whether a character has width 1 or 2 (UAX #11).
+/// Whether the character has width 1 or 2 (UAX #11).
 fn is_one_or_two(c: char) -> bool
     ensures { result ≡ has_columns c }
 {
     matches!(c.width(), Some(1 | 2))
 }
 
-/// Whether each character of a text does.
+/// Whether each character of the text has width 1 or 2 (UAX #11).
 fn has_columns(text: &str) -> bool
     ensures { result ≡ list_all has_columns (chars text.now) }
 {
     text.chars().all(is_one_or_two)
 }
 
-/// How many characters a text has.
+/// The number of a text's characters.
 fn char_count(text: &str) -> usize
     ensures { result ≡ length (chars text.now) }
 {
     text.chars().count()
 }
 
-/// Whether a title has 1 to 40 characters, each of width 1 or 2 (UAX #11).
+/// Whether the text is a title: 1 to 40 characters, each of width 1 or 2 (UAX #11).
 pub fn is_title(title: &str) -> bool
     ensures { result ≡ is_title title.now }
 {

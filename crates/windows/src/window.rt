@@ -13,7 +13,7 @@ use std::alloc::{AllocError, Global};
 use terminal_model::REPORT_BYTES;
 use windows_model::WindowsFault;
 
-/// A program's screen, with its serial, its number and its title.
+/// The screen of a program, with its serial, its number and its title.
 #[derive(Drop)]
 pub struct Window {
     pub serial: u32,
@@ -30,7 +30,8 @@ impl Serial for Window {
     }
 }
 
-/// What size a window has: lines, columns, and how many lines that left at the top it keeps.
+/// The size of a window: its lines, its columns, and how many lines it keeps of those that left its
+/// page at the top.
 #[derive(Clone, Copy)]
 pub struct WindowSize {
     pub rows: u16,
@@ -38,8 +39,8 @@ pub struct WindowSize {
     pub keep: u16,
 }
 
-/// Whether a window may have so many lines and columns, and keep so many lines above its page: 2 to
-/// 200 lines by 2 to 300 columns, and at most 2,000 lines.
+/// Whether a window may have this size: 2 to 200 lines by 2 to 300 columns, and at most 2,000 lines
+/// above its page.
 pub fn is_window_size(rows: u16, columns: u16, keep: u16) -> bool
     ensures { result ≡ is_window_size rows columns keep }
 {
@@ -53,7 +54,7 @@ impl Window {
     ghost use Rattle.windows.specs.Showing.{AreLines};
     ghost use Rattle.windows.specs.Writing.{Writes, Retitles, Resizes, HasFed};
 
-    /// A window that opens, with a blank screen.
+    /// A window that opens, with a blank screen. Errors: `BadTitle`, `NoMemory`.
     pub(crate) fn new(
         alloc: Global,
         serial: u32,
@@ -84,7 +85,8 @@ impl Window {
         })
     }
 
-    /// Reads output of its program, and appends what is answered. A refusal leaves all as it was.
+    /// Reads output of the window's program, and appends what its terminal answers. If it is
+    /// refused, nothing has changed.
     pub(crate) fn feed_all(&mut self, bytes: &[u8], out: &mut Vec<u8>) -> Result<(), WindowsFault>
         ensures ok { OnOk result (HasFed self.old bytes.now out.old.items out.new.items self.new) }
         ensures err { IfErr result (λ fault. fault ≡ NoMemory) }
@@ -102,7 +104,7 @@ impl Window {
         }
     }
 
-    /// Takes another size. A refusal leaves all as it was.
+    /// Gives the window another size. If it is refused, nothing has changed.
     pub(crate) fn resize(&mut self, rows: u16, columns: u16) -> Result<(), WindowsFault>
         requires { is_window_size rows columns 0 ≡ true }
         ensures answer { Resizes rows columns self.old result self.new }
@@ -115,7 +117,7 @@ impl Window {
         }
     }
 
-    /// Takes another title. A refusal leaves all as it was.
+    /// Gives the window another title. If it is refused, nothing has changed.
     pub(crate) fn retitle(&mut self, alloc: Global, title: &str) -> Result<(), WindowsFault>
         ensures answer { Retitles title.now self.old result self.new }
         ensures name { KeepsName self.old self.new }
@@ -128,7 +130,7 @@ impl Window {
         Ok(())
     }
 
-    /// Erases its page and goes home.
+    /// Erases the window's page and moves the cursor home.
     pub(crate) fn clear(&mut self)
         ensures writes { Writes Clear self.old self.new }
         ensures name { KeepsName self.old self.new }
@@ -136,7 +138,7 @@ impl Window {
         self.emulator.clear();
     }
 
-    /// Takes all starting values.
+    /// Resets the window's terminal to its starting values.
     pub(crate) fn reset(&mut self)
         ensures writes { Writes Reset self.old self.new }
         ensures name { KeepsName self.old self.new }
@@ -144,7 +146,7 @@ impl Window {
         self.emulator.reset();
     }
 
-    /// Reads in a coding from here on.
+    /// Sets the coding in which the window reads from now on.
     pub(crate) fn encode(&mut self, coding: Coding)
         ensures writes { Writes (Encoding coding) self.old self.new }
         ensures name { KeepsName self.old self.new }
@@ -152,7 +154,8 @@ impl Window {
         self.emulator.set_encoding(coding);
     }
 
-    /// The lines of the page, moved back by so many kept lines, or by all where they are fewer.
+    /// The lines of the page, moved back by `back` kept lines, or by all if there are fewer.
+    /// `AllocError` if memory is refused.
     pub fn lines(&self, alloc: Global, back: usize) -> Result<Vec<&[Cell]>, AllocError>
         ensures { IfOk result (λ lines. AreLines back self.now lines.items) }
     {

@@ -14,7 +14,7 @@ use std::alloc::Global;
 use std::marker::Model;
 use windows_model::WindowsFault;
 
-/// The open windows, by rising serials. No two have one number.
+/// The open windows, in the order of rising serials. No two of them have the same number.
 pub struct Windows {
     rows: Rows<Window>,
 }
@@ -52,7 +52,7 @@ impl Windows {
     ghost use Rattle.windows.specs.Rows.{AreRows, ChangesRow, WritesRow, LosesRow, AddsRow};
     ghost use Rattle.windows_model.specs.Table.{is_window_size};
 
-    /// No window.
+    /// A table without windows.
     pub fn new(alloc: Global) -> Windows
         ensures { result ≡ [] }
     {
@@ -61,20 +61,21 @@ impl Windows {
         }
     }
 
+    /// The number of windows.
     pub fn len(&self) -> usize
         ensures { result ≡ length self.now }
     {
         self.rows.len()
     }
 
-    /// The windows, from the one that was opened first.
+    /// The windows, beginning with the one that was opened first.
     pub fn as_slice(&self) -> &[Window]
         ensures { result.now ≡ self.now }
     {
         self.rows.as_slice()
     }
 
-    /// The window of a serial.
+    /// The window with this serial; `None` if there is none.
     pub fn get(&self, serial: u32) -> Option<&Window>
         ensures row { option_copied result ≡ row_of (λ (w : Window). w.serial) self.now serial }
         ensures finds { Finds (at_serial serial) self.now (option_copied result) }
@@ -83,15 +84,15 @@ impl Windows {
         self.rows.get(serial)
     }
 
-    /// The window of a number.
+    /// The window with this number; `None` if there is none.
     pub fn by_number(&self, number: u16) -> Option<&Window>
         ensures { Finds (λ rows. with_number rows number) self.now (option_copied result) }
     {
         numbered(self.rows.as_slice(), number)
     }
 
-    /// The window that a word names: by its number, else by its title, the one of the lowest number
-    /// among equal titles.
+    /// The window that a word names: by its number, else by its title; among equal titles, the one
+    /// with the lowest number. `None` if there is none.
     pub fn by_name(&self, word: &str) -> Option<&Window>
         ensures { Finds (λ rows. window_named rows word.now) self.now (option_copied result) }
     {
@@ -100,14 +101,15 @@ impl Windows {
         numbered_by(rows, word).or(titled)
     }
 
-    /// The window of the lowest number.
+    /// The window with the lowest number; `None` if there are no windows.
     pub fn lowest(&self) -> Option<&Window>
         ensures { Finds lowest self.now (option_copied result) }
     {
         nearest(self.rows.as_slice(), End::Lowest, Among::All)
     }
 
-    /// The window of the next higher number, cyclically; of the lowest one without a number.
+    /// The window with the next higher number; after the highest, or without a number, the lowest.
+    /// `None` if there are no windows.
     pub fn after(&self, number: Option<u8>) -> Option<&Window>
         ensures { FindsAfter number self.now (option_copied result) }
     {
@@ -116,7 +118,8 @@ impl Windows {
         nearest(rows, End::Lowest, Among::Above(number)).or(lowest)
     }
 
-    /// The window of the next lower number, cyclically; of the highest one without a number.
+    /// The window with the next lower number; after the lowest, or without a number, the highest.
+    /// `None` if there are no windows.
     pub fn before(&self, number: Option<u8>) -> Option<&Window>
         ensures { FindsBefore number self.now (option_copied result) }
     {
@@ -125,15 +128,15 @@ impl Windows {
         nearest(rows, End::Highest, Among::Below(number)).or(highest)
     }
 
-    /// The lowest number from 0 to 39 that no window has.
+    /// The lowest number from 0 to 39 that no window has; `None` if there is none.
     pub fn free_number(&self) -> Option<u8>
         ensures { (rows : List model.Window) → StandFor rows self.now → result ≡ free_number rows }
     {
         first_free(self.rows.as_slice())
     }
 
-    /// The number of a window that opens with this serial: the lowest one that is free. None where
-    /// there are 40 windows, or where the serial isn't above those of all windows.
+    /// The number of a window that opens with this serial: the lowest free one. `None` if there are
+    /// 40 windows, or the serial isn't above those of all windows.
     fn number_for(&self, serial: u32) -> Option<u8>
         ensures number { IsNumberFor serial self.now result }
         ensures free { IfSome result (IsFree self.now) }
@@ -148,9 +151,9 @@ impl Windows {
         }
     }
 
-    /// Opens a window with the lowest free number, and returns that number. It is `Full` if there
-    /// are 40 windows or the serial isn't above those of all windows, then `BadTitle`. A refusal
-    /// leaves all as it was.
+    /// Opens a window with the lowest free number, and returns that number. Errors: `Full` if there
+    /// are 40 windows or the serial isn't above those of all windows; then `BadTitle`; and
+    /// `NoMemory`. If it is refused, nothing has changed.
     pub fn open(
         &mut self,
         alloc: Global,
@@ -177,7 +180,7 @@ impl Windows {
         Ok(number)
     }
 
-    /// Closes the window of a serial.
+    /// Closes the window with this serial. Error: `NoSuchWindow`.
     pub fn close(&mut self, serial: u32) -> Result<(), WindowsFault>
         ensures answer { Answers (closed serial) self.old result self.new }
         ensures alone { LosesRow serial self.old self.new }
@@ -197,7 +200,8 @@ impl Windows {
         self.rows.clear();
     }
 
-    /// Gives the window of a serial another number, unless another window has it.
+    /// Gives the window with this serial another number. Errors: `NoSuchWindow`; `NumberTaken` if
+    /// another window has the number.
     pub fn renumber(&mut self, serial: u32, number: u8) -> Result<(), WindowsFault>
         ensures answer { Answers (renumbered serial number) self.old result self.new }
         ensures alone { ChangesRow serial self.old self.new }
@@ -214,7 +218,8 @@ impl Windows {
         Ok(())
     }
 
-    /// Gives the window of a serial another title. A refusal leaves all as it was.
+    /// Gives the window with this serial another title. Errors: `NoSuchWindow`, `BadTitle`,
+    /// `NoMemory`; nothing has changed then.
     pub fn retitle(&mut self, alloc: Global, serial: u32, title: &str) -> Result<(), WindowsFault>
         ensures answer { AnswersIfRoom (retitled_in serial title.now) self.old result self.new }
         ensures alone { WritesRow serial self.old self.new }
@@ -226,8 +231,8 @@ impl Windows {
         window.retitle(alloc, title)
     }
 
-    /// Feeds output to the window of a serial, and appends what is answered. A refusal leaves all
-    /// as it was.
+    /// Feeds output to the window with this serial, and appends what its terminal answers. Errors:
+    /// `NoSuchWindow`, `NoMemory`; nothing has changed then.
     pub fn feed_all(
         &mut self,
         serial: u32,
@@ -245,7 +250,8 @@ impl Windows {
         window.feed_all(bytes, out)
     }
 
-    /// Gives the window of a serial another size. A refusal leaves all as it was.
+    /// Gives the window with this serial another size. Errors: `NoSuchWindow`, `NoMemory`; nothing
+    /// has changed then.
     pub fn resize(&mut self, serial: u32, rows: u16, columns: u16) -> Result<(), WindowsFault>
         requires { is_window_size rows columns 0 ≡ true }
         ensures answer { AnswersIfRoom (resized_in serial rows columns) self.old result self.new }
@@ -258,7 +264,8 @@ impl Windows {
         window.resize(rows, columns)
     }
 
-    /// Erases the page of the window of a serial, and goes home there.
+    /// Erases the page of the window with this serial, and moves its cursor home. Error:
+    /// `NoSuchWindow`.
     pub fn clear(&mut self, serial: u32) -> Result<(), WindowsFault>
         ensures answer { Answers (written_in serial Clear) self.old result self.new }
         ensures alone { WritesRow serial self.old self.new }
@@ -271,7 +278,8 @@ impl Windows {
         Ok(())
     }
 
-    /// Gives the window of a serial all starting values.
+    /// Resets the terminal of the window with this serial to its starting values. Error:
+    /// `NoSuchWindow`.
     pub fn reset(&mut self, serial: u32) -> Result<(), WindowsFault>
         ensures answer { Answers (written_in serial Reset) self.old result self.new }
         ensures alone { WritesRow serial self.old self.new }
@@ -284,7 +292,8 @@ impl Windows {
         Ok(())
     }
 
-    /// Has the window of a serial read in a coding from here on.
+    /// Sets the coding in which the window with this serial reads from now on. Error:
+    /// `NoSuchWindow`.
     pub fn encode(&mut self, serial: u32, coding: Coding) -> Result<(), WindowsFault>
         ensures answer { Answers (written_in serial (Encoding coding)) self.old result self.new }
         ensures alone { WritesRow serial self.old self.new }

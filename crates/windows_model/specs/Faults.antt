@@ -1,4 +1,4 @@
--- The numbers of the faults.
+-- The number of each fault.
 use Rattle.std.specs.Prelude.{ℕ}
 use Rattle.windows_model.specs.declared.windows_fault.WindowsFault.{WindowsFault}
 use Rattle.windows_model.specs.declared.windows_fault.WindowsFault.TheVariants.{Full, NoSuchWindow}

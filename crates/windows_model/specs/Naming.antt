@@ -17,7 +17,8 @@ has_number n w = w.number == n
 abbrev pub with_number : List Window → ℕ → Option Window
 with_number windows n = find (has_number n) windows
 
--- the window of the lowest number, and of the highest
+-- of a window and another, if there is one, the one with the lower number; and the one with the
+-- higher number
 abbrev pub lower : Window → Option Window → Option Window
 lower w None = Some w
 lower w (Some v) = if nat_lt v.number w.number then Some v else Some w
@@ -34,7 +35,8 @@ abbrev pub highest : List Window → Option Window
 highest [] = None
 highest (w ∷ windows) = higher w (highest windows)
 
--- the window with the next higher number, cyclically, and with the next lower one
+-- the window with the next higher number, and the one with the next lower number; after the last
+-- comes the first
 abbrev pub window_after : List Window → Option Window → Option Window
 window_after windows None = lowest windows
 window_after windows (Some w) =
@@ -45,7 +47,7 @@ window_before windows None = highest windows
 window_before windows (Some w) =
     option_or (highest (filter (λ v. nat_lt v.number w.number) windows)) (highest windows)
 
--- the lowest number that no window has: there are as many as windows
+-- the lowest number that no window has; there are as many numbers as there may be windows
 abbrev pub free_number : List Window → Option ℕ
 free_number windows = find (λ n. not (list_any (has_number n) windows)) (range_with_len 0 WINDOWS)
 
@@ -54,7 +56,7 @@ free_number windows = find (λ n. not (list_any (has_number n) windows)) (range_
 abbrev pub is_digit : ℕ → Bool
 is_digit c = nat_lt 0x2F c && nat_lt c 0x3A
 
--- the number that some digits spell, after what is spelled before them
+-- the number that digits spell after digits that spell n
 abbrev pub number_after : ℕ → List ℕ → ℕ
 number_after n [] = n
 number_after n (d ∷ digits) = number_after (n * 10 + (d - 0x30)) digits
@@ -65,7 +67,7 @@ spelled word =
     if list_all is_digit word && (nat_lt 0 (length word) && nat_lt (length word) 5)
     then Some (number_after 0 word) else None
 
--- a window's number, or its title: the lowest number among equal titles
+-- the window whose number or title the word is; among equal titles, the one with the lowest number
 abbrev pub window_named : List Window → List ℕ → Option Window
 window_named windows word =
     option_or (option_and_then (with_number windows) (spelled word))

@@ -4,6 +4,6 @@ use Rattle.terminal_model.specs.Reading.{Terminal, ready}
 use Rattle.terminal_model.specs.Writing.{writes_all}
 use Rattle.windows_model.specs.Table.{Window}
 
--- what a window's terminal has become by all that was written to it
+-- the window's terminal, after it read everything that was written to the window
 abbrev pub terminal_of : Window → Terminal
 terminal_of w = (writes_all (ready (starting w.rows w.columns w.keep)) w.writing).terminal

@@ -1,5 +1,5 @@
-//! A table of windows as this project means it: what a window has, how it is named, and what its
-//! terminal has read. The definitions stand in `specs/`; here are the plain types that code and
+//! The definition of a table of windows: what a window has, how it is named, and what its terminal
+//! has read. The definitions are in `specs/`; this crate holds the plain types that code and
 //! definitions share.
 #![tactic(auto)]
 

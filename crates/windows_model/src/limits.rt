@@ -1,4 +1,4 @@
 //! The limit of a table of windows.
 
-/// The most windows that are open at once. Their numbers are those below it.
+/// The most windows that may be open at once. Window numbers are below it.
 pub const WINDOWS: usize = 40;

@@ -6,10 +6,10 @@ ghost use Rattle.windows_model.specs.declared.windows_fault.WindowsFault.TheVari
 
 use std::alloc::{AllocError, AllocFailed};
 
-/// Why a call on the windows is refused.
+/// Why a call on the windows is refused. The windows are then unchanged.
 #[derive(Clone, Copy, PartialEq, Eq, Debug)]
 pub enum WindowsFault {
-    /// There are 40 windows, or the serial isn't above those of all windows.
+    /// There are 40 windows already, or the serial isn't above those of all windows.
     Full,
     NoSuchWindow,
     /// Another window has the number.
@@ -20,7 +20,7 @@ pub enum WindowsFault {
 }
 
 impl WindowsFault {
-    /// 1 Full, 2 NoSuchWindow, 3 NumberTaken, 4 BadTitle, 5 NoMemory.
+    /// The fault's number: 1 Full, 2 NoSuchWindow, 3 NumberTaken, 4 BadTitle, 5 NoMemory.
     pub fn number(self) -> u8
         ensures { result ≡ windows_number self }
     {

@@ -1,4 +1,4 @@
--- Each act, done to the locks, gives the history with that act in front.
+-- Locks to which an act is done stand for the history with that act in front.
 use Rattle.std.proofs.Common.{[], ◌≡◌, ◌∙◌, ℕ, Bool, true, false, not, ◌==◌, ◌&&◌, ◌||◌, ap, sym, refl, List, ◌∷◌}
 use Rattle.std.proofs.Common.{Option, Some, None, is_none, if◌then◌else◌, true≢false, unwrap_or}
 use Rattle.std.specs.Option.{option_map, option_map_or}
@@ -30,7 +30,8 @@ use Rattle.writelock.specs.Holding.{loses_last, clients_of}
 use Rattle.writelock.specs.LockTable.{LocksStandFor, AreLocks, lock_of, frees, remaining, with_remaining, lock_by}
 use Rattle.writelock.specs.LockTable.{opened_by, left_by, entered_by, without_holder, has_holder}
 
--- what an act of a list command leaves to the locks
+-- the act gives nobody a lock, ends only what `frees` says, and leaves modes, open windows and the
+-- default
 record LeavesLocks (edition : Edition) (owner : UserId) (a : Act) (h : History) : Type 0 where
   gives_none : (w : ℕ) (held : Option UserId) → given edition owner a h w held ≡ None
   same_end : (u : UserId) (w : ℕ) → ends a h u w ≡ frees a u w
@@ -129,7 +130,7 @@ able-kept edition owner h a w none u e = by (holder edition owner h w)
     by None q = cc
     by (Some v) q = at v (ends a h v w) (may edition owner (a ∷ h) v Write (Window w)) refl q
 
--- what nobody holds, and nobody is given, nobody holds
+-- a window that nobody holds, and whose lock the act gives nobody, is held by nobody after it
 unheld-kept : (edition : Edition) (owner : UserId) (h : History) (a : Act) (w : ℕ) → holder edition owner h w ≡ None
     → given edition owner a h w None ≡ None → holder edition owner (a ∷ h) w ≡ None
 unheld-kept edition owner h a w free none =
@@ -141,7 +142,7 @@ module _ (acl : Table) (edition : Edition) (owner : UserId) (h : History) (a : A
   leaves : LeavesLocks edition owner a h
   leaves = leaves_locks edition owner a h r
 
-  -- the holder after the act, where the window is open
+  -- the holder after the act, if the window is open
   holder-rights : (w : ℕ) → is_open h w ≡ true
       → holder edition owner (a ∷ h) w ≡ remaining acl a w (holder edition owner h w)
   holder-rights w open_now =
@@ -181,7 +182,7 @@ module _ (acl : Table) (edition : Edition) (owner : UserId) (h : History) (a : A
           (λ c. if c then Some (record { mode = mode_of (a ∷ h) w; holder = holder edition owner (a ∷ h) w }) else None)
           (sym (leaves.same_open w ∙ p))
 
--- an act that neither gives nor ends the lock of w, and leaves every right, leaves its holder
+-- an act that neither gives nor releases the lock of w, and leaves every right, leaves its holder
 module _ (edition : Edition) (owner : UserId) (h : History) (a : Act) (w : ℕ)
     (able : (u : UserId) → holder edition owner h w ≡ Some u → may edition owner h u Write (Window w) ≡ true) where
   holder-same : given edition owner a h w (holder edition owner h w) ≡ None → ((u : UserId) → ends a h u w ≡ false)
@@ -196,7 +197,7 @@ module _ (edition : Edition) (owner : UserId) (h : History) (a : Act) (w : ℕ)
 
 module _ (default : LockMode) (old new : ℕ → Option Lock) (edition : Edition) (owner : UserId) (h : History)
     (s : AreLocks default old edition owner h) where
-  -- the mode is set, and the lock given or freed
+  -- a mode is set, and the lock is given or freed
   pub AreLocks-Mode : (by : UserId) (w : ℕ) (mode : LockMode) → is_open h w ≡ true
       → ((q : ℕ) → new q ≡ (if w == q then option_map (λ _. lock_by by mode) (old q) else old q))
       → (is_off mode ≡ false → may edition owner h by Write (Window w) ≡ true)
@@ -267,7 +268,7 @@ module _ (default : LockMode) (old new : ℕ → Option Lock) (edition : Edition
     unheld = λ q e. unheld-kept edition owner h (Left user w) q (s.unheld q e) refl;
   }
     where
-      -- what is left of the holder
+      -- the holder who is left
       left_now : (q : ℕ) (held : Option UserId) → holder edition owner h q ≡ held → (c : Bool) → (w == q) ≡ c
           → kept edition owner (Left user w) h q held ≡
           (if c && is_auto (mode_of h q) && has_holder user held then None else held)
@@ -551,7 +552,7 @@ module _ (default : LockMode) (old new : ℕ → Option Lock) (edition : Edition
               (sym same) ∙ may_now q e
           held false g = cc
 
--- a client that comes leaves the locks as they are
+-- a client that attaches leaves the locks unchanged
 pub LocksStandFor-Attached : (t : Locks) (edition : Edition) (owner : UserId) (h : History) (client : ℕ) (user : UserId)
     → LocksStandFor t edition owner h → LocksStandFor t edition owner (Attached client user ∷ h)
 LocksStandFor-Attached t edition owner h client user s = record {
@@ -569,7 +570,7 @@ LocksStandFor-Attached t edition owner h client user s = record {
     same : (w : ℕ) → holder edition owner (Attached client user ∷ h) w ≡ holder edition owner h w
     same w = holder-same edition owner h (Attached client user) w (s.are.able w) refl (λ u. refl) (λ u. refl)
 
--- an act of a list command opens and closes nothing
+-- an act of a list command opens and closes no window
 pub slots-rights : (edition : Edition) (owner : UserId) (a : Act) (h : History) (windows : List (Option ℕ))
     → MayFollow edition owner h a → SlotsStandFor windows (is_open h) (open_count h)
     → SlotsStandFor windows (is_open (a ∷ h)) (open_count (a ∷ h))

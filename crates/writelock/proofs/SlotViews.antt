@@ -1,4 +1,4 @@
--- The locks in their slots, as slots and locks change.
+-- The locks read by their slots, while slots and locks change.
 use Rattle.std.proofs.Common.{◌≡◌, ◌≢◌, ◌∙◌, ℕ, zero, suc, ◌+◌, ◌<◌, ◌≤◌, Bool, true, false, ◌==◌, nat_le, ap, subst}
 use Rattle.std.proofs.Common.{sym, refl, arith, List, [], ◌∷◌, Option, Some, None, if◌then◌else◌, true≢false, slice_get}
 use Rattle.std.proofs.Common.{slice_set, slice_index_or, length, map, option_and_then, eq-eqb}
@@ -28,7 +28,7 @@ get-within [] k below = absurd (omega arith)
 get-within (x ∷ locks) zero below = (x, refl)
 get-within (x ∷ locks) (suc k) below = get-within locks k (omega arith)
 
--- the lock of one window is put
+-- the locks, after the lock of one window is put
 pub lock_at-put : (windows : List (Option ℕ)) (locks : List Lock) (w slot : ℕ) (lock : Lock)
     → length windows ≡ length locks → slot_of windows w ≡ Some slot
     → (q : ℕ)
@@ -57,7 +57,7 @@ lock_at-put windows locks w slot lock same at q = by (w == q) refl
         other (Some k) f = get-set_other locks slot k lock
             (λ g. true≢false (sym (eq-eqb w q (slot_of-apart windows w q slot at (f ∙ ap Some g))) ∙ e))
 
--- a window is opened in a free slot
+-- the locks, after a window is opened in a free slot
 pub lock_at-opened : (windows : List (Option ℕ)) (locks : List Lock) (w slot : ℕ) (lock : Lock)
     → length windows ≡ length locks → free_slot windows ≡ Some slot → slot_of windows w ≡ None
     → (q : ℕ)
@@ -81,7 +81,7 @@ lock_at-opened windows locks w slot lock same free fresh q =
     by true = get-set_same locks slot lock (omega (arith, same, below))
     by false = other (slot_of windows q) refl
 
--- a window is closed
+-- the locks, after a window is closed
 pub lock_at-closed : (windows : List (Option ℕ)) (locks : List Lock) (w q : ℕ)
     → lock_at (map (without_window w) windows) locks q ≡ (if w == q then None else lock_at windows locks q)
 lock_at-closed windows locks w q = ap (option_and_then (λ k. slice_get locks k)) (slot_of-closed windows w q)
@@ -93,7 +93,7 @@ lock_at-closed windows locks w q = ap (option_and_then (λ k. slice_get locks k)
     by true = refl
     by false = refl
 
--- each lock changes with its window
+-- the locks, after each is changed by the window in its slot
 pub lock_at-changed : (f : Option ℕ → Lock → Lock) (windows : List (Option ℕ)) (old new : List Lock)
     → ((k : ℕ) → slice_get new k ≡ option_map (f (slice_index_or windows k None)) (slice_get old k))
     → (q : ℕ) → lock_at windows new q ≡ option_map (f (Some q)) (lock_at windows old q)
@@ -110,7 +110,7 @@ lock_at-changed f windows old new each q = by (slot_of windows q) refl
         serial None g = absurd (true≢false (sym g))
         serial (Some x) g = ap Some (eqb-true x q g)
 
--- a loop that changes each lock with its slot: those below i are changed
+-- within a loop that changes each lock with its slot: those below i are changed
 pub record ChangedBelow (f : Option ℕ → Lock → Lock) (windows : List (Option ℕ)) (i : ℕ) (old new : List Lock) : Type 0
   where
     pub same_length : length new ≡ length old
@@ -159,7 +159,7 @@ changed_below-more f windows i old new d lock s within is = record {
         let apart : k ≢ i = λ n. true≢false (sym (eq-eqb k i n) ∙ e) in
         get-set_other new i k lock apart ∙ s.below k (omega arith)
 
--- once each is changed
+-- beyond the end of the list there is no lock
 get-past : (locks : List Lock) (k : ℕ) → length locks ≤ k → slice_get locks k ≡ None
 get-past [] k over = refl
 get-past (x ∷ locks) zero over = absurd (omega arith)
@@ -177,7 +177,7 @@ changed_below-all f windows i old new s over k = by (nat_le i k) refl
         let past : slice_get old k ≡ None = get-past old k (omega (arith, leb-true i k e)) in
         s.above k (leb-true i k e) ∙ past ∙ ap (option_map (f (slice_index_or windows k None))) (sym past)
 
--- what is put in place of the lock that is there is that lock changed
+-- putting the changed lock in place of the lock that is there changes this lock alone
 pub changed_at : (f : Lock → Lock) (locks : ℕ → Option Lock) (w : ℕ) (lock : Lock) → locks w ≡ Some lock
     → (q : ℕ)
     → (if w == q then option_map (λ _. f lock) (locks q) else locks q) ≡
@@ -191,7 +191,7 @@ changed_at f locks w lock had q = by (w == q) refl
         ap (option_map {T = Lock} (λ _. f lock)) here ∙ ap (option_map f) (sym here)
     by false e = refl
 
--- where there is none, nothing changes
+-- if there is no lock, nothing changes
 pub unchanged_at : (f : Lock → Lock) (locks : ℕ → Option Lock) (w : ℕ) → locks w ≡ None → (q : ℕ)
     → locks q ≡ (if w == q then option_map f (locks q) else locks q)
 unchanged_at f locks w none q = by (w == q) refl

@@ -1,6 +1,6 @@
 -- Who holds the write lock of a window, by the acts of a history. The entries of the GNU Screen
--- manual are writelock and defwritelock; when a lock is taken by entering, and what frees it, is
--- this project's own profile.
+-- manual are writelock and defwritelock. When entering a window takes its lock, and what frees the
+-- lock, are this project's own rules.
 use Rattle.std.specs.Prelude.{ℕ, Bool, true, false, not, ◌||◌, ◌&&◌, ◌==◌, List, [], ◌∷◌, Option}
 use Rattle.std.specs.Prelude.{Some, None, filter, is_none, if◌then◌else◌}
 use Rattle.std.specs.List.{list_any}
@@ -35,7 +35,7 @@ abbrev pub decides_default : Act → Option LockMode
 decides_default (Default mode) = Some mode
 decides_default _ = None
 
--- defwritelock: the mode of windows that are opened now
+-- defwritelock: the mode of windows that open from now on
 abbrev pub default_of : History → LockMode
 default_of h = latest decides_default Off h
 
@@ -49,7 +49,7 @@ abbrev pub mode_of : History → ℕ → LockMode
 mode_of [] w = Off
 mode_of (a ∷ h) w = mode_after a h w (mode_of h w)
 
--- the clients that are attached, with their users
+-- the attached clients, with their users
 abbrev pub clients_after : Act → List (ℕ × UserId) → List (ℕ × UserId)
 clients_after (Attached client user) before = (client, user) ∷ before
 clients_after (Parted client) before = filter (λ c. not (c.0 == client)) before
@@ -62,11 +62,11 @@ clients_of (a ∷ h) = clients_after a (clients_of h)
 abbrev pub has_client : History → UserId → Bool
 has_client h u = list_any (λ c. same_user c.1 u) (clients_of h)
 
--- whether u has a client, and none without this one
+-- whether u has a client, and has none after this client goes
 abbrev pub loses_last : History → ℕ → UserId → Bool
 loses_last h client u = has_client h u && not (has_client (Parted client ∷ h) u)
 
--- whether an act by itself, after the history h, releases the lock that u holds on w
+-- whether an act by itself, coming after the history h, releases the lock that u holds on w
 abbrev pub ends : Act → History → UserId → ℕ → Bool
 ends (Mode by v mode) h u w = v == w && is_off mode
 ends (Left v x) h u w = same_user v u && x == w && is_auto (mode_of h w)
@@ -76,11 +76,11 @@ ends (Parted client) h u w = loses_last h client u
 ends (Closed x) h u w = x == w
 ends _ h u w = false
 
--- an act releases the lock where it does so by itself, or where u may not write after it
+-- whether an act releases the lock: it does so by itself, or u may not write after it
 abbrev pub releases : Edition → UserId → Act → History → UserId → ℕ → Bool
 releases edition owner a h u w = ends a h u w || not (may edition owner (a ∷ h) u Write (Window w))
 
--- the user to whom an act after h gives the lock of w, which `held` holds till then
+-- the user to whom an act after h gives the lock of w; `held` is the holder before the act
 abbrev pub given : Edition → UserId → Act → History → ℕ → Option UserId → Option UserId
 given edition owner (Mode by v mode) h w held = decided (v == w && not (is_off mode)) by
 given edition owner (Opened by v) h w held = decided (v == w && is_on (default_of h)) by
@@ -90,8 +90,8 @@ given edition owner (Entered u v) h w held =
     u
 given edition owner _ h w held = None
 
--- who holds the lock after an act: the user whom it gives the lock, or the holder whose lock it
--- doesn't release
+-- the holder after an act: the user whom it gives the lock, or the former holder, if it doesn't
+-- release their lock
 abbrev pub kept : Edition → UserId → Act → History → ℕ → Option UserId → Option UserId
 kept edition owner a h w None = None
 kept edition owner a h w (Some u) = if releases edition owner a h u w then None else Some u
@@ -100,7 +100,7 @@ abbrev pub or_else : Option UserId → Option UserId → Option UserId
 or_else (Some u) held = Some u
 or_else None held = held
 
--- the holder of w: an act gave him the lock, and none since released it
+-- the holder of w: the user to whom an act gave the lock, if no act released it since
 abbrev pub holder : Edition → UserId → History → ℕ → Option UserId
 holder edition owner [] w = None
 holder edition owner (a ∷ h) w =

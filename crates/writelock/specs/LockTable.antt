@@ -31,8 +31,8 @@ lock_of edition owner h w =
     if is_open h w then Some (record { mode = mode_of h w; holder = holder edition owner h w })
     else None
 
--- these locks are what the definitions give, holders may write, and no window that isn't open is
--- held
+-- these locks are what the definitions give; their holders may write; and nobody holds a window
+-- that isn't open
 pub record AreLocks (default : LockMode) (locks : ℕ → Option Lock)
     (edition : Edition) (owner : UserId) (h : History)
     : Type 0 where
@@ -42,20 +42,21 @@ pub record AreLocks (default : LockMode) (locks : ℕ → Option Lock)
       → may edition owner h u Write (Window w) ≡ true
   pub unheld : (w : ℕ) → is_open h w ≡ false → holder edition owner h w ≡ None
 
--- the locks are what the definitions give of the history of this owner's session, of this edition
+-- the locks are what the definitions give for this history of a session of this edition, with this
+-- owner
 pub record LocksStandFor (t : Locks) (edition : Edition) (owner : UserId) (h : History)
     : Type 0 where
   pub slots : SlotsStandFor t.windows.serials (is_open h) (open_count h)
   pub all : length t.locks ≡ WINDOWS
   pub are : AreLocks t.default (lock_in t) edition owner h
 
--- whether an act of a list command by itself frees what u holds on w
+-- whether an act of a list command frees by itself what u holds on w
 abbrev pub frees : Act → UserId → ℕ → Bool
 frees (Set v Write (Window x) false) u w = same_user v u && x == w
 frees (Gone v) u w = same_user v u
 frees _ u w = false
 
--- who holds on after an act of a list command, with these lists after it
+-- who still holds a window after an act of a list command; the table is that after the act
 abbrev pub remaining : Table → Act → ℕ → Option UserId → Option UserId
 remaining acl act w None = None
 remaining acl act w (Some u) =
@@ -64,7 +65,7 @@ remaining acl act w (Some u) =
 abbrev pub with_remaining : Table → Act → ℕ → Lock → Lock
 with_remaining acl act w lock = record lock { holder = remaining acl act w lock.holder }
 
--- in a slot with this window, or none
+-- the lock in a slot after an act of a list command; the slot holds this window, or none
 abbrev pub after_act : Table → Act → Option ℕ → Lock → Lock
 after_act acl act window lock = option_map_or (λ w. with_remaining acl act w lock) window lock
 
@@ -78,7 +79,7 @@ abbrev pub has_holder : UserId → Option UserId → Bool
 has_holder user None = false
 has_holder user (Some holder) = same_user holder user
 
--- nobody, where he held it in auto
+-- the lock after the user leaves: free, if the user held it in mode auto
 abbrev pub left_by : UserId → Lock → Lock
 left_by user lock =
     record lock {
@@ -86,7 +87,7 @@ left_by user lock =
           if is_auto lock.mode && has_holder user lock.holder then None else lock.holder;
     }
 
--- he, where it is free in auto and he may write
+-- the lock after the user enters: the user's, if it is free in mode auto and the user may write
 abbrev pub entered_by : UserId → Bool → Lock → Lock
 entered_by user may_write lock =
     record lock {
@@ -94,7 +95,7 @@ entered_by user may_write lock =
           if is_auto lock.mode && is_none lock.holder && may_write then Some user else lock.holder;
     }
 
--- nobody, where this user held it
+-- the lock after this user lost it: free, if the user held it
 abbrev pub without_holder : Option UserId → Lock → Lock
 without_holder gone lock =
     record lock {
@@ -103,7 +104,7 @@ without_holder gone lock =
           else lock.holder;
     }
 
--- a free lock stops nobody, and one that is held every other user
+-- whether the lock stops a user: a free lock stops nobody, a held one everyone but its holder
 abbrev pub stops_nobody_but : UserId → Option UserId → Bool
 stops_nobody_but user None = true
 stops_nobody_but user (Some holder) = same_user holder user

@@ -14,14 +14,14 @@ ghost use Rattle.writelock.specs.Holding.{holder, clients_of, mode_of, default_o
 ghost use Rattle.writelock.specs.LockTable.{LocksStandFor};
 ghost use Rattle.writelock.specs.declared.locks.Locks.{Locks};
 
-/// A client that comes leaves the locks as they are.
+/// A client that attaches leaves the locks unchanged.
 pub fn locks_attached()
     ensures { (t : Locks) (edition : Edition) (owner : UserId) (h : History) (client : ℕ)
         (user : UserId) → LocksStandFor t edition owner h →
         LocksStandFor t edition owner (Attached client user ∷ h) }
 {}
 
-/// Who holds a lock may write there.
+/// The holder of a window's lock may write there.
 pub fn holders_may_write()
     ensures { (t : Locks) (edition : Edition) (owner : UserId) (h : History) (window : ℕ)
         (user : UserId) → LocksStandFor t edition owner h →
@@ -29,7 +29,8 @@ pub fn holders_may_write()
         may edition owner h user Write (Window window) ≡ true }
 {}
 
-/// Acts of list commands leave who is attached, the modes of windows and the default.
+/// Acts of list commands leave the attached clients, the modes of windows and the default mode
+/// unchanged.
 pub fn lists_leave_locks()
     ensures clients { (edition : Edition) (owner : UserId) (h : History) (acts : List Act) →
         AllMayFollow edition owner h acts → clients_of (followed_by h acts) ≡ clients_of h }

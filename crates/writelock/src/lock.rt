@@ -1,4 +1,4 @@
-//! What becomes of one lock.
+//! The changes of one lock.
 
 ghost use Rattle.std.specs.Prelude.{◌≡◌};
 ghost use Rattle.acl.specs.Lists.{table_of};
@@ -7,21 +7,21 @@ ghost use Rattle.writelock.specs.LockTable.{left_by, entered_by, without_holder,
 
 use acl::{Act, Bit, Lists, LockMode, Object, UserId};
 
-/// A window's mode, and who holds its lock.
+/// A window's mode, and the holder of its lock.
 #[derive(Clone, Copy, PartialEq, Eq, Debug)]
 pub struct Lock {
     pub mode: LockMode,
     pub holder: Option<UserId>,
 }
 
-/// Who holds the lock that stops a user.
+/// Why a user may not type into a window: another user, named here, holds its lock.
 #[derive(Clone, Copy, PartialEq, Eq, Debug)]
 pub struct LockDenial {
     pub window: u32,
     pub holder: UserId,
 }
 
-/// Whether the act by itself frees what the user holds on the window.
+/// Whether an act of a list command frees by itself what the user holds on the window.
 fn frees(act: Act, user: UserId, window: u32) -> bool
     ensures { result ≡ frees act user window }
 {
@@ -37,7 +37,7 @@ fn frees(act: Act, user: UserId, window: u32) -> bool
     }
 }
 
-/// Who holds on after an act of a list command, with these lists after it.
+/// Who still holds the window after an act of a list command; `lists` are the lists after it.
 fn remaining(lists: &Lists, act: Act, window: u32, holder: Option<UserId>) -> Option<UserId>
     ensures { result ≡ remaining (table_of lists.now) act window holder }
 {
@@ -49,7 +49,7 @@ fn remaining(lists: &Lists, act: Act, window: u32, holder: Option<UserId>) -> Op
     }
 }
 
-/// The lock in a slot with this window, or none, after an act of a list command.
+/// The lock in a slot after an act of a list command; the slot holds this window, or none.
 pub fn after_act(lists: &Lists, act: Act, window: Option<u32>, lock: Lock) -> Lock
     ensures { result ≡ after_act (table_of lists.now) act window lock }
 {
@@ -62,7 +62,7 @@ pub fn after_act(lists: &Lists, act: Act, window: Option<u32>, lock: Lock) -> Lo
     }
 }
 
-/// The lock after the user sets its mode.
+/// The lock after the user sets its mode: the user's, or free in mode off.
 pub fn lock_by(by: UserId, mode: LockMode) -> Lock
     ensures { result ≡ lock_by by mode }
 {
@@ -75,7 +75,7 @@ pub fn lock_by(by: UserId, mode: LockMode) -> Lock
     }
 }
 
-/// The lock of a window that the user opens while this is the default.
+/// The lock of a window that the user opens while this is the default mode.
 pub fn opened_by(by: UserId, mode: LockMode) -> Lock
     ensures { result ≡ opened_by by mode }
 {
@@ -115,7 +115,7 @@ pub fn left_by(lock: Lock, user: UserId) -> Lock
     }
 }
 
-/// The lock after the user, who may write or not, enters its window.
+/// The lock after the user enters its window; `may_write` tells whether they may write there.
 pub fn entered_by(lock: Lock, user: UserId, may_write: bool) -> Lock
     ensures { result ≡ entered_by user may_write lock }
 {
@@ -132,7 +132,7 @@ pub fn entered_by(lock: Lock, user: UserId, may_write: bool) -> Lock
     }
 }
 
-/// The lock once this user, if any, has no client.
+/// The lock after this user, if any, lost their last client.
 pub fn without_holder(lock: Lock, gone: Option<UserId>) -> Lock
     ensures { result ≡ without_holder gone lock }
 {

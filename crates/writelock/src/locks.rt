@@ -3,13 +3,14 @@ use crate::lock::{
 };
 use acl::{Act, Follower, Lists, LockMode, Slots, UserId, WINDOWS};
 
-/// A lock that nobody holds.
+/// A lock in mode off, which nobody holds.
 const FREE: Lock = Lock {
     mode: LockMode::Off,
     holder: None,
 };
 
-/// The locks of open windows, and the mode of new ones. Windows are named by serial numbers.
+/// The locks of the open windows, and the mode of windows that open later. Windows are named by
+/// their serial numbers.
 #[derive(Clone, Copy, PartialEq, Eq, Debug)]
 pub struct Locks {
     windows: Slots,
@@ -34,7 +35,7 @@ impl Locks {
     ghost use Rattle.writelock.specs.Holding.{is_off, mode_of, holder, loses_last};
     ghost use Rattle.writelock.specs.LockTable.{LocksStandFor, lock_in, stops_nobody_but};
 
-    /// No window is open, and new ones are not locked.
+    /// The locks of a session without windows; the default mode is off.
     pub fn new() -> Locks
         ensures { (edition : Edition) (owner : UserId) → LocksStandFor result edition owner [] }
     {
@@ -45,7 +46,7 @@ impl Locks {
         }
     }
 
-    /// The lock of an open window.
+    /// The lock of a window; `None` if it isn't open.
     fn lock_of(&self, window: u32) -> Option<Lock>
         ensures { result ≡ lock_in self.now window }
     {
@@ -68,7 +69,7 @@ impl Locks {
         }
     }
 
-    /// Who holds the lock of a window.
+    /// The user who holds the lock of a window; `None` if nobody does, or if the window isn't open.
     pub fn holder(&self, window: u32) -> Option<UserId>
         ensures { (edition : Edition) (owner : UserId) (h : History) →
             LocksStandFor self.now edition owner h →
@@ -80,7 +81,7 @@ impl Locks {
         }
     }
 
-    /// The mode of an open window.
+    /// The mode of a window; `None` if it isn't open.
     pub fn mode(&self, window: u32) -> Option<LockMode>
         ensures { (edition : Edition) (owner : UserId) (h : History) →
             LocksStandFor self.now edition owner h →
@@ -92,7 +93,8 @@ impl Locks {
         }
     }
 
-    /// Whether no other user holds the lock of a window, or else who does.
+    /// Whether the user may type into the window, as far as its lock goes. The error names the user
+    /// who holds the lock.
     pub fn may_type(&self, user: UserId, window: u32) -> Result<(), LockDenial>
         ensures free { (edition : Edition) (owner : UserId) (h : History) →
             LocksStandFor self.now edition owner h →
@@ -121,7 +123,7 @@ impl Locks {
         self.default = mode;
     }
 
-    /// A user opened a window, whose serial number is new. At most 39 others are open.
+    /// Records that a user opened a window, whose serial number is new. At most 39 others are open.
     pub fn opened(&mut self, by: UserId, window: u32)
         ensures { (edition : Edition) (owner : UserId) (h : History) →
             LocksStandFor self.old edition owner h →
@@ -134,7 +136,7 @@ impl Locks {
         }
     }
 
-    /// A window was closed.
+    /// Records that a window was closed.
     pub fn closed(&mut self, window: u32)
         ensures { (edition : Edition) (owner : UserId) (h : History) →
             LocksStandFor self.old edition owner h →
@@ -143,7 +145,8 @@ impl Locks {
         self.windows.close(window);
     }
 
-    /// A user entered an open window; `may_write` tells truly whether they may write there.
+    /// Records that a user entered an open window. `may_write` must tell truly whether they may
+    /// write there.
     pub fn entered(&mut self, user: UserId, window: u32, may_write: bool)
         ensures { (edition : Edition) (owner : UserId) (h : History) →
             LocksStandFor self.old edition owner h →
@@ -155,7 +158,7 @@ impl Locks {
         }
     }
 
-    /// A user left a window: no focused region of theirs shows it any more.
+    /// Records that a user left a window: no focused region of theirs shows it any more.
     pub fn left(&mut self, user: UserId, window: u32)
         ensures { (edition : Edition) (owner : UserId) (h : History) →
             LocksStandFor self.old edition owner h →
@@ -166,7 +169,7 @@ impl Locks {
         }
     }
 
-    /// A client went; `last` is the user whose last one it was, if it was one's last.
+    /// Records that a client went; `last` is its user, if it was their last client.
     pub fn parted(&mut self, last: Option<UserId>)
         ensures { (edition : Edition) (owner : UserId) (h : History) (client : ℕ) →
             LocksStandFor self.old edition owner h →
@@ -178,8 +181,8 @@ impl Locks {
         }
     }
 
-    /// `writelock`: sets the mode of an open window. The lock is the user's, who may write there,
-    /// or in mode off nobody's.
+    /// `writelock`: sets the mode of an open window. The user, who may write there, then holds the
+    /// lock; in mode off nobody does.
     pub fn set_mode(&mut self, by: UserId, window: u32, mode: LockMode)
         ensures { (edition : Edition) (owner : UserId) (h : History) →
             LocksStandFor self.old edition owner h →
@@ -190,7 +193,7 @@ impl Locks {
         self.put(window, lock_by(by, mode));
     }
 
-    /// Frees the locks that an act of a list command releases, with the lists after it.
+    /// Frees the locks that an act of a list command releases; `lists` are the lists after the act.
     pub fn withdraw(&mut self, lists: &Lists, act: Act)
         ensures { Follows (LocksStandFor self.old) (LocksStandFor self.new)
             (table_of lists.now) act }
@@ -201,7 +204,7 @@ impl Locks {
     }
 }
 
-/// The locks follow each act of a list command.
+/// The locks are told of each act of a list command.
 impl Follower for Locks {
     ghost use Rattle.writelock.specs.LockTable.{LocksStandFor};
 

@@ -1,5 +1,5 @@
 use Rattle.session_guests.proofs.holders_stay.Goals as goal
-use Rattle.session_guests.proofs.Staying.{holders_stay}
+use Rattle.session_guests.proofs.KeptLocks.{holders_stay}
 
 pub returns : goal.returns
 returns c =

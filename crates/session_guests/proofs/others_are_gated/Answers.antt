@@ -1,5 +1,5 @@
 use Rattle.session_guests.proofs.others_are_gated.Goals as goal
-use Rattle.session_guests.proofs.Named.{windows_stay}
+use Rattle.session_guests.proofs.KeptLabels.{windows_stay}
 use Rattle.session_guests.proofs.Parting.{mode_gated, clients_stay}
 
 pub returns-clause-mode : goal.returns-clause-mode

@@ -3,7 +3,7 @@ use Rattle.acl.specs.History.{followed_by}
 use Rattle.session_model.specs.Tables.{fresh}
 use Rattle.session_laws.proofs.acts_agree.Goals as goal
 use Rattle.session_laws.proofs.Sounding.{fresh_sound}
-use Rattle.session_laws.proofs.Noting.{after_acts, acts_agree, fresh_agrees, run_agrees}
+use Rattle.session_laws.proofs.ActsOfRuns.{after_acts, acts_agree, fresh_agrees, run_agrees}
 
 pub returns-clause-noted : goal.returns-clause-noted
 returns-clause-noted c = λ t e step. after_acts t e.event e.effects ∙ ap (followed_by t.acts) (sym step.acts)

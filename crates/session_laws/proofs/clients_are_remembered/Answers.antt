@@ -1,5 +1,5 @@
 use Rattle.session_laws.proofs.clients_are_remembered.Goals as goal
-use Rattle.session_laws.proofs.Remembering.{remembered}
+use Rattle.session_laws.proofs.ClientsOfRuns.{remembered}
 
 pub returns : goal.returns
 returns c = remembered

@@ -1,5 +1,5 @@
 use Rattle.session_laws.proofs.steps_are_few.Goals as goal
-use Rattle.session_laws.proofs.Counting.{step_few}
+use Rattle.session_laws.proofs.FewEffects.{step_few}
 
 pub returns : goal.returns
 returns c = step_few

@@ -1,5 +1,5 @@
 use Rattle.session_laws.proofs.windows_are_remembered.Goals as goal
-use Rattle.session_laws.proofs.Recalling.{recalled}
+use Rattle.session_laws.proofs.WindowsOfRuns.{recalled}
 
 pub returns : goal.returns
 returns c = recalled

@@ -8,7 +8,7 @@ use Rattle.acl.specs.Table.{StandsFor}
 use Rattle.acl.specs.Lists.{table_of}
 use Rattle.acl.proofs.carry.apply_all.Given as goal
 
--- the history so far, and what is left to follow
+-- the history after the acts before this index, and the acts that are still to follow
 abbrev pub invariant-loop-act : goal.invariant-loop-act
 invariant-loop-act g l = record {
   stands : (edition : Edition) (owner : UserId) (h : History) → StandsFor (table_of l.fn.lists) edition owner h

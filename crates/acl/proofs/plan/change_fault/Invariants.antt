@@ -4,7 +4,7 @@ use Rattle.acl.specs.Table.{users_in}
 use Rattle.acl.specs.Lists.{table_of}
 use Rattle.acl.proofs.plan.change_fault.Given as goal
 
--- the fault is one of the names that are left
+-- the fault of the whole list is that of the names from this index on
 abbrev pub invariant-loop-i : goal.invariant-loop-i
 invariant-loop-i l = record {
   fault : change_fault (table_of l.lists).owner (with_names (users_in (table_of l.lists)) (take l.i l.names))

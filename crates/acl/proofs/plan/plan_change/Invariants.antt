@@ -4,7 +4,8 @@ use Rattle.acl.specs.Table.{users_in}
 use Rattle.acl.specs.Lists.{table_of}
 use Rattle.acl.proofs.plan.plan_change.Given as goal
 
--- what is done, and what is left
+-- the acts planned before this index, followed by those still to be planned, are the acts of all
+-- names
 abbrev pub invariant-loop-i : goal.invariant-loop-i
 invariant-loop-i l = record {
   left : l.acts.items ++ change_acts (with_names (users_in (table_of l.lists)) (take l.i l.names)) (drop l.i l.names)

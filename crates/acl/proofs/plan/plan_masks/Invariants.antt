@@ -4,7 +4,8 @@ use Rattle.acl.specs.Table.{users_in}
 use Rattle.acl.specs.Lists.{table_of}
 use Rattle.acl.proofs.plan.plan_masks.Given as goal
 
--- what is done, and what is left
+-- the acts planned before this entry, followed by those still to be planned, are the acts of all
+-- entries
 abbrev pub invariant-loop-entry : goal.invariant-loop-entry
 invariant-loop-entry l = record {
   left : l.acts.items ++ mask_acts l.by (drop l.entry-index l.entries) ≡ l.fn.acts.items ++ mask_acts l.by l.entries;

@@ -4,7 +4,7 @@ use Rattle.acl.specs.Table.{without_leader}
 use Rattle.acl_words.proofs.InPlace.{mapped_below}
 use Rattle.acl.proofs.rows.forget_leader.Given as goal
 
--- the rows so far are done, and the others are as they were
+-- the rows before this index have lost the leader; the others are unchanged
 abbrev pub invariant-loop-i : goal.invariant-loop-i
 invariant-loop-i l = record {
   done : l.rows.entries ≡ mapped_below (λ e. (e.0, without_leader l.gone e.1)) l.i l.fn.rows.entries;

@@ -2,7 +2,8 @@ use Rattle.std.proofs.Common.{◌≡◌, ◌++◌, drop}
 use Rattle.acl.specs.Commands.{Keeps, sets}
 use Rattle.acl.proofs.sets.plan_sets.Given as goal
 
--- what is done, and what is left
+-- the acts planned before this object, followed by those still to be planned, are the acts on all
+-- objects
 abbrev pub invariant-loop-object : goal.invariant-loop-object
 invariant-loop-object l = record {
   left : l.acts.items ++ sets l.user l.changes (drop l.object-index l.objects) ≡ l.fn.acts.items ++ sets l.user

@@ -2,7 +2,8 @@ use Rattle.std.proofs.Common.{◌≡◌, ◌++◌, drop}
 use Rattle.acl.specs.Commands.{Keeps, sets_on}
 use Rattle.acl.proofs.sets.plan_sets_on.Given as goal
 
--- what is done, and what is left
+-- the acts planned before this change, followed by those still to be planned, are the acts of all
+-- changes
 abbrev pub invariant-loop-change : goal.invariant-loop-change
 invariant-loop-change l = record {
   left : l.acts.items ++ sets_on l.user (drop l.change-index l.changes) l.object ≡ l.fn.acts.items ++ sets_on l.user

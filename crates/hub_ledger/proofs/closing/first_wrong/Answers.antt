@@ -8,7 +8,8 @@ pub places-init : goal.places-init
 places-init g c = record {
   within = omega (arith, c.len-place.ensures);
   same = refl;
-  wrong = subst (λ n. IsWrongFrom c.args.entries.now.entries (receipts_of c.args.seats.now) n None) (sym c.len-place.ensures) (none_past c.args.entries.now.entries (receipts_of c.args.seats.now));
+  wrong = subst (λ n. IsWrongFrom c.args.entries.now.entries (receipts_of c.args.seats.now) n None)
+      (sym c.len-place.ensures) (none_past c.args.entries.now.entries (receipts_of c.args.seats.now));
   total = refl;
 }
 
@@ -27,7 +28,9 @@ places-preserved g c =
     record {
       within = omega (arith, within);
       same = same_below cur rs (receipts_of c.strip_all.new.seats) p same c.strip_all.ensures.rest;
-      wrong = right_here es rs p e c.places.wrong at (told_same cur rs p e same (c.strip_all.ensures.told.0 c.if-not-strip_all.false)) (subst (λ n. IsWrongFrom es rs n c.places.wrong) up inv.wrong);
+      wrong = right_here es rs p e c.places.wrong at
+          (told_same cur rs p e same (c.strip_all.ensures.told.0 c.if-not-strip_all.false))
+          (subst (λ n. IsWrongFrom es rs n c.places.wrong) up inv.wrong);
       total = (let t = inv.total in let here = c.strip_all.ensures.total in omega (arith, t, here));
     }
 
@@ -46,7 +49,10 @@ places-preserved-then-not-strip_all g c =
     record {
       within = omega (arith, within);
       same = same_below cur rs (receipts_of c.strip_all.new.seats) p same c.strip_all.ensures.rest;
-      wrong = wrong_here es rs p e at (λ (told : IsTold p e rs). (let is = c.strip_all.ensures.told.1 (told_same rs cur p e (sym same) told) in absurd (cc (is, c.if-not-strip_all.true))));
+      wrong = wrong_here es rs p e at
+          (λ (told : IsTold p e rs).
+          (let is = c.strip_all.ensures.told.1 (told_same rs cur p e (sym same) told) in absurd
+          (cc (is, c.if-not-strip_all.true))));
       total = (let t = inv.total in let here = c.strip_all.ensures.total in omega (arith, t, here));
     }
 
@@ -54,6 +60,8 @@ pub returns : goal.returns
 returns g c =
     let zero : c.places.place ≡ 0 = (let t = c.places-test.false in omega (arith, t)) in
     record {
-      wrong = first_is c.args.entries.now.entries (receipts_of c.args.seats.now) c.places.wrong (subst (λ n. IsWrongFrom c.args.entries.now.entries (receipts_of c.args.seats.now) n c.places.wrong) zero c.places.invariant.wrong);
+      wrong = first_is c.args.entries.now.entries (receipts_of c.args.seats.now) c.places.wrong
+          (subst (λ n. IsWrongFrom c.args.entries.now.entries (receipts_of c.args.seats.now) n c.places.wrong) zero
+          c.places.invariant.wrong);
       total = c.places.invariant.total;
     }

@@ -12,9 +12,12 @@ seats-preserved g c =
     let amount = c.split_off-share.ensures.amount_left in
     record {
       made = omega (arith, p.0, inv.made);
-      told = none_told c.push.new.self.items c.seats.made.items c.make_seat.result more inv.told (ap (λ (s : Sitting). s.receipts) c.make_seat.ensures);
-      numbers = numbered c.push.new.self.items c.seats.made.items c.make_seat.result more inv.numbers (ap (λ (s : Sitting). s.number) c.make_seat.ensures ∙ sym inv.made);
-      asks = none_asks c.push.new.self.items c.seats.made.items c.make_seat.result more inv.asks (ap (λ (s : Sitting). s.asks) c.make_seat.ensures);
+      told = none_told c.push.new.self.items c.seats.made.items c.make_seat.result more inv.told
+          (ap (λ (s : Sitting). s.receipts) c.make_seat.ensures);
+      numbers = numbered c.push.new.self.items c.seats.made.items c.make_seat.result more inv.numbers
+          (ap (λ (s : Sitting). s.number) c.make_seat.ensures ∙ sym inv.made);
+      asks = none_asks c.push.new.self.items c.seats.made.items c.make_seat.result more inv.asks
+          (ap (λ (s : Sitting). s.asks) c.make_seat.ensures);
       parts = omega (arith, left, inv.parts);
       amount = omega (arith, amount, inv.amount);
     }

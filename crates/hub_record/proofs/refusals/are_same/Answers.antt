@@ -11,4 +11,5 @@ decides u v = (same_user-true u v, λ e. subst (λ w. same_user u w ≡ true) e 
 pub returns : goal.returns
 returns c =
     let told : c.eq.result ≡ pointwise same_user c.args.leaders.now c.args.other.now = search rules in
-    subst (λ (b : Bool). (b ≡ true) ↔ (c.args.leaders.now ≡ c.args.other.now)) (sym told) (pointwise_decides decides c.args.leaders.now c.args.other.now)
+    subst (λ (b : Bool). (b ≡ true) ↔ (c.args.leaders.now ≡ c.args.other.now)) (sym told)
+    (pointwise_decides decides c.args.leaders.now c.args.other.now)

@@ -7,7 +7,8 @@ use Rattle.hub_ledger.proofs.filed_session.FiledSession.new.Goals as goal
 
 pub returns-clause-kept : goal.returns-clause-kept
 returns-clause-kept c =
-    let trail : List Entry → Trail = λ (es : List Entry). record { edition = c.args.edition; owner = c.args.owner; entries = es } in
+    let trail : List Entry
+    → Trail = λ (es : List Entry). record { edition = c.args.edition; owner = c.args.owner; entries = es } in
     let none = sym c.new-3.ensures in
     record {
       past = (
@@ -19,5 +20,6 @@ returns-clause-kept c =
           windows = ap (λ (o : Owners). length o.windows) c.new-3.ensures;
         },
       );
-      seats = subst (AreSeats (length (views c.in_ok-waiting.waiting.lists.items))) none (record { clients = tt; windows = tt });
+      seats = subst (AreSeats (length (views c.in_ok-waiting.waiting.lists.items))) none
+          (record { clients = tt; windows = tt });
     }

@@ -14,11 +14,14 @@ pub invariant_of-self : goal.invariant_of-self
 invariant_of-self g c =
     let inv = c.self.invariant in
     let same = c.in_err-reply.ensures.same in
-    let entries : length c.take_step.new.self.entries.list.entries ≡ length c.self.inside.filed.entries.list.entries = ap (λ (s : State). length s.trail.entries) same in (
+    let entries : length c.take_step.new.self.entries.list.entries ≡ length c.self.inside.filed.entries.list.entries =
+    ap (λ (s : State). length s.trail.entries) same in (
       c.take_step.ensures.kept,
       inv.1 ∙ sym entries,
       omega (arith, entries, inv.2),
-      sym (length-map c.take_step.new.self.waiting.lists.items (λ (v : Vec Effect Global). v.items)) ∙ ap (λ (s : State). length s.waiting) same ∙ length-map c.self.inside.filed.waiting.lists.items (λ (v : Vec Effect Global). v.items) ∙ inv.3,
+      sym (length-map c.take_step.new.self.waiting.lists.items (λ (v : Vec Effect Global). v.items))
+          ∙ ap (λ (s : State). length s.waiting) same
+          ∙ length-map c.self.inside.filed.waiting.lists.items (λ (v : Vec Effect Global). v.items) ∙ inv.3,
       ap (λ (s : State). length s.marks) same ∙ inv.4,
       inv.5,
       ap (λ (s : State). s.trail.edition) same ∙ inv.6,
@@ -39,7 +42,8 @@ invariant_of-self-else-writes_entry g c =
       c.take_step.ensures.kept,
       inv.1 ∙ sym entries,
       omega (arith, entries, inv.2),
-      sym (length-map c.take_step.new.self.waiting.lists.items (λ (v : Vec Effect Global). v.items)) ∙ stay.0 ∙ length-map c.self.inside.filed.waiting.lists.items (λ (v : Vec Effect Global). v.items) ∙ inv.3,
+      sym (length-map c.take_step.new.self.waiting.lists.items (λ (v : Vec Effect Global). v.items)) ∙ stay.0
+          ∙ length-map c.self.inside.filed.waiting.lists.items (λ (v : Vec Effect Global). v.items) ∙ inv.3,
       stay.1 ∙ inv.4,
       inv.5,
       begins.0 ∙ inv.6,

@@ -4,4 +4,5 @@ use Rattle.windows.proofs.Writings.{stands_written}
 use Rattle.windows.proofs.window.Window.reset.Goals as goal
 
 pub returns-clause-writes : goal.returns-clause-writes
-returns-clause-writes c = λ m st. stands_written m c.args.self.now c.reset.new.self Reset tt st (c.reset.ensures (terminal_of m) st.stands)
+returns-clause-writes c = λ m st. stands_written m c.args.self.now c.reset.new.self Reset tt st
+    (c.reset.ensures (terminal_of m) st.stands)

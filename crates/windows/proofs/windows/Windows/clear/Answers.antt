@@ -10,28 +10,38 @@ use Rattle.windows.proofs.windows.Windows.clear.Goals as goal
 pub returns-in_default-clause-answer : goal.returns-in_default-clause-answer
 returns-in_default-clause-answer c =
     row_missing (Unit {0}) c.args.self.now c.args.self.now c.args.serial (written Clear) (
-    not_lent c.get_mut.result c.self.inside.rows c.args.self.now c.args.serial c.in_default.is c.get_mut.ensures.value c.self.view_is)
+    not_lent c.get_mut.result c.self.inside.rows c.args.self.now c.args.serial c.in_default.is c.get_mut.ensures.value
+    c.self.view_is)
 
 pub returns-clause-answer : goal.returns-clause-answer
 returns-clause-answer c =
     let made : Window = c.clear.new.self in
-    let at = lent c.get_mut.result c.in-Some.window c.self.inside.rows c.args.self.now c.args.serial c.in-Some.is c.get_mut.ensures.value c.self.view_is in
-    let put = put_back c.get_mut.result c.in-Some.window c.self.inside.rows c.args.self.now (c.get_mut.follows.lender made) c.args.serial made c.in-Some.is (c.get_mut.follows.holds made) c.self.view_is in
-    row_changed c.args.self.now (c.get_mut.follows.lender made) c.args.serial (written Clear) c.in-Some.window.now made at (tt {0}) put
+    let at = lent c.get_mut.result c.in-Some.window c.self.inside.rows c.args.self.now c.args.serial c.in-Some.is
+    c.get_mut.ensures.value c.self.view_is in
+    let put = put_back c.get_mut.result c.in-Some.window c.self.inside.rows c.args.self.now
+    (c.get_mut.follows.lender made) c.args.serial made c.in-Some.is (c.get_mut.follows.holds made) c.self.view_is in
+    row_changed c.args.self.now (c.get_mut.follows.lender made) c.args.serial (written Clear) c.in-Some.window.now made
+    at (tt {0}) put
     (λ m st. (written_to Clear m, refl, c.clear.ensures.writes m st))
 
 pub returns-clause-alone : goal.returns-clause-alone
 returns-clause-alone c =
     let made : Window = c.clear.new.self in
-    let at = lent c.get_mut.result c.in-Some.window c.self.inside.rows c.args.self.now c.args.serial c.in-Some.is c.get_mut.ensures.value c.self.view_is in
-    let put = put_back c.get_mut.result c.in-Some.window c.self.inside.rows c.args.self.now (c.get_mut.follows.lender made) c.args.serial made c.in-Some.is (c.get_mut.follows.holds made) c.self.view_is in
-    row_writes c.args.self.now (c.get_mut.follows.lender made) c.args.serial c.in-Some.window.now made at put c.clear.ensures.name
+    let at = lent c.get_mut.result c.in-Some.window c.self.inside.rows c.args.self.now c.args.serial c.in-Some.is
+    c.get_mut.ensures.value c.self.view_is in
+    let put = put_back c.get_mut.result c.in-Some.window c.self.inside.rows c.args.self.now
+    (c.get_mut.follows.lender made) c.args.serial made c.in-Some.is (c.get_mut.follows.holds made) c.self.view_is in
+    row_writes c.args.self.now (c.get_mut.follows.lender made) c.args.serial c.in-Some.window.now made at put
+    c.clear.ensures.name
 
 pub invariant_of-self-2 : goal.invariant_of-self-2
 invariant_of-self-2 c =
     let made : Window = c.clear.new.self in
-    let at = lent c.get_mut.result c.in-Some.window c.self.inside.rows c.args.self.now c.args.serial c.in-Some.is c.get_mut.ensures.value c.self.view_is in
-    let put = put_back c.get_mut.result c.in-Some.window c.self.inside.rows c.args.self.now (c.get_mut.follows.lender made) c.args.serial made c.in-Some.is (c.get_mut.follows.holds made) c.self.view_is in
+    let at = lent c.get_mut.result c.in-Some.window c.self.inside.rows c.args.self.now c.args.serial c.in-Some.is
+    c.get_mut.ensures.value c.self.view_is in
+    let put = put_back c.get_mut.result c.in-Some.window c.self.inside.rows c.args.self.now
+    (c.get_mut.follows.lender made) c.args.serial made c.in-Some.is (c.get_mut.follows.holds made) c.self.view_is in
     rows_written c.args.self.now (c.get_mut.follows.lender made) c.args.serial
-    (row_writes c.args.self.now (c.get_mut.follows.lender made) c.args.serial c.in-Some.window.now made at put c.clear.ensures.name)
+    (row_writes c.args.self.now (c.get_mut.follows.lender made) c.args.serial c.in-Some.window.now made at put
+    c.clear.ensures.name)
     (subst AreRows c.self.view_is c.self.invariant)

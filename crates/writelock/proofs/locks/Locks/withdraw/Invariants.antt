@@ -4,7 +4,7 @@ use Rattle.writelock.specs.LockTable.{after_act}
 use Rattle.writelock.proofs.SlotViews.{ChangedBelow}
 use Rattle.writelock.proofs.locks.Locks.withdraw.Given as goal
 
--- the locks so far are done
+-- the locks before this index are changed; the others are unchanged
 abbrev pub invariant-loop-i : goal.invariant-loop-i
 invariant-loop-i l = record {
   done : ChangedBelow (after_act (table_of l.lists) l.act) l.fn.self.windows.serials l.i l.fn.self.locks l.self.locks;

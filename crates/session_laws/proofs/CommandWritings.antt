@@ -1,4 +1,4 @@
--- What each command writes to windows.
+-- What each command writes to windows, command by command.
 use Rattle.std.proofs.Common.{◌≡◌, ℕ, ◌<◌, ◌≤◌, Bool, true, false, not, List, [], ◌∷◌, ◌++◌, Option, Some, None, Ok}
 use Rattle.std.proofs.Common.{Err, refl, ap, sym, ◌∙◌, subst, map, filter, inl, inr, ⊎_elim, arith, append_assoc}
 use Rattle.std.specs.Prelude.{◌⊎◌, if◌then◌else◌, ◌==◌, length}
@@ -27,7 +27,7 @@ use Rattle.session_model.specs.Sound.{Rises}
 use Rattle.session_laws.specs.Written.{order_writing, is_own, sizes_of}
 use Rattle.session_laws.proofs.Inputs.{append_nil}
 use Rattle.session_laws.proofs.Lists.{all_weaken, all_filter, members, some_weaken, some_row, equal, itself}
-use Rattle.session_laws.proofs.Numbers.{serial_of}
+use Rattle.session_laws.proofs.DifferentNumbers.{serial_of}
 use Rattle.session_laws.proofs.Doing.{Either}
 use Rattle.session_laws.proofs.Moving.{serials}
 use Rattle.session_laws.proofs.Shapes as shapes
@@ -43,7 +43,7 @@ IsNew t v = (v.serial ≡ t.next_window) × (v.writing ≡ [])
 abbrev pub Row : Tables → (ℕ → List Writing) → Window → Type 0
 Row t f v = SomeOf (λ w. GoesOn f w v) t.windows ⊎ IsNew t v
 
--- each window was there or is new, and nothing is written to a serial that wasn't given
+-- each window was there before or is new, and nothing is written to a serial that wasn't given
 pub record Wrote (t : Tables) (f : ℕ → List Writing) (ws : List Window) : Type 0 where
   pub rows : AllByRecursion (Row t f) ws
   pub above : (n : ℕ) → t.next_window ≤ n → f n ≡ []
@@ -184,7 +184,7 @@ sizes_append (Say to bytes ∷ xs) ys n = sizes_append xs ys n
 sizes_append (GoneWindow at why ∷ xs) ys n = sizes_append xs ys n
 sizes_append (GoneClient at why ∷ xs) ys n = sizes_append xs ys n
 
--- what isn't said again is no size
+-- an effect that is dropped because it was said before is no size
 sizes_one : (e : Effect) (said es : List Effect) (n : ℕ) → sizes_of (unsaid said es) n ≡ sizes_of es n
     → sizes_of (unsaid said (e ∷ es)) n ≡ sizes_of (e ∷ es) n
 sizes_one (Say to bytes) said es n rest = on (list_any (says_same (Say to bytes)) said) where
@@ -292,7 +292,7 @@ module _ (t : Tables) (k : Caller) (s : Rises (serials t) t.next_window)
         ∙ ap (λ (b : Bool). if b then order_writing c else []) (own_off w n is off));
   }
 
-  -- a window that is named otherwise
+  -- a window that gets another number or title
   renamed : (c : Order) (w v : Window) → k.window ≡ Some w → order_writing c ≡ [] → core v ≡ core w
       → HasWrote t k c (deeds.changing (with_window t v))
   renamed c w v is none same = quiet t k c (deeds.changing (with_window t v)) none (λ n. refl)
@@ -350,7 +350,7 @@ module _ (t : Tables) (k : Caller) (s : Rises (serials t) t.next_window)
   pub wrote : (c : Order) → Either (HasWrote t k c) (does t k c)
   wrote c = shapes.by_shape (HasWrote t k c) t k c (deed_wrote c)
 
--- where a command is refused nothing is written
+-- a refused command writes nothing
 window_refused : (o : Option Window) (r : Refusal) (f : Window → Deed) (ws : List Writing) (n : ℕ)
     → given o NoWindow (λ w. Ok (f w)) ≡ Err r → (if is_own o n then ws else []) ≡ []
 unfolding given

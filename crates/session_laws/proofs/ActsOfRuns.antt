@@ -1,4 +1,4 @@
--- After each event the acts of all steps agree with the tables.
+-- After each event, the acts of all steps agree with the tables.
 use Rattle.std.proofs.Common.{◌≡◌, ℕ, ◌+◌, Bool, true, false, List, [], ◌∷◌, ◌++◌, Option, Some, None, refl, ap, sym}
 use Rattle.std.proofs.Common.{◌∙◌, subst, length, arith}
 use Rattle.std.specs.Prelude.{if◌then◌else◌, ◌==◌, ◌||◌, unwrap_or}
@@ -17,15 +17,15 @@ use Rattle.session_model.specs.Outcomes.{Outcome, left_acts, reply_of}
 use Rattle.session_model.specs.Comings.{attach_checks, attaches, new_client, open_checks, opens, new_window}
 use Rattle.session_model.specs.Run.{after, drawn, drawn_on, tables_from}
 use Rattle.session_model.specs.Sound.{AreSound, ActsAgree}
-use Rattle.session_laws.proofs.Numbers.{serial_of}
+use Rattle.session_laws.proofs.DifferentNumbers.{serial_of}
 use Rattle.session_laws.proofs.Moving.{AllAside, aside_append, id_of, ids, serials}
-use Rattle.session_laws.proofs.Rows.{length_append}
+use Rattle.session_laws.proofs.CommandMoves.{length_append}
 use Rattle.session_laws.proofs.Settling.{moving, left_aside, is_new}
 use Rattle.session_laws.proofs.Sounding.{drawn_ids, run_sound, map_append}
-use Rattle.session_laws.proofs.Agreeing.{Says, SaysOf, has, has_append, aside_all, moved_says, agrees, says_of}
+use Rattle.session_laws.proofs.ActsOfMoves.{Says, SaysOf, has, has_append, aside_all, moved_says, agrees, says_of}
 use Rattle.session_laws.proofs.Outcomes as outcomes
 
--- ---- what comes
+-- ---- windows and clients that come
 
 entering_aside : (user : UserId) (o : Option ℕ) → AllAside (entering user o)
 entering_aside user None = tt
@@ -64,7 +64,7 @@ opened_says h ns ps by n s = record {
 abbrev SaysIn : Outcome → Type 0
 SaysIn o = SaysOf o.tables
 
--- the acts of the tables are those that are noted
+-- the acts in the tables are the old ones and those that the outcome notes
 abbrev Noted : Tables → Outcome → Type 0
 Noted t o = o.tables.acts ≡ followed_by t.acts o.acts
 

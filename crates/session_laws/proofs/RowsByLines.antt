@@ -1,4 +1,5 @@
--- A command of a line that isn't refused did its row.
+-- A Command event that isn't refused did its command's row; it is refused exactly for the reasons
+-- that the law lists.
 use Rattle.std.proofs.Common.{◌≡◌, ℕ, Bool, true, false, List, [], ◌++◌, Option, Some, Result, Ok, Err, refl, ap, sym}
 use Rattle.std.proofs.Common.{◌∙◌, subst, inl}
 use Rattle.std.specs.Prelude.{if◌then◌else◌}
@@ -30,7 +31,7 @@ use Rattle.session_laws.proofs.Passing.{passed_has_x}
 use Rattle.session_laws.proofs.Asking.{line_given}
 use Rattle.session_laws.proofs.Outcomes as outcomes
 
--- what the outcome says of a reply that is Ok
+-- what the outcome has, if its reply is Ok
 record Did (t : Tables) (o : Outcome) (done : Done) (g : Given) : Type 0 where
   granted : has_x t g ≡ true
   deed : Deed

@@ -1,4 +1,5 @@
--- The acts of all steps agree with the tables: which windows are open, how many, and who is attached.
+-- Moving windows and clients keeps what the acts of all steps say of them: which windows are open,
+-- how many, and who is attached.
 use Rattle.std.proofs.Common.{◌≡◌, ℕ, ◌+◌, ◌-◌, ◌<◌, Bool, true, false, not, List, [], ◌∷◌, ◌++◌, Some, None, refl, ap}
 use Rattle.std.proofs.Common.{sym, ◌∙◌, subst, map, filter, length, reverse, arith, append_assoc}
 use Rattle.std.specs.Prelude.{if◌then◌else◌, ◌==◌, ◌||◌, is_some, unwrap_or}
@@ -14,10 +15,10 @@ use Rattle.session_model.specs.Tables.{Tables, Window, row_of}
 use Rattle.session_model.specs.Sound.{Rises, AreSound, ActsAgree}
 use Rattle.session_laws.proofs.Lists.{equal, itself}
 use Rattle.session_laws.proofs.Inputs.{append_nil}
-use Rattle.session_laws.proofs.Numbers.{serial_of}
+use Rattle.session_laws.proofs.DifferentNumbers.{serial_of}
 use Rattle.session_laws.proofs.Moving.{AllAside, is_aside, Moves, ids, serials, closed, parted}
-use Rattle.session_laws.proofs.Rows.{length_append, length_map}
-use Rattle.session_laws.proofs.Lasting.{client_firsts, firsts}
+use Rattle.session_laws.proofs.CommandMoves.{length_append, length_map}
+use Rattle.session_laws.proofs.SoundMoves.{client_firsts, firsts}
 
 -- ---- membership of numbers
 
@@ -47,19 +48,20 @@ none_below n [] all = refl
 none_below n (m ∷ ns) all = let lt : n < m = all.0 in let off : (m == n) ≡ false = grind (arith, nat_tests, lt) in ap
     (λ b. b || has ns n) off ∙ none_below n ns all.1
 
--- ---- acts behind acts
+-- ---- acts that follow acts
 
 pub followed_append : (h : History) (xs ys : List Act) → followed_by h (xs ++ ys) ≡ followed_by (followed_by h xs) ys
 followed_append h [] ys = refl
 followed_append h (x ∷ xs) ys = followed_append (x ∷ h) xs ys
 
--- what a history says of windows and clients
+-- what a history says of windows and clients: these windows are open, and these clients are
+-- attached
 pub record Says (h : History) (ns : List ℕ) (ps : List (ℕ × UserId)) : Type 0 where
   pub open_is : (w : ℕ) → is_open h w ≡ has ns w
   pub count_is : open_count h ≡ length ns
   pub clients_are : clients_of h ≡ reverse ps
 
--- acts aside say the same
+-- acts aside leave what the history says
 aside_one : (a : Act) (h : History) (ns : List ℕ) (ps : List (ℕ × UserId)) → is_aside a ≡ true → Says h ns ps
     → Says (a ∷ h) ns ps
 aside_one (act.Opened by window) h ns ps is s = absurd (cc (is))
@@ -75,7 +77,7 @@ aside_all (a ∷ acts) h ns ps all s = aside_all acts (a ∷ h) ns ps all.1 (asi
 
 -- ---- windows that are closed
 
--- each of these is among none of those
+-- no number of one list is in the other
 abbrev NoneIn : List ℕ → List ℕ → Type 0
 NoneIn kept ns = AllByRecursion (λ n. has kept n ≡ false) ns
 
@@ -162,7 +164,7 @@ filter_reverse p (x ∷ xs) =
       on true = sym (reverse-append (x ∷ []) (filter p xs))
       on false = append_nil (reverse (filter p xs))
 
--- those of another serial stay
+-- clients with another serial stay attached
 others_stay : (n : ℕ) (ps : List (ℕ × UserId)) → has (firsts ps) n ≡ false
     → filter (λ (x : ℕ × UserId). not (x.0 == n)) ps ≡ ps
 others_stay n [] none = refl

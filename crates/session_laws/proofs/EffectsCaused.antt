@@ -1,4 +1,4 @@
--- Each effect has its cause, and each text that is said is true.
+-- Each effect has a cause in the event, and each text that is said is true.
 use Rattle.std.proofs.Common.{◌≡◌, ℕ, Bool, true, false, List, [], ◌∷◌, Option, Some, None, Ok, Err, Result, refl, ap}
 use Rattle.std.proofs.Common.{sym, ◌∙◌, subst, filter, length, inl, inr}
 use Rattle.std.specs.Prelude.{if◌then◌else◌, ◌==◌, take, MatchOption}
@@ -42,14 +42,15 @@ use Rattle.session_model.specs.Denying.{Asks}
 use Rattle.session_laws.proofs.Lists.{all_append, all_map, all_filter, all_of, all_weaken, all_passed, equal}
 use Rattle.session_laws.proofs.Lists.{row_serial}
 use Rattle.session_laws.proofs.Doing.{giving, Either}
-use Rattle.session_laws.proofs.Done.{HasDone, done_by}
+use Rattle.session_laws.proofs.CommandEffects.{HasDone, done_by}
 use Rattle.session_laws.proofs.Denying.{OnFault, plain_names}
 use Rattle.session_laws.proofs.Passing.{passed_has_x}
 use Rattle.session_laws.proofs.Unread.{SameClients, typing_clients, told_in, done_in}
 use Rattle.session_laws.proofs.Asking.{line_given, keys_given, typing_names, order_names, ReplyIs, replies}
 use Rattle.session_laws.proofs.Outcomes as outcomes
 
--- an effect of the event, true where it says something, and a frame where it delivers
+-- the event may have the effect; if it says something, that is true; if it delivers something, that
+-- is a frame
 abbrev pub Fits : Tables → EventValue → Effect → Type 0
 Fits t event f = IsEffectOf t event f × IsTrueSay t event f × IsFrameTo t f
 
@@ -162,7 +163,7 @@ module _ (t : Tables) (client : ℕ) (bytes : List ℕ) (c : Client) (is : clien
     tt,
   )
 
-  -- what the client is told of its command, once it read keys
+  -- what the client is told of its command, after it read keys
   module _ (cs : List Client) (same : SameClients t cs) (order : Order)
       (given : commands_of t (Keys client bytes) ≡ giving (caller_of t c) order ∷ []) where
     keyed_fits : (m : List ℕ → Message) → has_x t (giving (caller_of t c) order) ≡ true → (a : Answer)

@@ -1,4 +1,4 @@
--- Of typed bytes that don't reach their window it is told why.
+-- If typed bytes don't reach their window, it is told why.
 use Rattle.std.proofs.Common.{◌≡◌, ℕ, Bool, true, false, not, List, [], ◌∷◌, ◌++◌, Option, Some, None, Ok, Err, Result}
 use Rattle.std.proofs.Common.{refl, ap, sym, ◌∙◌, subst, inl, inr, ⊎_elim}
 use Rattle.std.specs.Prelude.{if◌then◌else◌, ◌==◌, ◌&&◌, ◌||◌, take}
@@ -73,7 +73,7 @@ said_there to bytes (s ∷ said) is = on (says_same (Say to bytes) s) refl is (s
   on true same is later = inl (same_say s to bytes same)
   on false same is later = inr (later is)
 
--- what is to be said is said, before or now
+-- what is to be said is in the step: it was said before, or is said now
 pub unsaid_told : (said : List Effect) (to : ℕ) (bytes : List ℕ)
     → Says to bytes (said ++ unsaid said (Say to bytes ∷ []))
 unsaid_told said to bytes = on (list_any (says_same (Say to bytes)) said) refl where
@@ -102,7 +102,7 @@ abbrev Why : ℕ → List Effect → Option Refusal → Type 0
 Why client effects None = Unit {0}
 Why client effects (Some r) = Says client (text_of r) effects
 
--- the checks of typed bytes are what stands between
+-- a failed check of typed bytes is the reason why they don't reach their window
 fault_why : (t : Tables) (user : UserId) (o : Option Window) (bytes : List ℕ)
     → first_fault t (typing_checks user o) ≡ why_not t (record { user = user; window = o; bytes = bytes })
 fault_why t user None bytes = refl
@@ -158,7 +158,7 @@ answered_why : (t : Tables) (k : Caller) (c : Order) (x : Option Refusal)
 answered_why t k c None = tt
 answered_why t k c (Some r) = refl
 
--- where a stuff types, it has a window
+-- if a `stuff` types, it has a window
 no_window : (t : Tables) (user : UserId) (client : Option ℕ) (bytes : List ℕ)
     → has_x t (giving (record { user = user; client = client; window = None }) (command.Stuff bytes)) ≡ true → ⊥
 no_window t user client bytes has = on (may_in t user Execute (object.Command names.Stuff)) has where
@@ -168,7 +168,7 @@ no_window t user client bytes has = on (may_in t user Execute (object.Command na
 
 -- ---- what typed bytes there are
 
--- a fact of what a command types
+-- a fact of the bytes that a command types
 stuffed_all : (P : Typed → Type 0) (t : Tables) (user : UserId) (client : Option ℕ) (o : Option Window) (c : Order)
     → ((w : Window) (bytes : List ℕ) → o ≡ Some w → c ≡ command.Stuff bytes
     → has_x t (giving (record { user = user; client = client; window = Some w }) (command.Stuff bytes)) ≡ true

@@ -1,4 +1,4 @@
--- The windows of a run have just what its entries wrote.
+-- The windows of a run have had exactly those writings that its entries say.
 use Rattle.std.proofs.Common.{◌≡◌, ℕ, ◌≤◌, Bool, true, false, not, List, [], ◌∷◌, ◌++◌, Option, Some, None, Ok, Err}
 use Rattle.std.proofs.Common.{Result, refl, ap, sym, ◌∙◌, subst, take, filter, inr, ⊎_elim, arith}
 use Rattle.std.specs.Prelude.{if◌then◌else◌, ◌==◌, MatchOption, length}
@@ -44,23 +44,24 @@ use Rattle.session_model.specs.Sound.{AreSound}
 use Rattle.session_laws.specs.Written.{given_writing, sizes_of, step_writing, all_written}
 use Rattle.session_laws.proofs.Inputs.{append_nil}
 use Rattle.session_laws.proofs.Lists.{all_weaken, all_append, row_serial, itself, some_row}
-use Rattle.session_laws.proofs.Numbers.{serial_of}
+use Rattle.session_laws.proofs.DifferentNumbers.{serial_of}
 use Rattle.session_laws.proofs.Doing.{Either}
 use Rattle.session_laws.proofs.Unread.{typing_clients}
 use Rattle.session_laws.proofs.Settling.{told_same, focus_row, line_row, moving}
-use Rattle.session_laws.proofs.Lasting.{differ}
+use Rattle.session_laws.proofs.SoundMoves.{differ}
 use Rattle.session_laws.proofs.Asking.{keys_given}
 use Rattle.session_laws.proofs.Sounding.{run_sound, fresh_sound}
-use Rattle.session_laws.proofs.Remembering.{some_elim}
+use Rattle.session_laws.proofs.ClientsOfRuns.{some_elim}
 use Rattle.session_laws.proofs.Showing.{some_has}
-use Rattle.session_laws.proofs.Written.{GoesOn, Row, Wrote, alike, kept_same, kept_fewer, kept_wrote, row_wrote}
-use Rattle.session_laws.proofs.Written.{sizes_append, sizes_unsaid, sizes_gone, sizes_closed, sizes_input, row_writing}
-use Rattle.session_laws.proofs.Written.{HasWrote, wrote, refused_writes}
+use Rattle.session_laws.proofs.CommandWritings.{GoesOn, Row, Wrote, alike, kept_same, kept_fewer, kept_wrote, row_wrote}
+use Rattle.session_laws.proofs.CommandWritings.{sizes_append, sizes_unsaid, sizes_gone, sizes_closed, sizes_input}
+use Rattle.session_laws.proofs.CommandWritings.{row_writing}
+use Rattle.session_laws.proofs.CommandWritings.{HasWrote, wrote, refused_writes}
 use Rattle.session_laws.proofs.Outcomes as outcomes
 
 -- ---- answers of commands
 
--- what a command writes whose checks have passed, or failed
+-- what a command writes, by whether its checks passed
 abbrev ruled_writing : Caller → Order → Option Refusal → ℕ → List Writing
 ruled_writing k c o n = elim o as (λ _. List Writing) [ Some r ↦ [] | None ↦ row_writing k c n ] ++ []
 
@@ -307,7 +308,7 @@ step_wrote t (Draw client) effects s is =
 step_wrote t event effects s is = by_effects t event effects (outcome t event).tables.windows is refl
     (outcome_wrote t event s)
 
--- ---- serials that come next
+-- ---- the next serials
 
 same_next : (a b : ℕ) → a ≡ b → b ≤ a
 same_next a b is = omega (arith, is)

@@ -1,4 +1,4 @@
--- Holders stay in steps of users without rights.
+-- The holder of a lock keeps it in the steps of users without rights.
 use Rattle.std.proofs.Common.{◌≡◌, ◌<◌, ℕ, Bool, true, false, not, List, [], ◌∷◌, ◌++◌, Option, Some, None, Ok, Err}
 use Rattle.std.proofs.Common.{refl, ap, sym, ◌∙◌, subst, map, filter, reverse, arith, inl, inr}
 use Rattle.std.specs.Prelude.{if◌then◌else◌, ◌==◌, ◌||◌, ◌&&◌, ◌⊎◌}
@@ -50,7 +50,7 @@ use Rattle.session_guests.specs.Changing.{changes_rights}
 use Rattle.session_guests.specs.Contained.{stood}
 use Rattle.session_guests.specs.Locking.{user_of, client_user, HoldersMayWrite, may_free, MayFree, IsPowerless}
 use Rattle.session_guests.specs.Locking.{HoldersStayIn}
-use Rattle.session_guests.proofs.Rows.{IsActOf}
+use Rattle.session_guests.proofs.CommandActs.{IsActOf}
 use Rattle.session_guests.proofs.Steps.{Did, Rests, Obeys, with_clients}
 use Rattle.session_guests.proofs.Events.{gives_commands, changed_by}
 use Rattle.session_guests.proofs.Gating.{Below, obeys_of, row_did, first_passed, then_passed, had_x}
@@ -59,7 +59,7 @@ use Rattle.session_guests.proofs.Focusing.{IsMine, focus_stays, NotHis, nobody_e
 use Rattle.session_guests.proofs.Holding.{kept, by_acts, givers}
 use Rattle.session_guests.proofs.Parting.{did_x}
 
--- ---- serials of clients are their own
+-- ---- each client has a serial of its own
 
 abbrev pub Own : ℕ → UserId → Client → Type 0
 Own s user d = (d.serial == s) ≡ true → d.user ≡ user
@@ -104,7 +104,7 @@ pub focus_read : (cs : List Client) (x : UserId) (w : ℕ) → is_in_focus cs x 
 focus_read [] x w = refl
 focus_read (c ∷ cs) x w = ap (λ b. shows x w c || b) (focus_read cs x w)
 
--- who gives a command by a client
+-- the user whose client gives a command
 abbrev pub IsOf : Tables → Caller → Type 0
 IsOf t k = (s : ℕ) → k.client ≡ Some s → (c : Client) × (client_at t s ≡ Some c) × (c.user ≡ k.user)
 
@@ -159,7 +159,7 @@ module _ (t : Tables) (fit : AreFit t) (able : HoldersMayWrite t) (w : ℕ) (use
     on true same = contradicts (may_in t user Write (object.Window w))
         (ap (λ v. may_in t v Write (object.Window w)) (sym is ∙ same_user-true u x same) ∙ able w x held) weak.write
 
-  -- the user's own clients
+  -- the serials of the user's own clients
   none_of : (s : ℕ) (u : UserId) → u ≡ user → AllByRecursion (Own s u) t.clients → NoneOf x s (clients_of t.acts)
   none_of s u is all =
       subst (NoneOf x s) (sym fit.agree.clients_are)
@@ -195,7 +195,8 @@ module _ (t : Tables) (fit : AreFit t) (able : HoldersMayWrite t) (w : ℕ) (use
             sides : (b : Bool) → same_user x user ≡ b → b ≡ false
             sides false e = refl
             sides true e = contradicts (may_in t user Write (object.Window w))
-                (ap (λ y. may_in t y Write (object.Window w)) (sym (same_user-true x user e)) ∙ able w x held) weak.write
+                (ap (λ y. may_in t y Write (object.Window w)) (sym (same_user-true x user e)) ∙ able w x held)
+                weak.write
     locked Auto here passed = contradicts (may_in t user Write (object.Window w))
         (ap (λ y. may_in t y Write (object.Window w)) (sym is)
         ∙ Rattle.session_guests.proofs.Holding.write_on t k.user k.window w here passed) weak.write
@@ -436,7 +437,9 @@ module _ (t : Tables) (fit : AreFit t) (able : HoldersMayWrite t) (w : ℕ) (use
 pub holders_stay : Below → (t : Tables) (e : Entry) → AreFit t → HoldersMayWrite t → IsStep t e → HoldersStayIn t e
 holders_stay laws t e fit able step w user x is weak old held = on
     (still t fit able w user x weak old held laws e step is) where
-      on : (holder t.edition t.owner (followed_by t.acts e.acts) w ≡ Some x) ⊎ SomeOf (MayFree t) (commands_of t e.event)
+      on : (holder t.edition t.owner (followed_by t.acts e.acts) w ≡ Some x) ⊎ SomeOf (MayFree t)
+          (commands_of t e.event)
           → (holder_in (after t e) w ≡ Some x) ⊎ SomeOf (MayFree t) (commands_of t e.event)
-      on (inl there) = inl (by_acts (λ edition owner h. holder edition owner h w ≡ Some x) t e (kept laws t e step) there)
+      on (inl there) = inl
+          (by_acts (λ edition owner h. holder edition owner h w ≡ Some x) t e (kept laws t e step) there)
       on (inr some) = inr some

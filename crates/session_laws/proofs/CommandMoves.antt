@@ -1,4 +1,4 @@
--- What each command moves.
+-- Each command moves windows and clients as `Moves` says.
 use Rattle.std.proofs.Common.{◌≡◌, ℕ, ◌+◌, ◌≤◌, Bool, true, false, not, List, [], ◌∷◌, ◌++◌, Option, Some, None, refl}
 use Rattle.std.proofs.Common.{ap, sym, ◌∙◌, subst, map, filter, length, arith, suc}
 use Rattle.std.specs.Prelude.{if◌then◌else◌, ◌==◌}
@@ -27,7 +27,7 @@ use Rattle.session_model.specs.Commands.{does, caller_client, is_taken}
 use Rattle.session_model.specs.Sound.{NumbersDiffer}
 use Rattle.session_laws.proofs.Inputs.{append_nil}
 use Rattle.session_laws.proofs.Lists.{equal, filter_all, row_serial}
-use Rattle.session_laws.proofs.Numbers.{serial_of, IsFree, with_numbers, fewer_numbers, own_number}
+use Rattle.session_laws.proofs.DifferentNumbers.{serial_of, IsFree, with_numbers, fewer_numbers, own_number}
 use Rattle.session_laws.proofs.Doing.{Either}
 use Rattle.session_laws.proofs.Unread.{row_at}
 use Rattle.session_laws.proofs.Moving.{AllAside, DeedMoves, id_of, ids, serials, closed, parted, filter_map, stays}
@@ -201,7 +201,8 @@ quit_moves t =
     let cs : List Client = without_windows (filter (λ (w : Window). true) t.windows) t.clients in
     let same_ids : map id_of cs ≡ ids t = without_ids (filter (λ (w : Window). true) t.windows) t.clients in
     let ws : List Effect = map (λ (w : Window). GoneWindow w.serial Quit) (filter (λ (w : Window). true) t.windows) in
-    let gone : List Effect = map (λ (c : Client). GoneClient c.serial Quit) (filter (λ (c : Client). true) cs) in record {
+    let gone : List Effect = map (λ (c : Client). GoneClient c.serial Quit) (filter (λ (c : Client). true) cs) in
+    record {
       closing = λ n. true;
       parting = λ p. true;
       others = [];
@@ -247,7 +248,7 @@ written_moves : (t : Tables) (w : Window) (what : written.Writing) → window_at
 written_moves t w what at = same_window t w (record w { writing = w.writing ++ what ∷ [] }) [] (omega arith) at refl
     refl
 
--- in single-user mode
+-- the clients that go when the session becomes single-user
 single_user : (t : Tables)
     → DeedMoves t (parts (λ c. not (is_of t.owner c)) SingleUser (record t { is_multiuser = false }))
 single_user t = let all = only_parts t (λ p. not (same_user p.1 t.owner)) SingleUser in record {

@@ -1,4 +1,4 @@
--- Which acts each command has, and what it leaves.
+-- Which acts each command has, and what it leaves unchanged.
 use Rattle.std.proofs.Common.{◌≡◌, ℕ, Bool, true, false, not, List, [], ◌∷◌, Option, Some, None, refl, ap, sym, ◌∙◌}
 use Rattle.std.proofs.Common.{subst, map, filter}
 use Rattle.std.specs.Prelude.{◌==◌}
@@ -69,7 +69,7 @@ listing k c acts changes all = all_weaken (λ a. is_listing a ≡ true) (IsActOf
   one (act.Mode by w mode) is = absurd (cc (is))
   one (act.Default mode) is = absurd (cc (is))
 
--- its acts, and what stays
+-- the acts of a command's row, and what the row leaves unchanged
 pub record IsRow (t : Tables) (k : Caller) (c : Order) (d : Deed) : Type 0 where
   pub acts : AllByRecursion (IsActOf k c) d.acts
   pub owner : d.tables.owner ≡ t.owner
@@ -77,7 +77,7 @@ pub record IsRow (t : Tables) (k : Caller) (c : Order) (d : Deed) : Type 0 where
   pub next_window : d.tables.next_window ≡ t.next_window
   pub mode : is_mode c ≡ false → d.tables.is_multiuser ≡ t.is_multiuser
 
--- the client that gives a command is one of its user
+-- the client that gives a command belongs to the caller's user
 abbrev pub IsCaller : Tables → Caller → Type 0
 IsCaller t k = (c : Client) → caller_client t k ≡ Some c → c.user ≡ k.user
 

@@ -1,4 +1,4 @@
--- Numbers stay below 40 and regions show open windows.
+-- Commands keep window numbers below 40, and regions show open windows or nothing.
 use Rattle.std.proofs.Common.{◌≡◌, ℕ, ◌<◌, Bool, true, false, not, List, [], ◌∷◌, Option, Some, None, refl, ap, sym}
 use Rattle.std.proofs.Common.{◌∙◌, subst, map, filter, ⊎_elim, arith}
 use Rattle.std.specs.Prelude.{if◌then◌else◌, ◌==◌, ◌||◌, MatchOption}
@@ -18,12 +18,12 @@ use Rattle.session_model.specs.Lines.{Caller}
 use Rattle.session_model.specs.Deeds.{Deed, removes, closes, without_window, without_windows, hearing}
 use Rattle.session_model.specs.Commands.{does, caller_client}
 use Rattle.session_laws.proofs.Lists.{all_weaken, all_map, all_filter, some_row}
-use Rattle.session_laws.proofs.Numbers.{serial_of}
+use Rattle.session_laws.proofs.DifferentNumbers.{serial_of}
 use Rattle.session_laws.proofs.Doing.{Either}
 use Rattle.session_laws.proofs.Moving.{serials}
-use Rattle.session_laws.proofs.Rows.{window_serials}
-use Rattle.session_laws.proofs.Agreeing.{has}
-use Rattle.session_laws.proofs.Small.{is_small, small_below}
+use Rattle.session_laws.proofs.CommandMoves.{window_serials}
+use Rattle.session_laws.proofs.ActsOfMoves.{has}
+use Rattle.session_laws.proofs.SmallNumbers.{is_small, small_below}
 use Rattle.session_laws.proofs.Showing.{IsThere, ShowsNoOther, some_has, all_row}
 use Rattle.session_laws.proofs.Shapes as shapes
 
@@ -59,7 +59,7 @@ pub record Holds (t : Tables) : Type 0 where
   pub numbers : AllByRecursion IsBelow t.windows
   pub pages : AllByRecursion (PageIn (serials t)) t.clients
 
--- a client in place of one that was there
+-- the facts hold after a client's row is replaced
 pub holds_client : (t : Tables) (c : Client) → PageIn (serials t) c → Holds t → Holds (with_client t c)
 holds_client t c here h = record {
   numbers = h.numbers;
@@ -72,7 +72,7 @@ holds_window t w here h = record {
   pages = subst (λ ns. AllByRecursion (PageIn ns) t.clients) (sym (window_serials t w)) h.pages;
 }
 
--- some clients alone
+-- the facts hold for fewer clients
 holds_fewer : (t : Tables) (p : Client → Bool) → Holds t → Holds (record t { clients = filter p t.clients })
 holds_fewer t p h = record { numbers = h.numbers; pages = all_filter (PageIn (serials t)) p t.clients h.pages }
 
@@ -88,7 +88,7 @@ own_page t (Some n) c is h = page_of t n c is h
 -- ---- windows that are closed
 
 module _ (kept : List ℕ) where
-  -- a region shows one that is yet to be closed, or one that stays
+  -- a region shows a window that is still to be closed, or one that stays
   abbrev AmongOf : List ℕ → Option ℕ → Type 0
   AmongOf gone o = MatchOption o (Unit {0}) (λ n. (has gone n || has kept n) ≡ true)
 
@@ -126,7 +126,7 @@ module _ (kept : List ℕ) where
   without_among (w ∷ ws) cs all = without_among ws (map (without_window w.serial) cs)
       (clients_among w.serial (map serial_of ws) cs all)
 
--- what is among some windows is among those that go or those that stay
+-- a window among others either goes or stays
 has_some : (goes : Window → Bool) (ws : List Window) (n : ℕ) → has (map serial_of ws) n ≡ true
     → (has (map serial_of (filter goes ws)) n || has (map serial_of (filter (λ w. not (goes w)) ws)) n) ≡ true
 has_some goes [] n is = is
@@ -181,7 +181,7 @@ heard_all : (m : Rattle.session_model.specs.declared.message.Message.Message) (n
 heard_all m ns cs all = all_map (PageIn ns) (hearing m) cs all
 
 module _ (t : Tables) (k : Caller) (h : Holds t) (row : (w : Window) → k.window ≡ Some w → IsThere t.windows w) where
-  -- the window that a command acts on, changed
+  -- the window that a command acts on, after a change
   own_window : (w v : Window) → k.window ≡ Some w → v.number ≡ w.number → Holds (with_window t v)
   own_window w v is same = holds_window t v
       (subst (λ n. n < 40) (sym same) (some_has IsBelow w t.windows (row w is) h.numbers)) h

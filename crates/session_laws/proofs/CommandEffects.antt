@@ -1,4 +1,4 @@
--- What each command does outside the session, and what it lists.
+-- Each effect of a command's deed, and what the deed lists, is one that the command may have.
 use Rattle.std.proofs.Common.{◌≡◌, ℕ, Bool, true, false, not, List, [], ◌∷◌, ◌++◌, Option, Some, None, map, filter}
 use Rattle.std.proofs.Common.{refl, ap, sym, ◌∙◌, subst, length}
 use Rattle.std.specs.Prelude.{if◌then◌else◌, ◌==◌, codes}
@@ -34,7 +34,7 @@ pub record HasDone (t : Tables) (k : Caller) (c : Order) (d : Deed) : Type 0 whe
 none_listed : {X : Type 0} (bytes : List ℕ) → None ≡ Some bytes → X
 none_listed bytes is = absurd (cc (is))
 
--- nothing outside, and nothing listed
+-- a deed without effects that lists nothing
 still : (t : Tables) (k : Caller) (c : Order) (d : Deed) → d.effects ≡ [] → d.lists ≡ None → HasDone t k c d
 still t k c d none lists = record {
   effects = subst (λ es. AllByRecursion (IsDoneBy t (giving k c) c) es) (sym none) tt;
@@ -44,7 +44,7 @@ still t k c d none lists = record {
 on_own : (o : Option Window) (w : Window) (n : ℕ) → o ≡ Some w → w.serial ≡ n → IsOn o n
 on_own o w n is same = subst (λ x. IsOn x n) (sym is) same
 
--- windows and clients that go were there
+-- the windows and clients that go were there
 gone_windows : (P : Effect → Type 0) (t : Tables) (goes : Window → Bool) (why : Reason)
     → ((w : Window) → goes w ≡ true → IsOpen t w.serial → P (GoneWindow w.serial why))
     → AllByRecursion P (map (λ (w : Window). GoneWindow w.serial why) (filter goes t.windows))
@@ -79,7 +79,8 @@ removal_done t k word (Some u) is = record {
       (λ c goes some. (
         some_weaken (λ (d : Client). (d.serial ≡ c.serial) × (is_of u d ≡ true))
             (λ (d : Client). (d.serial ≡ c.serial) × (is_named word d ≡ true)) t.clients
-            (λ d here. (here.0, ap (λ o. option_map_or (Rattle.acl.specs.Same.same_user d.user) o false) is ∙ here.1)) some,
+            (λ d here. (here.0, ap (λ o. option_map_or (Rattle.acl.specs.Same.same_user d.user) o false) is ∙ here.1))
+            some,
         refl,
       ));
   lists = λ bytes is. none_listed bytes is;

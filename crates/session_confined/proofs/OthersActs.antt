@@ -1,4 +1,4 @@
--- Acts of others that leave a lock, and acts that give none.
+-- Acts of other users that leave a lock to its holder, and acts that give no lock.
 use Rattle.std.proofs.Common.{◌≡◌, ◌<◌, ℕ, Bool, true, false, not, List, [], ◌∷◌, ◌++◌, Option, Some, None, refl, ap}
 use Rattle.std.proofs.Common.{sym, ◌∙◌, subst, map, arith, inl, inr}
 use Rattle.std.specs.Prelude.{if◌then◌else◌, ◌==◌, ◌&&◌, ◌⊎◌}
@@ -34,9 +34,9 @@ use Rattle.session_model.specs.Tables.{Tables, Window, Client}
 use Rattle.session_laws.proofs.Lists.{contradicts, equal, all_weaken, all_append, all_map}
 use Rattle.session_guests.proofs.Listing.{is_listing}
 use Rattle.session_guests.proofs.Harmless.{NoneOf}
-use Rattle.session_guests.proofs.Staying.{Own, above, all_reverse, all_mapped}
+use Rattle.session_guests.proofs.KeptLocks.{Own, above, all_reverse, all_mapped}
 use Rattle.session_guests.proofs.Leaving.{LeftBy}
-use Rattle.session_confined.proofs.Calming.{IsCalm}
+use Rattle.session_confined.proofs.HolderActs.{IsCalm}
 
 -- ---- lists
 
@@ -54,7 +54,7 @@ both_all P Q (x ∷ xs) p q = ((p.0, q.0), both_all P Q xs p.1 q.1)
 less_apart : (m n : ℕ) → m < n → (m == n) ≡ false
 less_apart m n less = grind (arith, nat_tests, less)
 
--- each client's serial is its own
+-- each client has a serial of its own
 abbrev pub Alone : List Client → Client → Type 0
 Alone cs d = AllByRecursion (Own d.serial d.user) cs
 
@@ -69,7 +69,7 @@ alone (c ∷ cs) next rise = (
       (all_mapped (λ n. c.serial < n) (λ (d : Client). d.serial) cs rise.1) (alone cs next rise.2)),
 )
 
--- commands by which someone may lose w on a window
+-- commands by which a user may lose w on a window
 abbrev pub takes_rights : Order → Bool
 takes_rights (command.Acladd names) = true
 takes_rights (command.Aclchg names bits list) = true
@@ -119,7 +119,7 @@ pub not_true : (b : Bool) → not b ≡ true → b ≡ false
 not_true true is = absurd (cc (is))
 not_true false is = refl
 
--- another user left a window; someone left this window
+-- the act is that another user left a window; or that someone left this window
 abbrev pub Others : UserId → UserId → ℕ → Type 0
 Others x u v = same_user u x ≡ false
 
@@ -211,7 +211,7 @@ module _ (t : Tables) (fit : AreFit t) (w : ℕ) (x : UserId) where
 
 -- ---- the check of a lock
 
--- whoever passes it on the window is the holder
+-- a user who passes the check of the window's lock is its holder
 module _ (t : Tables) (w : ℕ) (x u : UserId) (held : holder_in t w ≡ Some x) where
   pub lock_free : (o : Option Window) → IsOn o w → (n : Needs) → n.lock ≡ true → (write : Bool) → n.write ≡ write
       → first_fault t (window_checks u n (option_map (λ (y : Window). y.serial) o)) ≡ None

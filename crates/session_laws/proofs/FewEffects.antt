@@ -1,4 +1,4 @@
--- How many effects a step has.
+-- A step has at most 256 effects.
 use Rattle.std.proofs.Common.{◌≡◌, ℕ, ◌+◌, ◌≤◌, List, [], ◌∷◌, ◌++◌, Option, Some, None, Ok, Err, Result, refl, ap, sym}
 use Rattle.std.proofs.Common.{subst, length, take, arith}
 use Rattle.std.specs.Prelude.{◌==◌, MatchOption}
@@ -29,14 +29,14 @@ use Rattle.session_model.specs.Run.{IsStep, HasEffects, IsDraw, DrawsWhereNeeded
 use Rattle.session_model.specs.Sound.{AreSound}
 use Rattle.session_laws.proofs.Doing.{Either}
 use Rattle.session_laws.proofs.Moving.{DeedMoves}
-use Rattle.session_laws.proofs.Rows.{moves, only_parts, closes_moves, input_few, length_append, length_filter}
-use Rattle.session_laws.proofs.Rows.{length_ids}
-use Rattle.session_laws.proofs.Lasting.{differ}
+use Rattle.session_laws.proofs.CommandMoves.{moves, only_parts, closes_moves, input_few, length_append, length_filter}
+use Rattle.session_laws.proofs.CommandMoves.{length_ids}
+use Rattle.session_laws.proofs.SoundMoves.{differ}
 use Rattle.session_laws.proofs.Settling.{focus_row, line_row, deed_moves, ids_same}
 use Rattle.session_laws.proofs.Unread.{typing_clients}
 use Rattle.session_laws.proofs.Outcomes as outcomes
 
--- a window or a client goes or is told each, and three more
+-- at most one effect for each window and one for each client, and three more
 abbrev pub IsFew : Tables → ℕ → Type 0
 IsFew t n = n ≤ length t.windows + length t.clients + 3
 

@@ -1,4 +1,4 @@
--- What events of others that give no commands do to a lock.
+-- What an event of another user that gives no command does to a lock.
 use Rattle.std.proofs.Common.{◌≡◌, ℕ, Bool, true, false, not, List, [], ◌∷◌, ◌++◌, Option, Some, None, refl, ap, sym}
 use Rattle.std.proofs.Common.{◌∙◌, subst, map, filter, arith}
 use Rattle.std.specs.Prelude.{◌==◌}
@@ -27,13 +27,14 @@ use Rattle.session_laws.proofs.Unread.{row_at}
 use Rattle.session_guests.specs.Contained.{stood}
 use Rattle.session_guests.specs.Locking.{user_of, client_user}
 use Rattle.session_guests.proofs.Events.{gives_commands, all_left, changed_by}
-use Rattle.session_guests.proofs.Staying.{Own, unique}
+use Rattle.session_guests.proofs.KeptLocks.{Own, unique}
 use Rattle.session_guests.proofs.Leaving.{left_where, nobody, parted, turned, appended, shut}
-use Rattle.session_confined.proofs.Calming.{moves, IsCalm}
-use Rattle.session_confined.proofs.Sparing.{both_all, Alone, alone, Silent, Others, Elsewhere, others_part, calm_left}
-use Rattle.session_confined.proofs.Sparing.{others_left, elsewhere_left}
+use Rattle.session_confined.proofs.HolderActs.{moves, IsCalm}
+use Rattle.session_confined.proofs.OthersActs.{both_all, Alone, alone, Silent, Others, Elsewhere, others_part}
+use Rattle.session_confined.proofs.OthersActs.{calm_left}
+use Rattle.session_confined.proofs.OthersActs.{others_left, elsewhere_left}
 
--- what an event does to the lock: it leaves it, or it is the end of the window's program
+-- what such an event does to the lock: it leaves it to its holder, or the window's program ended
 module _ (t : Tables) (w : ℕ) (x : UserId) where
   pub data Touches (event : EventValue) (acts : List Act) : Type 0 where
     leaves_it :

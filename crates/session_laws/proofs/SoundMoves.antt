@@ -1,4 +1,4 @@
--- Each event moves windows and clients so, and the tables stay sound.
+-- Tables stay sound when windows and clients move.
 use Rattle.std.proofs.Common.{◌≡◌, ℕ, ◌+◌, ◌<◌, ◌≤◌, Bool, true, false, not, List, [], ◌∷◌, ◌++◌, None, refl, ap, sym}
 use Rattle.std.proofs.Common.{◌∙◌, subst, map, filter, length, arith}
 use Rattle.std.specs.Prelude.{if◌then◌else◌, ◌==◌}
@@ -8,9 +8,9 @@ use Rattle.acl.specs.declared.user_id.UserId.{UserId}
 use Rattle.acl.specs.declared.act.Act.{Act}
 use Rattle.session_model.specs.Tables.{Tables, Window, Client, row_of}
 use Rattle.session_model.specs.Sound.{Rises, AreSound, AreSoundRows, client_serials}
-use Rattle.session_laws.proofs.Numbers.{serial_of, Differ}
+use Rattle.session_laws.proofs.DifferentNumbers.{serial_of, Differ}
 use Rattle.session_laws.proofs.Moving.{Moves, id_of, ids, serials}
-use Rattle.session_laws.proofs.Rows.{length_map, length_filter}
+use Rattle.session_laws.proofs.CommandMoves.{length_map, length_filter}
 
 -- ---- rising serials
 
@@ -49,7 +49,7 @@ pub differ : (ws : List Window) (next : ℕ) → Rises (map serial_of ws) next �
 differ [] next all = tt
 differ (w ∷ ws) next all = (none_above ws w.serial all.1, differ ws next all.2)
 
--- the serials of clients among their ids
+-- the serials of clients, with their users left out
 abbrev pub firsts : List (ℕ × UserId) → List ℕ
 firsts ps = map (λ (p : ℕ × UserId). p.0) ps
 

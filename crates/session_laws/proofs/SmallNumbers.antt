@@ -1,4 +1,4 @@
--- Commands that are read, and those that keys are bound to, give windows numbers below 40.
+-- Commands, whether read from a line or bound to keys, give windows numbers below 40.
 use Rattle.std.proofs.Common.{◌≡◌, ℕ, zero, suc, ◌<◌, Bool, true, false, List, [], ◌∷◌, ◌++◌, Option, Some, None}
 use Rattle.std.proofs.Common.{Result, Ok, Err, drop, refl, ap, sym, ◌∙◌, arith}
 use Rattle.std.specs.Prelude.{◌==◌, if◌then◌else◌, find, length}
@@ -109,7 +109,7 @@ command_small_in (i ∷ given) all = on (is_command i) (command_small_in given a
   on true rest = all.0
   on false rest = rest
 
--- the command that a step's keys are bound to
+-- the command to which a step's keys are bound
 pub keys_small : (c : Client) (bytes : List ℕ) → is_small_order (command_item (step_items c bytes)) ≡ true
 keys_small c bytes =
     let keys : List ℕ = Rattle.std.proofs.Common.take (taken c.keys bytes) bytes in

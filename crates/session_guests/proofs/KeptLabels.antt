@@ -1,4 +1,4 @@
--- Windows keep their numbers and titles, but for granted commands on them.
+-- Windows keep their numbers and titles, except by granted commands on them.
 use Rattle.std.proofs.Common.{◌≡◌, ℕ, Bool, true, false, List, [], ◌∷◌, ◌++◌, Option, Some, None, Ok, Err, refl, ap}
 use Rattle.std.proofs.Common.{◌∙◌, subst, inl, inr}
 use Rattle.std.specs.Prelude.{if◌then◌else◌, ◌==◌, ◌⊎◌}
@@ -31,13 +31,13 @@ use Rattle.session_model.specs.Tables.{Tables, Window, Client, window_at, client
 use Rattle.session_model.specs.Trace.{EventValue, Keys, Command, Open, Output, Closed, Draw, Reply, Entry}
 use Rattle.session_laws.proofs.Lists.{equal, row_serial}
 use Rattle.session_laws.proofs.Doing.{Either}
-use Rattle.session_laws.proofs.Lasting.{differ}
+use Rattle.session_laws.proofs.SoundMoves.{differ}
 use Rattle.session_laws.proofs.Outcomes as outcomes
 use Rattle.session_laws.proofs.Settling.{focus_row, line_row}
 use Rattle.session_guests.specs.Naming.{MayName, IsNamed, WindowsStayIn}
 use Rattle.session_guests.proofs.Steps.{Did, Obeys, with_clients}
 use Rattle.session_guests.proofs.Gating.{Below, obeys_of, first_passed, then_passed}
-use Rattle.session_guests.proofs.Labels.{serial, label_in, closed, opened, written_label, labels_kept, Kept}
+use Rattle.session_guests.proofs.CommandLabels.{serial, label_in, closed, opened, written_label, labels_kept, Kept}
 use Rattle.session_guests.proofs.Parting.{did_x}
 
 -- ---- commands act on open windows

@@ -1,4 +1,4 @@
--- What commands of others do to a lock.
+-- What a command of another user does to a lock.
 use Rattle.std.proofs.Common.{◌≡◌, ℕ, Bool, true, false, not, List, [], ◌∷◌, ◌++◌, Option, Some, None, refl, ap, sym}
 use Rattle.std.proofs.Common.{◌∙◌, subst, map, filter}
 use Rattle.std.specs.Prelude.{◌==◌}
@@ -38,23 +38,23 @@ use Rattle.session_laws.proofs.Leaving.{none_left}
 use Rattle.session_laws.proofs.Shapes as shapes
 use Rattle.session_laws.proofs.Unread.{SameClients, nobody_left}
 use Rattle.session_guests.proofs.Listing.{is_listing, AllListing, change_list, add_list, group_list}
-use Rattle.session_guests.proofs.Rows.{IsCaller}
+use Rattle.session_guests.proofs.CommandActs.{IsCaller}
 use Rattle.session_guests.proofs.Steps.{with_clients}
 use Rattle.session_guests.proofs.Events.{all_left}
-use Rattle.session_guests.proofs.Staying.{Own, IsOf, unique, all_mapped, own_read}
+use Rattle.session_guests.proofs.KeptLocks.{Own, IsOf, unique, all_mapped, own_read}
 use Rattle.session_confined.specs.Keeping.{FreesBy}
 use Rattle.session_guests.proofs.Leaving.{Leaves, left_where, parted, turned, shut}
-use Rattle.session_confined.proofs.Calming.{moves, IsCalm, KeepsWindow}
-use Rattle.session_confined.proofs.Sparing.{split_all, both_all, Alone, alone, takes_rights, mask_all, Silent}
-use Rattle.session_confined.proofs.Sparing.{listing_silent, any_window, not_true, Others, Elsewhere, others_part}
-use Rattle.session_confined.proofs.Sparing.{calm_left, others_left, elsewhere_left, listing_calm, lock_free}
+use Rattle.session_confined.proofs.HolderActs.{moves, IsCalm, KeepsWindow}
+use Rattle.session_confined.proofs.OthersActs.{split_all, both_all, Alone, alone, takes_rights, mask_all, Silent}
+use Rattle.session_confined.proofs.OthersActs.{listing_silent, any_window, not_true, Others, Elsewhere, others_part}
+use Rattle.session_confined.proofs.OthersActs.{calm_left, others_left, elsewhere_left, listing_calm, lock_free}
 
 module _ (t : Tables) (w : ℕ) (x : UserId) where
   abbrev CalmActs : List Act → Type 0
   CalmActs acts = AllByRecursion (IsCalm t.edition t.owner t.acts x w false) acts
 
-  -- What a command does to the lock: it leaves it; or it changes lists, and leaves it if the holder keeps the window;
-  -- or it frees it.
+  -- What a command does to the lock: it leaves it to its holder; or it changes access lists, and
+  -- leaves the lock if the holder keeps the window; or it frees the lock.
   pub data Affects (g : Given) (c : Order) (acts : List Act) : Type 0 where
     calms : CalmActs acts → AllByRecursion (λ a. moves a ≡ false) acts → Affects g c acts
     lists :
@@ -151,7 +151,7 @@ module _ (t : Tables) (fit : AreFit t) (w : ℕ) (x : UserId) (held : holder_in 
         (all_weaken (Alone t.clients) (λ (d : Client). goes d ≡ true → P (act.Parted d.serial)) cs
         (λ d own here. on d own here) alone_cs))
 
-    -- clients of others go
+    -- clients of other users go
     part_comes : (c : Order) (goes : Client → Bool) → ((d : Client) → goes d ≡ true → same_user d.user x ≡ false)
         → Comes c
         (map (λ (d : Client). act.Parted d.serial) (filter goes cs) ++ left_acts cs (filter (λ d. not (goes d)) cs))

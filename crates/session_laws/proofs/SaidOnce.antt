@@ -1,4 +1,4 @@
--- No client is told the same twice in a step.
+-- No client is told the same text twice in a step.
 use Rattle.std.proofs.Common.{◌≡◌, ℕ, ◌<◌, Bool, true, false, not, List, [], ◌∷◌, ◌++◌, Option, Some, None, Ok, Err}
 use Rattle.std.proofs.Common.{Result, refl, ap, sym, ◌∙◌, subst, map, filter, length, take, arith, ⊎_elim}
 use Rattle.std.specs.Prelude.{if◌then◌else◌, ◌==◌, ◌||◌, MatchOption, codes}
@@ -40,8 +40,8 @@ use Rattle.session_laws.proofs.Inputs.{is_say}
 use Rattle.session_laws.proofs.Lists.{all_of, all_weaken, all_append, all_filter, all_passed, members, both_true}
 use Rattle.session_laws.proofs.Lists.{itself, contradicts}
 use Rattle.session_laws.proofs.Doing.{Either, giving}
-use Rattle.session_laws.proofs.Done.{HasDone, done_by}
-use Rattle.session_laws.proofs.Lasting.{client_firsts, firsts}
+use Rattle.session_laws.proofs.CommandEffects.{HasDone, done_by}
+use Rattle.session_laws.proofs.SoundMoves.{client_firsts, firsts}
 use Rattle.session_laws.proofs.Settling.{ids_same}
 use Rattle.session_laws.proofs.Unread.{typing_clients}
 use Rattle.session_laws.proofs.Outcomes as outcomes
@@ -68,7 +68,7 @@ said_filter p (x ∷ xs) all = on (p x) (said_filter p xs all.1) where
   on true rest = (once_filter x p xs all.0, rest)
   on false rest = rest
 
--- nothing is said
+-- a list in which nothing is said
 silent : (xs : List Effect) → AllByRecursion (λ f. is_say f ≡ false) xs → AreSaidOnce xs
 silent [] all = tt
 silent (x ∷ xs) all = (one x all.0, silent xs all.1) where
@@ -76,12 +76,12 @@ silent (x ∷ xs) all = (one x all.0, silent xs all.1) where
   one (Say to said) is = absurd (cc (is))
   one f is = tt
 
--- one effect
+-- a list of one effect
 single : (f : Effect) → AreSaidOnce (f ∷ [])
 single (Say to said) = (tt, tt)
 single f = (tt, tt)
 
--- ---- what was said before isn't said again
+-- ---- what was said before in the step isn't said again
 
 any_true : (p : Effect → Bool) (xs : List Effect) (x : Effect) → SomeOf (λ y. y ≡ x) xs → p x ≡ true
     → list_any p xs ≡ true
@@ -110,14 +110,15 @@ unsaid_apart said es = all_weaken (λ s. SomeOf (λ y. y ≡ s) said) (λ s. IsS
           all_passed (λ g. g ≡ Say to text → ⊥) (λ g. not (list_any (says_same g) said)) es
           (all_of (λ g. not (list_any (says_same g) said) ≡ true → g ≡ Say to text → ⊥) es
           (λ g passes same. contradicts (list_any (says_same g) said)
-          (any_true (says_same g) said (Say to text) some (ap (λ x. says_same x (Say to text)) same ∙ same_itself to text))
+          (any_true (says_same g) said (Say to text) some
+          (ap (λ x. says_same x (Say to text)) same ∙ same_itself to text))
           (negated (list_any (says_same g) said) passes)))
       one f some = tt
 
 pub unsaid_once : (said es : List Effect) → AreSaidOnce said → AreSaidOnce es → AreSaidOnce (said ++ unsaid said es)
 unsaid_once said es p q = said_append said (unsaid said es) p (said_filter _ es q) (unsaid_apart said es)
 
--- ---- wall: each client once
+-- ---- wall tells each client once
 
 later_clients : (n : ℕ) (text : List ℕ) (cs : List Client) → AllByRecursion (λ m. n < m) (client_serials cs)
     → AllByRecursion (λ g. g ≡ Say n text → ⊥) (map (λ (c : Client). Say c.serial text) cs)
@@ -146,7 +147,7 @@ mute_done t k (command.Multiuser false) other (Say to said) is = absurd is
 mute_done t k c other (Say to said) is = absurd is
 mute_done t k c other f is = refl
 
--- a deed says each thing once, and lists only where it says nothing
+-- a deed says each text to a client once, and lists something only if it says nothing
 pub record SaysOnce (d : Deed) : Type 0 where
   pub effects : AreSaidOnce d.effects
   pub listed : (client : ℕ) (m : List ℕ → Message) → AreSaidOnce (with_listed client m d.lists d).effects

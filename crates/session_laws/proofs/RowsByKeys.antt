@@ -1,4 +1,4 @@
--- A command that keys complete does its row, or it is said why not.
+-- A command that keys complete does its row, or its client is told why not.
 use Rattle.std.proofs.Common.{◌≡◌, ℕ, true, List, [], ◌∷◌, ◌++◌, Option, Some, None, Ok, Err, Result, refl, ap, sym}
 use Rattle.std.proofs.Common.{◌∙◌, subst, map, take}
 use Rattle.std.specs.List.{AllByRecursion}
@@ -37,9 +37,9 @@ use Rattle.session_laws.proofs.Passing.{passed_has_x}
 use Rattle.session_laws.proofs.Asking.{keys_given}
 use Rattle.session_laws.proofs.Unread.{SameClients, typing_clients, nobody_left, left_unread}
 use Rattle.session_laws.proofs.Granting.{told_read, same_tables}
-use Rattle.session_laws.proofs.Telling.{unsaid_listed}
+use Rattle.session_laws.proofs.DenialsTold.{unsaid_listed}
 
--- ---- what stands in the deed of an answer
+-- ---- the parts of an answer's deed
 
 record Done (t : Tables) (client : ℕ) (order : Order) (d e : Deed) : Type 0 where
   acts : e.acts ≡ d.acts
@@ -251,7 +251,8 @@ module _ (t : Tables) (client : ℕ) (bytes : List ℕ) (reply : Reply) (acts : 
       on (Ok order) is = tt
       on (Err f) is = refused_by (Line f)
           (subst
-          (λ (x : Option Item). Said t before.tables c.serial (Line f) (ordered before.tables (reading read c) x).deed) at
+          (λ (x : Option Item). Said t before.tables c.serial (Line f) (ordered before.tables (reading read c) x).deed)
+          at
           is)
 
     answered : KeysAreAnswered t e c bytes
@@ -267,7 +268,8 @@ module _ (t : Tables) (client : ℕ) (bytes : List ℕ) (reply : Reply) (acts : 
           client c (reading read c) (typed_bytes (step_items c bytes)) is refl refl
           (λ cs same. by_item t c read cs item same)));
       no_command = fault_by item refl
-          (typing_clients (λ v. Faulty t c read v item) t client c (reading read c) (typed_bytes (step_items c bytes)) is
+          (typing_clients (λ v. Faulty t c read v item) t client c (reading read c) (typed_bytes (step_items c bytes))
+          is
           refl refl (λ cs same. by_fault t c read cs item same));
     }
 

@@ -1,4 +1,4 @@
--- How each command moves the focus of clients: one row a command.
+-- How each command moves the focus of clients, command by command.
 use Rattle.std.proofs.Common.{◌≡◌, ℕ, zero, suc, ◌<◌, Bool, true, false, not, List, [], ◌∷◌, ◌++◌, Option, Some, None}
 use Rattle.std.proofs.Common.{refl, ap, sym, ◌∙◌, subst, map, filter, inl, inr, ⊎_elim, arith}
 use Rattle.std.specs.Prelude.{◌⊎◌, if◌then◌else◌, ◌==◌}
@@ -53,7 +53,7 @@ closed_enter (w ∷ ws) more = closed_enter ws more
 
 -- ---- how a client's row goes on
 
--- what its focus shows was in its focus, or was entered so
+-- the window in its focus was there before, or was entered by this client
 abbrev pub GoesOn : (ℕ → Option (UserId × ℕ)) → Client → Client → Type 0
 GoesOn f c d =
     (d.serial ≡ c.serial) × (d.user ≡ c.user)
@@ -73,7 +73,7 @@ alike cs f g ds same all = all_weaken (λ d. SomeOf (λ c. GoesOn f c d) cs) (λ
           (λ old. inr (same c.serial ∙ old.0, old.1)) (go.2 w is),
     )) some) all
 
--- its focus shows the same, or nothing
+-- the same window is in its focus, or none
 abbrev pub Same : Client → Client → Type 0
 Same c d = (d.serial ≡ c.serial) × (d.user ≡ c.user) × ((w : ℕ) → focused d ≡ Some w → focused c ≡ Some w)
 
@@ -237,7 +237,7 @@ module _ (t : Tables) (k : Caller) (s : Rises (client_serials t.clients) t.next_
   mine_off : (c : Client) (n : ℕ) → caller_client t k ≡ Some c → (c.serial == n) ≡ false → is_mine k.client n ≡ false
   mine_off c n is off = ap (λ o. is_mine o n) (caller_is t k.client c is) ∙ off
 
-  -- the client's focus may go elsewhere, and its user enters what it shows
+  -- the client's focus may move, and its user then enters the window that it shows
   entered : (c : Client) (l : Arrangement) → caller_client t k ≡ Some c → HasGone t k (enters t c l)
   entered c l is =
       let d : Client = with_layout l c in

@@ -1,4 +1,4 @@
--- The focus of a client shows what its own steps entered last.
+-- The window in a client's focus is the one that its user entered last by the client's own steps.
 use Rattle.std.proofs.Common.{◌≡◌, ℕ, ◌<◌, Bool, true, false, not, List, [], ◌∷◌, ◌++◌, Option, Some, None, Ok, Err}
 use Rattle.std.proofs.Common.{Result, refl, ap, sym, ◌∙◌, subst, take, filter, inl, inr, ⊎_elim, arith}
 use Rattle.std.specs.Prelude.{◌⊎◌, if◌then◌else◌, ◌==◌, ◌||◌}
@@ -42,15 +42,15 @@ use Rattle.session_laws.proofs.Lists.{all_weaken, all_append, some_map, some_map
 use Rattle.session_laws.proofs.Doing.{Either}
 use Rattle.session_laws.proofs.Unread.{SameClients, typing_clients, row_at}
 use Rattle.session_laws.proofs.Settling.{told_same, ids_same}
-use Rattle.session_laws.proofs.Lasting.{client_firsts, firsts}
+use Rattle.session_laws.proofs.SoundMoves.{client_firsts, firsts}
 use Rattle.session_laws.proofs.Sounding.{run_sound, fresh_sound}
-use Rattle.session_laws.proofs.Remembering.{some_elim}
+use Rattle.session_laws.proofs.ClientsOfRuns.{some_elim}
 use Rattle.session_laws.proofs.Showing.{some_has, all_row}
-use Rattle.session_laws.proofs.Focusing.{GoesOn, AllGoOn, alike, Same, Kept, kept_same, kept_fewer, kept_go}
-use Rattle.session_laws.proofs.Focusing.{without_kept, row_goes, entered_of, HasGone, none_if, gone}
+use Rattle.session_laws.proofs.CommandFocus.{GoesOn, AllGoOn, alike, Same, Kept, kept_same, kept_fewer, kept_go}
+use Rattle.session_laws.proofs.CommandFocus.{without_kept, row_goes, entered_of, HasGone, none_if, gone}
 use Rattle.session_laws.proofs.Outcomes as outcomes
 
--- ---- who leaves enters nothing
+-- ---- a user who leaves a window enters none
 
 enter_front : (xs ys : List Act) → entered_by ys ≡ None → entered_by (xs ++ ys) ≡ entered_by xs
 enter_front [] ys none = none
@@ -87,7 +87,7 @@ module _ (t : Tables) (c : Client) (read : List ℕ) (s : AreSound t) (cs : List
   abbrev v : Tables
   v = record t { clients = cs }
 
-  -- what a deed enters is by the client of the keys
+  -- each window that a deed enters is entered by the client of the keys
   abbrev InDeed : Deed → Type 0
   InDeed d = AllGoOn cs (entered_of (caller_of t c) d.acts) d.tables.clients
 
@@ -130,7 +130,7 @@ module _ (t : Tables) (c : Client) (read : List ℕ) (s : AreSound t) (cs : List
   item_gone (Some (line [])) = nothing_gone
   item_gone (Some (line (b ∷ bs))) = read_gone (read_line (b ∷ bs))
 
-  -- the clients before keys were read have the same focus
+  -- the clients before keys were read have the same windows in focus
   before_read : (f : ℕ → Option (UserId × ℕ)) (ds : List Client) → AllGoOn cs f ds → AllGoOn t.clients f ds
   before_read f ds all = all_weaken (λ d. SomeOf (λ q. GoesOn f q d) cs) (λ d. SomeOf (λ q. GoesOn f q d) t.clients) ds
       (λ d some. some_mapped (λ q. GoesOn f q d) unread t.clients
@@ -177,7 +177,7 @@ kept_rows t ds kept = old_rows t (λ n. None) ds (kept_go t.clients ds (λ n. No
 still : (t : Tables) → Rows t (λ n. None) t.clients
 still t = kept_rows t t.clients (kept_same t.clients)
 
--- where it was entered by a client that wasn't there
+-- if the window was entered by a client whose serial wasn't given yet
 below_rows : (f : ℕ → Option (UserId × ℕ)) (cs : List Client) (next : ℕ) → Rises (client_serials cs) next
     → ((n : ℕ) → n < next → f n ≡ None) → AllGoOn cs f cs
 below_rows f [] next rise none = tt
@@ -220,7 +220,7 @@ deed_gone : (t : Tables) (k : Caller) (a : Answer) (d : Deed) → a ≡ Ok d →
 deed_gone t k (Ok e) d is h = let same : e ≡ d = cc (is) in subst (HasGone t k) same h
 deed_gone t k (Err r) d is h = absurd (cc (is))
 
--- one client's row in place of its own
+-- the rows after one client's row is changed
 row_changed : (t : Tables) (c d : Client) → client_at t c.serial ≡ Some c → Same c d → AreSound t
     → Rows t (λ n. None) (with_client t d).clients
 row_changed t c d at same s =
@@ -229,7 +229,7 @@ row_changed t c d at same s =
     (row_goes (λ n. None) c d (same.0, same.1, λ w is. inr (refl, same.2 w is)) (λ n off. refl) t.clients t.next_client
     s.clients_rise at))
 
--- a step by which no client's own acts enter
+-- a step that isn't a client's own enters no window
 not_own : (t : Tables) (event : EventValue) (x : outcomes.Change) → outcomes.change_of event ≡ Some x
     → (acts : List Act) (ds : List Client) → Rows t (λ n. None) ds → Rows t (entered_in event done acts) ds
 not_own t (Attach user rows columns) x is acts ds all = absurd (cc (is))

@@ -1,4 +1,4 @@
--- Acts that leave a window's lock to its holder.
+-- Acts after which a holder still has the lock, unless they lose the window by one of them.
 use Rattle.std.proofs.Common.{◌≡◌, ℕ, Bool, true, false, not, List, [], ◌∷◌, Some, None, refl, ap, sym, ◌∙◌, filter}
 use Rattle.std.proofs.Common.{inl, inr}
 use Rattle.std.specs.Prelude.{if◌then◌else◌, ◌==◌, ◌||◌, ◌&&◌, ◌⊎◌}
@@ -43,7 +43,7 @@ and_not : (b : Bool) → (b && not b) ≡ false
 and_not true = refl
 and_not false = refl
 
--- acts that may change what someone has
+-- acts that may change someone's rights
 abbrev pub moves : Act → Bool
 moves (act.Known u) = true
 moves (act.Gone u) = true
@@ -55,7 +55,7 @@ module _ (edition : Edition) (owner : UserId) (base : History) (x : UserId) (w :
   abbrev pub Able : History → Type 0
   Able h = may edition owner h x Write (object.Window w) ≡ true
 
-  -- such acts
+  -- an act after which the holder still has the lock, if they may write
   abbrev pub IsCalm : Act → Type 0
   IsCalm (act.Mode by v mode) = (v == w) ≡ false
   IsCalm (act.Left v y) = (same_user v x && y == w) ≡ false
@@ -128,7 +128,7 @@ module _ (edition : Edition) (owner : UserId) (base : History) (x : UserId) (w :
       ∙ ap (λ g. or_else g (kept edition owner a h w (Some x))) (none_given h a is)
       ∙ kept_by (ends a h x w) (may edition owner (a ∷ h) x Write (object.Window w)) (none_ends h a carry is) able
 
-  -- he may write after each of them
+  -- the holder may write after each of these acts
   abbrev pub AbleAll : History → List Act → Type 0
   AbleAll h [] = Unit {0}
   AbleAll h (a ∷ acts) = Able (a ∷ h) × AbleAll (a ∷ h) acts
@@ -171,7 +171,7 @@ module _ (edition : Edition) (owner : UserId) (base : History) (x : UserId) (w :
   able_calm h (a ∷ acts) none all able = let there : Able (a ∷ h) = able_after h a none.0 all.0 able in
       (there, able_calm (a ∷ h) acts none.1 all.1 there)
 
-  -- ---- he loses the window by some acts, or keeps it by all
+  -- ---- the holder loses the window by one of these acts, or keeps it by all
 
   pub record KeepsWindow (h : History) (acts : List Act) : Type 0 where
     pub able : AbleAll h acts

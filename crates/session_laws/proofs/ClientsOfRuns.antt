@@ -1,4 +1,4 @@
--- The tables of a run have just the keys and the deliveries of its entries.
+-- Each client of a run has exactly the keys and the deliveries that the run's entries say.
 use Rattle.std.proofs.Common.{◌≡◌, ℕ, ◌<◌, ◌≤◌, Bool, true, false, not, List, [], ◌∷◌, ◌++◌, Option, Some, None, Ok}
 use Rattle.std.proofs.Common.{Err, refl, ap, sym, ◌∙◌, subst, filter, take, length, inl, inr, ⊎_elim, arith, suc, zero}
 use Rattle.std.specs.Prelude.{◌⊎◌, if◌then◌else◌, ◌==◌, MatchOption}
@@ -30,7 +30,7 @@ use Rattle.session_laws.specs.Entries.{keys_read, is_resize, delivered_by, all_k
 use Rattle.session_laws.proofs.Inputs.{append_nil}
 use Rattle.session_laws.proofs.Lists.{all_weaken, all_append, equal, itself, row_serial}
 use Rattle.session_laws.proofs.Doing.{Either}
-use Rattle.session_laws.proofs.Saying.{Fits, step_fits}
+use Rattle.session_laws.proofs.EffectsCaused.{Fits, step_fits}
 use Rattle.session_laws.proofs.Unread.{row_at}
 use Rattle.session_laws.proofs.Keeping.{core, Keeps, keeps_same, keeps, keeps_filter, without_keeps}
 use Rattle.session_laws.proofs.Past.{GoesOn, AllGoOn, goes_on, all_go_on, changed_row, is_draw, undelivered, keys_keep}
@@ -39,7 +39,7 @@ use Rattle.session_laws.proofs.Settling.{moving}
 use Rattle.session_laws.proofs.Sounding.{run_sound, fresh_sound}
 use Rattle.session_laws.proofs.Outcomes as outcomes
 
--- a new client, or one that was there and goes on
+-- a new client, or one that was there before, with the step's keys and deliveries
 abbrev pub IsNew : Tables → Client → Type 0
 IsNew t d = (d.serial ≡ t.next_client) × (d.keys ≡ []) × (d.delivered ≡ [])
 
@@ -54,7 +54,7 @@ old_rows : (t : Tables) (event : EventValue) (reply : Reply) (effects : List Eff
 old_rows t event reply effects ds all = all_weaken (λ d. SomeOf (λ c. GoesOn event reply effects c d) t.clients)
     (Row t event reply effects) ds (λ d some. inl some) all
 
--- where no keys are read and nothing is delivered
+-- if no keys are read and nothing is delivered
 kept_rows : (t : Tables) (event : EventValue) (reply : Reply) (effects : List Effect) (ds : List Client)
     → ((n : ℕ) → keys_read event reply n ≡ []) → ((n : ℕ) → is_resize event reply n ≡ false)
     → ((n : ℕ) → deliveries effects n ≡ [])
@@ -198,7 +198,7 @@ deed_keeps t (Ok e) d is all = let same : e ≡ d = cc (is) in subst (λ (x : De
     all
 deed_keeps t (Err r) d is all = absurd (cc (is))
 
--- of an event that is refused nothing is read
+-- a refused event reads no keys
 none_read : (event : EventValue) (r : Refusal) (n : ℕ) → (keys_read event (Err r) n ≡ [])
     × (is_resize event (Err r) n ≡ false)
 none_read (Keys client bytes) r n = (refl, refl)
@@ -255,7 +255,7 @@ step_rows t (Draw client) effects s is =
     (drawn_rows t w client effects (outcome t (Draw client)).reply (client_at t client) (quiet_draw t client) refl s is)
 step_rows t event effects s is = rows_of t effects s (none_of t event effects refl is) event
 
--- ---- serials that weren't given
+-- ---- serials that weren't given yet
 
 row_below : (cs : List Client) (next n : ℕ) (c : Client) → Rises (client_serials cs) next
     → row_of (λ (r : Client). r.serial) cs n ≡ Some c → c.serial < next
@@ -269,7 +269,7 @@ row_below (r ∷ cs) next n c rise is = on (r.serial == n) is (row_below cs next
 below_off : (client n next : ℕ) → client < next → next ≤ n → (client == n) ≡ false
 below_off client n next lt le = grind (arith, nat_tests, lt, le)
 
--- no keys are read of a client that isn't there, and nothing is delivered to it
+-- a client that isn't there has read no keys, and nothing was delivered to it
 above_unread : (t : Tables) (event : EventValue) (n : ℕ) → AreSound t → t.next_client ≤ n
     → keys_read event (outcome t event).reply n ≡ []
 above_unread t (Keys client bytes) n s le =
@@ -300,7 +300,7 @@ above_none : (t : Tables) (event : EventValue) (effects : List Effect) (n : ℕ)
 above_none t (Draw client) effects n s le is = drawn_above t client n effects (client_at t client) refl s le is
 above_none t event effects n s le is = none_of t event effects refl is n
 
--- ---- serials that come next
+-- ---- the next serials
 
 same_next : (a b : ℕ) → a ≡ b → b ≤ a
 same_next a b is = omega (arith, is)

@@ -1,4 +1,4 @@
--- Commands leave the numbers and titles of other windows than their own.
+-- Commands leave the numbers and titles of all windows but the one that they act on.
 use Rattle.std.proofs.Common.{◌≡◌, ℕ, Bool, true, false, not, List, [], ◌∷◌, ◌++◌, Option, Some, None, refl, ap, sym}
 use Rattle.std.proofs.Common.{◌∙◌, subst, filter, inl, inr}
 use Rattle.std.specs.Prelude.{if◌then◌else◌, ◌==◌, ◌⊎◌}
@@ -112,7 +112,7 @@ opened (r ∷ ws) v at off = on (r.serial == at) (opened ws v at off) where
   on true same = refl
   on false same = same
 
--- what is written to a window leaves its number and title
+-- what is written to a window leaves its number and its title
 pub written_label : (t : Tables) (w v : Window) (at : ℕ) → window_at t w.serial ≡ Some w → v.serial ≡ w.serial
     → label v ≡ label w → label_in (with_window t v).windows at ≡ label_in t.windows at
 written_label t w v at row is same =
@@ -161,7 +161,8 @@ module _ (t : Tables) (k : Caller) (row : (w : Window) → k.window ≡ Some w �
     deed_kept c d (shapes.told bytes is) = inl refl
     deed_kept c d (shapes.removed word is clear) = removal c (named_by word)
     deed_kept c d (shapes.fitted w rows columns is here) = inl
-        (written_label t w (record w { writing = w.writing ++ written.Size rows columns ∷ [] }) at (row w here) refl refl)
+        (written_label t w (record w { writing = w.writing ++ written.Size rows columns ∷ [] }) at (row w here) refl
+        refl)
     deed_kept c d (shapes.titled w bytes is here) =
         own c (names_it c _ is refl) w here (with_window t (record w { title = bytes })).windows
         (elsewhere t.windows w.serial (record w { title = bytes }) at refl)

@@ -1,4 +1,4 @@
--- Numbers of windows differ.
+-- Windows that are open have different numbers, and so do their serials.
 use Rattle.std.proofs.Common.{◌≡◌, ℕ, Bool, true, false, not, List, [], ◌∷◌, ◌++◌, Option, Some, None, filter, find}
 use Rattle.std.proofs.Common.{is_some, refl, ap, sym, ◌∙◌, arith, subst}
 use Rattle.std.specs.Prelude.{if◌then◌else◌, ◌==◌, ◌||◌, unwrap_or}
@@ -12,7 +12,7 @@ use Rattle.session_laws.proofs.Lists.{equal}
 abbrev pub serial_of : Window → ℕ
 serial_of w = w.serial
 
--- serials that differ
+-- the serials of windows differ
 abbrev pub Differ : List Window → Type 0
 Differ [] = Unit {0}
 Differ (w ∷ windows) = (row_of serial_of windows w.serial ≡ None) × Differ windows
@@ -35,7 +35,7 @@ number_with (r ∷ ws) s n w other none = on (r.serial == s) (r.number == n) ref
   on true false at none more = rw other none
   on false false at none more = rw at (more none)
 
--- a number that no other row has
+-- no window of another serial has this number
 abbrev pub IsFree : List Window → ℕ → ℕ → Type 0
 IsFree ws s n = (v : Window) → with_number ws n ≡ Some v → v.serial ≡ s
 
@@ -173,7 +173,7 @@ number_free ws (Some n) is some = free_none ws n
       on true is = absurd (cc (is))
       on false is = refl
 
--- a row of the same serial and number is free to stand there
+-- a row with the same serial and number may stand in a row's place
 pub own_number : (ws : List Window) (w : Window) → row_of serial_of ws w.serial ≡ Some w → NumbersDiffer ws
     → IsFree ws w.serial w.number
 own_number ws w at numbers v is =
