@@ -6,7 +6,7 @@ use Rattle.control_parser.specs.Spelling.{IsGiven, ReadsAs}
 use Rattle.control_parser.proofs.Spelled.{spelled_reads}
 use Rattle.terminal_model.specs.Table.{effect}
 use Rattle.terminal_model.specs.Reports.{report}
-use Rattle.terminal_model.proofs.Codings.{effect-coding}
+use Rattle.terminal_model.proofs.Codings.{escape-coding}
 use Rattle.emulator.specs.Standing.{Parts}
 use Rattle.emulator.proofs.Wholes.{quiet-has-read, front-three, nothing-whole}
 use Rattle.emulator.proofs.emulator.Emulator.read_designation.Goals as goal
@@ -21,7 +21,7 @@ returns c = record {
       let reads : ReadsAs Utf8 (take 3 c.args.bytes.now) (f ∷ []) = subst (λ (v : List ℕ). ReadsAs Utf8 v (f ∷ []))
       (sym e) (spelled_reads f given) in
       quiet-has-read c.args.self.now _ t _ said f c.requires.idle c.requires.coding
-      (effect-coding c.args.self.now.screen f refl) reads
+      (escape-coding c.args.self.now.screen 0x28 last refl) reads
       (c.designate.ensures.effect ∙ ap (λ (v : Parts). effect v.screen f) c.self.view_is)
       (ap (λ (v : Parts). v.decoding) c.self.view_is) (ap (λ (v : Parts). v.parsing) c.self.view_is)
       (ap (λ (v : Parts). report v.screen f) (sym c.self.view_is) ∙ c.designate.ensures.silent) h;
