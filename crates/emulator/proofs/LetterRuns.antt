@@ -6,7 +6,7 @@ use Rattle.std.proofs.lemmas.Bool.Decides.{nat_tests}
 use Rattle.charsets.specs.declared.unit.Coding.{Coding}
 use Rattle.charsets.specs.declared.unit.Coding.TheVariants.{Utf8}
 use Rattle.charsets.specs.declared.unit.Unit.TheVariants as codes
-use Rattle.charsets.specs.Units.{Decoding, units, is_letter, is_beyond}
+use Rattle.charsets.specs.Units.{Decoding, units, is_character}
 use Rattle.control_parser.specs.declared.func.Func.{Func}
 use Rattle.control_parser.specs.declared.func.Func.TheVariants.{Print}
 use Rattle.control_parser.specs.Grammar.{is_graphic, nothing, functions}
@@ -34,13 +34,9 @@ all_more p q more (c ∷ codes) h =
     let k = both (p c) (list_all p codes) h in
     rw (more c k.0) (all_more p q more codes k.1)
 
-pub letters_graphic : (codes : List ℕ) → list_all is_letter codes ≡ true → list_all is_graphic codes ≡ true
-letters_graphic codes h = all_more is_letter is_graphic (λ c is. grind (arith, nat_tests)) codes h
+pub characters_graphic : (codes : List ℕ) → list_all is_character codes ≡ true → list_all is_graphic codes ≡ true
+characters_graphic codes h = all_more is_character is_graphic (λ c is. grind (arith, nat_tests)) codes h
 
-pub beyond_graphic : (codes : List ℕ) → list_all is_beyond codes ≡ true → list_all is_graphic codes ≡ true
-beyond_graphic codes h = all_more is_beyond is_graphic (λ c is. grind (arith, nat_tests)) codes h
-
--- the functions that print them
 abbrev prints : List ℕ → List Func
 prints printed = map (λ code. Print code) printed
 

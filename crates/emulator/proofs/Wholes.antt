@@ -112,6 +112,13 @@ front-two [] a b l h e = absurd (omega arith)
 front-two (x ∷ []) a b l h e = absurd (omega arith)
 front-two (x ∷ y ∷ bytes) a b l h e = let p : x ≡ a = cc in let q : y ≡ b = e in cc
 
+pub front-three : (bytes : List ℕ) (a b c : ℕ) → 2 < length bytes → take 2 bytes ≡ a ∷ b ∷ [] → get_or bytes 2 0 ≡ c
+    → take 3 bytes ≡ a ∷ b ∷ c ∷ []
+front-three [] a b c l h e = absurd (omega arith)
+front-three (x ∷ []) a b c l h e = absurd (omega arith)
+front-three (x ∷ y ∷ []) a b c l h e = absurd (omega arith)
+front-three (x ∷ y ∷ z ∷ bytes) a b c l h e = let p : x ≡ a = cc in let q : y ≡ b = cc in let r : z ≡ c = e in cc
+
 pub front-more : (bytes : List ℕ) (a b n : ℕ) → take 2 bytes ≡ a ∷ b ∷ []
     → take (n + 2) bytes ≡ a ∷ b ∷ take n (drop 2 bytes)
 front-more [] a b n h = absurd (cc)

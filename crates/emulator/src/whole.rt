@@ -9,7 +9,7 @@ ghost use Rattle.control_parser.specs.declared.func.Func.TheVariants.{Esc};
 ghost use Rattle.emulator.specs.Standing.{HasTaken, TakesWhole, IsBetween};
 
 use crate::emulator::Emulator;
-use charsets::{Coding, first_characters, first_letters};
+use charsets::{Coding, first_characters};
 use control_parser::{Numerals, plain_run};
 
 const CAN: u8 = 0x18;
@@ -18,13 +18,7 @@ const SUB: u8 = 0x1A;
 
 const ESC: u8 = 0x1B;
 
-/// The first byte of U+0300.
-const BEHIND_LETTERS: u8 = 0xCC;
-
-/// The number of letters that are read before they are printed.
-const LETTERS: usize = 64;
-
-/// The number of other characters that are read before they are printed.
+/// The number of characters that are read before they are printed.
 const CHARACTERS: usize = 64;
 
 impl Emulator {
@@ -88,7 +82,7 @@ impl Emulator {
                 self.screen.control(first);
                 1
             }
-            _ => self.read_text(bytes),
+            _ => self.read_characters(bytes),
         }
     }
 
@@ -140,11 +134,28 @@ impl Emulator {
         if bytes[1] == b'[' {
             return self.read_other_sequence(bytes);
         }
+        if bytes[1] == b'(' {
+            return self.read_designation(bytes);
+        }
         if !ends_escape(bytes[1]) {
             return 0;
         }
         self.screen.escape(bytes[1]);
         2
+    }
+
+    /// Reads a designation to G0 and returns its number of bytes, or 0 if it can't be read at once.
+    fn read_designation(&mut self, bytes: &[u8]) -> usize
+        requires begins { take 2 bytes.now ≡ 0x1B ∷ 0x28 ∷ [] }
+        requires idle { IsBetween self.old }
+        requires coding { self.old.decoding.coding ≡ Utf8 }
+        ensures { TakesWhole self.old bytes.now result self.new }
+    {
+        if bytes.len() < 3 || bytes[2] < 0x30 || 0x7E < bytes[2] {
+            return 0;
+        }
+        self.screen.designate(bytes[2]);
+        3
     }
 
     /// Reads a control sequence and returns its number of bytes, or 0 if it can't be read at once.
@@ -185,43 +196,8 @@ impl Emulator {
         count + 2
     }
 
-    /// Reads characters from U+00A0 on: a run of letters, or other characters. Returns their number
-    /// of bytes, or 0 if the bytes begin with none.
-    fn read_text(&mut self, bytes: &[u8]) -> usize
-        requires some { 0 < length bytes.now }
-        requires idle { IsBetween self.old }
-        requires coding { self.old.decoding.coding ≡ Utf8 }
-        ensures { TakesWhole self.old bytes.now result self.new }
-    {
-        if BEHIND_LETTERS <= bytes[0] {
-            return self.read_characters(bytes);
-        }
-        let count = self.read_letters(bytes);
-        if count == 0 {
-            return self.read_characters(bytes);
-        }
-        count
-    }
-
-    /// Reads letters, at most as many as are printed at once, and returns their number of bytes.
-    /// Returns 0 if the bytes begin with none, and has done nothing then.
-    fn read_letters(&mut self, bytes: &[u8]) -> usize
-        requires idle { IsBetween self.old }
-        requires coding { self.old.decoding.coding ≡ Utf8 }
-        ensures whole { TakesWhole self.old bytes.now result self.new }
-        ensures undone { result ≡ 0 → self.new ≡ self.old }
-    {
-        let mut letters = [' '; LETTERS];
-        let (count, read) = first_letters(bytes, &mut letters);
-        if read == 0 {
-            return 0;
-        }
-        self.screen.print_letters(&letters[..count]);
-        read
-    }
-
-    /// Reads characters of two or three bytes from U+00A0 on, at most as many as are printed at
-    /// once, and returns their number of bytes, or 0 if the bytes begin with none.
+    /// Reads graphic characters, at most as many as are printed at once, and returns their number of
+    /// bytes, or 0 if the bytes begin with none.
     fn read_characters(&mut self, bytes: &[u8]) -> usize
         requires idle { IsBetween self.old }
         requires coding { self.old.decoding.coding ≡ Utf8 }

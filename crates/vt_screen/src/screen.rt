@@ -1,9 +1,9 @@
 //! The screen of a VT220.
 
-ghost use Rattle.std.specs.Prelude.{◌≡◌, ℕ, ◌<◌, ◌≤◌, ◌↔◌, true, Err, IfOk, OnOk, OnErr, [], false};
+ghost use Rattle.std.specs.Prelude.{◌≡◌, ℕ, ◌<◌, ◌≤◌, ◌↔◌, true, Err, IfOk, OnOk, OnErr, [], ◌∷◌, false};
 ghost use Rattle.std.specs.Prelude.{IsTrue, length, map, option_copied, slice_get, slice_index};
 ghost use Rattle.std.specs.List.{list_all, range_with_len};
-ghost use Rattle.charsets.specs.Units.{is_letter, is_plain};
+ghost use Rattle.charsets.specs.Units.{is_plain};
 ghost use Rattle.control_parser.specs.declared.func.Func.TheVariants.{Control, Esc, Print};
 ghost use Rattle.cells.specs.Page.{IsGridSize, line_at};
 ghost use Rattle.cells.specs.Line.{cell_at};
@@ -25,7 +25,7 @@ use control_parser::{Func, Numerals, Sequence};
 use std::alloc::Global;
 use std::marker::Model;
 use terminal_model::{MAX_KEEP, Modes, Report};
-use vt_screen_actions::{acts_of, plain_escape_action};
+use vt_screen_actions::{acts_of, escape_action, plain_escape_action};
 use vt_screen_rows::{Display, prints_ascii};
 
 // Wraps `Display`, whose rows are methods of another crate: an invariant there would have to be
@@ -107,18 +107,6 @@ impl Screen {
         self.display.print_line(codes);
     }
 
-    /// Prints letters, one after another: 20 to 7E, and U+00A0 to U+02FF without the soft hyphen.
-    /// It needs no memory.
-    pub fn print_letters(&mut self, letters: &[char])
-        requires { list_all is_letter letters.now ≡ true }
-        ensures effect { self.new.screen
-            ≡ effects self.old.screen (map (λ letter. Print letter) letters.now) }
-        ensures places { self.new.places
-            ≡ effects_places self.old.screen (map (λ letter. Print letter) letters.now) self.old.places }
-    {
-        self.display.print_letters(letters);
-    }
-
     /// Prints characters from 20 to 7E and from A0 on, one after another. It needs no memory.
     pub fn print_characters(&mut self, characters: &[char])
         ensures effect { self.new.screen
@@ -146,6 +134,16 @@ impl Screen {
         ensures silent { report self.old.screen (Esc [] last) ≡ [] }
     {
         perform_silently(&mut self.display, plain_escape_action(last));
+    }
+
+    /// Designates a set to G0, by its final byte: performs ESC ( and this byte, as `apply` does. It
+    /// isn't answered.
+    pub fn designate(&mut self, last: u8)
+        ensures effect { self.new.screen ≡ effect self.old.screen (Esc (0x28 ∷ []) last) }
+        ensures places { MovesPlaces self.old (Esc (0x28 ∷ []) last) self.new }
+        ensures silent { report self.old.screen (Esc (0x28 ∷ []) last) ≡ [] }
+    {
+        perform_silently(&mut self.display, escape_action(b"(", last));
     }
 
     /// Performs a control sequence, as `apply` does. If the sequence is answered, it does nothing

@@ -1,6 +1,6 @@
 -- The characters from U+00A0 on stand for themselves, and a letter takes one column.
-use Rattle.std.proofs.Common.{◌≡◌, ℕ, zero, suc, ◌+◌, ◌<◌, ◌≤◌, Bool, true, false, ◌&&◌, ◌||◌, Option, Some, None, List}
-use Rattle.std.proofs.Common.{[], ◌∷◌, ◌++◌, refl, sym, ap, ◌∙◌, arith, inl, inr, cond, length, take, get_or}
+use Rattle.std.proofs.Common.{◌≡◌, ℕ, zero, suc, ◌+◌, ◌<◌, ◌≤◌, Bool, true, false, ◌&&◌, Option, Some, None, List}
+use Rattle.std.proofs.Common.{[], ◌∷◌, refl, sym, ap, ◌∙◌, arith, inl, inr, cond, length, take, get_or}
 use Rattle.std.proofs.lemmas.List.{take_more}
 use Rattle.std.proofs.lemmas.List.Folds.{list_all-append}
 use Rattle.std.proofs.lemmas.Bool.{cases_lt}
@@ -109,8 +109,8 @@ plain_letters (c ∷ codes) h =
     rw (plain_letter c k.0) (plain_letters codes k.1)
 
 -- one letter more at the front
-pub one_more : (codes : List ℕ) (n : ℕ) → n < length codes → list_all is_letter (take n codes) ≡ true
-    → is_letter (get_or codes n 0) ≡ true → list_all is_letter (take (n + 1) codes) ≡ true
-one_more codes n inside so_far next =
-    ap (list_all is_letter) (take_more codes n 0 inside)
-    ∙ list_all-append is_letter (take n codes) (get_or codes n 0 ∷ []) ∙ rw (so_far, next) refl
+pub one_more : (codes : List ℕ) (n d : ℕ) → n < length codes → list_all is_letter (take n codes) ≡ true
+    → is_letter (get_or codes n d) ≡ true → list_all is_letter (take (n + 1) codes) ≡ true
+one_more codes n d inside so_far next =
+    ap (list_all is_letter) (take_more codes n d inside)
+    ∙ list_all-append is_letter (take n codes) (get_or codes n d ∷ []) ∙ rw (so_far, next) refl

@@ -2,6 +2,8 @@ use Rattle.std.proofs.Common.{◌≡◌, true, ℕ, refl, sym, ap, ◌∙◌}
 use Rattle.terminal_model.specs.Screen.{Screen}
 use Rattle.terminal_model.specs.Printing.{drawn, printed_as}
 use Rattle.vt_screen_rows.specs.Displays.{screen_of}
+use Rattle.terminal_model.specs.Scrollback.{is_wrapped}
+use Rattle.vt_screen_rows.specs.Places.{wrapped_places}
 use Rattle.vt_screen_rows.specs.Runs.{is_letter}
 use Rattle.vt_screen_rows.proofs.Letters.{columns-letter, drawn-letter}
 use Rattle.vt_screen_rows.proofs.display.Display.print_beyond.Goals as goal
@@ -14,6 +16,15 @@ returns-then-is_letter-clause-screen c =
     ∙ sym
     (ap (λ (n : ℕ). printed_as n (drawn c.args.character) x) (columns-letter c.args.character is)
     ∙ ap (λ (d : ℕ). printed_as 1 d x) (drawn-letter c.args.character is))
+
+pub returns-then-is_letter-clause-places : goal.returns-then-is_letter-clause-places
+returns-then-is_letter-clause-places c =
+    let x : Screen = screen_of c.args.self.now in
+    let is : is_letter c.args.character ≡ true = sym c.if-is_letter.ensures in
+    c.print_narrow.ensures.places
+    ∙ sym
+    (ap (λ (n : ℕ). wrapped_places (is_wrapped n x.state) x.state c.args.self.now.page.places)
+    (columns-letter c.args.character is))
 
 pub returns-then-is_mark-clause-screen : goal.returns-then-is_mark-clause-screen
 returns-then-is_mark-clause-screen c =

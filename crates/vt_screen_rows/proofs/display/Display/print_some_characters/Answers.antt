@@ -1,4 +1,4 @@
-use Rattle.std.proofs.Common.{◌≡◌, ◌≤◌, ℕ, List, take, ap, ◌∙◌, arith, length-take, take-take}
+use Rattle.std.proofs.Common.{◌≤◌, ℕ, List, ap, ◌∙◌, arith, length-take, take-take}
 use Rattle.terminal_model.specs.Table.{all_acted}
 use Rattle.vt_screen_rows.specs.Displays.{screen_of}
 use Rattle.vt_screen_rows.specs.Places.{all_acted_places}
