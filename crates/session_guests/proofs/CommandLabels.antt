@@ -129,14 +129,15 @@ module _ (t : Tables) (k : Caller) (row : (w : Window) → k.window ≡ Some w �
     abbrev Names : Order → Type 0
     Names c = ((names_its_window (name_of c) ≡ true) × IsOn k.window at) ⊎ (name_of c ≡ name.Quit)
 
-    abbrev pub Kept : Order → Deed → Type 0
-    Kept c d = (label_in d.tables.windows at ≡ label_in t.windows at) ⊎ Names c
+    abbrev pub KeepsLabel : Order → Deed → Type 0
+    KeepsLabel c d = (label_in d.tables.windows at ≡ label_in t.windows at) ⊎ Names c
 
-    removal : (c : Order) (o : Option UserId) → Kept c (removes o t)
+    removal : (c : Order) (o : Option UserId) → KeepsLabel c (removes o t)
     removal c None = inl refl
     removal c (Some u) = inl refl
 
-    writes : (c : Order) (w : Window) (what : written.Writing) → k.window ≡ Some w → Kept c (deeds.writes t w what)
+    writes : (c : Order) (w : Window) (what : written.Writing) → k.window ≡ Some w
+        → KeepsLabel c (deeds.writes t w what)
     writes c w what is = inl (written_label t w (record w { writing = w.writing ++ what ∷ [] }) at (row w is) refl refl)
 
     own : (c : Order) → names_its_window (name_of c) ≡ true → (w : Window) → k.window ≡ Some w → (ws : List Window)
@@ -150,7 +151,7 @@ module _ (t : Tables) (k : Caller) (row : (w : Window) → k.window ≡ Some w �
     names_it : (c x : Order) → c ≡ x → names_its_window (name_of x) ≡ true → names_its_window (name_of c) ≡ true
     names_it c x is names = ap (λ (y : Order). names_its_window (name_of y)) is ∙ names
 
-    deed_kept : (c : Order) (d : Deed) → shapes.Shape t k c d → Kept c d
+    deed_kept : (c : Order) (d : Deed) → shapes.Shape t k c d → KeepsLabel c d
     deed_kept c d (shapes.lists bytes none tells) = inl refl
     deed_kept c d (shapes.acts all none acted) = inl refl
     deed_kept c d (shapes.enters_page x l of here shows) = inl refl
@@ -175,5 +176,5 @@ module _ (t : Tables) (k : Caller) (row : (w : Window) → k.window ≡ Some w �
         (filter (λ (v : Window). not (v.serial == w.serial)) t.windows) (closed t.windows w.serial at)
     deed_kept c d (shapes.quits is) = inr (inr (ap name_of is))
 
-    pub labels_kept : (c : Order) → Either (Kept c) (does t k c)
-    labels_kept c = shapes.by_shape (Kept c) t k c (deed_kept c)
+    pub labels_kept : (c : Order) → Either (KeepsLabel c) (does t k c)
+    labels_kept c = shapes.by_shape (KeepsLabel c) t k c (deed_kept c)

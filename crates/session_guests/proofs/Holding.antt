@@ -226,23 +226,23 @@ gives laws t e step = on (steps_of laws t e step) where
 
 -- ---- the tables after a step
 
-pub record Kept (t : Tables) (e : Entry) : Type 0 where
+pub record KeepsOwner (t : Tables) (e : Entry) : Type 0 where
   pub owner : (after t e).owner ≡ t.owner
   pub edition : (after t e).edition ≡ t.edition
   pub acts : (after t e).acts ≡ followed_by t.acts e.acts
 
-did_kept : (t : Tables) (e : Entry) (g : Given) → Did t e g → Kept t e
+did_kept : (t : Tables) (e : Entry) (g : Given) → Did t e g → KeepsOwner t e
 did_kept t e g d = let r : IsRow (with_clients t d.clients) g.caller g.order d.deed = row_did t e g d in record
     { owner = d.tables.owner ∙ r.owner; edition = d.tables.edition ∙ r.edition; acts = d.tables.acts }
 
-some_kept : (t : Tables) (e : Entry) (gs : List Given) → SomeOf (Did t e) gs → Kept t e
+some_kept : (t : Tables) (e : Entry) (gs : List Given) → SomeOf (Did t e) gs → KeepsOwner t e
 some_kept t e [] some = absurd some
 some_kept t e (g ∷ gs) (inl did) = did_kept t e g did
 some_kept t e (g ∷ gs) (inr later) = some_kept t e gs later
 
-pub kept : Below → (t : Tables) (e : Entry) → IsStep t e → Kept t e
+pub kept : Below → (t : Tables) (e : Entry) → IsStep t e → KeepsOwner t e
 kept laws t e step = on (steps_of laws t e step) where
-  on : Steps t e → Kept t e
+  on : Steps t e → KeepsOwner t e
   on (inl p) = record { owner = p.owner; edition = p.edition; acts = p.acts_are }
   on (inr (inl rests)) = record {
     owner = rests.tables.owner;
@@ -253,7 +253,7 @@ kept laws t e step = on (steps_of laws t e step) where
   on (inr (inr some)) = some_kept t e (commands_of t e.event) some
 
 -- a fact of the owner, the edition and the acts alone
-pub by_acts : (P : Edition → UserId → History → Type 0) (t : Tables) (e : Entry) → Kept t e
+pub by_acts : (P : Edition → UserId → History → Type 0) (t : Tables) (e : Entry) → KeepsOwner t e
     → P t.edition t.owner (followed_by t.acts e.acts) → P (after t e).edition (after t e).owner (after t e).acts
 by_acts P t e k p =
     subst (λ x. P x (after t e).owner (after t e).acts) (sym k.edition)
@@ -275,7 +275,7 @@ run_able laws start (e ∷ past) before run = stay_able laws (tables_from start 
 pub are_taken : Below → (t : Tables) (e : Entry) → IsStep t e → (w : ℕ) (u : UserId) → holder_in (after t e) w ≡ Some u
     → (holder_in t w ≡ Some u) ⊎ TakesIt t e w u
 are_taken laws t e step w u is =
-    let k : Kept t e = kept laws t e step in
+    let k : KeepsOwner t e = kept laws t e step in
     let there : holder t.edition t.owner (followed_by t.acts e.acts) w ≡ Some u =
     ap (λ x. holder t.edition t.owner x w) (sym k.acts) ∙ ap (λ x. holder t.edition x (after t e).acts w) (sym k.owner)
     ∙ ap (λ x. holder x (after t e).owner (after t e).acts w) (sym k.edition) ∙ is in

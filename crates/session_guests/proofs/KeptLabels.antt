@@ -37,7 +37,8 @@ use Rattle.session_laws.proofs.Settling.{focus_row, line_row}
 use Rattle.session_guests.specs.Naming.{MayName, IsNamed, WindowsStayIn}
 use Rattle.session_guests.proofs.Steps.{Did, Obeys, with_clients}
 use Rattle.session_guests.proofs.Gating.{Below, obeys_of, first_passed, then_passed}
-use Rattle.session_guests.proofs.CommandLabels.{serial, label_in, closed, opened, written_label, labels_kept, Kept}
+use Rattle.session_guests.proofs.CommandLabels.{serial, label_in, closed, opened, written_label, labels_kept}
+use Rattle.session_guests.proofs.CommandLabels.{KeepsLabel}
 use Rattle.session_guests.proofs.Parting.{did_x}
 
 -- ---- commands act on open windows
@@ -80,9 +81,9 @@ module _ (t : Tables) (w : ℕ) where
   did_named : (e : Entry) (g : Given) → IsRowOf t g.caller → Did t e g → Same (after t e) ⊎ MayName t w g
   did_named e g row d =
       on (deed_of g.order (does (with_clients t d.clients) g.caller g.order) d.deed
-      (Kept (with_clients t d.clients) g.caller row w g.order) d.does_it
+      (KeepsLabel (with_clients t d.clients) g.caller row w g.order) d.does_it
       (labels_kept (with_clients t d.clients) g.caller row w g.order)) where
-        on : Kept (with_clients t d.clients) g.caller row w g.order d.deed → Same (after t e) ⊎ MayName t w g
+        on : KeepsLabel (with_clients t d.clients) g.caller row w g.order d.deed → Same (after t e) ⊎ MayName t w g
         on (inl same) = inl (ap (λ ws. label_in ws w) d.tables.windows ∙ same)
         on (inr names) = inr (record { granted = did_x t e g d; acts = names })
 

@@ -27,7 +27,7 @@ use Rattle.session_guests.proofs.CommandActs.{IsActOf, is_mode}
 use Rattle.session_guests.proofs.Steps.{Did}
 use Rattle.session_guests.proofs.Events.{IsActIn, all_left}
 use Rattle.session_guests.proofs.Gating.{Below, Steps, steps_of, row_did}
-use Rattle.session_guests.proofs.Holding.{Kept, kept}
+use Rattle.session_guests.proofs.Holding.{KeepsOwner, kept}
 
 pub did_x : (t : Tables) (e : Entry) (g : Given) → Did t e g → has_x t g ≡ true
 did_x t e g d = passed_has_x t g.caller g.order d.passes
@@ -141,7 +141,7 @@ attached_is t a client =
     ∙ sym (any_reverse (λ (p : ℕ × UserId). p.0 == client) (map (λ (c : Client). (c.serial, c.user)) t.clients))
     ∙ ap (among client) (sym a.clients_are)
 
-pub stays_attached : (t : Tables) (e : Entry) → ActsAgree t → ActsAgree (after t e) → Kept t e → (client : ℕ)
+pub stays_attached : (t : Tables) (e : Entry) → ActsAgree t → ActsAgree (after t e) → KeepsOwner t e → (client : ℕ)
     → is_some (client_at t client) ≡ true → AllByRecursion (λ a. parts_it client a ≡ false) e.acts
     → is_some (client_at (after t e) client) ≡ true
 stays_attached t e before later k client is none =

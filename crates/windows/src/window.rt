@@ -54,7 +54,7 @@ impl Window {
     ghost use Rattle.windows.specs.Showing.{AreLines};
     ghost use Rattle.windows.specs.Writing.{Writes, Retitles, Resizes, HasFed};
 
-    /// A window that opens, with a blank screen. Errors: `BadTitle`, `NoMemory`.
+    /// A window that opens, with a blank screen. `NoMemory` if memory is refused.
     pub(crate) fn new(
         alloc: Global,
         serial: u32,
