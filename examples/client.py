@@ -1,12 +1,12 @@
 #!/usr/bin/env python3
-"""A client of muxd in Python 3's standard library: an example for other languages.  Nothing of it is proved.
+"""A client of muxd with Python 3's standard library: an example for other languages.  It isn't proved.
 
 usage: client.py attach SOCKET USER TOKEN                      this terminal as a client; C-a d detaches
-       client.py window SOCKET USER TOKEN [COMMAND [WORD..]]   a program (without words: $SHELL) as a window
-       client.py command SOCKET USER TOKEN LINE [WINDOW]       a command, for the window of that number
+       client.py window SOCKET USER TOKEN [COMMAND [WORD..]]   a program (default: $SHELL) as a window
+       client.py command SOCKET USER TOKEN LINE [WINDOW]       a command, for the window with that number
 
-TOKEN is the file of the user's token.  What goes over the socket is told in muxd(8), "The protocol".  Status: 0 behind
-detach, quit and what ends a window; 1 for a refusal or another end, which is said; 2 where the words aren't understood.
+TOKEN is the file of the user's token.  muxd(8), "The protocol", describes the bytes on the socket.  Status: 0 after
+detach, quit and the end of a window; 1 for a refusal or another end, with a message; 2 for invalid arguments.
 """
 import fcntl
 import os
@@ -42,7 +42,7 @@ class Connection:
         self.socket.sendall(struct.pack(">BH", kind, len(payload)) + payload)
 
     def send_all(self, kind, data):
-        """Sends keys or output of any length: a frame has at most 8192 bytes of it."""
+        """Sends keys or output of any length, in frames of at most 8192 bytes."""
         for at in range(0, len(data), MOST):
             self.send(kind, data[at : at + MOST])
 
@@ -61,7 +61,7 @@ class Connection:
             self.bytes = self.bytes[3 + length :]
         return found
 
-    # The first frame says who this is, and what it is to be.
+    # The first frame says the user, and whether the peer is a client, a window or a command.
 
     def attach(self, user, token, rows, cols):
         self.send(ATTACH, struct.pack(">HH", rows, cols) + token + user.encode())
@@ -71,7 +71,7 @@ class Connection:
         self.send(WINDOW, struct.pack(">HHH", rows, cols, keep) + token + bytes([len(name)]) + name + title.encode())
 
     def command(self, user, token, window, line):
-        """Gives a command; a window's number is 255 for none.  Returns the texts that are said, and why it ended."""
+        """Gives a command; the window is 255 for none.  Returns the texts, and the reason of GONE."""
         name = user.encode()
         self.send(COMMAND, bytes([window]) + token + bytes([len(name)]) + name + line.encode())
         said = []
@@ -96,9 +96,9 @@ def set_size(terminal, rows, cols):
 
 
 def attach(server, user, token):
-    """Keys from this terminal, draws to it, until the server says GONE."""
+    """Sends this terminal's keys and shows draws on it, until the server sends GONE."""
     if not os.isatty(0):
-        raise OSError("standard input is no terminal")
+        raise OSError("standard input is not a terminal")
     saved, resized = termios.tcgetattr(0), os.pipe()
     for end in resized:
         os.set_blocking(end, False)
@@ -123,16 +123,16 @@ def attach(server, user, token):
                         elif kind == SAY:
                             said = payload.decode()
                         elif kind == GONE:
-                            # (a SAY in front of 6 says what was refused)
+                            # A SAY before reason 6 says what was refused.
                             return payload[0] in (0, 4), said if said and payload[0] == 6 else WHY[payload[0]]
     finally:
         termios.tcsetattr(0, termios.TCSADRAIN, saved)
-        # arrow keys, keypad, wrapping, the cursor, renditions and the page as a shell wants them
+        # Resets arrow keys, keypad, wrapping, the cursor and renditions, and clears the page.
         os.write(1, b"\x1b[?1l\x1b>\x1b[?7h\x1b[?25h\x1b[m\x1b[H\x1b[J")
 
 
 def window(server, user, token, words):
-    """A program in a pseudo-terminal: what it prints goes to the server, and what is typed comes from there."""
+    """Runs a program in a pseudo-terminal: sends its output to the server, and types the server's INPUT."""
     rows, cols = size_of(0)
     rows = max(2, rows - 2)
     server.window(user, token, rows, cols, 100, os.path.basename(words[0])[:40])
@@ -148,7 +148,7 @@ def window(server, user, token, words):
                     if printed:
                         server.send(OUTPUT, printed)
                     else:
-                        # the program has ended
+                        # The program has ended.
                         os.close(terminal)
                         terminal = None
                         server.send(DETACH)
@@ -165,7 +165,7 @@ def window(server, user, token, words):
                     elif kind == GONE:
                         return payload[0] in (0, 3, 4), WHY[payload[0]]
     finally:
-        # the program is hung up by that
+        # This hangs the program up.
         if terminal is not None:
             os.close(terminal)
         if process:
@@ -188,7 +188,7 @@ def read_token(path):
     with open(path, "rb") as it:
         token = it.read().strip()
     if len(token) != 64 or token.strip(b"0123456789abcdef"):
-        raise OSError(f"{path} hasn't 64 digits of 0 to 9, a to f")
+        raise OSError(f"no token in {path}: it must have 64 digits of 0 to 9, a to f")
     return token
 
 

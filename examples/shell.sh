@@ -1,12 +1,12 @@
 #!/bin/sh
-# Two users share a shell, and the one who owns the session takes rights from the other.
+# Two users share a shell, and the owner of the session takes rights from the other user.
 #
-# A server, a shell as window 0, and two clients: ann, who owns the session, and bob.  What their terminals got is read
-# by vtcat, so that each step prints what each of them sees, ann's page on the left and bob's on the right.  The page of
-# a client has its window, the caption below it, and a line for what the client is told.
+# There are a server, a shell as window 0, and two clients: of ann, who owns the session, and of bob.  vtcat reads the
+# bytes for their terminals, so each step prints both pages, ann's on the left and bob's on the right.  A client's page
+# has its window, the caption below it, and a line for messages.
 #
-# Needs socat or script, and muxd, mux and vtcat: those of bin/, which make build makes, or what MUXD, MUX and VTCAT
-# name.  Nothing is left behind.
+# Needs perl, socat or script, and muxd, mux and vtcat: those of bin/, which make build makes, or those that MUXD, MUX
+# and VTCAT name.  It removes all its files.
 set -eu
 
 top=$(cd -- "$(dirname -- "$0")/.." && pwd)
@@ -24,7 +24,7 @@ trap 'exit 130' INT
 trap 'exit 141' PIPE
 trap 'exit 143' TERM
 
-# Behind quit everything has gone; else the server is ended here, and all that is attached to it ends, too.
+# After quit everything has ended.  Otherwise this ends the server, and with it everything that is attached.
 end() {
     [ -z "$server" ] || kill "$server" 2>/dev/null || :
     rm -rf -- "$folder"
@@ -37,7 +37,7 @@ for program in "$muxd" "$MUX" "$vtcat"; do
     }
 done
 
-# attach USER: a client whose keys come from a pipe and whose terminal is a file.
+# attach USER: starts a client whose keys come from a pipe and whose terminal is a file.
 attach() {
     mkfifo "$folder/$1.keys"
     : >"$folder/$1.terminal"
@@ -45,7 +45,7 @@ attach() {
         <"$folder/$1.keys" >"$folder/$1.terminal" &
 }
 
-# page USER: what the user's terminal shows.
+# page USER: prints the page of the user's terminal.
 page() {
     "$vtcat" --rows "$rows" --cols "$cols" <"$folder/$1.terminal" | grep '^|'
 }
@@ -64,7 +64,7 @@ until_shown() {
     done
 }
 
-# step TEXT: what was done, and what both see then.
+# step TEXT: prints the text, and both pages.
 step() {
     printf '\n%s\n\n' "$1"
     page ann >"$folder/ann.page"
@@ -72,7 +72,7 @@ step() {
     paste -d ' ' "$folder/ann.page" "$folder/bob.page"
 }
 
-# ended NAME PROCESS
+# ended NAME PROCESS: waits for the process, and prints its status.
 ended() {
     status=0
     wait "$2" || status=$?
@@ -95,14 +95,14 @@ PS1='$ ' "$top/contrib/mux-shell" --user ann --token "$folder/ann.token" --title
     --rows $((rows - 2)) --cols "$cols" sh &
 shell=$!
 
-# give [--window N] LINE: a command of ann from outside.
+# give [--window N] LINE: gives a command of ann from outside.
 give() {
     "$MUX" command --socket "$MUX_SOCKET" --user ann --token "$folder/ann.token" "$@"
 }
 until give windows | grep -q shell; do sleep 0.1; done
 
-# At first the session is ann's alone, and knows nobody else.  A new name gets nothing; bob gets r and w on window 0, and
-# no command but detach, so that he can't undo what ann takes from him; and nothing on windows that she opens later.
+# At first the session knows only ann.  A new name gets nothing.  bob gets r and w on window 0, and nothing on windows
+# that ann opens later; detach is the only command, so bob can't undo ann's changes.
 give 'multiuser on'
 give 'aclumask ?-rwx ??-x'
 give 'aclchg bob +rw 0'
@@ -140,7 +140,7 @@ step 'ann gives it back, but locks the window (writelock on); bob types "ls".'
 give --window 0 'writelock off'
 printf '\001:wall "go on, bob"\r' >&3
 until_shown bob '^|ann: go on, bob'
-step 'ann frees the lock, and says so to all (C-a: wall "go on, bob").'
+step 'ann frees the lock, and tells everybody (C-a: wall "go on, bob").'
 
 printf 'echo thanks\r' >&4
 until_shown bob '^|thanks'
@@ -149,9 +149,9 @@ step 'bob types "echo thanks".'
 
 give 'aclchg bob -r 0'
 until_shown bob '^|0 ?'
-step 'ann takes r from bob (aclchg bob -r 0): what his terminal showed is overwritten.'
+step 'ann takes r from bob (aclchg bob -r 0): the next draw overwrites the page of bob.'
 
-printf '\nann ends the session (quit); each of these ends with status 0:\n\n'
+printf '\nann ends the session (quit), and each of these ends with status 0:\n\n'
 give quit
 ended 'the client of ann' "$ann"
 ended 'the client of bob' "$bob"

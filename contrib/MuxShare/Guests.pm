@@ -7,13 +7,13 @@ use MuxShare::Wire;
 
 our @EXPORT = qw(mux_name);
 
-# How many seconds before the end a guest's time is announced.
+# How many seconds before its end a guest's time is announced.
 use constant WARNING => 60;
-# A guest may connect so often at once, and then once in so many seconds: each attaching writes entries to the session's
-# trail.  mux-join connects twice, once to ask and once to attach.
+# A guest may connect CONNECTIONS times at once, and then once in SECONDS_EACH seconds, since each attaching writes
+# entries to the session's trail.  mux-join connects twice, once to ask and once to attach.
 use constant { CONNECTIONS => 20, SECONDS_EACH => 5 };
 
-# Returns an account's name in the session: its own, or its number where mux can't have that name.
+# Returns an account's name in the session: its own, or its number if mux doesn't allow that name.
 sub mux_name {
     my ($account, $uid) = @_;
     return $account if $account =~ /^[a-z][a-z0-9_]{0,19}$/ && $account ne 'none';
@@ -34,7 +34,7 @@ sub accounts { my ($self) = @_; return map { $self->{guests}{$_}{account} } sort
 # Whether w was taken from all because the owner was away.
 sub was_taken { return $_[0]{was_taken} }
 
-# Gives owner's commands in turn, and returns what was said of the first that was refused, or ''.
+# Gives the owner's commands in turn.  Returns the first that was refused, with the reason, or ''.
 sub give_all {
     my ($self, @lines) = @_;
     for my $line (@lines) {
@@ -57,14 +57,14 @@ sub add {
     return "$account would have the same name here as somebody else ($name)" if $is_other;
     return no_shell() unless $self->{session}->has_shell;
     my $guest = $guests->{$uid};
-    # A new guest is known with no right at all, here and on windows to come, before anything is granted.
+    # A new guest has no right at all, here and on windows to come, before anything is granted.
     my @first = ("aclchg $name -rwx #?", "aclumask $name-rwx", "aclchg $name +x detach,scrollview");
     my $fault = $self->give_all($guest ? () : @first, "aclchg $name +r" . ($types ? 'w' : '') . ' 0');
     if ($fault ne '') {
         $self->{session}->give("acldel $name") unless $guest;
         return $fault;
     }
-    # The token comes last: up to here nothing that the guest sends is taken.
+    # The token comes last: before it, the session takes nothing that the guest sends.
     $self->{session}->add_user($name);
     $guest = $guests->{$uid} //= { name => $name, account => $account, types => 0, connections => CONNECTIONS,
         counted => time };
@@ -102,7 +102,7 @@ sub take_unwatched {
     $self->{was_taken} = 1;
 }
 
-# Takes w from all guests at the owner's wish, and says so.
+# Takes w from all guests because the owner asks for it, and tells everybody.
 sub take_back {
     my ($self) = @_;
     $self->{was_taken} = 0;
@@ -140,8 +140,8 @@ sub must_wait {
     return 0;
 }
 
-# Drops those whose time is over and warns those whose time is nearly over.  Returns the seconds until it is to be
-# called again, or undef.
+# Drops guests whose time is over and warns those whose time is nearly over.  Returns the seconds until its next call,
+# or undef.
 sub keep_time {
     my ($self) = @_;
     my $next;

@@ -11,7 +11,7 @@ use MuxShare::Relay;
 use MuxShare::Session;
 use MuxShare::Wire;
 
-# How many seconds the owner has to attach at first, and how many connections a guest may have that aren't terminals yet.
+# How many seconds the owner has to attach at first, and how many connections a guest may have open at once.
 use constant { COME => 10, PENDING => 12 };
 
 # PLACE is the folder, LOCK its lock, SCRIPTS the folder of mux-shell, TITLE the shell's.
@@ -23,12 +23,12 @@ sub new {
         %given{qw(place lock)},
         session => $session,
         guests  => MuxShare::Guests->new($session),
-        relays  => {},   # the guest's uid by process
+        relays  => {},   # the guest's uid, by process
         ending  => 0,
     }, $class;
 }
 
-# Removes what a killed keeper left in the place.
+# Removes the files that a killed keeper left in the place.
 sub sweep {
     my ($place) = @_;
     MuxShare::Session::end_orphan($place);
@@ -48,7 +48,7 @@ sub open_door {
     return $door;
 }
 
-# Returns the FIFO that each terminal of the owner's holds open: its end is the end of the last of them.
+# Returns the FIFO that each terminal of the owner holds open: it ends when the last of them ends.
 sub open_here {
     my ($self) = @_;
     my $path = "$self->{place}/own/here";
@@ -66,7 +66,7 @@ sub invite {
     return '';
 }
 
-# Keeps the session until it ends.  READY gets the line 'ready', or else dies with why there is none.
+# Keeps the session until it ends.  READY gets the line 'ready'; if the start fails, this dies with the reason.
 sub keep {
     my ($self, $ready, %of) = @_;
     umask 077;
@@ -94,14 +94,14 @@ sub keep {
     $self->{session}->end;
 }
 
-# Nobody may take a session that ends for one that is there.
+# Removes the door first, so that nobody takes an ending session for one that is there.
 sub close_door {
     my ($self) = @_;
     unlink "$self->{place}/door";
     close $self->{door};
 }
 
-# Nobody is let in before the owner is here.  Where they don't come (they were interrupted) the session ends.
+# Lets nobody in before the owner is here.  If the owner doesn't come, because they were interrupted, the session ends.
 sub serve {
     my ($self) = @_;
     my $latest = time + COME;
@@ -122,7 +122,7 @@ sub serve {
     }
 }
 
-# Looks which processes have ended.
+# Handles processes that have ended.
 sub reap {
     my ($self) = @_;
     sysread($self->{came}, my $signals, 512);
@@ -135,7 +135,7 @@ sub reap {
     }
 }
 
-# Looks whether the owner's last terminal is gone: then nobody types unwatched.
+# Looks whether the owner's last terminal is gone.  Then no guest may type, since nobody watches.
 sub look_here {
     my ($self) = @_;
     my $count = sysread($self->{here}, my $bytes, 512);
@@ -176,8 +176,8 @@ sub let_in {
     );
 }
 
-# Answers a line of mux-share, which comes at once: 'ok' and text, or 'fault' and why.  The answer to 'end' stays open as
-# long as this process lives: mux-share --end returns when everything is removed.
+# Answers a line of mux-share, which comes at once: 'ok' and text, or 'fault' and the reason.  The answer to 'end' stays
+# open as long as this process lives, so mux-share --end returns when everything is removed.
 sub answer_owner {
     my ($self, $peer) = @_;
     my $line = '';
@@ -194,7 +194,7 @@ sub answer_owner {
     push @{ $self->{enders} }, $peer if $self->{ending};
 }
 
-# Does what mux-share asks.  Returns a fault or '', and text.
+# Does a request of mux-share.  Returns a fault or '', and text.
 sub command {
     my ($self, $word, @rest) = @_;
     my $guests = $self->{guests};

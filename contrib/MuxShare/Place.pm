@@ -1,5 +1,5 @@
 # The folder of a shared session: /tmp/mux-UID, which others can pass but not list, with the socket that they reach
-# (door) and a private folder (own).  If somebody else has put something at that name, it is /tmp/mux-UID.XXXXXX.
+# (door) and a private folder (own).  If something of another account has that name, it is /tmp/mux-UID.XXXXXX.
 package MuxShare::Place;
 use strict;
 use warnings;
@@ -15,7 +15,7 @@ my $around = $ENV{MUX_PLACES} // '/tmp';
 
 use constant { MODE => 0711, TRIES => 50 };
 
-# Stops unless nobody but an entry's owner may rename or remove it in the folder around.  Links to that are followed.
+# Ends with a fault, unless in the folder around only an entry's owner may rename or remove it.  Follows links.
 sub check_around {
     my @at = stat $around or fault("can't look at $around: $!");
     my ($mode, $owner) = @at[2, 4];
@@ -50,7 +50,7 @@ sub own_places {
     return grep { is_place($_) } map { "$around/$_" } @names;
 }
 
-# Returns six letters that nobody foresees.
+# Returns six letters that nobody can predict.
 sub letters {
     open(my $random, '<', '/dev/urandom') or fault("can't open /dev/urandom: $!");
     my $bytes = read_exactly($random, 6) // fault('/dev/urandom gives no bytes');

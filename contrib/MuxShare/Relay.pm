@@ -17,7 +17,7 @@ use constant { DONE => "\0", REFUSED => "\6" };
 # An ATTACH has lines and columns in two bytes each, 64 digits of a token, and a name.
 use constant SIZE => 4;
 use constant SHORTEST_ATTACH => SIZE + 64 + 1;
-# The status of a relay whose guest was attached; else it is another one.
+# The status of a relay whose guest was attached; any other relay has another one.
 use constant ATTACHED => 0;
 
 sub leave { my ($status) = @_; POSIX::_exit($status) }
@@ -28,7 +28,7 @@ sub refuse {
     leave(1);
 }
 
-# Returns the first frame's kind and payload.  Whoever is too slow or too long is left.
+# Returns the first frame's kind and payload.  Ends if the frame is too slow or too long.
 sub first_frame {
     my ($client) = @_;
     local $SIG{ALRM} = 'DEFAULT';
@@ -41,7 +41,7 @@ sub first_frame {
     return ($kind, $payload);
 }
 
-# Copies what muxd sends until either side ends, in a process of its own.
+# Copies muxd's bytes to the guest until either side ends, in a process of its own.
 sub copy_back {
     my ($server, $client) = @_;
     my $process = fork;
@@ -52,7 +52,7 @@ sub copy_back {
     leave(0);
 }
 
-# Copies what the guest sends until either side ends, or until the keeper is gone (its pipe LIFE ends).
+# Copies the guest's bytes to muxd until either side ends, or until the keeper is gone (its pipe LIFE ends).
 sub copy_forth {
     my ($client, $server, $life) = @_;
     while (1) {
@@ -66,13 +66,14 @@ sub copy_forth {
     }
 }
 
-# Serves one connection, CLIENT, of a guest, and ends this process.  SOCKET is muxd's, TOKEN the guest's, WAIT the seconds
-# until the guest may join again or 0, ATTACHED_NOW how many terminals they have, JOINED is called once they are in.
+# Serves one connection of a guest, CLIENT, and ends this process.  SOCKET is muxd's, TOKEN the guest's, WAIT the
+# seconds until the guest may join again or 0, and ATTACHED_NOW their number of terminals.  It calls JOINED once they are
+# in.
 sub relay {
     my (%of) = @_;
     my ($kind, $payload) = first_frame($of{client});
     if ($kind == COMMAND) {
-        # mux-join asks whether it would be let in.  The session isn't asked.
+        # mux-join asks whether it would be let in.  The session doesn't have to know.
         write_all($of{client}, frame(WELCOME, "\0") . frame(SAY, 'welcome') . frame(GONE, DONE));
         leave(1);
     }

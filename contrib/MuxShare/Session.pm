@@ -21,13 +21,13 @@ sub new {
 
 sub owner { return $_[0]{owner} }
 
-# The words by which a program of mux reaches the session as its owner.
+# Returns the options by which a program of mux reaches the session as its owner.
 sub as_owner {
     my ($self) = @_;
     return ('--socket', $self->{socket}, '--user', $self->{owner}, '--token', "$self->{own}/token");
 }
 
-# Gives a command as the owner.  Returns whether it was done, and what was said.
+# Gives a command as the owner.  Returns whether it was done, and the answer.
 sub give {
     my ($self, $line) = @_;
     pipe(my $from, my $to) or return (0, "can't make a pipe: $!");
@@ -56,7 +56,7 @@ sub tell {
     return $self->give("wall '$text'");
 }
 
-# Returns whether window 0 still is the shared shell: the owner may renumber and retitle windows.
+# Returns whether window 0 is still the shared shell: the owner can renumber and retitle windows.
 sub has_shell {
     my ($self) = @_;
     my ($is_done, $said) = $self->give('windows');
@@ -98,7 +98,8 @@ sub remove_user {
     $self->write_users;
 }
 
-# Waits until a condition holds, or until a process that it depends on has ended, or too long.
+# Waits until a condition holds, until a process that it depends on has ended, or until the time is over.  Returns
+# whether the condition holds.
 sub wait_for {
     my ($process, $holds, $seconds) = @_;
     for (1 .. $seconds / STEP) {
@@ -124,7 +125,7 @@ sub start_server {
     open(STDOUT, '>&', \*STDERR) or die "can't write to $self->{own}/log: $!\n";
     $self->add_user($self->{owner});
     $self->write_private('token', "$self->{tokens}{ $self->{owner} }\n");
-    # Whoever becomes known begins with nothing.
+    # A name that becomes known begins with nothing.
     $self->write_private('setup', "multiuser on\naclumask ?-rwx ??-x\n");
     $self->{server} = spawn(sub { chdir '/' }, $ENV{MUXD} // 'muxd', '--socket', $self->{socket},
         '--users', "$self->{own}/users", '--setup', "$self->{own}/setup");
@@ -152,20 +153,20 @@ sub start_shell {
 # Returns whether the command ended by itself a moment after it began.
 sub ended_at_once { my ($self) = @_; return !wait_for($self->{shell}, sub { 0 }, 1) && !kill(0, $self->{shell}) }
 
-# Notes that a process is gone, and returns whether the session ends by that.
+# Notes that a process has ended, and returns whether this ends the session.
 sub is_ended_by {
     my ($self, $process) = @_;
     $self->{server} = undef if $process == ($self->{server} // 0);
     return !$self->{server} || $process == $self->{shell};
 }
 
-# Ends the session and removes what it had.
+# Ends the session and removes its files.
 sub end {
     my ($self) = @_;
     kill 'TERM', $self->{shell} if $self->{shell} && !$self->{server};
     $self->give('quit') if $self->{server} && -S $self->{socket};
     wait_for($self->{server}, sub { 0 }, STOP) if $self->{server};
-    # Nobody else may write in the place, and the folder around lets nobody else rename it.
+    # Only this account may write in the place, and the folder around lets no other account rename it.
     system 'rm', '-rf', '--', $self->{place};
 }
 

@@ -1,4 +1,4 @@
-# Sockets, frames and processes: what the parts of mux-door share.
+# Sockets, frames and processes, for the parts of mux-door.
 package MuxShare::Wire;
 use strict;
 use warnings;
@@ -9,7 +9,7 @@ use Socket qw(PF_UNIX SOCK_STREAM SOL_SOCKET SO_PEERCRED pack_sockaddr_un);
 
 our @EXPORT = qw(NOBODY fault log_line connected peer_uid write_all read_exactly frame spawn pause);
 
-# The uid that the kernel shows for every account of a foreign user namespace, so it names nobody in particular.
+# The uid that the kernel shows for every account of a foreign user namespace, so it names no account.
 use constant NOBODY => 65534;
 
 # Ends this program with a message and a status (default: 1).
@@ -33,7 +33,7 @@ sub connected {
     return $socket;
 }
 
-# Returns the uid of the other end as the kernel knows it: whoever connected, or whoever began to listen.
+# Returns the uid of the other end as the kernel knows it: of the account that connected, or that began to listen.
 sub peer_uid {
     my ($socket) = @_;
     my $answer = getsockopt($socket, SOL_SOCKET, SO_PEERCRED) or return NOBODY;
@@ -54,7 +54,7 @@ sub write_all {
     return 1;
 }
 
-# Returns exactly LENGTH bytes, or undef where fewer come before the end.
+# Returns exactly LENGTH bytes, or undef if fewer come before the end.
 sub read_exactly {
     my ($from, $length) = @_;
     my $bytes = '';
@@ -72,7 +72,7 @@ sub frame {
     return chr($kind) . pack('n', length $payload) . $payload;
 }
 
-# Starts a program, after BEFORE was called in the new process, and returns the process.
+# Starts a program, after calling BEFORE in the new process, and returns the process.
 sub spawn {
     my ($before, @words) = @_;
     my $process = fork;

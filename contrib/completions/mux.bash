@@ -1,6 +1,6 @@
-# Completions of bash for muxd, mux, muxsim, mux-trail, vtcat and the scripts of mux: the words that their --help tells.
+# Completions of bash for muxd, mux, muxsim, mux-trail, vtcat and the scripts of mux: the options that --help lists.
 
-# The options, or with the word Commands the subcommands, that a help text on standard input lists.
+# Prints the options that a help text on standard input lists, or with the word Commands its subcommands.
 _mux_listed() {
     local line options='^ +(-[A-Za-z], )?(--[a-z-]+)' commands='^  ([a-z]+)  ' part=''
     while IFS= read -r line; do
@@ -34,14 +34,14 @@ _mux() {
     --user | --rows | --cols | --title | --keep | --window | --read | --session | --for | --wait | --owner | --at | --since) return ;;
     --presets) return ;;
     *)
-        # mux and mux-trail have subcommands, each with options of its own
+        # mux and mux-trail have subcommands, each with its own options.
         if [[ ${program##*/} == mux || ${program##*/} == mux-trail ]]; then
             verb=${COMP_WORDS[1]}
             if ((COMP_CWORD == 1)) || [[ $verb == help && $COMP_CWORD -eq 2 ]]; then
                 words=$("$program" --help 2>/dev/null | _mux_listed Commands)
                 ((COMP_CWORD > 1)) || words="$words --help --version"
             elif [[ ${program##*/} == mux-trail && $current != -* ]]; then
-                # a trail's file, by the shell itself
+                # The shell itself completes a trail's file.
                 return
             else
                 words=$("$program" "$verb" --help 2>/dev/null | _mux_listed)
@@ -54,7 +54,7 @@ _mux() {
     mapfile -t COMPREPLY < <(compgen -W "$words" -- "$current")
 }
 
-# In a checkout the scripts are what can be run in contrib/; tools/dist writes all names here.
+# In a checkout the scripts are the executable files of contrib/; tools/dist writes all names here.
 _mux_names="muxd mux muxsim mux-trail vtcat $(cd -- "${BASH_SOURCE[0]%/*}/.." && find . -maxdepth 1 -type f -perm -u+x -printf '%f ')"
 # shellcheck disable=SC2086
 complete -F _mux -o bashdefault -o default $_mux_names

@@ -509,7 +509,8 @@ def detached_windows():
             status, out, said, took = begun(fake.path, fake.token, 1)
             check("a server that lets no window in", (status, out) == (1, b"") and took < 5,
                   f"{status} {out} {took:.1f} s")
-            wanted = f"mux-shell: no window: no answer from {fake.path} within 1 s (--wait)\n"
+            wanted = (f"mux-shell: no window: no answer from {fake.path} within 1 s:"
+                      " raise --wait, or see whether the server hangs\n")
             check("and it says so", said == wanted.encode(), str(said))
         with Server() as server:
             token = token_of(server)

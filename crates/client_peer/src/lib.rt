@@ -1,5 +1,5 @@
-//! A peer of a server, for all of its threads: its connection, what goes to the server, and what came
-//! from it.
+//! A peer of a server, for all of its threads: its connection, the frames that go to the server, and
+//! the messages that came from it.
 #![tactic(auto)]
 
 mod opening;

@@ -1,4 +1,4 @@
-//! What a connection begins with, and the files that the words name.
+//! The connection with its first frame, and the files that the arguments name.
 
 use crate::outgoing::PATIENCE;
 use attach_proto::Token;
@@ -18,7 +18,7 @@ const OTHERS_READ: u32 = 0o044;
 
 const OTHERS_WRITE: u32 = 0o022;
 
-// What is wrong in the words, whatever the token is.
+// A fault of the arguments, whatever the token is.
 fn judge_words(alloc: Global, words: &Words<'_>) -> Result<(), Fault> {
     let Some(zeros) = Token::read(&[b'0'; 64]) else {
         return Err(Fault::NoToken);
@@ -29,7 +29,7 @@ fn judge_words(alloc: Global, words: &Words<'_>) -> Result<(), Fault> {
     }
 }
 
-// Whether others may use a file so. A terminal or a pipe is none.
+// Whether a file's mode has one of these bits. A terminal or a pipe isn't a file here.
 fn is_open<R: fs::Files<File = File>>(rt: &R, path: &str, mode: u32) -> bool {
     match fs::metadata(rt, path) {
         Ok(found) => found.is_file() && found.mode() & mode != 0,
@@ -37,7 +37,7 @@ fn is_open<R: fs::Files<File = File>>(rt: &R, path: &str, mode: u32) -> bool {
     }
 }
 
-/// Warns of a token's file that others may read.
+/// Warns on standard error of a token's file that others may read.
 pub fn warn_of_token<R: fs::Files<File = File>, E: Write>(rt: &R, path: &str, errors: &mut E) {
     if is_open(rt, path, OTHERS_READ) {
         let _ = writeln!(
@@ -52,7 +52,7 @@ fn token_of(file: &[u8]) -> Result<Token, Fault> {
     Token::read(digits).ok_or(Fault::NoToken)
 }
 
-// The token of a file, which nobody else may write.
+// Reads the token of a file; a file that others may write is refused.
 fn read_token<R: fs::Files<File = File> + AllocGlobal>(rt: &R, path: &str) -> Result<Token, Fault> {
     if is_open(rt, path, OTHERS_WRITE) {
         return Err(Fault::Writable);
@@ -63,7 +63,8 @@ fn read_token<R: fs::Files<File = File> + AllocGlobal>(rt: &R, path: &str) -> Re
     }
 }
 
-// A FIFO is opened for both ways: that waits for nobody, and its last writer's end is none here.
+// Opens a FIFO for reading and writing: that waits for no writer, and the last writer's end isn't the
+// end of the file.
 fn open_sizes<R: fs::Files<File = File>>(rt: &R, way: Way, path: &str) -> io::Result<File> {
     let mut options = OpenOptions::new();
     match way {
@@ -73,7 +74,7 @@ fn open_sizes<R: fs::Files<File = File>>(rt: &R, way: Way, path: &str) -> io::Re
     options.open(rt, path)
 }
 
-// The sizes' file, where the words name one.
+// The sizes' file, if the arguments name one.
 fn sizes_of<R: fs::Files<File = File>>(rt: &R, words: &Words<'_>) -> Result<Option<File>, Fault> {
     match words.sizes {
         Some(path) => match open_sizes(rt, words.way, path) {
@@ -108,7 +109,8 @@ impl Files {
     }
 }
 
-/// Who connects to a server's socket. (A thread can't be handed `Net`, which has types of its own.)
+/// Something that connects to a server's socket. (A thread can't be handed `Net`, which has types of
+/// its own.)
 pub trait Connects {
     fn reach(&self, socket: &str) -> io::Result<UnixStream>;
 }
@@ -119,11 +121,11 @@ impl Connects for HostRuntime {
     }
 }
 
-/// Where a connection is made, and what it begins with.
+/// The socket to connect to, and the first frame to send.
 #[derive(Drop)]
 pub struct Door {
     socket: String,
-    /// Empty for one that sends nothing.
+    /// Empty for `mux ping`, which sends nothing.
     frame: Vec<u8>,
     can_leave: bool,
 }
@@ -137,7 +139,7 @@ impl Door {
         })
     }
 
-    // The first frame goes, and of one who sends none the end.
+    // Sends the first frame; if there is none, ends the sending side.
     fn begin(&self, stream: &UnixStream) -> io::Result<()> {
         if self.frame.is_empty() {
             return stream.shutdown(Shutdown::Write);
@@ -165,7 +167,7 @@ impl Door {
     }
 }
 
-// The first frame, with the token of the file that the words name.
+// The first frame, with the token of the file that the arguments name.
 fn frame_for<R: fs::Files<File = File> + AllocGlobal>(
     rt: &R,
     words: &Words<'_>,
@@ -178,7 +180,7 @@ fn frame_for<R: fs::Files<File = File> + AllocGlobal>(
     Ok(words.first_frame(rt.alloc(), token)?)
 }
 
-// Makes /dev/null of a standard stream that is closed. The answer is whether one was.
+// Opens /dev/null in the place of a closed standard stream. Returns whether one was closed.
 fn fill<R: fs::Files<File = File>>(rt: &R, kept: &mut Vec<File>) -> io::Result<bool> {
     let file = fs::open(rt, "/dev/null")?;
     if file.as_raw_fd() > 2 {
@@ -188,7 +190,7 @@ fn fill<R: fs::Files<File = File>>(rt: &R, kept: &mut Vec<File>) -> io::Result<b
     Ok(true)
 }
 
-// Standard streams that are closed are /dev/null from now on, so that nothing else becomes one.
+// Opens /dev/null for each closed standard stream, so that no other file becomes one.
 fn fill_closed<R: fs::Files<File = File>>(rt: &R, kept: &mut Vec<File>) -> io::Result<()> {
     for _ in 0..3 {
         if !fill(rt, kept)? {
@@ -198,8 +200,9 @@ fn fill_closed<R: fs::Files<File = File>>(rt: &R, kept: &mut Vec<File>) -> io::R
     Ok(())
 }
 
-/// Reads and opens the files that the words name. What is wrong is found in the words first, then in
-/// files. What stands for closed streams is put into a list, and stays as long as that.
+/// Reads and opens the files that the arguments name. A fault of the arguments comes before one of
+/// files. The files that replace closed standard streams are put into `kept`, and stay open as long
+/// as that list.
 pub fn prepare<R: fs::Files<File = File> + AllocGlobal>(
     rt: &R,
     words: &Words<'_>,

@@ -13,11 +13,11 @@ use std::{io, mem, thread};
 /// How long a socket that has a limit may take nothing, in milliseconds, before a frame waits.
 pub const PATIENCE: u64 = 20;
 
-// So many bytes may wait for the socket before the input isn't read any more.
+// While more bytes than this wait for the socket, the input isn't read.
 const MOST_AHEAD: usize = 16_777_216;
 
-// Writes some bytes: all, unless the socket has a limit and takes nothing for so long. The answer is
-// how many.
+// Writes all bytes, or fewer if the socket has a time limit and takes nothing for that time. Returns
+// how many were written.
 fn write_some(stream: &UnixStream, bytes: &[u8]) -> io::Result<usize> {
     let mut stream = stream;
     let mut at = 0usize;
@@ -38,7 +38,7 @@ fn write_some(stream: &UnixStream, bytes: &[u8]) -> io::Result<usize> {
 }
 
 impl Outbox {
-    // Puts a frame down, or writes it. The answer is whether some of it is left that nobody writes.
+    // Writes a frame, and keeps the rest. Returns whether there is a rest and no thread writes it yet.
     fn put(&mut self, stream: Option<&UnixStream>, frame: &[u8]) -> Result<bool, Fault> {
         let written = match stream {
             _ if self.is_lost => return Err(Fault::Ended),
@@ -56,7 +56,7 @@ impl Outbox {
         Ok(!mem::replace(&mut self.is_held, true))
     }
 
-    // What waits. None where nothing does: then no thread writes it any more.
+    // Takes the frames that wait. If there are none, the calling thread stops writing.
     fn take(&mut self, alloc: Global) -> Option<Vec<u8>> {
         if self.frames.is_empty() {
             self.is_held = false;
@@ -66,7 +66,7 @@ impl Outbox {
     }
 }
 
-// Writes frames, however long that takes.
+// Writes all of the frames, no matter how long that takes.
 fn write_out<R: Wait, I, O>(rt: &R, shared: &Shared<I, O>, frames: &[u8]) -> io::Result<()> {
     let Some(stream) = shared.stream.get() else {
         return Err(io::Error::from(ErrorKind::NotConnected));
@@ -82,7 +82,7 @@ fn write_out<R: Wait, I, O>(rt: &R, shared: &Shared<I, O>, frames: &[u8]) -> io:
     Ok(())
 }
 
-// Writes what waits, until nothing does.
+// Writes waiting frames until none is left.
 fn flush<R: Wait, I, O>(rt: &R, shared: &Shared<I, O>) {
     for _ in rt.forever() {
         let Some(frames) = shared.outbox.lock(rt).take(shared.alloc) else {
@@ -97,7 +97,7 @@ fn flush<R: Wait, I, O>(rt: &R, shared: &Shared<I, O>) {
     }
 }
 
-// Starts a thread that writes what waits.
+// Starts a thread that writes the waiting frames.
 fn start_flushing<
     R: Threads + Wait + Copy + Send + 'static,
     I: Read + Send + Drop + 'static,
@@ -115,7 +115,7 @@ fn start_flushing<
     }
 }
 
-/// Sends one frame.
+/// Sends one frame, or leaves it to a thread if the socket doesn't take it at once.
 pub fn send<
     R: Threads + Wait + Copy + Send + 'static,
     I: Read + Send + Drop + 'static,
@@ -128,7 +128,7 @@ pub fn send<
     Ok(())
 }
 
-/// Sends that the peer goes: its frame is a head alone.
+/// Sends DETACH, a frame without a payload.
 pub fn send_detach<
     R: Threads + Wait + Copy + Send + 'static,
     I: Read + Send + Drop + 'static,
@@ -137,7 +137,7 @@ pub fn send_detach<
     send(rt, shared, &head_of(Kind::Detach, &[]))
 }
 
-/// The peer is welcome: what waits goes out.
+/// Sends the waiting frames, once the server has welcomed the peer.
 pub fn let_out<
     R: Threads + Wait + Copy + Send + 'static,
     I: Read + Send + Drop + 'static,
@@ -153,7 +153,7 @@ pub fn let_out<
     Ok(())
 }
 
-/// Waits while too much waits for the socket.
+/// Waits while too many bytes wait for the socket.
 pub fn wait_for_room<R: Wait, I, O>(rt: &R, shared: &Shared<I, O>) {
     let outbox = shared.outbox.lock(rt);
     let _ = shared.room.wait_while(rt, outbox, |outbox| {

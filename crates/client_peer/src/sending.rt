@@ -1,4 +1,4 @@
-//! What goes to the server: standard input, and sizes.
+//! Sends standard input and sizes to the server.
 
 ghost use Rattle.std.specs.Io.{ReadsAtMost};
 
@@ -13,10 +13,10 @@ use std::sync::{Arc, Wait};
 use std::thread::Threads;
 use std::{io, thread};
 
-// The errno of a terminal whose other end is gone: the input ends.
+// The errno of a terminal whose other end has gone: it counts as the end of the input.
 const EIO: i32 = 5;
 
-// Reads the input. No bytes are its end.
+// Reads the input. 0 bytes mean its end.
 fn read_input<I: Read>(input: &mut I, buffer: &mut [u8]) -> io::Result<usize>
     ensures { ReadsAtMost result buffer.new }
 {
@@ -41,7 +41,7 @@ fn size_frame(alloc: Global, size: Size) -> Result<Vec<u8>, WriteFault> {
 }
 
 impl Typing {
-    // What is sent of the input, and how far it has come.
+    // The bytes of the input to be sent, and the stage that it has reached.
     fn take(&mut self, alloc: Global, input: &[u8]) -> Result<(Vec<u8>, Stage), AllocError> {
         let mut bytes = Vec::new(alloc);
         self.reads = self.reads.wrapping_add(1);
@@ -54,7 +54,7 @@ impl Typing {
     }
 }
 
-// Sends what was read. The answer is whether the socket takes more.
+// Sends input that was read. Returns whether the socket takes more.
 fn send_input<
     R: Threads + Wait + Copy + Send + 'static,
     I: Read + Send + Drop + 'static,
@@ -67,12 +67,12 @@ fn send_input<
     match send(rt, shared, &frame) {
         Ok(()) => Ok(true),
         Err(Fault::NoMemory) => Err(Fault::NoMemory),
-        // What is still to be read of the socket says why it takes no more.
+        // The messages that are still to be read say why the socket takes no more.
         Err(_) => Ok(false),
     }
 }
 
-// Sends what was read, but for the byte that leaves. The answer is whether to go on.
+// Sends input that was read, without the byte that leaves. Returns whether to go on.
 fn send_typed<
     R: Threads + Wait + Copy + Send + 'static,
     I: Read + Send + Drop + 'static,
@@ -87,7 +87,7 @@ fn send_typed<
     Ok(takes && !matches!(stage, Stage::Left))
 }
 
-/// How reading the input goes on.
+/// What to do after a read of the input.
 #[derive(Clone, Copy)]
 enum Next {
     Read,
@@ -97,7 +97,7 @@ enum Next {
     Stop,
 }
 
-// Reads the input once, and sends what it read.
+// Reads the input once, and sends it.
 fn send_next<
     R: Threads + Wait + Copy + Send + 'static,
     I: Read + Send + Drop + 'static,
@@ -117,7 +117,7 @@ fn send_next<
     Ok(if goes_on { Next::Read } else { Next::Stop })
 }
 
-// Sends what it reads, until the input ends. The answer is whether that is to be told.
+// Reads and sends the input until its end. Returns whether to send DETACH then.
 fn send_all<
     R: Threads + Wait + Copy + Send + 'static,
     I: Read + Send + Drop + 'static,
@@ -134,7 +134,7 @@ fn send_all<
     Ok(true)
 }
 
-// Sends the input, and at its end that the peer goes.
+// Sends the input, and DETACH at its end.
 fn send_to_end<
     R: Threads + Wait + Copy + Send + 'static,
     I: Read + Send + Drop + 'static,
@@ -152,7 +152,7 @@ fn send_to_end<
     }
 }
 
-// Sends a size. The answer is whether to go on.
+// Sends a size. Returns whether to go on.
 fn send_size<
     R: Threads + Wait + Copy + Send + 'static,
     I: Read + Send + Drop + 'static,
@@ -164,7 +164,7 @@ fn send_size<
     }
 }
 
-// Sends the last size of those that these bytes end. The answer is whether to go on.
+// Sends the last of the sizes whose lines these bytes complete. Returns whether to go on.
 fn send_last<
     R: Threads + Wait + Copy + Send + 'static,
     I: Read + Send + Drop + 'static,
@@ -182,7 +182,7 @@ fn send_last<
     }
 }
 
-// Sends the last size of those that a read brings. The answer is whether to go on.
+// Reads the sizes' file once, and sends the last size. Returns whether to go on.
 fn send_read<
     R: Threads + Wait + Copy + Send + 'static,
     I: Read + Send + Drop + 'static,
@@ -200,7 +200,7 @@ fn send_read<
     }
 }
 
-// Sends the last size of those that came, until the file ends.
+// Sends sizes until the file ends; of several that came at once only the last.
 fn send_sizes<
     R: Threads + Wait + Copy + Send + 'static,
     I: Read + Send + Drop + 'static,
@@ -216,7 +216,7 @@ fn send_sizes<
     Ok(())
 }
 
-// Starts a thread that sends the input. It isn't joined: it may wait for its source for good, and the
+// Starts a thread that sends the input. Nobody joins it: it may wait for its source for ever, and the
 // program ends without it.
 fn start_input<
     R: Threads + Wait + Copy + Send + 'static,
@@ -236,7 +236,7 @@ fn start_input<
     }
 }
 
-// Starts a thread that sends the sizes that a file says.
+// Starts a thread that sends the sizes from a file.
 fn start_sizes<
     R: Threads + Wait + Copy + Send + 'static,
     I: Read + Send + Drop + 'static,
@@ -255,7 +255,7 @@ fn start_sizes<
     }
 }
 
-/// Starts the threads that read a peer's sources, unless they are read.
+/// Starts the threads that read a peer's input and sizes, unless they run already.
 pub fn start_sources<
     R: Threads + Wait + Copy + Send + 'static,
     I: Read + Send + Drop + 'static,

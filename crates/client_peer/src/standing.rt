@@ -8,35 +8,35 @@ use std::fs::File;
 use std::os::unix::net::UnixStream;
 use std::sync::{Condvar, Mutex, OnceLock, Wait};
 
-/// What waits to be written, and how the peer ended.
+/// The bytes that wait to be written, and how the peer ended.
 #[derive(Drop)]
 pub struct Standing {
     pub way: Way,
     /// A window's first size.
     pub rows: u16,
     pub columns: u16,
-    /// For standard output.
+    /// Bytes for standard output.
     pub bytes: Vec<u8>,
-    /// For the sizes' file, a line each.
+    /// Lines for the sizes' file.
     pub sizes: Vec<u8>,
-    /// A thread writes, and takes what waits before it stops.
+    /// A thread is writing. Before it stops, it takes the bytes that wait.
     pub is_writing: bool,
-    /// How many writings began.
+    /// How many writes began.
     pub writings: u64,
-    /// Another thread looks from time to time whether a writing takes long.
+    /// Another thread looks from time to time whether a write takes long.
     pub is_watched: bool,
-    /// A client or a window is let in.
+    /// The server let the client or the window in.
     pub is_welcome: bool,
-    /// What the session said last before it let the peer in.
+    /// The session's last text before it let the peer in.
     pub said: Option<String>,
-    /// The end was read; what came before it may still be written.
+    /// The end was read; bytes that came before it may still have to be written.
     pub is_over: bool,
     pub end: Option<Result<Why, Fault>>,
     /// Why the input ended before its end.
     pub input: Option<Fault>,
-    /// A line of the sizes' file said no size.
+    /// A line of the sizes' file wasn't a size.
     pub has_dropped: bool,
-    /// How far the input has come that has a byte to leave by, and how often it was read.
+    /// The stage of the input in looking for the byte that leaves, and how many times it was read.
     pub stage: Stage,
     pub reads: u64,
 }
@@ -63,14 +63,14 @@ impl Standing {
         }
     }
 
-    /// The peer ends: the first cause holds.
+    /// Notes how the peer ended. Only the first call counts.
     pub fn end_by(&mut self, end: Result<Why, Fault>) {
         if self.end.is_none() {
             self.end = Some(end);
         }
     }
 
-    /// How the peer ended: a fault of its input comes before a good end.
+    /// How the peer ended. A fault of its input replaces a good end.
     pub fn ending(&self) -> Result<Why, Fault> {
         match (self.end, self.input) {
             (Some(Ok(_)), Some(fault)) => Err(fault),
@@ -80,14 +80,14 @@ impl Standing {
     }
 }
 
-/// What a reader of the socket has.
+/// The state of reading the socket.
 #[derive(Drop)]
 pub struct Intake {
     pub reader: Reader,
     pub is_welcome: bool,
-    /// The sources are read, and frames go out.
+    /// The threads that read the sources were started.
     pub has_begun: bool,
-    /// The peer's end was read: nothing behind it counts.
+    /// The peer's end was read: no byte after it counts.
     pub is_over: bool,
 }
 
@@ -102,15 +102,16 @@ impl Intake {
     }
 }
 
-/// What is read once the peer is welcome, or once its server lets it wait.
+/// The files to read once the server has let the peer in, or has taken long to do so.
 #[derive(Drop)]
 pub struct Sources<I> {
     pub input: Option<I>,
-    /// The file of a client's sizes.
+    /// The file from which a client's sizes are read.
     pub asked: Option<File>,
 }
 
-/// The input that has a byte to leave by. Is held from a reading of the input until that was sent.
+/// Looks for the byte that leaves in the input. Its lock is held from a read of the input until it
+/// was sent.
 #[derive(Drop)]
 pub struct Typing {
     pub reader: Option<LeaveReader>,
@@ -127,11 +128,11 @@ impl Typing {
     }
 }
 
-/// Frames that the socket didn't take yet.
+/// Frames that the socket hasn't taken yet.
 #[derive(Drop)]
 pub struct Outbox {
     pub frames: Vec<u8>,
-    /// A thread writes them, or will once the peer is welcome.
+    /// A thread writes them, or will do so once the server has let the peer in.
     pub is_held: bool,
     /// The socket takes no more.
     pub is_lost: bool,
@@ -147,7 +148,7 @@ impl Outbox {
     }
 }
 
-/// Where is written to: one thread at a time.
+/// The files to write to, one thread at a time.
 #[derive(Drop)]
 pub struct Outlet<O> {
     pub output: O,
@@ -159,23 +160,23 @@ pub struct Outlet<O> {
 pub struct Shared<I, O> {
     pub alloc: Global,
     pub way: Way,
-    /// Whether a byte of the input leaves, whatever the server does.
+    /// Whether there is a byte of the input that leaves, whatever the server does.
     pub can_leave: bool,
     pub stream: OnceLock<UnixStream>,
-    /// Is held while a frame is written: a frame goes whole.
+    /// Its lock is held while a frame is written, so frames go out whole.
     pub outbox: Mutex<Outbox>,
     pub sources: Mutex<Sources<I>>,
     pub typing: Mutex<Typing>,
-    /// Is held while the socket is read, and what came is put in order.
+    /// Its lock is held while the socket is read and its messages are sorted.
     pub intake: Mutex<Intake>,
     pub outlet: Mutex<Outlet<O>>,
     pub standing: Mutex<Standing>,
-    /// The peer ended, or, behind its end, nothing waits to be written any more; or a byte came that
-    /// may leave.
+    /// Signals that the peer ended, that after its end nothing waits to be written any more, or that
+    /// a byte came that may leave.
     pub news: Condvar,
-    /// A writing begins that nobody watches, or the peer ended.
+    /// Signals that a write begins that no thread watches, or that the peer ended.
     pub begun: Condvar,
-    /// Fewer frames wait for the socket.
+    /// Signals that fewer frames wait for the socket.
     pub room: Condvar,
 }
 
@@ -212,14 +213,15 @@ impl<I, O> Shared<I, O> {
         }
     }
 
-    /// The peer ends: the first cause holds.
+    /// Notes how the peer ended, and wakes the threads that wait for it. Only the first call counts.
     pub fn end<R: Wait>(&self, rt: &R, end: Result<Why, Fault>) {
         self.standing.lock(rt).end_by(end);
         self.news.notify_all();
         self.begun.notify_all();
     }
 
-    /// Tells how far the input has come that has a byte to leave by.
+    /// Notes the stage of the input in looking for the byte that leaves, and wakes the thread that waits
+    /// for it.
     pub fn tell_stage<R: Wait>(&self, rt: &R, stage: Stage, reads: u64) {
         let mut standing = self.standing.lock(rt);
         let is_news = !matches!((standing.stage, stage), (Stage::Reading, Stage::Reading));

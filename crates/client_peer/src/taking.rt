@@ -1,4 +1,4 @@
-//! What comes from the server, put in order.
+//! Sorts the messages that come from the server.
 
 use crate::standing::Standing;
 use attach_proto::{Message, ProtoFault, Reader, Why};
@@ -6,10 +6,10 @@ use client_words::{Fault, Way, put_visible};
 use std::alloc::Global;
 use std::io::Write;
 
-// How much may wait for a window's standard output.
+// How many bytes may wait for a window's standard output.
 const MOST_WAITING: usize = 1_048_576;
 
-// How a peer ends that the server let go.
+// How a peer ends after the server's GONE.
 fn ended(way: Way, why: Why) -> Result<Why, Fault> {
     match why {
         Why::Detached | Why::Quit => Ok(why),
@@ -37,8 +37,8 @@ impl Standing {
         self.put(b"\n")
     }
 
-    // What is said to a command is its output. Once a peer is welcome, its status line says what the
-    // session says; what was said last before that is why it isn't.
+    // A text for a command is its output. Once a client is let in, its status line has the texts. The
+    // last text before that is the reason if the peer isn't let in.
     fn hear(&mut self, alloc: Global, text: &str) -> Result<(), Fault> {
         if self.is_welcome {
             return Ok(());
@@ -50,7 +50,7 @@ impl Standing {
         Ok(())
     }
 
-    // The peer is let in: a window's first size is told.
+    // Notes that the peer is let in, and puts down a window's first size.
     fn welcome(&mut self) -> Result<(), Fault> {
         if self.is_welcome || self.way.is_command() {
             return Ok(());
@@ -62,7 +62,7 @@ impl Standing {
         Ok(())
     }
 
-    // Puts in order what a message brings. The answer is the end, where it is the last one.
+    // Sorts one message. Returns the reason if it is GONE.
     fn take(&mut self, alloc: Global, message: &Message) -> Result<Option<Why>, Fault> {
         let taken = match message {
             Message::Welcome(_) => self.welcome(),
@@ -78,7 +78,7 @@ impl Standing {
         }
     }
 
-    // Takes the messages of a read, behind which there may be a fault.
+    // Sorts the messages of a read, after which there may be a fault.
     fn take_all(
         &mut self,
         alloc: Global,
@@ -108,15 +108,15 @@ impl Standing {
         self.take_all(alloc, messages.as_slice(), fed)
     }
 
-    /// Puts in order what was read, where no bytes are the stream's end. The answer is how the peer
-    /// ended, where it did.
+    /// Sorts the bytes of a read; no bytes mean the stream's end. Returns how the peer ended, if it
+    /// did.
     pub fn take_read(
         &mut self,
         alloc: Global,
         reader: &mut Reader,
         bytes: &[u8],
     ) -> Result<Option<Result<Why, Fault>>, Fault> {
-        // Any answer to nobody says that there is a server.
+        // Any answer to `mux ping` shows that there is a server.
         if self.way.is_ping() {
             return Ok(Some(Ok(Why::Detached)));
         }

@@ -1,4 +1,4 @@
-//! How many acts of list commands a step files.
+//! How many acts of list commands one step may do.
 
 use crate::stage::{Name, Stage, Want, user};
 use AclFault::NoMemory;
@@ -7,8 +7,8 @@ use std::alloc::Global;
 
 const WINDOW: Object = Object::Window(0);
 
-/// Sets bob's r of window 0 so often, by a line of 1,024 changes for each of its objects, once more
-/// where memory is refused.
+/// Sets bob's r on window 0 this many times, by a line of 1,024 changes for each of its objects.
+/// Tries again if memory is refused.
 fn set_often(stage: &mut Stage, value: bool, objects: &[Object]) -> Result<(), AclFault> {
     let changes = [BitChange {
         bit: Bit::Read,
@@ -30,7 +30,7 @@ fn set_often(stage: &mut Stage, value: bool, objects: &[Object]) -> Result<(), A
     }
 }
 
-/// Whether a line of this many acts is refused, and bob's right stays as it was.
+/// Whether a line of this many acts is refused and leaves bob's right as it was.
 fn is_refused(stage: &mut Stage, value: bool, objects: &[Object], want: Want) -> bool {
     let count = stage.acts.len();
     set_often(stage, value, objects) == Err(NoMemory)
@@ -38,7 +38,7 @@ fn is_refused(stage: &mut Stage, value: bool, objects: &[Object], want: Want) ->
         && stage.answers(Name::Bob, Bit::Read, WINDOW, want)
 }
 
-/// Whether a step files 65,536 acts of list commands at most.
+/// Whether a step does at most 65,536 acts of list commands.
 fn is_bounded(alloc: Global) -> bool {
     let Some(mut stage) = Stage::new(alloc, Edition::Second) else {
         return false;

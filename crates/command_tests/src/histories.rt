@@ -1,4 +1,4 @@
-//! Histories of calls, with the answer that a check gives after each.
+//! Histories of calls, with the answer of a check after each call.
 
 use crate::stage::{Call, Name, Stage, Want};
 use Bit::{Execute, Read, Write};
@@ -24,7 +24,7 @@ const TWO: Object = Object::Window(2);
 
 const THREE: Object = Object::Window(3);
 
-/// A right is taken, the leader has it, and then loses it.
+/// A user loses a right, still has it by a leader, and then the leader loses it, too.
 const LED: [Row; 12] = [
     (Nothing, Bob, Write, TWO, Passes),
     (Change(Bob, Write, false, TWO), Bob, Write, TWO, NoEntry),
@@ -33,7 +33,7 @@ const LED: [Row; 12] = [
     (Nothing, Own, Write, TWO, Passes),
     (Group(Bob, Some(Ann)), Bob, Write, TWO, Passes),
     (Change(Ann, Write, false, TWO), Bob, Write, TWO, Leader(Ann)),
-    // A leader's own leader isn't asked.
+    // A leader's own leader doesn't count.
     (Group(Ann, Some(Eve)), Bob, Write, TWO, Leader(Ann)),
     (Nothing, Ann, Write, TWO, Passes),
     (Group(Bob, Some(Eve)), Bob, Write, TWO, Passes),
@@ -41,7 +41,7 @@ const LED: [Row; 12] = [
     (Change(Bob, Write, true, TWO), Bob, Write, TWO, Passes),
 ];
 
-/// A leader goes, and so does what the group has by them.
+/// A leader goes, and the group loses the leader's rights.
 const LEADER_GONE: [Row; 4] = [
     (Change(Bob, Write, false, TWO), Bob, Write, TWO, NoEntry),
     (Group(Bob, Some(Ann)), Bob, Write, TWO, Passes),
@@ -49,7 +49,7 @@ const LEADER_GONE: [Row; 4] = [
     (Add(Ann, 2), Bob, Write, TWO, NoEntry),
 ];
 
-/// The first edition: a new leader takes the former one's place.
+/// In the first edition a new leader replaces the former one.
 const ONE_GROUP: [Row; 5] = [
     (Change(Bob, Write, false, TWO), Bob, Write, TWO, NoEntry),
     (Change(Ann, Write, false, TWO), Bob, Write, TWO, NoEntry),
@@ -58,7 +58,7 @@ const ONE_GROUP: [Row; 5] = [
     (Group(Bob, Some(Ann)), Bob, Write, TWO, Leader(Ann)),
 ];
 
-/// The second edition: a new leader comes last, and one who is there keeps their place.
+/// In the second edition a new leader comes last, and one who already leads keeps that place.
 const TWO_GROUPS: [Row; 11] = [
     (Change(Bob, Write, false, TWO), Bob, Write, TWO, NoEntry),
     (Change(Ann, Write, false, TWO), Bob, Write, TWO, NoEntry),
@@ -73,15 +73,16 @@ const TWO_GROUPS: [Row; 11] = [
     ),
     (Group(Bob, Some(Ann)), Bob, Write, TWO, Leaders(Ann, Eve)),
     (Remove(Ann), Bob, Write, TWO, Leader(Eve)),
-    // She comes back with each right, and leads nobody.
+    // ann comes back with every right, and leads nobody.
     (Add(Ann, 2), Bob, Write, TWO, Leader(Eve)),
-    // A leader's own leaders aren't asked.
+    // A leader's own leaders don't count.
     (Group(Eve, Some(Ann)), Bob, Write, TWO, Leader(Eve)),
     (Group(Bob, Some(Ann)), Bob, Write, TWO, Passes),
     (Group(Bob, None), Bob, Write, TWO, NoEntry),
 ];
 
-/// A lock goes with the right of the leader by whom its holder may write, be they the first or not.
+/// A lock is freed when the leader by whom its holder may write loses the right, whichever leader that
+/// is.
 const LOCKED_BY_GROUP: [Row; 6] = [
     (Change(Bob, Write, false, TWO), Bob, Write, TWO, NoEntry),
     (Group(Bob, Some(Ann)), Bob, Write, TWO, Passes),
@@ -91,7 +92,7 @@ const LOCKED_BY_GROUP: [Row; 6] = [
     (Change(Eve, Write, false, TWO), Own, Write, TWO, Passes),
 ];
 
-/// A window goes, and one that is opened later has none of its entries, but what the mask says.
+/// After a window closed, one that is opened later has none of its entries, only those of the mask.
 const MASKED: [Row; 9] = [
     (Change(Bob, Read, false, TWO), Bob, Read, TWO, NoEntry),
     (Mask(Bob, Write, false), Bob, Write, TWO, Passes),
@@ -100,12 +101,12 @@ const MASKED: [Row; 9] = [
     (Nothing, Bob, Execute, THREE, Passes),
     (Nothing, Bob, Write, THREE, NoEntry),
     (Nothing, Ann, Write, THREE, Passes),
-    // The mask is the owner's alone, and none counts for the opener.
+    // The mask counts only for the owner's windows, and never for the opener.
     (Open(Ann, 4), Bob, Write, Object::Window(4), Passes),
     (Open(Bob, 5), Bob, Write, Object::Window(5), Passes),
 ];
 
-/// A name that comes back has neither its old entries nor its old masks, but what the presets say.
+/// A name that comes back has neither its old entries nor its old masks, only those of the presets.
 const RETURNED: [Row; 9] = [
     (Change(Bob, Read, false, ZERO), Bob, Read, ZERO, NoEntry),
     (Mask(Bob, Write, false), Bob, Write, ONE, Passes),
@@ -124,8 +125,8 @@ const RETURNED: [Row; 9] = [
     (Open(Own, 3), Bob, Write, THREE, Passes),
 ];
 
-/// What a new name gets on commands, and that a command's entry is a window's no more than another
-/// command's.
+/// A new name gets the preset on each command, and an entry of one command doesn't count for a window
+/// or for another command.
 const COMMANDS: [Row; 7] = [
     (
         Change(Bob, Execute, false, KILL),
@@ -154,7 +155,7 @@ const COMMANDS: [Row; 7] = [
     (Nothing, Zed, Execute, ZERO, Passes),
 ];
 
-/// A holder stops each other user, the owner too, until -w names him.
+/// A holder stops every other user, the owner too, until -w names the holder.
 const HELD: [Row; 6] = [
     (Lock(Eve, 2, LockMode::Auto), Bob, Write, TWO, Locked(Eve)),
     (Nothing, Own, Write, TWO, Locked(Eve)),
@@ -164,8 +165,8 @@ const HELD: [Row; 6] = [
     (Nothing, Eve, Write, TWO, Passes),
 ];
 
-/// A lock goes with the rights of its holder, with their leader's, with the user, and with their last
-/// client.
+/// A lock is freed when its holder or the holder's leader loses the right, when the holder is gone, and
+/// when the holder's last client goes.
 const RELEASED: [Row; 10] = [
     (Lock(Eve, 2, LockMode::On), Bob, Write, TWO, Locked(Eve)),
     (Group(Eve, Some(Ann)), Bob, Write, TWO, Locked(Eve)),
@@ -179,7 +180,7 @@ const RELEASED: [Row; 10] = [
     (Remove(Bob), Own, Write, TWO, Passes),
 ];
 
-/// In auto a lock is taken by who enters and freed by who leaves; in on neither.
+/// In auto entering takes a lock and leaving frees it; in on neither does.
 const ENTERED: [Row; 10] = [
     (Enter(Bob, 2), Eve, Write, TWO, Passes),
     (Lock(Eve, 2, LockMode::Auto), Bob, Write, TWO, Locked(Eve)),
@@ -193,8 +194,8 @@ const ENTERED: [Row; 10] = [
     (Enter(Bob, 2), Eve, Write, TWO, Passes),
 ];
 
-/// The mode of windows that are opened later: in on they are held by who opens them, in auto by
-/// nobody yet.
+/// The default mode counts for windows that are opened later: in on the opener holds the lock, in auto
+/// nobody does yet.
 const DEFAULTS: [Row; 7] = [
     (Default(LockMode::On), Ann, Write, TWO, Passes),
     (Open(Ann, 3), Own, Write, THREE, Locked(Ann)),
@@ -205,7 +206,7 @@ const DEFAULTS: [Row; 7] = [
     (Nothing, Ann, Write, Object::Window(4), Locked(Eve)),
 ];
 
-/// The histories, each in an edition.
+/// The histories, each with its edition.
 static HISTORIES: [(Edition, &[Row]); 14] = [
     (Edition::First, &LED),
     (Edition::First, &LEADER_GONE),
@@ -223,7 +224,7 @@ static HISTORIES: [(Edition, &[Row]); 14] = [
     (Edition::Second, &DEFAULTS),
 ];
 
-/// Whether a history's calls are done in turn, and each check after them is answered so.
+/// Whether each call of a history is done, and the check after it has the answer of the row.
 fn is_so(alloc: Global, edition: Edition, rows: &[Row]) -> bool {
     let Some(mut stage) = Stage::new(alloc, edition) else {
         return false;
@@ -236,7 +237,7 @@ fn is_so(alloc: Global, edition: Edition, rows: &[Row]) -> bool {
     true
 }
 
-/// The first history that isn't so.
+/// The first history with another answer.
 fn first_wrong(alloc: Global) -> Option<usize> {
     for (number, (edition, rows)) in HISTORIES.iter().enumerate() {
         if !is_so(alloc, *edition, rows) {

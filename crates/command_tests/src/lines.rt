@@ -1,12 +1,12 @@
-//! Lines and what they are, from the words of the commands' table and the GNU Screen manual.
+//! Command lines and what they mean, from the commands' table and the GNU Screen manual.
 
 use command_lang::{Command, Needs, ParseFault, needs_of, parse, print};
 use std::alloc::{AllocError, Global};
 
-/// A line, `=`, and its fault's number and place; or a line, `=`, its command as it is printed,
-/// `=`, and what the command needs. Each command has a line with a word too much, and one in which
-/// a word is missing. The list commands need multiuser mode, regions and switching a client, and
-/// what concerns one window that window.
+/// A line, `=`, and its fault's number and place; or a line, `=`, its command as it is printed, `=`,
+/// and the command's needs. Each command has a line with a word too many, and one with a word missing.
+/// List commands need multiuser mode, commands about regions or the window shown need a client, and
+/// commands about one window need that window.
 const ROWS: &str = r##"zap=1 at 0
 aclchg bob=2 at 10
 select 1 2=3 at 9
@@ -132,7 +132,7 @@ aclumask ann,bob-w=aclumask ann,bob-w= multiuser
 writelock on=writelock on= window write lock
 writelock off=writelock off= window lock"##;
 
-/// Whether just what these words name is needed.
+/// Whether a command needs exactly what these words name.
 fn are(needs: Needs, words: &str) -> bool {
     needs.multiuser == words.contains(" multiuser")
         && needs.client == words.contains(" client")
@@ -141,7 +141,7 @@ fn are(needs: Needs, words: &str) -> bool {
         && needs.lock == words.contains(" lock")
 }
 
-/// Whether a command is printed so, and needs this.
+/// Whether a command is printed as this text, and has these needs.
 fn is_printed(alloc: Global, command: &Command, want: &str) -> Result<bool, AllocError> {
     let Some((line, needs)) = want.split_once('=') else {
         return Ok(false);
@@ -172,7 +172,7 @@ fn is_answered(alloc: Global, line: &[u8], want: &str) -> Result<bool, AllocErro
     }
 }
 
-/// Whether a line has this answer, asked for once more where memory is refused.
+/// Whether a line has this answer. Asks again if memory is refused.
 fn is_answered_at_last(alloc: Global, line: &[u8], want: &str) -> bool {
     match is_answered(alloc, line, want) {
         Ok(is_so) => is_so,
@@ -193,8 +193,8 @@ fn first_wrong(alloc: Global) -> Option<usize> {
     None
 }
 
-/// Each command and alias, and each fault. With each allocation refused in turn (`tools/refusals`),
-/// a refused call says so, hides no fault, and does its work when it is asked again.
+/// Tests each command and alias, and each fault. With each allocation refused in turn
+/// (`tools/refusals`), a refused call says so, hides no fault, and does its work at the next call.
 #[test]
 fn lines_are_answered_though_refused_once(rt: HostRuntime) {
     assert_eq!(rt; first_wrong(rt.alloc()), None);
@@ -204,7 +204,7 @@ const CONTROL: &str = "title '\"\\\u{7F}\u{6F22}'";
 
 const CONTROL_PRINTED: &str = "title \"\\\"\\\\\\177\u{6F22}\"= window";
 
-/// A control character, and the longest line with a byte too much.
+/// Tests a control character, and the longest line with one byte more.
 #[test]
 fn odd_lines_are_answered_though_refused_once(rt: HostRuntime) {
     assert!(rt;

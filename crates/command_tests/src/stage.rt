@@ -1,4 +1,4 @@
-//! A session's lists and locks, as calls change them.
+//! A session's access lists and locks, which calls change.
 
 use acl::{
     Acl, AclFault, Act, Bit, BitChange, CommandName, Edition, LockMode, MaskEntry, MaskScope,
@@ -7,7 +7,7 @@ use acl::{
 use std::alloc::Global;
 use writelock::Locks;
 
-/// The users of the tests. Own is the owner; ann, bob and eve are added, yan and zed are not.
+/// The users of the tests. own is the owner; ann, bob and eve are known, yan and zed are not.
 #[derive(Clone, Copy)]
 pub enum Name {
     Own,
@@ -18,18 +18,18 @@ pub enum Name {
     Zed,
 }
 
-/// A call.
+/// A call that changes lists or locks.
 #[derive(Clone, Copy)]
 pub enum Call {
     Nothing,
     Add(Name, u32),
     AddAll(Name, Name, Name),
     Change(Name, Bit, bool, Object),
-    /// `-w+w` on a window.
+    /// Takes w on a window and gives it back in one call.
     TakeAndGive(Name, u32),
     Remove(Name),
     Group(Name, Option<Name>),
-    /// The owner's mask of a user.
+    /// Sets the owner's mask for a user.
     Mask(Name, Bit, bool),
     Preset(PresetKind, Bit, bool),
     Open(Name, u32),
@@ -42,21 +42,21 @@ pub enum Call {
     Part(Name),
 }
 
-/// What a check is to answer.
+/// The answer that a check must give.
 #[derive(Clone, Copy)]
 pub enum Want {
     Passes,
     /// Denied, and the user has no leader.
     NoEntry,
-    /// Denied, and the leader, who is named, hasn't it either.
+    /// Denied, and this leader doesn't have the bit either.
     Leader(Name),
     /// Denied, and these two lead the user, in this order.
     Leaders(Name, Name),
-    /// Another user, who is named, holds the lock.
+    /// Denied, since this other user holds the lock.
     Locked(Name),
 }
 
-/// The lists and locks of a session, and the acts of its list commands.
+/// The access lists and locks of a session, and the acts of its list commands.
 #[derive(Drop)]
 pub struct Stage {
     pub acl: Acl,
@@ -64,7 +64,7 @@ pub struct Stage {
     pub acts: Vec<Act>,
 }
 
-/// The name's user.
+/// The user with this name.
 pub fn user(name: Name) -> Option<UserId> {
     match name {
         Name::Own => UserId::of(b"own"),
@@ -76,7 +76,7 @@ pub fn user(name: Name) -> Option<UserId> {
     }
 }
 
-/// The lists of a session of own. Made again where memory was refused.
+/// The access lists of a session of own. Tries again if memory is refused.
 fn new_acl(alloc: Global, owner: UserId, edition: Edition) -> Option<Acl> {
     match Acl::new(alloc, owner, edition) {
         Ok(acl) => Some(acl),
@@ -84,7 +84,7 @@ fn new_acl(alloc: Global, owner: UserId, edition: Edition) -> Option<Acl> {
     }
 }
 
-/// Own adds ann, bob and eve, and opens the windows 0, 1 and 2.
+/// The calls by which own adds ann, bob and eve, and opens the windows 0, 1 and 2.
 static BEGINNING: [Call; 4] = [
     Call::AddAll(Name::Ann, Name::Bob, Name::Eve),
     Call::Open(Name::Own, 0),
@@ -93,7 +93,7 @@ static BEGINNING: [Call; 4] = [
 ];
 
 impl Stage {
-    /// Own, ann, bob and eve, and three windows.
+    /// A session with own, ann, bob and eve, and three windows.
     pub fn new(alloc: Global, edition: Edition) -> Option<Stage> {
         let mut stage = Stage {
             acl: new_acl(alloc, user(Name::Own)?, edition)?,
@@ -108,7 +108,7 @@ impl Stage {
         Some(stage)
     }
 
-    /// Does a call, once more where memory was refused: at most one allocation is in a run.
+    /// Does a call. Tries again if memory is refused, since at most one allocation of a run is.
     pub fn play(&mut self, call: Call) -> Result<(), AclFault> {
         match self.call(call) {
             Err(AclFault::NoMemory) => self.call(call),
@@ -200,7 +200,7 @@ impl Stage {
         )
     }
 
-    /// A name's user: each name has one.
+    /// The user with this name; each name has one.
     fn known(&self, name: Name) -> UserId {
         match user(name) {
             Some(user) => user,
@@ -208,7 +208,7 @@ impl Stage {
         }
     }
 
-    /// A call that takes no memory.
+    /// Does a call that takes no memory.
     fn act(&mut self, call: Call) {
         match call {
             Call::Open(name, window) => {
@@ -240,8 +240,8 @@ impl Stage {
         }
     }
 
-    /// Whether the check of a user's bit on an object, and for w on a window also of its lock, has
-    /// this answer.
+    /// Whether the check of a user's bit on an object has this answer. For w on a window it checks the
+    /// lock, too.
     pub fn answers(&self, name: Name, bit: Bit, object: Object, want: Want) -> bool {
         let asker = self.known(name);
         match self.acl.may(asker, bit, object) {
@@ -250,7 +250,7 @@ impl Stage {
         }
     }
 
-    /// Whether a check that passes is the wanted answer; a user with an entry may still be locked out.
+    /// Whether a passed check of the bit is the wanted answer; another user may still hold the lock.
     fn is_let(&self, asker: UserId, bit: Bit, object: Object, want: Want) -> bool {
         let wanted = match want {
             Want::Passes => None,
@@ -267,7 +267,7 @@ impl Stage {
     }
 }
 
-/// Whether these leaders are named where an entry denies.
+/// Whether a denial by an entry names exactly these leaders.
 fn are_named(leaders: &[UserId], want: Want) -> bool {
     let (first, second) = match want {
         Want::NoEntry => (None, None),

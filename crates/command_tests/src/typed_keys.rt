@@ -1,4 +1,4 @@
-//! Keys and what they complete, from the keys' table.
+//! Keys and the commands and bytes that they complete, from the keys' table.
 
 use crate::lines::is_command;
 use Binding::{
@@ -9,10 +9,10 @@ use KeyItem::{Bound, Edit, Line, Typed};
 use keys::{Binding, KeyItem, KeyReader};
 use std::alloc::{AllocError, Global};
 
-/// Keys, what they complete, and the lines of the prompt that they end.
+/// Keys, the items that they complete, and the lines of the prompt that they end.
 type Row = (&'static [u8], &'static [KeyItem], &'static [u8]);
 
-/// The keys of the table, and those of the prompt.
+/// Rows of the keys of the table and of the prompt.
 static ROWS: [Row; 8] = [
     (b"a\x01nb", &[Typed(b'a'), Bound(Next), Typed(b'b')], b""),
     (
@@ -57,7 +57,7 @@ static ROWS: [Row; 8] = [
     ),
 ];
 
-/// Whether a row's keys complete just its items, each line as it is there.
+/// Whether a row's keys complete exactly its items, with its lines.
 fn are_completed(row: &Row) -> bool {
     let (keys, items, line) = *row;
     let mut reader = KeyReader::new();
@@ -87,7 +87,7 @@ fn keys_complete_their_items(rt: HostRuntime) {
     assert_eq!(rt; first_wrong(), None);
 }
 
-/// Bound keys, and their commands as they are printed, `=`, and what those need.
+/// Bound keys, and their commands as they are printed, `=`, and the commands' needs.
 static COMMANDS: [(Binding, &str); 13] = [
     (Next, "next= client"),
     (Prev, "prev= client"),
@@ -111,7 +111,7 @@ fn gives(alloc: Global, binding: Binding, want: &str) -> Result<bool, AllocError
     }
 }
 
-/// Whether each gives its command, asked for once more where memory is refused.
+/// Whether each bound key gives its command. Asks again if memory is refused.
 fn give_commands(alloc: Global) -> bool {
     for (binding, want) in &COMMANDS {
         let is_so = match gives(alloc, *binding, want) {

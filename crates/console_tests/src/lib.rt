@@ -1,5 +1,5 @@
-//! Tests of consoles that only the owner opens, with rights by a file: each order of five things
-//! that happen to them, and what every user may do after each command.
+//! Tests of consoles that only the owner opens, with rights from a file: five things happen to them
+//! in every order, and after each command the rights of every user are compared.
 #![tactic(auto)]
 
 #[cfg(test)]

@@ -1,4 +1,4 @@
-//! Each order of five things.
+//! Plays five things in every order.
 
 use crate::scripts::{Form, Thing, begin, happens};
 use crate::stage::Stage;
@@ -13,12 +13,12 @@ static THINGS: [Thing; 5] = [
     Thing::Returns,
 ];
 
-/// How many orders there are of five things, and how many of them begin with the same thing.
+/// How many orders of five things there are, and how many of them begin with the same thing.
 const ORDERS: usize = 120;
 
 const ALIKE: usize = 24;
 
-// Places of THINGS.
+// Places in `THINGS`.
 const FIRST: usize = 0;
 
 const SECOND: usize = 1;
@@ -40,8 +40,8 @@ fn exchange(order: &mut [Thing; 5], place: usize, other: usize) {
     }
 }
 
-/// The order of a number below 120: the first thing is one of five, the next one of the four that
-/// are left, and so on.
+/// The order with this number, below 120: the first thing is one of five, the second one of the four
+/// that remain, and so on.
 fn order_of(number: usize) -> [Thing; 5] {
     let mut order = THINGS;
     let mut rest = number;
@@ -54,19 +54,19 @@ fn order_of(number: usize) -> [Thing; 5] {
     order
 }
 
-/// The number of an order that begins with the thing of a place.
+/// The number of an order that begins with the thing at this place.
 fn beginning_with(first: usize, number: usize) -> usize {
     number.saturating_mul(THINGS.len()).saturating_add(first)
 }
 
-/// In how many orders something was found.
+/// The number of orders in which each kind of mistake was found.
 #[derive(Clone, Copy, PartialEq, Eq, Debug)]
 struct Found {
-    /// Somebody had a right that nothing gives, after some command.
+    /// After some command a user had a right that nothing gives.
     too_much: usize,
-    /// A known user lacked in the end what the file gives.
+    /// At the end a known user lacked a right that the file gives.
     lacking: usize,
-    /// What somebody typed in the end didn't reach just the consoles on which the file gives w.
+    /// At the end a user's typing didn't reach exactly the consoles on which the file gives w.
     astray: usize,
     /// The table of rights didn't know an act.
     lost: usize,
@@ -100,7 +100,7 @@ fn play(alloc: Global, form: Form, number: usize, found: &mut Found) -> Result<(
     Ok(())
 }
 
-/// What is found in the 24 orders that begin with the thing of a place.
+/// The mistakes in the 24 orders that begin with the thing at this place.
 fn found_in(alloc: Global, form: Form, first: usize) -> Result<Found, AllocError> {
     let mut found = NONE;
     for number in 0..ALIKE {
@@ -120,7 +120,7 @@ fn all_differ() -> bool {
     true
 }
 
-/// Whether orders of the numbers that `found_in` takes begin with the thing of a place.
+/// Whether the orders whose numbers `found_in` takes begin with the thing at this place.
 fn begin_alike() -> bool {
     for (first, thing) in THINGS.iter().enumerate() {
         for number in 0..ALIKE {
@@ -138,8 +138,8 @@ fn orders_differ(rt: HostRuntime) {
     assert!(rt; begin_alike());
 }
 
-// In no order somebody has a bit too much, lacks one in the end, or types where the file gives no w:
-// five tests, by what happens first.
+// In no order does a user have a bit too many, lack one at the end, or type into a console without w.
+// There is one test for each thing that happens first.
 
 #[test]
 fn rights_are_the_files_if_web1_reopens_first(rt: HostRuntime) {
@@ -166,9 +166,9 @@ fn rights_are_the_files_if_ann_returns_first(rt: HostRuntime) {
     assert_eq!(rt; found_in(rt.alloc(), Form::Whole, RETURNS), Ok(NONE));
 }
 
-/// Without the mask before an opening the guest of a killed `mux-guest` has rwx on a console that is
-/// opened then. So it is if a console is opened between Killed and Comes: of the 24 orders of these
-/// two and the consoles 12 have Killed before Comes, in 6 of which they stand side by side.
+/// Without the mask before an opening, the guest of a killed `mux-guest` has rwx on a console that
+/// opens between Killed and Comes. Of the 24 orders of these two things and the consoles, 12 have
+/// Killed before Comes, and in 6 of these one follows the other directly.
 #[test]
 fn a_missing_mask_is_seen(rt: HostRuntime) {
     let found = found_in(rt.alloc(), Form::WithoutMask, RETURNS);
@@ -181,8 +181,8 @@ fn a_missing_mask_is_seen(rt: HostRuntime) {
     );
 }
 
-/// Without what the file gives after an opening nobody has anything in the end: also not ann, who
-/// got it when she returned, since web1 is opened after that.
+/// Without the file's rights after an opening nobody has anything at the end. This holds for ann, too:
+/// she got her rights when she returned, but web1 is opened after that.
 #[test]
 fn missing_grants_are_seen(rt: HostRuntime) {
     let found = found_in(rt.alloc(), Form::WithoutGrants, RETURNS);

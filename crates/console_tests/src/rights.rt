@@ -1,4 +1,4 @@
-//! The file of rights, and what it gives.
+//! The file of rights, and the rights that it gives.
 
 /// The titles of the consoles.
 pub static TITLES: [&str; 2] = ["web1", "web2"];
@@ -12,7 +12,7 @@ pub struct Grant {
     pub title: &'static str,
 }
 
-/// The lines on consoles.
+/// The file's lines about consoles.
 pub static GRANTS: [Grant; 4] = [
     Grant {
         user: "ann",
@@ -50,7 +50,7 @@ pub static COMMANDS: [(&str, &str); 3] = [
 /// The name of a guest, who isn't in the file.
 pub static GUEST: &str = "guest1";
 
-/// The bits that the file gives a user on the console of this title.
+/// The bits that the file gives a user on the console with this title.
 pub fn given(user: &[u8], title: &str) -> u8 {
     for grant in &GRANTS {
         if grant.user.as_bytes() == user && grant.title.as_bytes() == title.as_bytes() {

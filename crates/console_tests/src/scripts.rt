@@ -1,37 +1,37 @@
-//! The commands that the scripts of `contrib/` give. Each script is played as a whole, since a lock
-//! keeps them apart: `mux-rights`, `mux-console` and `mux-guest`.
+//! The commands that `mux-rights`, `mux-console` and `mux-guest` of `contrib/` give. Each script is
+//! played as a whole, since a lock keeps them apart.
 
 use crate::rights::{COMMANDS, GRANTS, GUEST, Grant, TITLES};
 use crate::stage::Stage;
 use session_model::Event;
 use std::alloc::AllocError;
 
-/// Which commands are left out, so that it is seen whether the comparison finds that.
+/// Commands to leave out, to show that the comparison notices it.
 #[derive(Clone, Copy, PartialEq, Eq)]
 pub enum Form {
     Whole,
     /// Without the mask before an opening.
     WithoutMask,
-    /// Without what the file gives after an opening.
+    /// Without the file's rights after an opening.
     WithoutGrants,
 }
 
 /// What happens to the consoles.
 #[derive(Clone, Copy, PartialEq, Eq)]
 pub enum Thing {
-    /// The program of web1 ends, and it is opened again.
+    /// The program of web1 ends, and web1 is opened again.
     First,
-    /// The program of web2 ends, and it is opened again.
+    /// The program of web2 ends, and web2 is opened again.
     Second,
     /// `mux-guest` is killed after its first command.
     Killed,
-    /// `mux-guest` lets the guest read web1; what a killed one left is removed before.
+    /// `mux-guest` lets the guest read web1, after the guest of a killed `mux-guest` was removed.
     Comes,
     /// ann is removed, and comes back by `mux-rights`.
     Returns,
 }
 
-/// `mux-rights FILE setup`, and then both consoles are opened.
+/// Plays `mux-rights FILE setup`, and then opens both consoles.
 pub fn begin(stage: &mut Stage, form: Form) -> Result<(), AllocError> {
     stage.own(&["multiuser on"])?;
     stage.own(&["aclumask ?-rwx"])?;
@@ -47,7 +47,7 @@ pub fn begin(stage: &mut Stage, form: Form) -> Result<(), AllocError> {
     Ok(())
 }
 
-/// `mux-console`: closes the console of this place, if it is open, and opens it again.
+/// Plays `mux-console`: closes the console at this place, if it is open, and opens it again.
 fn reopen(stage: &mut Stage, form: Form, place: usize) -> Result<(), AllocError> {
     let Some(title) = TITLES.get(place) else {
         return Ok(());
@@ -67,7 +67,7 @@ fn reopen(stage: &mut Stage, form: Form, place: usize) -> Result<(), AllocError>
     give_on(stage, title, "")
 }
 
-/// A line of the file. It is left out if the user isn't known, since aclchg would make the name
+/// Gives one line of the file. A user who isn't known is passed over, since aclchg would make the name
 /// known.
 fn give(stage: &mut Stage, grant: &'static Grant) -> Result<(), AllocError> {
     let is_known = stage.own(&["aclumask ", grant.user, "-rwx"])?;
@@ -77,7 +77,7 @@ fn give(stage: &mut Stage, grant: &'static Grant) -> Result<(), AllocError> {
     Ok(())
 }
 
-/// The file's lines for a console, of one user or, without a name, of all.
+/// Gives the file's lines for a console, to one user or, without a name, to all.
 fn give_on(stage: &mut Stage, title: &str, name: &str) -> Result<(), AllocError> {
     for grant in &GRANTS {
         let is_users = name.is_empty() || grant.user.as_bytes() == name.as_bytes();
@@ -98,7 +98,7 @@ fn admit(stage: &mut Stage, name: &str, commands: &str) -> Result<(), AllocError
     Ok(())
 }
 
-/// `mux-guest --read web1 guest1`.
+/// Plays `mux-guest --read web1 guest1`.
 fn comes(stage: &mut Stage) -> Result<(), AllocError> {
     if stage.knows(GUEST)? {
         stage.read = None;
@@ -110,7 +110,7 @@ fn comes(stage: &mut Stage) -> Result<(), AllocError> {
     Ok(())
 }
 
-/// `acldel ann`, and `mux-rights FILE user ann`.
+/// Plays `acldel ann`, and `mux-rights FILE user ann`.
 fn returns(stage: &mut Stage) -> Result<(), AllocError> {
     stage.own(&["acldel ann"])?;
     admit(stage, "ann", "detach,select,next,prev")?;
@@ -120,7 +120,7 @@ fn returns(stage: &mut Stage) -> Result<(), AllocError> {
     Ok(())
 }
 
-/// `mux-guest`, which refuses a guest who is known, and is killed after its first command.
+/// Plays `mux-guest`, which refuses a known guest, and is killed after its first command.
 fn is_killed(stage: &mut Stage) -> Result<(), AllocError> {
     if !stage.knows(GUEST)? {
         stage.own(&["aclchg ", GUEST, " -rwx #?"])?;
@@ -128,7 +128,7 @@ fn is_killed(stage: &mut Stage) -> Result<(), AllocError> {
     Ok(())
 }
 
-/// What happens.
+/// Plays one thing.
 pub fn happens(stage: &mut Stage, form: Form, thing: Thing) -> Result<(), AllocError> {
     match thing {
         Thing::First => reopen(stage, form, 0),

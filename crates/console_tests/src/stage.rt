@@ -1,4 +1,4 @@
-//! A session whose owner gives commands, and the rights that everybody has then.
+//! A session whose owner gives commands, and everybody's rights after each command.
 
 use crate::rights::{GRANTS, GUEST, TITLES, given};
 use crate::table::Table;
@@ -18,11 +18,11 @@ pub struct Stage {
     open: [Option<u32>; 2],
     /// The window that the guest may read.
     pub read: Option<u32>,
-    /// Whether somebody had a right that nothing gives, after some command.
+    /// Whether after some command a user had a right that nothing gives.
     pub has_too_much: bool,
 }
 
-/// The user of a name.
+/// The user with this name.
 pub fn user(name: &str) -> Result<UserId, AllocError> {
     UserId::of(name.as_bytes()).ok_or(AllocError)
 }
@@ -41,8 +41,8 @@ impl Stage {
         })
     }
 
-    /// One step, after which everybody's rights are compared with what is given; the serial that it
-    /// made, if it wasn't refused.
+    /// Takes one step, and compares everybody's rights with the rights that are given. Returns the
+    /// serial that the step made, if it wasn't refused.
     pub fn step(&mut self, event: Event<'_>) -> Result<Option<u32>, AllocError> {
         let mut effects = Vec::new(self.alloc);
         let mut notes = Notes::new(self.alloc);
@@ -56,7 +56,7 @@ impl Stage {
         }
     }
 
-    /// A command of the owner's, in parts, and whether it was done.
+    /// Gives a command of the owner, in parts. Returns whether it was done.
     pub fn own(&mut self, parts: &[&str]) -> Result<bool, AllocError> {
         let mut line = String::new(self.alloc);
         for part in parts {
@@ -71,7 +71,7 @@ impl Stage {
         Ok(made.is_some())
     }
 
-    /// The serial of the console of this place, if it is open.
+    /// The serial of the console at this place, if it is open.
     pub fn opened(&self, place: usize) -> Option<u32> {
         match self.open.get(place) {
             Some(open) => *open,
@@ -79,7 +79,7 @@ impl Stage {
         }
     }
 
-    /// The same, and it isn't open any more.
+    /// Takes the serial of the console at this place, which then counts as closed.
     pub fn closed(&mut self, place: usize) -> Option<u32> {
         let window = self.opened(place);
         if let Some(open) = self.open.get_mut(place) {
@@ -88,7 +88,7 @@ impl Stage {
         window
     }
 
-    /// The owner opens the console of this place.
+    /// Opens the console at this place, as the owner.
     pub fn open(&mut self, place: usize, title: &str) -> Result<(), AllocError> {
         let made = self.step(Event::Open {
             user: self.owner,
@@ -104,12 +104,12 @@ impl Stage {
         Ok(())
     }
 
-    /// Whether the user of this name is known.
+    /// Whether the user with this name is known.
     pub fn knows(&self, name: &str) -> Result<bool, AllocError> {
         Ok(self.table.knows(user(name)?))
     }
 
-    /// The bits that a user may have on a console: what the file gives, and r of the guest.
+    /// The bits that a user may have on a console: those of the file, and the guest's r.
     fn given_on(&self, user: UserId, title: &str, window: u32) -> u8 {
         if user.as_bytes() == GUEST.as_bytes() && self.read == Some(window) {
             return 1;
@@ -129,7 +129,7 @@ impl Stage {
         false
     }
 
-    /// Notes whether some known user has too much now.
+    /// Notes whether a known user has too many rights now.
     fn look(&mut self) {
         self.has_too_much = self.has_too_much || self.table.shares_owners();
         for place in 0..self.table.len() {
@@ -139,7 +139,7 @@ impl Stage {
         }
     }
 
-    /// Whether some known user lacks a bit that the file gives on a console that is open.
+    /// Whether a known user lacks a bit that the file gives on an open console.
     pub fn lacks(&self) -> Result<bool, AllocError> {
         for grant in &GRANTS {
             let user = user(grant.user)?;

@@ -1,15 +1,16 @@
-//! Who has which bits after some acts, of a session in which the owner alone opens windows and
-//! nobody has a leader. A name that becomes known gets the presets on what is there, and its mask
-//! allows everything; what is opened starts from the masks; acts set single bits.
+//! Computes who has which bits after some acts, for a session in which only the owner opens windows
+//! and nobody has a leader. A name that becomes known gets the presets on the windows and commands
+//! that there are, and its mask allows everything. A new window starts from the masks. Acts set single
+//! bits.
 
 use acl::{Act, Bit, CommandName, Object, PresetKind, UserId};
 
-/// How many windows an order opens at most, and how many users are known at most.
+/// The most windows that an order opens, and the most users that are known.
 const WINDOWS: usize = 8;
 
 const USERS: usize = 8;
 
-/// Commands that nobody but the owner may give: those that change rights, and openings.
+/// Commands that only the owner may give: those that change rights, and `screen`.
 const OWNERS: [CommandName; 6] = [
     CommandName::Acladd,
     CommandName::Aclchg,
@@ -19,7 +20,8 @@ const OWNERS: [CommandName; 6] = [
     CommandName::Screen,
 ];
 
-/// A known user: bits on windows, by serials, x on the owner's commands, and the owner's mask.
+/// A known user: bits on windows, by serials, x on the owner's commands, and the owner's mask for the
+/// user.
 #[derive(Clone, Copy)]
 struct Row {
     user: UserId,
@@ -28,14 +30,14 @@ struct Row {
     mask: u8,
 }
 
-/// The table.
+/// The bits of all known users.
 #[derive(Clone, Copy)]
 pub struct Table {
     rows: [Option<Row>; USERS],
     open: [bool; WINDOWS],
     preset: u8,
     commands: bool,
-    /// Whether an act came that this table doesn't know, or for which it has no room.
+    /// Whether an act came that this table doesn't know or has no room for.
     pub is_lost: bool,
 }
 
@@ -86,7 +88,7 @@ impl Row {
         }
     }
 
-    /// Whether the user may give a command that is the owner's.
+    /// Whether the user may give a command that only the owner may give.
     fn has_owners(&self) -> bool {
         for has in &self.commands {
             if *has {
@@ -98,7 +100,7 @@ impl Row {
 }
 
 impl Table {
-    /// Before any act presets allow everything.
+    /// The table before any act, when the presets allow everything.
     pub fn new() -> Table {
         Table {
             rows: [None; USERS],
@@ -139,7 +141,7 @@ impl Table {
         }
     }
 
-    /// A window opens, where everybody has what the mask allows, or it closes.
+    /// Opens a window, on which everybody has the bits of the mask, or closes it.
     fn turn(&mut self, window: u32, is_open: bool) {
         let place = window as usize;
         match self.open.get_mut(place) {
@@ -212,7 +214,7 @@ impl Table {
         None
     }
 
-    /// The known user at a place.
+    /// The known user at this place.
     pub fn user_at(&self, place: usize) -> Option<UserId> {
         match self.rows.get(place) {
             Some(Some(row)) => Some(row.user),
@@ -220,7 +222,7 @@ impl Table {
         }
     }
 
-    /// Whether somebody else than the owner may give a command that is the owner's.
+    /// Whether a user who isn't the owner may give a command that only the owner may give.
     pub fn shares_owners(&self) -> bool {
         for row in &self.rows {
             if let Some(row) = row {
@@ -232,7 +234,7 @@ impl Table {
         false
     }
 
-    /// How many users there is room for.
+    /// The number of users that the table has room for.
     pub fn len(&self) -> usize {
         USERS
     }

@@ -1,4 +1,4 @@
-//! What users can type in the end, by their keys and not by what the lists say.
+//! Tests at the end which consoles each user's keys reach, whatever the access lists say.
 
 use crate::rights::{COMMANDS, GUEST, TITLES, given};
 use crate::stage::{Stage, user};
@@ -6,7 +6,7 @@ use acl::UserId;
 use session_model::{Effect, Event};
 use std::alloc::AllocError;
 
-/// A user goes to each console, by its title and by the next one, and types there.
+/// Keys of a user who goes to each console, by its title and by `next`, and types there.
 static KEYS: [&[u8]; 4] = [
     b"\x01:select web1\rx",
     b"\x01nx",
@@ -14,7 +14,7 @@ static KEYS: [&[u8]; 4] = [
     b"\x01nx",
 ];
 
-/// Attaches a client of the user, which types; what it does outside is appended.
+/// Attaches a client of the user, which types, and appends its effects.
 fn types(stage: &mut Stage, user: UserId, effects: &mut Vec<Effect>) -> Result<(), AllocError> {
     let attached = stage.step(Event::Attach {
         user,
@@ -47,7 +47,7 @@ fn is_typed(effects: &[Effect], window: u32) -> bool {
     false
 }
 
-/// Whether what a user types reaches just the consoles on which the file gives w.
+/// Whether a user's typing reaches exactly the consoles on which the file gives w.
 fn reaches_its_own(stage: &mut Stage, name: &str) -> Result<bool, AllocError> {
     let mut effects = Vec::new(stage.alloc);
     types(stage, user(name)?, &mut effects)?;
@@ -64,7 +64,8 @@ fn reaches_its_own(stage: &mut Stage, name: &str) -> Result<bool, AllocError> {
     Ok(true)
 }
 
-/// Whether that is so of all users of the file and of the guest.
+/// Whether the typing of each user of the file and of the guest reaches exactly the consoles on which
+/// the file gives w.
 pub fn all_reach_their_own(stage: &mut Stage) -> Result<bool, AllocError> {
     for (name, _) in &COMMANDS {
         if !reaches_its_own(stage, name)? {

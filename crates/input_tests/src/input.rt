@@ -1,4 +1,4 @@
-//! Scripts, setups and words that aren't understood, and readers and writers that fail.
+//! Invalid scripts, setups and arguments, and readers and writers that fail.
 
 use session::{Asked, simulate, simulate_behind};
 use std::alloc::{AllocError, Global};
@@ -6,7 +6,8 @@ use std::fs::Files;
 use std::io::{Read, Write};
 use std::{io, str};
 
-/// What is asked for, and the status, what is printed and what is told: `..` stands for anything.
+/// Arguments and input, and the status, standard output and standard error that must follow; `..`
+/// matches anything.
 #[derive(Clone, Copy)]
 struct Run<'a> {
     words: &'a [&'a str],
@@ -17,7 +18,7 @@ struct Run<'a> {
     errors: &'a str,
 }
 
-/// The program's name, and these words behind it.
+/// The program's name, followed by these words.
 fn arguments(alloc: Global, words: &[&str]) -> Result<Vec<String>, AllocError> {
     let mut owned = Vec::new(alloc);
     owned.push(String::from_str(alloc, "muxsim")?)?;
@@ -27,7 +28,7 @@ fn arguments(alloc: Global, words: &[&str]) -> Result<Vec<String>, AllocError> {
     Ok(owned)
 }
 
-/// Whether a text is the one that is wanted: behind `..` anything may follow, but not nothing.
+/// Whether a text is the wanted one; `..` at its end matches one byte or more.
 fn is_wanted(want: &str, bytes: &[u8]) -> bool {
     let Ok(text) = str::from_utf8(bytes) else {
         return false;
@@ -57,7 +58,7 @@ fn is_so<H: Files + AllocGlobal>(rt: &H, run: &Run<'_>) -> bool {
     status == run.status && is_wanted(run.output, &output) && is_wanted(run.errors, &errors)
 }
 
-/// Words that aren't understood.
+/// Invalid arguments.
 static NO_WORDS: [&[&str]; 8] = [
     &[],
     &["Own"],
@@ -105,7 +106,7 @@ fn words_are_the_owner_the_edition_and_show(rt: HostRuntime) {
     assert!(rt; are_words_understood(&rt));
 }
 
-/// Lines that aren't understood, parted by bars.
+/// Invalid lines, separated by bars.
 const NO_EVENTS: &str =
     r"zap|open|open own 2 5 0|open own  2 5 0 sh|open Own 2 5 0 sh|open none 2 5 0 sh|
 open own 12345 5 0 sh|open own 2 x 0 sh|open own 2 +5 0 sh|open own 2 5 0 \ff|attach own 4|
@@ -121,7 +122,7 @@ const REFUSED: Run<'static> = Run {
     errors: "muxsim: line 3: not understood\n",
 };
 
-/// Whether the lines before this one are played, and no line behind it.
+/// Whether the lines before an invalid line are played, and no line after it.
 fn is_refused<H: Files + AllocGlobal>(rt: &H, line: &str) -> bool {
     let Ok(script) = format!(in rt.alloc(); "open own 2 5 0 sh\n\n{line}\nattach own 4 20\n") else {
         return false;
@@ -147,14 +148,14 @@ fn lines_before_the_first_bad_one_are_played(rt: HostRuntime) {
     assert_eq!(rt; first_understood(&rt), None);
 }
 
-/// Appends a script with a text of so many bytes.
+/// Appends a script with a text of this many bytes.
 fn put_text(count: usize, script: &mut Vec<u8>) -> Result<(), AllocError> {
     script.extend_from_slice(b"open own 2 5 0 sh\n\noutput 0 ")?;
     let len = script.len().saturating_add(count);
     script.resize(len, b'x')
 }
 
-/// Whether a script with such a text ends so.
+/// Whether a script with a text of this many bytes ends in this way.
 fn ends<H: Files + AllocGlobal>(rt: &H, count: usize, run: Run<'_>) -> bool {
     let mut script = Vec::new(rt.alloc());
     if put_text(count, &mut script).is_err() {
@@ -182,7 +183,7 @@ fn texts_have_8192_bytes_at_most(rt: HostRuntime) {
 
 const SCRIPT: &[u8] = b"open own 2 5 0 sh\n";
 
-// A setup, and what is told of it: the first line that is refused, and why.
+// A setup, and the message about it: the first refused line, and why.
 static SETUPS: [(&[u8], &str); 4] = [
     (
         b"multiuser on\n\naclchg bob +q shop\nquit now\n",
@@ -253,7 +254,7 @@ impl Write for Full {
     }
 }
 
-/// Whether a reader that fails behind its lines is told of, and the lines are played.
+/// Whether a reader that fails after its lines is reported, and the lines are played.
 fn is_torn<H: Files + AllocGlobal>(rt: &H, words: &[String]) -> bool {
     let mut output = Vec::new(rt.alloc());
     let mut errors = Vec::new(rt.alloc());
@@ -263,7 +264,7 @@ fn is_torn<H: Files + AllocGlobal>(rt: &H, words: &[String]) -> bool {
         && errors.starts_with(b"muxsim: ")
 }
 
-/// Whether a writer that fails is told of.
+/// Whether a writer that fails is reported.
 fn is_full<H: Files + AllocGlobal>(rt: &H, words: &[String]) -> bool {
     let mut errors = Vec::new(rt.alloc());
     simulate(rt, words, SCRIPT, &mut Full, &mut errors) == 1 && errors.starts_with(b"muxsim: ")

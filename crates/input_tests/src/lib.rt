@@ -1,5 +1,5 @@
-//! Tests of the simulator's input: words, setups and scripts that aren't understood, and readers and
-//! writers that fail.
+//! Tests of the simulator's input: invalid arguments, setups and scripts, and readers and writers that
+//! fail.
 #![tactic(auto)]
 
 #[cfg(test)]

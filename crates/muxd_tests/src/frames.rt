@@ -1,4 +1,4 @@
-//! What peers send, byte by byte, and what they are sent.
+//! The bytes that peers send, and those that they must get.
 
 /// The users' file.
 pub const USERS: &[u8] = b"own 0000000000000000000000000000000000000000000000000000000000000000
@@ -33,24 +33,24 @@ pub const QUIT: &[u8] =
 pub const WINDOW: &[u8] =
     b"W\0L\0\x18\0P\0\x0a0000000000000000000000000000000000000000000000000000000000000000\x03ownsh";
 
-/// Clients of the owner and of bob, of 24 lines by 80 columns.
+/// A client of the owner and one of bob, each of 24 lines by 80 columns.
 pub const ATTACH: &[u8] =
     b"A\0G\0\x18\0P0000000000000000000000000000000000000000000000000000000000000000own";
 
 pub const ATTACH_BOB: &[u8] =
     b"A\0G\0\x18\0P000000000000000000000000000000000000000000000000000000000000000bbob";
 
-/// What a client, a command and window 0 are sent first.
+/// The first frame that a client, a command and window 0 get.
 pub const WELCOME: &[u8] = b"y\0\x01\0";
 
-/// All that a command is sent that was done and has nothing to say.
+/// All bytes that a command gets if it was done and has no text.
 pub const DONE: &[u8] = b"y\0\x01\0g\0\x01\0";
 
-/// What bob is told where the owner holds the lock.
+/// The text for bob while the owner holds the lock.
 pub const DENIED: &[u8] = b"s\0\x1edenied: window 0 locked by own";
 
-/// What a client or a window is sent last, behind `quit`.
+/// The last frame that a client or a window gets, after `quit`.
 pub const GONE_QUIT: &[u8] = b"g\0\x01\x04";
 
-/// All that the window is sent: its number, what was typed where it may be, and why it goes.
+/// All bytes that the window gets: its number, the typing that rights allowed, and GONE.
 pub const ALL_INPUT: &[u8] = b"y\0\x01\0i\0\x01oi\0\x01xi\0\x01zg\0\x01\x04";

@@ -1,19 +1,19 @@
-//! The gate of a server whose first call is held.
+//! A server's gate that holds the first call.
 
 use server::Gate;
 use std::sync::atomic::{AtomicU64, Ordering};
 use std::thread;
 use std::time::{Clock, Duration};
 
-// So many milliseconds are waited at most.
+// How long to wait at most, in milliseconds.
 const MOST: usize = 10_000;
 
-/// What the loops of a server show of their calls.
+/// What the gate has seen of the calls of a server's loops.
 #[derive(Drop)]
 pub struct Calls {
-    /// How many were begun.
+    /// How many calls began.
     pub begun: AtomicU64,
-    /// The loops of the first six that were answered: a digit for each, behind a 1.
+    /// The loops of the first six calls that were answered: a 1, and then a digit for each.
     answered: AtomicU64,
 }
 
@@ -25,13 +25,13 @@ impl Calls {
         }
     }
 
-    /// The loops that answered.
+    /// The loops of the calls that were answered: a 1, and then a digit for each of the first six.
     pub fn loops(&self) -> u64 {
         self.answered.load(Ordering::SeqCst)
     }
 }
 
-/// Waits until a number isn't this one any more. Whether that came.
+/// Waits until a number changes from this one. Returns whether it did.
 pub fn wait<R: Clock>(rt: &R, number: &AtomicU64, same: u64) -> bool {
     for _ in 0..MOST {
         if number.load(Ordering::SeqCst) != same {
@@ -42,7 +42,7 @@ pub fn wait<R: Clock>(rt: &R, number: &AtomicU64, same: u64) -> bool {
     false
 }
 
-/// Holds the call that comes first, before it is submitted, until another one was answered.
+/// Holds the first call, before it is submitted, until another call was answered.
 #[derive(Clone, Copy)]
 pub struct Latch<'a> {
     pub runtime: HostRuntime,

@@ -11,14 +11,14 @@ const TRIES: usize = 1000;
 
 pub const SOCKET: &str = "muxd_tests.socket";
 
-/// A peer's connection, and all that it was sent.
+/// A peer's connection, and all bytes that it got.
 #[derive(Drop)]
 pub struct Peer {
     stream: UnixStream,
     pub came: Vec<u8>,
 }
 
-/// Whether these bytes stand somewhere in a text.
+/// Whether a text has these bytes.
 pub fn has(text: &[u8], bytes: &[u8]) -> bool {
     for (start, _) in text.iter().enumerate() {
         let (_, rest) = text.split_at(start);
@@ -30,7 +30,7 @@ pub fn has(text: &[u8], bytes: &[u8]) -> bool {
 }
 
 impl Peer {
-    /// A connection to a server that may not listen yet.
+    /// Connects to a server, which may not listen yet.
     pub fn new<R: Net + Clock>(rt: &R, alloc: Global) -> io::Result<Peer> {
         for _ in 0..TRIES {
             if let Ok(stream) = UnixStream::connect(rt, SOCKET) {
@@ -47,7 +47,7 @@ impl Peer {
         self.stream.write_all(bytes)
     }
 
-    // Reads once: how many bytes came.
+    // Reads once, and returns how many bytes came.
     fn read(&mut self) -> io::Result<usize> {
         let mut buffer = [0; 1024];
         let count = self.stream.read(&mut buffer)?;
@@ -55,7 +55,7 @@ impl Peer {
         Ok(count)
     }
 
-    /// Reads until these bytes came, or the connection's end: whether they came.
+    /// Reads until these bytes came, or to the connection's end. Returns whether they came.
     pub fn is_sent(&mut self, bytes: &[u8]) -> io::Result<bool> {
         for _ in 0..TRIES {
             if has(&self.came, bytes) {
@@ -68,7 +68,7 @@ impl Peer {
         Ok(false)
     }
 
-    /// Reads to the connection's end: whether it came.
+    /// Reads to the connection's end. Returns whether it came.
     pub fn is_over(&mut self) -> io::Result<bool> {
         for _ in 0..TRIES {
             if self.read()? == 0 {

@@ -25,7 +25,7 @@ static WORDS: [&str; 9] = [
     "muxd", "--socket", SOCKET, "--users", FILE, "--trail", TRAIL, "--loops", "3",
 ];
 
-// Makes the users' file, which its owner alone reads and writes.
+// Makes the users' file, which only its owner may read and write.
 fn write_users(rt: &impl Files) -> io::Result<()> {
     let mut file = OpenOptions::new()
         .write(true)
@@ -36,7 +36,7 @@ fn write_users(rt: &impl Files) -> io::Result<()> {
     file.write_all(USERS)
 }
 
-// The words of the server.
+// The server's arguments.
 fn words(alloc: Global) -> Result<Vec<String>, AllocError> {
     let mut words = Vec::new(alloc);
     for word in WORDS {
@@ -45,7 +45,7 @@ fn words(alloc: Global) -> Result<Vec<String>, AllocError> {
     Ok(words)
 }
 
-// Serves until somebody gives `quit`. Nothing that the server would print is looked at.
+// Serves until a peer gives `quit`. The server's output is dropped.
 fn serve<R>(rt: &R, runtime: HostRuntime, words: &[String], calls: &Calls) -> u8
 where
     R: Clock
@@ -75,15 +75,15 @@ where
     )
 }
 
-// Whether these are the lines of a trail of 17 entries: those of ten commands, a window, two
-// clients and what they typed four times.
+// Whether these are the lines of a trail of 17 entries: ten commands, a window, two clients, and four
+// times that they typed.
 fn is_whole(trail: &[u8]) -> bool {
     trail.starts_with(b"mux-trail 1 2 own ")
         && has(trail, b"\nend 17 ")
         && trail.ends_with(b" quit\n")
 }
 
-// Whether the trail's file is whole. It goes, and so does what else the server leaves.
+// Whether the trail's file is whole. Removes it, and the other files that the server leaves.
 fn has_whole_trail<R: Files + AllocGlobal>(rt: &R) -> io::Result<bool> {
     let trail = fs::read(rt, TRAIL)?;
     for path in [TRAIL, FILE, LOCK] {
@@ -92,9 +92,9 @@ fn has_whole_trail<R: Files + AllocGlobal>(rt: &R) -> io::Result<bool> {
     Ok(is_whole(&trail))
 }
 
-/// Refused here are, beside a server that doesn't do what its peers ask for: one that hands all
-/// connections to one loop, and loops that hold a lock over a whole turn. The call that is held
-/// then waits for one that can't come, and is answered before it.
+/// Besides a server that doesn't do its peers' requests, this finds a server that hands all
+/// connections to one loop, and loops that hold a lock over a whole turn: the call that is held then
+/// waits for another one that can't come, and is answered before it.
 #[test]
 fn a_server_and_its_peers(rt: HostRuntime) {
     let alloc = rt.alloc();

@@ -1,4 +1,4 @@
-//! What peers do in turn.
+//! The turns that peers take.
 
 use crate::frames::{
     ADD_BOB, ALL_INPUT, ATTACH, ATTACH_BOB, DENIED, DONE, FREE, GONE_QUIT, HIDE, LOCK, MULTIUSER,
@@ -11,28 +11,28 @@ use std::io;
 use std::net::Net;
 use std::time::Clock;
 
-/// What a turn waits for.
+/// The event that a turn waits for.
 #[derive(Clone, Copy)]
 enum Until {
     /// A loop holds the first call.
     Held,
-    /// This peer was sent these bytes.
+    /// This peer got these bytes.
     Sent(usize, &'static [u8]),
 }
 
-/// A peer, by the number of its connection, what it sends, and what is waited for then. A peer that
-/// isn't there yet connects.
+/// A turn: a peer, by the number of its connection, the bytes that it sends, and the event to wait
+/// for then. A peer connects in its first turn.
 type Turn = (usize, &'static [u8], Until);
 
-// The connections that aren't commands.
+// The numbers of the connections of a window and two clients; the others are commands.
 const SHELL: usize = 6;
 
 const OWN: usize = 7;
 
 const BOB: usize = 8;
 
-// The second loop's call is the one that is held: were it the first loop's, nobody would take the
-// third connection in.
+// The second loop's call is the one that is held: if it were the first loop's, no loop would accept
+// the third connection.
 static TURNS: [Turn; 22] = [
     (0, b"", Until::Sent(0, b"")),
     (1, ADD_BOB, Until::Held),
@@ -58,7 +58,7 @@ static TURNS: [Turn; 22] = [
     (12, QUIT, Until::Sent(12, DONE)),
 ];
 
-// Whether a peer is sent these bytes.
+// Whether a peer gets these bytes.
 fn is_sent(peers: &mut [Peer], who: usize, bytes: &[u8]) -> io::Result<bool> {
     match peers.get_mut(who) {
         Some(peer) => peer.is_sent(bytes),
@@ -66,7 +66,7 @@ fn is_sent(peers: &mut [Peer], who: usize, bytes: &[u8]) -> io::Result<bool> {
     }
 }
 
-// Whether what a turn waits for comes.
+// Whether the event that a turn waits for comes.
 fn take<R: Net + Clock>(
     rt: &R,
     alloc: Global,
@@ -86,7 +86,7 @@ fn take<R: Net + Clock>(
     }
 }
 
-// The first turn in which what it waits for doesn't come.
+// The first turn whose event doesn't come.
 fn wrong_turn<R: Net + Clock>(
     rt: &R,
     alloc: Global,
@@ -102,8 +102,8 @@ fn wrong_turn<R: Net + Clock>(
     None
 }
 
-// Whether a peer, behind `quit`, was sent what it has to be in all. Without r bob gets nothing of
-// what the window prints.
+// Whether after `quit` a peer got all bytes that it must get. Without r bob must get nothing that the
+// window prints.
 fn is_right(who: usize, peer: &mut Peer) -> io::Result<bool> {
     let is_over = peer.is_over()?;
     let came = peer.came.as_slice();
@@ -117,7 +117,7 @@ fn is_right(who: usize, peer: &mut Peer) -> io::Result<bool> {
     Ok(is_over && is_right)
 }
 
-// The first peer that wasn't sent what it has to be.
+// The first peer that didn't get all bytes that it must get.
 fn wrong_peer(peers: &mut [Peer]) -> Option<usize> {
     for (who, peer) in peers.iter_mut().enumerate() {
         match is_right(who, peer) {
@@ -135,8 +135,8 @@ fn quit<R: Net + Clock>(rt: &R, alloc: Global) -> io::Result<bool> {
     peer.is_over()
 }
 
-/// Takes all turns, and ends the server whatever comes. The number of the first turn that goes
-/// wrong; else, behind those of the turns, of the first peer that wasn't sent what it has to be.
+/// Takes all turns, and ends the server in any case. Returns the number of the first turn that goes
+/// wrong; otherwise that of the first peer that didn't get its bytes, counted on from the turns.
 pub fn first_wrong<R: Net + Clock>(rt: &R, alloc: Global, calls: &Calls) -> Option<usize> {
     let mut peers = Vec::new(alloc);
     if let Some(turn) = wrong_turn(rt, alloc, calls, &mut peers) {

@@ -1,6 +1,6 @@
-//! The calls that make frames give the same bytes, and a refused one changes nothing. Run as it stands
-//! the test here meets no refusal; `tools/refusals` runs it once for each of its allocations, which is
-//! refused then. So at most one is refused in a run, and a second try never is.
+//! The calls that make frames give equal bytes, and a refused one changes nothing. In a plain run no
+//! allocation is refused; `tools/refusals` runs the test once for each of its allocations and refuses
+//! that one. So at most one is refused in a run, and a second try never is.
 
 ghost use Rattle.std.specs.Prelude.{◌≡◌};
 
@@ -9,12 +9,12 @@ use cells::{Cell, Rendition};
 use redraw::{Shadow, frame_keeping, frame_sparing};
 use std::alloc::{AllocError, Global};
 
-/// A call that makes a frame.
+/// The calls that make a frame.
 #[derive(Clone, Copy)]
 enum Call {
     Appending,
     Keeping,
-    /// The page is composed over another one.
+    /// Composes the page over a spare one.
     Sparing,
 }
 
@@ -63,7 +63,7 @@ fn spare(alloc: Global, shadow: &mut Shadow, page: Page<'_>) -> Result<Option<Ve
     frame_sparing(alloc, shadow, view, &mut other)
 }
 
-/// Appends a frame.
+/// Appends a frame made by this call.
 fn draw(
     alloc: Global,
     call: Call,
@@ -87,7 +87,7 @@ fn draw(
     }
 }
 
-/// Appends a frame, asked for once more where memory is refused.
+/// Appends a frame. Tries again if memory is refused.
 fn is_drawn(
     alloc: Global,
     call: Call,
@@ -103,7 +103,7 @@ fn is_drawn(
     draw(alloc, call, shadow, page, out).is_ok() || draw(alloc, call, shadow, page, out).is_ok()
 }
 
-/// The bytes of a frame from unknown, and of one behind it, in a list that has room for them.
+/// Appends a first frame, from an unknown page, and a second frame. The list has room for both.
 fn has_drawn(alloc: Global, call: Call, out: &mut Vec<u8>) -> bool {
     let mut shadow = Shadow::unknown(24, 80);
     (out.reserve(1000).is_ok() || out.reserve(1000).is_ok())

@@ -1,4 +1,4 @@
-//! A changed colour is drawn alone, in few bytes.
+//! A frame changes only the colours that differ, in few bytes.
 
 use crate::drawing::{Page, put};
 use cells::{Cell, Colour, Rendition};
@@ -41,7 +41,8 @@ type Letters = ((char, Rendition), (char, Rendition));
 
 const BEFORE: Letters = (('x', BOLD), ('y', BOLD));
 
-/// Letters, others in their place, and what the frame between them has once. It has no `x`.
+/// Letters, the letters that replace them, and a part that the frame must have once. A frame must not
+/// have an `x`.
 static ROWS: [(Letters, Letters, &str); 11] = [
     (BEFORE, (('a', Rendition::PLAIN), ('b', RED)), "a\x1b[31mb"),
     (BEFORE, (('a', RED), ('b', GREEN)), "a\x1b[32mb"),
@@ -72,7 +73,7 @@ fn cells_of(letters: Letters) -> [Cell; 2] {
     ]
 }
 
-/// Whether a frame has a part once, and no `x`.
+/// Whether a frame has this part once, and no `x`.
 fn has_once(frame: &[u8], part: &str) -> bool {
     match str::from_utf8(frame) {
         Ok(text) => {

@@ -9,15 +9,15 @@ use regions::{Rect, Rects};
 use std::alloc::{AllocError, Global};
 use view::{Contents, KeyModes, Pane, View, compose_over};
 
-/// What stands in the first lines of a page, and its cursor.
+/// The cells in the first lines of a page, and its cursor.
 #[derive(Clone, Copy)]
 pub struct Page<'a> {
     pub lines: &'a [&'a [Cell]],
     pub cursor: (usize, usize),
 }
 
-/// A page as a view, over a spare one: a region over 24 lines, whose caption the blank status line
-/// covers.
+/// A page as a view, composed over a spare one if there is one. It has one region of 24 lines, whose
+/// caption is under the blank status line.
 pub fn view_of(alloc: Global, spare: Option<View>, page: Page<'_>) -> Result<View, AllocError>
     ensures { IfOk result (HasSize 24 80) }
 {

@@ -1,4 +1,4 @@
-//! Worked layouts of regions.
+//! Examples of layouts of regions.
 
 use regions::{Layout, Rect, Rects, RegionFault, Shown, Way};
 use std::alloc::Global;
@@ -6,7 +6,7 @@ use std::alloc::Global;
 /// A call on a layout.
 #[derive(Clone, Copy)]
 enum Step {
-    /// On a page of 24 lines by 80 columns.
+    /// Splits on a page of 24 lines by 80 columns.
     Split(Way),
     Next,
     Show(Shown),
@@ -16,10 +16,10 @@ enum Step {
     Resized(u16, u16),
 }
 
-/// The first line and column, counted from 0, and how many lines and columns.
+/// The first line and column, counted from 0, and the number of lines and columns.
 type Place = (u16, u16, u16, u16);
 
-/// What a layout gives after some more steps, on a page of this size.
+/// Steps, and the layout after them on a page of this size.
 struct Row {
     steps: &'static [Step],
     size: (u16, u16),
@@ -39,7 +39,7 @@ const THIRD: Shown = Shown {
     back: 0,
 };
 
-/// Scrolled back.
+/// Window 2, scrolled back by 9 lines.
 const SECOND: Shown = Shown {
     window: Some(2),
     back: 9,
@@ -49,9 +49,9 @@ const BELOW: Step = Step::Split(Way::Below);
 
 const RIGHT: Step = Step::Split(Way::Right);
 
-/// Each row goes on from the layout of the one before, the first from window 7 alone.
+/// Each row continues from the layout of the row before; the first one from a region with window 7.
 static ROWS: [Row; 13] = [
-    // Halves over one another. Two: regions in rows 0 to 10 and 12 to 21, captions in rows 11 and
+    // Halves above each other. Two: regions in rows 0 to 10 and 12 to 21, captions in rows 11 and
     // 22. Three: rows 0 to 4, 6 to 10, 12 to 21; captions 5, 11, 22.
     Row {
         steps: &[BELOW],
@@ -119,9 +119,9 @@ static ROWS: [Row; 13] = [
         ],
         focus: 0,
     },
-    // The focus follows the order of the splits: from 7 (upper), over 2 (lower left) and the new one
-    // (lower right), to 7 again. The upper one goes: its sibling, in two halves, has its room. The
-    // focused region stays where the page is too small.
+    // The focus follows the order of the splits: from 7 (upper), to 2 (lower left), to the new one
+    // (lower right), and back to 7. When the upper one is removed, its sibling, in two halves, gets
+    // its room. When the page gets too small, only the focused region stays.
     Row {
         steps: &[Step::Only, BELOW, Step::Next, Step::Show(SECOND), RIGHT],
         size: (24, 80),
@@ -180,7 +180,7 @@ static ROWS: [Row; 13] = [
     },
 ];
 
-/// Whether a step is taken, asked for once more where memory is refused.
+/// Whether a step is taken. Tries again if memory is refused.
 fn is_taken(alloc: Global, layout: &mut Layout, step: Step) -> bool {
     match step {
         Step::Split(way) => {
@@ -227,7 +227,7 @@ fn shows(alloc: Global, layout: &Layout, row: &Row) -> Result<bool, RegionFault>
     Ok(are_placed(&rects, row) && layout.shown() == row.shown && layout.focus() == row.focus)
 }
 
-/// Whether a layout gives just what a row says, once its steps are taken.
+/// Whether a layout after a row's steps is exactly that of the row.
 fn gives(alloc: Global, layout: &mut Layout, row: &Row) -> bool {
     for step in row.steps {
         if !is_taken(alloc, layout, *step) {
@@ -257,8 +257,8 @@ fn first_wrong(alloc: Global) -> Option<usize> {
     None
 }
 
-/// A refused split is asked for again: with each allocation refused in turn (`tools/refusals`), the
-/// layout is then as without a refusal.
+/// Tries a refused split again: with each allocation refused in turn (`tools/refusals`), the layouts
+/// are those of a run without a refusal.
 #[test]
 fn layouts_give_their_rows_though_refused_once(rt: HostRuntime) {
     assert_eq!(rt; first_wrong(rt.alloc()), None);

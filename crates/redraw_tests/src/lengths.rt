@@ -1,4 +1,4 @@
-//! How many bytes frames have at most, at 24 lines by 80 columns.
+//! Bounds on the bytes of frames, at 24 lines by 80 columns.
 
 ghost use Rattle.std.specs.Prelude.{◌≡◌};
 
@@ -8,13 +8,13 @@ use cells::{Cell, Rendition};
 use redraw::Shadow;
 use std::alloc::{AllocError, Global};
 
-/// What stands in the first 23 lines.
+/// The text in the first 23 lines.
 #[derive(Clone, Copy)]
 enum Text {
     Blank,
     /// 79 letters a line, from this one of the alphabet on.
     Letters(u8),
-    /// A letter in each tenth column of a line.
+    /// A letter in every tenth column of a line.
     Scattered,
 }
 
@@ -22,12 +22,12 @@ enum Text {
 #[derive(Clone, Copy)]
 struct Sheet {
     text: Text,
-    /// A place with a letter of its own.
+    /// A place with another character.
     changed: Option<(usize, usize)>,
     cursor: (usize, usize),
 }
 
-/// A frame from a page, or from unknown, to another one.
+/// A frame to a page, from another page or from an unknown one, and its most bytes.
 struct Draw {
     from: Option<Sheet>,
     to: Sheet,
@@ -48,7 +48,7 @@ const FULL: Sheet = Sheet {
     cursor: (22, 79),
 };
 
-/// The letter before the cursor, and the cursor behind it.
+/// The page with another letter, and the cursor after it.
 const TYPED: Sheet = Sheet {
     changed: Some((5, 40)),
     cursor: (5, 41),
@@ -115,7 +115,7 @@ static DRAWS: [Draw; 7] = [
     },
 ];
 
-/// The letter that so many steps behind `a` is, from `z` on to `a`.
+/// The letter this many steps after `a`; `a` follows `z`.
 fn letter(steps: usize) -> char {
     (b'a' + (steps % 26) as u8) as char
 }
@@ -131,7 +131,7 @@ fn character(sheet: &Sheet, line: usize, column: usize) -> char {
     }
 }
 
-/// The cells of all lines, one line behind the other.
+/// The cells of all lines, line by line.
 fn cells_of(alloc: Global, sheet: &Sheet) -> Result<Vec<Cell>, AllocError> {
     let mut cells = Vec::new(alloc);
     for place in 0..LINES * 80 {
@@ -170,7 +170,7 @@ fn put_sheet(
     put(alloc, shadow, page, out)
 }
 
-/// How many bytes a frame has.
+/// The number of bytes of a frame.
 fn count(alloc: Global, draw: &Draw) -> Result<usize, AllocError> {
     let mut shadow = Shadow::unknown(24, 80);
     let mut out = Vec::new(alloc);

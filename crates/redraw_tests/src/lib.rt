@@ -1,4 +1,4 @@
-//! Tests of draws: layouts of regions, frames from one page to another, and made-up steps of a session.
+//! Tests of draws: layouts of regions, frames from one page to another, and random steps of a session.
 #![tactic(auto)]
 
 #[cfg(test)]

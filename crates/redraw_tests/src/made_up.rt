@@ -1,5 +1,5 @@
-//! Made-up steps of a session, each drawn both ways: for a client whose terminal is known, and for one
-//! that sees the same and whose terminal is unknown, since it has just changed its size.
+//! Random steps of a session, each drawn in two ways: for a client whose terminal is known, and for a
+//! client with an equal view whose terminal is unknown, since it has just changed its size.
 
 use acl::UserId;
 use emulator::{Emulator, MovedPage};
@@ -8,7 +8,7 @@ use std::alloc::Global;
 
 const STEPS: u32 = 1000;
 
-/// What a window prints before a digit: text, wide characters, marks, erasures, shifts, renditions
+/// Bytes that a window prints before a digit: text, wide characters, marks, erasures, shifts, renditions
 /// and modes.
 static PRINTED: [&[u8]; 38] = [
     b"hello, world",
@@ -51,7 +51,7 @@ static PRINTED: [&[u8]; 38] = [
     b"\xE6\xBC\xA2\x08\x08\x08|",
 ];
 
-/// Keys of both clients: other regions and windows, lines that are kept, lists and the prompt.
+/// Keys of both clients, for other regions and windows, kept lines, lists and the prompt.
 static KEYS: [&[u8]; 13] = [
     b"\x01\t",
     b"\x01\t",
@@ -68,7 +68,7 @@ static KEYS: [&[u8]; 13] = [
     b"x",
 ];
 
-/// Commands of the owner, each for a window or for none.
+/// Commands of the owner, with a window or none.
 static COMMANDS: [(Option<u8>, &[u8]); 5] = [
     (None, b"aclchg bob -r 1"),
     (None, b"aclchg bob +r 1"),
@@ -77,13 +77,13 @@ static COMMANDS: [(Option<u8>, &[u8]); 5] = [
     (Some(1), b"title right"),
 ];
 
-/// What stands in the unknown terminal before each draw: a page of wide characters with strange
-/// modes, inside a string.
+/// Bytes that the unknown terminal reads before each draw: a page of wide characters with strange modes,
+/// and then an unfinished string.
 const STRANGE: &[u8] =
     b"x\xE6\xBC\xA2y\x1b[2;3r\x1b[?1;5;6h\x1b[4;20h\x1b[1;4;7m\x1b7\x1b[?25l\x1b=\x1b)0\x0e\x1b%@\
       \x1bPtext";
 
-/// Numbers in a made-up order (Knuth, The Art of Computer Programming, volume 2, 3.3.4).
+/// Pseudorandom numbers (Knuth, The Art of Computer Programming, volume 2, 3.3.4).
 #[derive(Drop)]
 struct Dice {
     state: u64,
@@ -113,7 +113,7 @@ struct Stage {
     draws: u32,
 }
 
-/// Whether a terminal reads bytes and answers none of them.
+/// Whether a terminal reads these bytes without an answer.
 fn is_read(alloc: Global, terminal: &mut Emulator, bytes: &[u8]) -> bool {
     let mut reports = Vec::new(alloc);
     terminal.feed_all(bytes, &mut reports).is_ok() && reports.is_empty()
@@ -132,7 +132,7 @@ fn have_same_cells(page: &MovedPage<'_>, other: &MovedPage<'_>) -> bool {
     true
 }
 
-/// Whether two terminals show the same.
+/// Whether two terminals show equal pages, cursors and modes.
 fn are_alike(one: &Emulator, other: &Emulator) -> bool {
     let modes = one.modes();
     let others = other.modes();
@@ -157,7 +157,7 @@ impl Stage {
         })
     }
 
-    /// Takes an event, and hands what it delivers to the terminals. Whether it isn't refused.
+    /// Takes an event, and hands the bytes that it delivers to the terminals. Returns whether it is done.
     fn takes(&mut self, event: Event<'_>) -> bool {
         let mut effects = Vec::new(self.alloc);
         let mut replies = Vec::new(self.alloc);
@@ -170,7 +170,8 @@ impl Stage {
         !ran.stopped && matches!(replies.first(), Some(Ok(_)))
     }
 
-    /// Whether an effect is none for a client's terminal, or is read by it.
+    /// Hands a delivered frame to the client's terminal. Returns whether the terminal reads it without an
+    /// answer, and true for other effects.
     fn is_delivered(&mut self, effect: &Effect) -> bool {
         match effect {
             Effect::Deliver(0, bytes) => {
@@ -203,12 +204,12 @@ impl Stage {
         })
     }
 
-    /// Both clients give the same keys.
+    /// Types these keys in both clients.
     fn types(&mut self, bytes: &[u8]) -> bool {
         self.takes(Event::Keys { client: 0, bytes }) && self.takes(Event::Keys { client: 1, bytes })
     }
 
-    /// A window prints some bytes, and then a digit.
+    /// Prints some bytes in a window, and then a digit.
     fn prints(&mut self, window: u32, bytes: &[u8], digit: usize) -> bool {
         let digits = b"0123456789";
         let digit = digits.get(digit..).unwrap_or(digits);
@@ -220,8 +221,8 @@ impl Stage {
             })
     }
 
-    /// Two windows, the second one to be read by bob at times, and two clients of bob, each with
-    /// three regions.
+    /// Opens two windows, and attaches two clients of bob, each with three regions. Later on bob may
+    /// read the second window only at times.
     fn begins(&mut self) -> bool {
         let Some(bob) = UserId::of(b"bob") else {
             return false;
@@ -240,7 +241,7 @@ impl Stage {
             && self.types(b"\x01|\x01S\x01\t\x011")
     }
 
-    /// Something happens.
+    /// Takes one random step.
     fn steps(&mut self, dice: &mut Dice) -> bool {
         match dice.below(16) {
             0 | 1 => match KEYS.get(dice.below(KEYS.len())) {
@@ -258,7 +259,7 @@ impl Stage {
         }
     }
 
-    /// Draws for both clients. Whether their terminals show the same then.
+    /// Draws for both clients. Returns whether their terminals then show equal pages.
     fn draws_alike(&mut self) -> bool {
         let resize = Event::Resize {
             client: 1,
@@ -272,8 +273,8 @@ impl Stage {
     }
 }
 
-/// The first step behind which the two ways differ, or the last one if a quarter of the steps or
-/// fewer have changed what is shown.
+/// The first step after which the two terminals differ. If no step does, but at most a quarter of the
+/// steps made a draw, it is the number of all steps.
 fn first_wrong(alloc: Global) -> Option<u32> {
     let Some(mut stage) = Stage::new(alloc) else {
         return Some(0);

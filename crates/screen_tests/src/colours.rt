@@ -6,8 +6,8 @@ use emulator::MovedPage;
 use std::alloc::Global;
 use std::str::Chars;
 
-/// Bytes; the foregrounds of the page's cells and their backgrounds, line by line, each line ended
-/// by `|`: a colour's number, or `.` for none.
+/// Bytes; the foregrounds and the backgrounds of the page's cells, line by line, each line ended by
+/// `|`: a colour's number, or `.` for none.
 type Row = (&'static [u8], &'static str, &'static str);
 
 const SMALL: Size = (2, 5, 0);
@@ -83,7 +83,7 @@ fn sign(colour: Option<u8>) -> char {
     }
 }
 
-/// Whether texts go on with the foregrounds and the backgrounds of a line, and then `|`.
+/// Whether two texts continue with the foregrounds and the backgrounds of a line, each followed by `|`.
 fn go_on_with_line(fore: &mut Chars<'_>, back: &mut Chars<'_>, line: &[Cell]) -> bool {
     for cell in line {
         if fore.next() != Some(sign(cell.fore())) || back.next() != Some(sign(cell.back())) {
@@ -123,7 +123,7 @@ fn first_wrong(alloc: Global) -> Option<usize> {
     None
 }
 
-/// The values 38, 5 and 1 are read each by itself.
+/// Tests that SGR reads the values 38, 5 and 1 one by one.
 fn is_bold_and_blinking(alloc: Global) -> bool {
     let rendition = Rendition {
         is_bold: true,

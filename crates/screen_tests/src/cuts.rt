@@ -1,4 +1,4 @@
-//! Made-up bytes, read whole and in three pieces.
+//! Random bytes, read at once and in three pieces.
 
 ghost use Rattle.std.specs.Prelude.{◌<◌, ◌≤◌};
 
@@ -10,14 +10,14 @@ const SIZE: Size = (3, 6, 2);
 
 const LISTS: u32 = 10_000;
 
-/// How long a list is at most.
+/// The length of the longest list.
 const LONGEST: usize = 31;
 
-/// The bytes of which lists are made: of characters, sequences and strings, whole and broken.
+/// The bytes of the lists, for characters, sequences and strings, whole and broken.
 const BYTES: [u8; 64] =
     *b"\x1B\x1B\x1B\x1B\x1B[[[[[\xE6\xBC\xA2\xF0\x9F\x98\x80\xCC\x81\xC2\x9B0123679;;?\" %()*+<>@ABCDHJKLMPXabclmnqrh\x18\x1A\r";
 
-/// Numbers in a made-up order (Knuth, The Art of Computer Programming, volume 2, 3.3.4).
+/// Pseudorandom numbers (Knuth, The Art of Computer Programming, volume 2, 3.3.4).
 #[derive(Drop)]
 struct Numbers {
     state: u64,
@@ -60,7 +60,7 @@ fn are_alike(page: &MovedPage<'_>, other: &MovedPage<'_>) -> bool {
     true
 }
 
-/// Whether two terminals show the same, kept lines too, and have the same modes.
+/// Whether two terminals show equal pages, kept lines too, and have equal modes.
 fn are_same(one: &Emulator, other: &Emulator) -> bool {
     are_alike(&one.page(2), &other.page(2))
         && are_alike(&one.page(0), &other.page(0))
@@ -68,7 +68,7 @@ fn are_same(one: &Emulator, other: &Emulator) -> bool {
         && modes_of(one) == modes_of(other)
 }
 
-/// Whether the pieces give the terminal and the answers of the whole.
+/// Whether the three pieces give the terminal and the answers that the whole list gives.
 fn is_whole(alloc: Global, bytes: &[u8], cut: usize, other_cut: usize) -> bool {
     let (front, last) = bytes.split_at(cut.max(other_cut).min(bytes.len()));
     let (first, middle) = front.split_at(cut.min(other_cut).min(front.len()));
@@ -84,7 +84,7 @@ fn is_whole(alloc: Global, bytes: &[u8], cut: usize, other_cut: usize) -> bool {
     }
 }
 
-/// The first of the lists whose pieces give something else.
+/// The first list whose pieces give another result.
 fn first_wrong(alloc: Global) -> Option<u32> {
     let mut numbers = Numbers { state: 20 };
     let mut list = [0; LONGEST];

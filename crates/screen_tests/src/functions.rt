@@ -1,11 +1,11 @@
-//! Bytes as control functions, and how those are spelled.
+//! Bytes as control functions, and the spelling of those functions.
 
 use charsets::{Coding, Decoder, Unit, Units};
 use control_parser::{Parser, spell};
 use std::alloc::Global;
 
-/// Bytes in a coding, and the spellings of the functions that they are, each ended by `|`
-/// (ECMA-48, 5.2 to 5.6; the Unicode core specification, 3.9).
+/// Bytes in a coding, and the spellings of their functions, each ended by `|` (ECMA-48, 5.2 to 5.6; the
+/// Unicode core specification, 3.9).
 type Row = (Coding, &'static [u8], &'static [u8]);
 
 static ROWS: [Row; 24] = [
@@ -83,7 +83,7 @@ static ROWS: [Row; 24] = [
     ),
 ];
 
-/// Appends the spelling of the function that a unit ends.
+/// Appends the spelling of the function that a unit completes, if it completes one.
 fn is_taken(parser: &mut Parser, unit: Unit, out: &mut Vec<u8>) -> bool {
     match parser.push(unit) {
         Some(func) => spell(&func, out).is_ok() && out.push(b'|').is_ok(),
@@ -91,7 +91,7 @@ fn is_taken(parser: &mut Parser, unit: Unit, out: &mut Vec<u8>) -> bool {
     }
 }
 
-/// The same of all units that a byte ends.
+/// Appends the spellings of the functions that a byte completes.
 fn is_read(decoder: &mut Decoder, parser: &mut Parser, byte: u8, out: &mut Vec<u8>) -> bool {
     match decoder.push(byte) {
         Units::Nothing => true,
@@ -102,7 +102,7 @@ fn is_read(decoder: &mut Decoder, parser: &mut Parser, byte: u8, out: &mut Vec<u
     }
 }
 
-/// Whether a row's bytes are its functions, and nothing is left.
+/// Whether a row's bytes are exactly its functions, with no unfinished one left.
 fn are_read(alloc: Global, row: &Row) -> bool {
     let (coding, bytes, want) = *row;
     let mut decoder = Decoder::new();

@@ -1,12 +1,12 @@
-//! Growths that are refused, and leave all as it was. Run as it stands the test here meets no refusal;
-//! `tools/refusals` runs it once for each of its allocations, which is refused then.
+//! A refused growth leaves everything as it was. In a plain run no allocation is refused;
+//! `tools/refusals` runs the test once for each of its allocations and refuses that one.
 
 use crate::judging::shows;
 use cells::GridFault;
 use emulator::{Emulator, Stopped};
 use std::alloc::Global;
 
-/// At most one allocation is refused in a run, so a second try never is.
+/// Makes an emulator. At most one allocation is refused in a run, so a second try never is.
 fn made_at_last(alloc: Global) -> Option<Emulator> {
     match Emulator::new(alloc, 2, 5, 1) {
         Ok(emulator) => Some(emulator),
@@ -14,7 +14,7 @@ fn made_at_last(alloc: Global) -> Option<Emulator> {
     }
 }
 
-/// Reads bytes to their end, from where it stopped.
+/// Reads all bytes, and continues at the place where a refusal stopped it.
 fn reads_at_last(emulator: &mut Emulator, bytes: &[u8], answers: &mut Vec<u8>) -> bool {
     match emulator.feed_all(bytes, answers) {
         Ok(()) => true,
@@ -22,7 +22,8 @@ fn reads_at_last(emulator: &mut Emulator, bytes: &[u8], answers: &mut Vec<u8>) -
     }
 }
 
-/// Changes the size. Whether it is changed in the end, and all is as it was where it is refused.
+/// Changes the size. Returns whether it changes at last, and whether a refusal leaves everything as it
+/// was.
 fn is_resized_at_last(emulator: &mut Emulator) -> bool {
     match emulator.resized(3, 4) {
         Ok(()) => true,

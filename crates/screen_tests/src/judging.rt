@@ -1,14 +1,14 @@
-//! An emulator for a test, and what its page shows.
+//! An emulator for a test, and checks of its page.
 
 use cells::{Cell, Marks, Shape};
 use emulator::{Emulator, MovedPage};
 use std::alloc::Global;
 use std::str::Chars;
 
-/// Lines, columns, and lines to keep.
+/// Lines, columns, and kept lines.
 pub type Size = (usize, usize, usize);
 
-/// An emulator of this size that has read these pieces; what it answered is appended.
+/// An emulator of this size that has read these pieces. Appends its answers.
 pub fn read(
     alloc: Global,
     size: Size,
@@ -23,14 +23,14 @@ pub fn read(
     Some(emulator)
 }
 
-/// What comes of some bytes.
+/// Some bytes and their result.
 #[derive(Clone, Copy)]
 pub struct Row {
     pub size: Size,
     pub bytes: &'static [u8],
-    /// By how many kept lines the page is moved back.
+    /// The number of kept lines by which the page is moved back.
     pub back: usize,
-    /// Its lines, each ended by `|`; a blank is `_`.
+    /// The page's lines, each ended by `|`; a blank is `_`.
     pub page: &'static str,
     /// The cursor's line and column, from 0.
     pub cursor: (usize, usize),
@@ -39,7 +39,7 @@ pub struct Row {
     pub answer: &'static [u8],
 }
 
-/// Whether a row's bytes, which come in two pieces, do what it says.
+/// Whether a row's bytes, split into two pieces at `cut`, give its result.
 fn is_so(alloc: Global, row: &Row, cut: usize) -> bool {
     let (first, second) = row.bytes.split_at(cut.min(row.bytes.len()));
     let mut answers = Vec::new(alloc);
@@ -52,7 +52,7 @@ fn is_so(alloc: Global, row: &Row, cut: usize) -> bool {
         && answers.as_slice() == row.answer
 }
 
-/// The same at each place.
+/// Whether a row's bytes give its result, no matter where they are split into two pieces.
 pub fn is_so_at_each_cut(alloc: Global, row: &Row) -> bool {
     for cut in 0..=row.bytes.len() {
         if !is_so(alloc, row, cut) {
@@ -62,7 +62,7 @@ pub fn is_so_at_each_cut(alloc: Global, row: &Row) -> bool {
     true
 }
 
-/// Whether a text goes on with a cell: `_` is a blank, and a right half is nothing.
+/// Whether a text continues with a cell: `_` is a blank, and a right half has no character.
 fn goes_on(text: &mut Chars<'_>, cell: &Cell) -> bool {
     if cell.shape == Shape::Right {
         return true;
@@ -82,7 +82,7 @@ fn goes_on(text: &mut Chars<'_>, cell: &Cell) -> bool {
     }
 }
 
-/// Whether a text goes on with a line, and then `|`.
+/// Whether a text continues with a line, followed by `|`.
 fn goes_on_with_line(text: &mut Chars<'_>, line: &[Cell]) -> bool {
     for cell in line {
         if !goes_on(text, cell) {
@@ -109,7 +109,7 @@ const LETTERS: [u8; 8] = *b"ilavowck";
 /// The modes of a new screen.
 pub const NEW: &[u8] = b"wc";
 
-/// Which modes are set, in the order of their letters.
+/// Whether each mode is set, in the order of the letters.
 pub fn modes_of(emulator: &Emulator) -> [bool; 8] {
     let modes = emulator.modes();
     [
@@ -124,7 +124,7 @@ pub fn modes_of(emulator: &Emulator) -> [bool; 8] {
     ]
 }
 
-/// Whether those modes are set that have these letters, and no others.
+/// Whether exactly the modes with these letters are set.
 fn has_modes(emulator: &Emulator, letters: &[u8]) -> bool {
     let modes = modes_of(emulator);
     for place in 0..LETTERS.len() {

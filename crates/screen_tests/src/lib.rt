@@ -1,4 +1,4 @@
-//! Tests of screens: bytes as control functions, the pages that have read them however they were cut,
+//! Tests of screens: bytes as control functions, the pages after them no matter how the bytes are split,
 //! their cells, and tables of windows.
 #![tactic(auto)]
 

@@ -1,11 +1,12 @@
-//! What pages show when they have read some bytes.
+//! Pages after some bytes.
 
 use crate::judging::{NEW, Row, Size, is_so_at_each_cut, read, shows};
 use emulator::Emulator;
 use std::alloc::Global;
 
-/// A size; by how many kept lines the page is moved back; bytes; its lines, each ended by `|`, where
-/// a blank is `_`; the cursor. The modes are those of a new screen, and nothing is answered.
+/// A size; the number of kept lines by which the page is moved back; bytes; the page's lines, each ended
+/// by `|`, with `_` for a blank; the cursor. The modes are those of a new screen, and there is no
+/// answer.
 type Shown = (Size, usize, &'static [u8], &'static str, (usize, usize));
 
 const SMALL: Size = (2, 5, 0);
@@ -13,7 +14,7 @@ const SMALL: Size = (2, 5, 0);
 static ROWS: [Shown; 35] = [
     // starts blank
     ((3, 3, 0), 0, b"", "___|___|___|", (0, 0)),
-    // wraps behind the last column
+    // wraps after the last column
     (SMALL, 0, b"abcdef", "abcde|f____|", (1, 1)),
     // a function ends the pending wrap
     (SMALL, 0, b"abcde\x08X", "abcXe|_____|", (0, 4)),
@@ -65,7 +66,7 @@ static ROWS: [Shown; 35] = [
         "e\u{301}\u{302}____|_____|",
         (0, 1),
     ),
-    // a mark behind a move is dropped
+    // a mark after a move is dropped
     (SMALL, 0, b"e\x08a\r\xCC\x81", "a____|_____|", (0, 0)),
     // CAN ends a character
     (SMALL, 0, b"\xE6\xBC\x18\xA2", "\u{FFFD}____|_____|", (0, 1)),
@@ -113,7 +114,7 @@ static ROWS: [Shown; 35] = [
     ),
     // margins of one line change nothing
     (SMALL, 0, b"ab\x1B[2;2r", "ab___|_____|", (0, 2)),
-    // a great parameter goes to the last line
+    // a large parameter goes to the last line
     (
         SMALL,
         0,
@@ -149,7 +150,7 @@ static ROWS: [Shown; 35] = [
     ),
     // three bytes of four are one
     (SMALL, 0, b"\xF0\x90\x80A", "\u{FFFD}A___|_____|", (0, 2)),
-    // tab stops stand in each eighth column
+    // there is a tab stop in every eighth column
     (
         (2, 20, 0),
         0,
@@ -206,7 +207,7 @@ fn first_wrong(alloc: Global) -> Option<usize> {
     None
 }
 
-/// Whether an emulator reads some bytes again and again.
+/// Whether an emulator reads these bytes 10,000 times.
 fn is_read_often(emulator: &mut Emulator, bytes: &[u8], out: &mut Vec<u8>) -> bool {
     for _ in 0..10_000u32 {
         if emulator.feed_all(bytes, out).is_err() {
@@ -216,8 +217,8 @@ fn is_read_often(emulator: &mut Emulator, bytes: &[u8], out: &mut Vec<u8>) -> bo
     true
 }
 
-/// Whether a control sequence of 20,000 bytes acts, and a string of a million leaves the page as it
-/// is until it is ended.
+/// Whether a control sequence of 20,000 bytes acts, and a string of a million bytes leaves the page
+/// unchanged until the string ends.
 fn are_long_ones_read(alloc: Global) -> bool {
     let mut out = Vec::new(alloc);
     let Some(mut emulator) = read(alloc, SMALL, &[b"ab\x1B["], &mut out) else {

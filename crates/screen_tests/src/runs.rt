@@ -1,14 +1,14 @@
-//! Runs of plain bytes, beside a plain loop.
+//! Runs of plain bytes, compared with a plain loop.
 
 use control_parser::plain_run;
 
-/// The longest list.
+/// The length of the longest list.
 const LONGEST: usize = 100;
 
 /// Bytes outside 20 to 7E.
 static OUTSIDE: [u8; 7] = [0x00, 0x1F, 0x7F, 0x80, 0x9F, 0xC0, 0xFF];
 
-/// How many bytes of 20 to 7E a list begins with, looked at one by one.
+/// The number of bytes 20 to 7E at the beginning of a list, counted one by one.
 fn counted(bytes: &[u8]) -> usize {
     let mut count = 0usize;
     for byte in bytes {
@@ -20,8 +20,8 @@ fn counted(bytes: &[u8]) -> usize {
     count
 }
 
-/// Whether each list of this length has the run that the loop counts: with a byte outside at each
-/// place, a second one behind it, and without one.
+/// Whether each list of this length has the run that the loop counts: lists with a byte outside 20 to
+/// 7E at each place, lists with a second such byte after it, and the list without one.
 fn are_counted(length: usize) -> bool {
     let mut bytes = [b'~'; LONGEST];
     let length = length.min(LONGEST);

@@ -1,13 +1,14 @@
-//! Every row of the screen table: bytes in; page, cursor, modes and answers out.
+//! Every row of the table of screens: bytes, and the page, cursor, modes and answers after them.
 
 use crate::judging::{NEW, Row, Size, is_so_at_each_cut, read};
 use std::alloc::Global;
 
-/// Bytes; the lines of the page, each ended by `|`, where a blank is `_`; the cursor's line and
-/// column from 0. The modes are those of a new screen, and nothing is answered.
+/// Bytes; the lines of the page, each ended by `|`, with `_` for a blank; the cursor's line and column
+/// from 0. The modes are those of a new screen, and there is no answer.
 type Shows = (&'static [u8], &'static str, (usize, usize));
 
-/// The same, the letters of the modes that are set (`judging::has_modes`), and what is answered.
+/// Bytes; the lines of the page; the cursor; the letters of the modes that are set
+/// (`judging::has_modes`); the answers.
 type Sets = (
     &'static [u8],
     &'static str,
@@ -19,7 +20,7 @@ type Sets = (
 /// 3 lines of 5 columns.
 const SMALL: Size = (3, 5, 0);
 
-/// A small page with nothing on it.
+/// A small blank page.
 const BLANK: &str = "_____|_____|_____|";
 
 static ROWS: [Shows; 66] = [
@@ -183,8 +184,8 @@ static MODES: [Sets; 29] = [
     (b"\x1B%@\x1B G\x1B[5n", BLANK, (0, 0), NEW, b"\x9B0n"),
 ];
 
-/// Reports of a page of 24 lines by 80 columns: the place is counted from the margins, the last
-/// place, 8-bit controls in UTF-8; the place behind three tabs, and behind one where no stop is left.
+/// Reports of a page of 24 lines by 80 columns: a place counted from the margins, the last place, 8-bit
+/// controls in UTF-8, the place after three tabs, and the place after a tab without a stop.
 static LARGE: [(&[u8], &[u8]); 5] = [
     (b"\x1B[2;4r\x1B[?6h\x1B[6n", b"\x1B[1;1R"),
     (b"\x1B[999;999H\x1B[6n", b"\x1B[24;80R"),

@@ -1,6 +1,6 @@
-//! A table of windows: a window that is refused changes nothing. Run as it stands the test here meets
-//! no refusal; `tools/refusals` runs it once for each of its allocations, which is refused then. So
-//! at most one is refused in a run, and a second try never is.
+//! A table of windows: a refused window changes nothing. In a plain run no allocation is refused;
+//! `tools/refusals` runs the test once for each of its allocations and refuses that one. So at most one
+//! is refused in a run, and a second try never is.
 
 use std::alloc::Global;
 use windows::{WindowSize, Windows, is_window_size};
@@ -20,7 +20,7 @@ const SIZE: WindowSize = WindowSize {
     keep: 1,
 };
 
-/// Opens a small window, and gives its number.
+/// Opens a small window, and returns its number.
 fn open_small(windows: &mut Windows, alloc: Global, serial: u32, title: &str) -> Option<u8> {
     if is_window_size(SIZE.rows, SIZE.columns, SIZE.keep) {
         windows.open(alloc, serial, SIZE, title).ok()
@@ -29,7 +29,8 @@ fn open_small(windows: &mut Windows, alloc: Global, serial: u32, title: &str) ->
     }
 }
 
-/// The same, by a second try where the first one is refused; none if that has left a window.
+/// Opens a small window, by a second try if the first one is refused, and returns its number; none if
+/// the refused try left a window.
 fn opened(windows: &mut Windows, alloc: Global, serial: u32, title: &str) -> Option<u8> {
     let before = windows.len();
     match open_small(windows, alloc, serial, title) {
@@ -39,7 +40,7 @@ fn opened(windows: &mut Windows, alloc: Global, serial: u32, title: &str) -> Opt
     }
 }
 
-/// Whether windows get the lowest free numbers, also one that was given before.
+/// Whether windows get the lowest free numbers, even a number that was given before.
 fn are_opened(alloc: Global) -> bool {
     let mut windows = Windows::new(alloc);
     for (serial, number, title) in &WINDOWS {

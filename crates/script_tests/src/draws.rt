@@ -1,6 +1,6 @@
-//! Which bytes a draw has for what differs.
+//! The bytes that a draw has for each difference.
 
-/// Behind `DRAWN`.
+/// Cases that follow `rows::DRAWN`.
 pub static CASES: &str = r"
 = a new character is printed alone
 output 0 !
@@ -39,7 +39,7 @@ draw 0 => deliver 0 \1b> / ok
 output 0 \1b[1\22q
 draw 0";
 
-/// Behind `FOUR_CLIENTS`.
+/// Cases that follow `rows::FOUR_CLIENTS`.
 pub static REVOKED: &str = r"
 = of a page that may not be read any more nothing stays, and nothing else is printed
 output 2 hi

@@ -1,14 +1,15 @@
-//! Judges what a script prints.
+//! Judges the output of a script.
 //!
-//! A text has a script's events, each with the lines that it must print behind `=>`, parted by `/`;
-//! an event without them prints `ok`. Behind the events stand the views that are printed in the end.
+//! A text has a script's events. Each is followed by `=>` and the lines that it must print, separated
+//! by `/`; an event without them prints `ok`. After the events come the views that are printed at the
+//! end.
 
 use crate::playing::play;
 use crate::terminals::are_shown;
 use std::fs::Files;
 use std::str::{self, Lines};
 
-/// The first bytes of a frame for a terminal in an unknown state, as they are printed.
+/// The printed form of the first bytes of a frame for a terminal in an unknown state.
 const RESET: &str = r"\18\1bc\1b%G\1b[?7l";
 
 /// Whether a line is one of a view.
@@ -30,8 +31,8 @@ fn put_events(text: &str, script: &mut String) -> bool {
     true
 }
 
-/// Whether a line is the one that is wanted. `deliver C ..` stands for any draw, and `deliver C
-/// reset ..` for one that begins with the reset.
+/// Whether a line is the wanted one. `deliver C ..` matches any draw, and `deliver C reset ..` one that
+/// begins with the reset.
 pub fn is_wanted(want: &str, line: &str) -> bool {
     let Some(begin) = want.strip_suffix("..") else {
         return line == want;
@@ -45,7 +46,7 @@ pub fn is_wanted(want: &str, line: &str) -> bool {
     }
 }
 
-/// Whether what is printed goes on with what a line of a text wants.
+/// Whether the output continues with the lines that one line of a text wants.
 fn goes_on(printed: &mut Lines<'_>, line: &str) -> bool {
     let wanted = match line.split_once(" => ") {
         Some((_, wanted)) => wanted,
@@ -61,7 +62,7 @@ fn goes_on(printed: &mut Lines<'_>, line: &str) -> bool {
     true
 }
 
-/// Whether just that is printed which a text wants.
+/// Whether the output is exactly the one that a text wants.
 pub fn are_lines(text: &str, printed: &str) -> bool {
     let mut printed = printed.lines();
     for line in text.lines() {
@@ -72,8 +73,8 @@ pub fn are_lines(text: &str, printed: &str) -> bool {
     printed.next().is_none()
 }
 
-/// Whether a script ends well and prints what its text wants, and terminals that read what was
-/// delivered to a client show what is printed of it.
+/// Whether a script ends with status 0 and the output that its text wants, and terminals that read the
+/// bytes delivered to a client show that client's printed view.
 pub fn is_so<H: Files + AllocGlobal>(rt: &H, words: &[&str], text: &str) -> bool {
     let mut script = String::new(rt.alloc());
     if !put_events(text, &mut script) {
@@ -93,7 +94,7 @@ pub fn is_so<H: Files + AllocGlobal>(rt: &H, words: &[&str], text: &str) -> bool
     }
 }
 
-/// Texts, what is printed, and whether that is what they want.
+/// Texts, outputs, and whether the output is the one that the text wants.
 static JUDGED: [(&str, &str, bool); 9] = [
     ("e => a / b\n", "a\nb\n", true),
     ("e => a / c\n", "a\nb\n", false),
@@ -106,7 +107,7 @@ static JUDGED: [(&str, &str, bool); 9] = [
     ("e => d 0 reset ..\n", "d 0 x\n", false),
 ];
 
-/// A client that isn't drawn behind the last output: its terminal shows no `hi`.
+/// A client without a draw after the last output: its terminal doesn't show `hi`.
 const STALE: &str = r"open own 2 5 0 sh => opened 0 0
 attach own 4 20 => attached 0
 draw 0 => deliver 0 reset .. / ok

@@ -1,5 +1,5 @@
-//! Tests that cross crates, by scripts: one owner, several users, what each client sees, how pages
-//! are split, draws, and memory that is refused.
+//! Tests across crates, by scripts: one owner, several users, each client's view, split pages, draws,
+//! and refused memory.
 #![tactic(auto)]
 
 #[cfg(test)]

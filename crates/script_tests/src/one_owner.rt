@@ -1,6 +1,6 @@
-//! What one owner sees, types and is refused.
+//! Scripts of one owner: views, typing and refusals.
 
-/// Whole pages stand behind the events.
+/// Scripts with whole pages after the events.
 pub static ROWS: &str = r"
 = the first run: a window prints, its client draws and types
 open own 2 5 0 sh => opened 0 0

@@ -4,7 +4,7 @@ use session::simulate;
 use std::alloc::{AllocError, Global};
 use std::fs::Files;
 
-/// What a run of the simulator left.
+/// The result of a run of the simulator.
 #[derive(Drop)]
 pub struct Played {
     pub output: Vec<u8>,
@@ -12,7 +12,7 @@ pub struct Played {
     pub status: u8,
 }
 
-/// The program's name, and these words behind it.
+/// The program's name, followed by these words.
 fn arguments(alloc: Global, words: &[&str]) -> Result<Vec<String>, AllocError> {
     let mut owned = Vec::new(alloc);
     owned.push(String::from_str(alloc, "muxsim")?)?;
@@ -22,7 +22,7 @@ fn arguments(alloc: Global, words: &[&str]) -> Result<Vec<String>, AllocError> {
     Ok(owned)
 }
 
-/// Plays a script with these words behind the program's name.
+/// Plays a script with the program's name and these words as arguments.
 pub fn play<H: Files + AllocGlobal>(
     rt: &H,
     words: &[&str],

@@ -1,4 +1,4 @@
-//! The rows of all texts are printed.
+//! Plays the rows of all texts.
 
 use crate::judging::is_so;
 use crate::{draws, one_owner, several_users, splits, views};
@@ -19,7 +19,7 @@ keys 2 \01:select 2\0d
 keys 3 \01:select 2\0d
 ";
 
-/// A client that was drawn, with `hi` in its window of 2 by 5.
+/// A client that was drawn, with `hi` in its window of 2 lines by 5 columns.
 pub const DRAWN: &str = r"open own 2 5 0 sh => opened 0 0
 attach own 4 20 => attached 0
 output 0 hi
@@ -37,8 +37,8 @@ fn is_row_so<H: Files + AllocGlobal>(rt: &H, words: &[&str], beginning: &str, ro
     }
 }
 
-/// The first row that isn't so when it is played with these words behind a beginning. A line `=
-/// TITLE` begins each of them.
+/// The first row with a wrong output when it is played after a beginning with these arguments. Each row
+/// begins with a line `= TITLE`.
 fn first_wrong<H: Files + AllocGlobal>(
     rt: &H,
     words: &[&str],
@@ -88,7 +88,7 @@ fn rows_are_printed(rt: HostRuntime) {
     assert_eq!(rt; wrong, None);
 }
 
-/// 40 windows, of which none may be opened more before one is closed.
+/// Appends a script that opens 40 windows, is refused one more, closes one and opens one more.
 pub fn put_windows(text: &mut String) -> Result<(), AllocError> {
     for window in 0..40u32 {
         write!(text, "open own 2 5 0 w => opened {window} {window}\n")?;

@@ -1,6 +1,6 @@
-//! Several users: entries, leaders, locks, masks, windows and keys.
+//! Scripts of several users: entries, leaders, locks, masks, windows and keys.
 
-/// Behind `FOUR_CLIENTS`.
+/// Cases that follow `rows::FOUR_CLIENTS`.
 pub static CASES: &str = r"
 = who may not write in a window may by his leader's entry, until that is taken too
 command own - aclchg bob -w 2
@@ -98,7 +98,7 @@ draw 2
 resize 2 10 40
 draw 2 => deliver 2 reset .. / ok";
 
-/// The same in the first edition.
+/// A case in the first edition that follows `rows::FOUR_CLIENTS`.
 pub static FIRST: &str = r"
 = in the first edition a new leader takes the place of the former one
 command own - aclchg bob,ann -w 2
@@ -107,7 +107,7 @@ command own - aclgrp bob eve
 command own - aclgrp bob ann
 keys 2 x => say 2 denied: w on window 2: entry bob -w; leader ann -w / ok";
 
-/// In the second edition, which is named.
+/// A case in the second edition, named by `--edition`, that follows `rows::FOUR_CLIENTS`.
 pub static SECOND: &str = r"
 = the second edition can be named
 command own - aclgrp bob ann

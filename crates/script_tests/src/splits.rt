@@ -1,6 +1,6 @@
-//! Regions: how pages are split, what a region shows of its window, and what is refused.
+//! Scripts of regions: split pages, the part of a window that a region shows, and refusals.
 
-/// Whole pages stand behind the events.
+/// Scripts with whole pages after the events.
 pub static ROWS: &str = r"
 = a page of 24 lines that is split twice has regions of 5, 5 and 10
 open own 24 80 0 sh => opened 0 0
@@ -162,7 +162,7 @@ client 0
 |0 sh                |
 |                    | / cursor 2 2";
 
-/// Behind nothing.
+/// Cases without a beginning.
 pub static CASES: &str = r"
 = sixteen regions are not split, also where their halves would be too small
 attach own 33 20 => attached 0

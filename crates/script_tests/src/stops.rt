@@ -1,6 +1,6 @@
-//! The scripts of several users, played by a session whose memory is refused once. Run as it stands
-//! the test here meets no refusal; `tools/refusals` runs it once for each of its allocations, which is
-//! refused then. So at most one is refused in a run, and a second try never is.
+//! Plays the scripts of several users by a session whose memory is refused once. In a plain run no
+//! allocation is refused; `tools/refusals` runs the test once for each of its allocations and refuses
+//! that one. So at most one is refused in a run, and a second try never is.
 
 use crate::judging::are_lines;
 use crate::rows::{DRAWN, FOUR_CLIENTS, put_windows};
@@ -10,7 +10,7 @@ use session::{Effect, Event, Reply, Session};
 use session_lines::{print_effect, print_reply, read_event};
 use std::alloc::{AllocError, Global};
 
-/// The event behind so many of its keys.
+/// The event without this many of its first keys.
 fn rest_of(event: Event<'_>, part: usize) -> Event<'_> {
     match event {
         Event::Keys { client, bytes } if part <= bytes.len() => {
@@ -21,7 +21,8 @@ fn rest_of(event: Event<'_>, part: usize) -> Event<'_> {
     }
 }
 
-/// Takes an event to its end: behind a refusal from where the run stopped. Whether all is taken.
+/// Takes an event to its end, and after a refusal continues at the place where the run stopped. Returns
+/// whether the whole event is taken.
 fn is_taken(
     session: &mut Session,
     event: Event<'_>,
@@ -36,7 +37,7 @@ fn is_taken(
     ran.taken == 1 && !ran.stopped
 }
 
-/// The lines of an event's effects, and that of its reply.
+/// The lines of an event's effects, followed by the line of its reply.
 fn lines_of(
     alloc: Global,
     event: &Event<'_>,
@@ -53,7 +54,7 @@ fn lines_of(
     Ok(printed)
 }
 
-/// Whether an event prints what its line wants.
+/// Whether an event's output is the one that its line wants.
 fn prints(alloc: Global, session: &mut Session, event: Event<'_>, line: &str) -> bool {
     let mut effects = Vec::new(alloc);
     let mut replies = Vec::new(alloc);
@@ -70,7 +71,7 @@ fn prints(alloc: Global, session: &mut Session, event: Event<'_>, line: &str) ->
     }
 }
 
-/// Whether each event of a text prints what its line wants.
+/// Whether the output of each event of a text is the one that its line wants.
 fn are_so(alloc: Global, session: &mut Session, text: &str) -> bool {
     for line in text.lines() {
         let words = line.split(" => ").next().unwrap_or(line);
@@ -88,7 +89,7 @@ fn are_so(alloc: Global, session: &mut Session, text: &str) -> bool {
     true
 }
 
-/// Whether a beginning and a row behind it are so in a session.
+/// Whether a beginning and then a row have the wanted output in one session.
 fn is_row_so(alloc: Global, beginning: &str, row: &str) -> bool {
     let (_, events) = row.split_once('\n').unwrap_or(("", ""));
     let Some(owner) = UserId::of(b"own") else {
@@ -102,7 +103,7 @@ fn is_row_so(alloc: Global, beginning: &str, row: &str) -> bool {
     }
 }
 
-/// The first row that isn't so.
+/// The first row with a wrong output.
 fn first_wrong(alloc: Global, beginning: &str, rows: &'static str) -> Option<&'static str> {
     for row in rows.split("\n= ") {
         if !row.is_empty() && !is_row_so(alloc, beginning, row) {
@@ -112,7 +113,7 @@ fn first_wrong(alloc: Global, beginning: &str, rows: &'static str) -> Option<&'s
     None
 }
 
-/// Whether 40 windows are opened, and one more where one of them is closed.
+/// Whether 40 windows open, and one more after one of them closes.
 fn are_forty_open(alloc: Global) -> bool {
     let mut text = String::new(alloc);
     if put_windows(&mut text).is_err() {

@@ -1,17 +1,17 @@
-//! What terminals show that read what was delivered.
+//! Terminals that read the delivered bytes.
 
 use cells::{Cell, Marks, glyph_width};
 use emulator::Emulator;
 use std::alloc::{AllocError, Global};
 
-/// What stands in a terminal before its first draw: a page of wide characters with strange modes,
-/// inside a string.
+/// Bytes that a terminal reads before its first draw: a page of wide characters with strange modes, and
+/// then an unfinished string.
 const STRANGE: &[u8] =
     b"x\xE6\xBC\xA2y\x1b[2;3r\x1b[?1;5;6h\x1b[4;20h\x1b[1;4;7m\x1b7\x1b[?25l\x1b=\x1b)0\x0e\x1b%@\
       \x1bPtext";
 
-/// Whether terminals that read what was delivered to each client show the view of it that is
-/// printed in the end.
+/// Whether terminals that read the bytes delivered to each client show the view of the client that is
+/// printed at the end.
 pub fn are_shown(alloc: Global, printed: &str) -> bool {
     let mut views = printed.split("\nclient ");
     let _events = views.next();
@@ -24,7 +24,8 @@ pub fn are_shown(alloc: Global, printed: &str) -> bool {
     true
 }
 
-/// The same of one client, if anything was delivered to it.
+/// Whether a plain terminal and one in a strange state show a client's view after they read the bytes
+/// delivered to it. It is true if no bytes were.
 fn is_shown(alloc: Global, printed: &str, client: &str, view: &str) -> bool {
     let mut bytes = Vec::new(alloc);
     put_delivered(printed, client, &mut bytes)
@@ -33,14 +34,14 @@ fn is_shown(alloc: Global, printed: &str, client: &str, view: &str) -> bool {
                 && is_shown_after(alloc, view, STRANGE, &bytes)))
 }
 
-/// What a line says was delivered to the client.
+/// The text of a line of bytes delivered to the client.
 fn delivered<'a>(line: &'a str, client: &str) -> Option<&'a str> {
     line.strip_prefix("deliver ")?
         .strip_prefix(client)?
         .strip_prefix(' ')
 }
 
-/// Appends the bytes of all that was delivered to a client.
+/// Appends all bytes delivered to a client.
 fn put_delivered(printed: &str, client: &str, out: &mut Vec<u8>) -> bool {
     for line in printed.lines() {
         if let Some(text) = delivered(line, client) {
@@ -69,7 +70,7 @@ fn put_unescaped(text: &str, out: &mut Vec<u8>) -> bool {
     true
 }
 
-/// Appends the byte of two digits, and what stands behind them.
+/// Appends the byte of two digits, and the text after them.
 fn put_escaped(piece: &str, out: &mut Vec<u8>) -> bool {
     let (Some(digits), Some(rest)) = (piece.get(..2), piece.get(2..)) else {
         return false;
@@ -80,7 +81,7 @@ fn put_escaped(piece: &str, out: &mut Vec<u8>) -> bool {
     }
 }
 
-/// How many columns a line of a view has between its bars.
+/// The number of columns between the bars of a view's line.
 fn columns_of(line: &str) -> usize {
     let mut columns = 0usize;
     for character in line.chars() {
@@ -89,7 +90,7 @@ fn columns_of(line: &str) -> usize {
     columns.saturating_sub(2)
 }
 
-/// Whether a terminal of the view's size and in a state shows the view after these bytes.
+/// Whether a terminal of the view's size that has read `state` shows the view after these bytes.
 fn is_shown_after(alloc: Global, view: &str, state: &[u8], bytes: &[u8]) -> bool {
     let rows = view.lines().count().saturating_sub(1);
     let columns = columns_of(view.lines().next().unwrap_or(""));

@@ -1,6 +1,6 @@
-//! What each client sees: windows that may not be read, edges, messages, lists and the prompt.
+//! Scripts of views: windows without r, edges, messages, lists and the prompt.
 
-/// Whole pages stand behind the events.
+/// Scripts with whole pages after the events.
 pub static ROWS: &str = r"
 = a window that may not be read has no cursor, and what stands beside it is shown
 command own - multiuser on
@@ -148,7 +148,7 @@ client 0
 |0 sh                                    |
 |                                        | / cursor hidden";
 
-/// Behind `FOUR_CLIENTS`.
+/// Cases that follow `rows::FOUR_CLIENTS`.
 pub static CASES: &str = r"
 = a title that may not be read is a question mark in a list too
 command own - aclchg bob -r 2

@@ -1,4 +1,4 @@
-//! `mux`: a client, a window, a command, or a question whether the server answers.
+//! Runs `mux`: a client, a window, a command, or a question whether the server answers.
 
 use crate::ending::{Ending, tell_end, tell_fault, tell_unseen, wait_for_answer, wait_for_end};
 use crate::leaving::wait_or_leave;
@@ -13,8 +13,8 @@ use std::thread;
 use std::thread::Threads;
 use std::time::Clock;
 
-// Starts a thread that connects, reads the socket and writes; or without a door one that does so only
-// while the writing of the first takes long.
+// Starts a thread that connects, reads the socket and writes. Without a door it starts a second
+// thread, which reads and writes only while a write of the first takes long.
 fn start_showing<
     R: Connects + Threads + Wait + Clock + Copy + Send + 'static,
     I: Read + Send + Drop + 'static,
@@ -77,8 +77,8 @@ fn run<
     }
 }
 
-/// `mux`: a client of the server. The first word is the program's name. The answer is the status to
-/// exit with: 0; 1 for a fault; 2 where the words aren't understood.
+/// Runs `mux`. The first word is the program's name. Returns the exit status: 0, 1 for a fault, 2 for
+/// invalid arguments.
 pub fn client<
     R: Connects + Files<File = File> + Clock + Threads + Wait + AllocGlobal + Copy + Send + 'static,
     I: Read + Send + Drop + 'static,

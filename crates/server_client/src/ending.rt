@@ -1,4 +1,4 @@
-//! How a peer ends, and what is said of it.
+//! The end of a peer, and the messages about it.
 
 use attach_proto::Why;
 use client_peer::{Shared, Standing};
@@ -15,20 +15,20 @@ const LAST_WRITING: u64 = 500;
 #[derive(Drop)]
 pub struct Ending {
     pub end: Result<Why, Fault>,
-    /// What the session said last before it let the peer in.
+    /// The session's last text before it let the peer in.
     pub said: Option<String>,
     pub has_dropped: bool,
-    /// The user left by the byte for it.
+    /// The user left by the byte that leaves.
     pub has_left: bool,
     pub was_welcome: bool,
 }
 
-// Whether something is still to be read by a window's program.
+// Whether a window's program still has bytes to read.
 fn is_awaited(standing: &Standing) -> bool {
     standing.way.is_window() && (standing.is_writing || !standing.bytes.is_empty())
 }
 
-/// The end, which is told once.
+/// Takes how the peer ended; the session's last text is given once.
 pub fn take_ending(standing: &mut Standing) -> Ending {
     Ending {
         end: standing.ending(),
@@ -39,7 +39,8 @@ pub fn take_ending(standing: &mut Standing) -> Ending {
     }
 }
 
-/// Waits for the end; for what a window's program is still to read, not for long.
+/// Waits for the peer's end, and then at most half a second until a window's program has read its
+/// bytes.
 pub fn wait_for_end<R: Wait + Clock, I, O>(rt: &R, shared: &Shared<I, O>) -> Ending {
     let news = &shared.news;
     let standing = news.wait_while(rt, shared.standing.lock(rt), |s| s.end.is_none());
@@ -48,7 +49,7 @@ pub fn wait_for_end<R: Wait + Clock, I, O>(rt: &R, shared: &Shared<I, O>) -> End
     take_ending(&mut standing)
 }
 
-/// Waits so many seconds for an answer, and for the end that comes with it.
+/// Waits for an answer, at most `seconds`, and then for the end that comes with it.
 pub fn wait_for_answer<R: Wait + Clock, I, O>(
     rt: &R,
     shared: &Shared<I, O>,
@@ -66,7 +67,7 @@ pub fn wait_for_answer<R: Wait + Clock, I, O>(
     wait_for_end(rt, shared)
 }
 
-// Says what the session said, and what that means.
+// Prints the session's text, and what a number in it means.
 fn tell_said<E: Write>(alloc: Global, said: &str, words: &Words<'_>, errors: &mut E) {
     let mut visible = Vec::new(alloc);
     let _ = put_visible(said.as_bytes(), &mut visible);
@@ -76,14 +77,13 @@ fn tell_said<E: Write>(alloc: Global, said: &str, words: &Words<'_>, errors: &mu
     let _ = writeln!(errors);
 }
 
-/// Says why a peer ended otherwise than well: of a fault, in the session's own words. The answer is
-/// the status to exit with.
+/// Prints a fault. Returns the exit status.
 pub fn tell_fault<E: Write>(fault: Fault, words: &Words<'_>, errors: &mut E) -> u8 {
     let _ = writeln!(errors, "mux: {}", Told { fault, words });
     fault.status()
 }
 
-// What is said of a client that left.
+// Prints, with `--why`, how a client left.
 fn tell_left<E: Write>(ending: &Ending, words: &Words<'_>, errors: &mut E) {
     if !words.why {
         return;
@@ -98,7 +98,7 @@ fn tell_left<E: Write>(ending: &Ending, words: &Words<'_>, errors: &mut E) {
     };
 }
 
-/// Says what there is to say of a peer's end. The answer is the status to exit with.
+/// Prints the messages about a peer's end. Returns the exit status.
 pub fn tell_end<E: Write>(alloc: Global, ending: &Ending, words: &Words<'_>, errors: &mut E) -> u8 {
     if ending.has_dropped {
         let _ = writeln!(
@@ -114,14 +114,14 @@ pub fn tell_end<E: Write>(alloc: Global, ending: &Ending, words: &Words<'_>, err
     status
 }
 
-/// Says that a client drew nothing.
+/// Prints, with `--why`, that a client drew nothing.
 pub fn tell_unseen<E: Write>(words: &Words<'_>, errors: &mut E) {
     if words.why {
         let _ = errors.write_all(b"mux: nothing was shown\n");
     }
 }
 
-// Says why a peer ended. The answer is the status to exit with.
+// Prints why a peer ended. Returns the exit status.
 fn tell_cause<E: Write>(alloc: Global, ending: &Ending, words: &Words<'_>, errors: &mut E) -> u8 {
     if ending.has_left {
         tell_left(ending, words, errors);

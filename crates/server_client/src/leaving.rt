@@ -1,4 +1,4 @@
-//! A client that has a byte to leave by ends soon after that, whatever the server does.
+//! A client with a byte that leaves ends soon after that byte, whatever the server does.
 
 use crate::ending::{Ending, take_ending};
 use client_peer::{Shared, send_detach, start_sources};
@@ -9,17 +9,17 @@ use std::sync::{Arc, Wait};
 use std::thread::Threads;
 use std::time::{Clock, Duration};
 
-// How long the server may take to let the client in before the input is read all the same, in
-// milliseconds. What is typed meanwhile waits.
+// How long the server may take to let the client in before the input is read anyway, in milliseconds.
+// Keys that are typed meanwhile wait.
 const WELCOME: u64 = 50;
 
-// How long the byte waits for its second.
+// How long to wait for the second of two bytes that leave, in milliseconds.
 const PAIR: u64 = 250;
 
-// How long the server may take to let the client go.
+// How long the server may take to let the client go, in milliseconds.
 const ANSWER: u64 = 100;
 
-// Reads the input once the client is let in, or soon.
+// Starts reading the input once the client is let in, or after a short wait.
 fn start_reading<
     R: Threads + Wait + Clock + Copy + Send + 'static,
     I: Read + Send + Drop + 'static,
@@ -37,7 +37,7 @@ fn start_reading<
     }
 }
 
-// The byte came alone, unless the input was read since.
+// Leaves, unless the input was read since. Returns whether it left.
 fn settle<R: Wait, I, O>(rt: &R, shared: &Shared<I, O>, reads: u64) -> bool {
     let mut typing = shared.typing.lock(rt);
     if typing.reads != reads {
@@ -49,7 +49,7 @@ fn settle<R: Wait, I, O>(rt: &R, shared: &Shared<I, O>, reads: u64) -> bool {
     true
 }
 
-// How waiting goes on.
+// What to wait for next.
 #[derive(Clone, Copy)]
 enum Turn {
     Wait,
@@ -57,7 +57,7 @@ enum Turn {
     End,
 }
 
-// Waits for the peer's end, or for the byte and whether it leaves.
+// Waits for the peer's end, or for the byte that leaves and whether a second one follows.
 fn wait_once<R: Wait + Clock, I, O>(rt: &R, shared: &Shared<I, O>) -> Turn {
     let news = &shared.news;
     let standing = news.wait_while(rt, shared.standing.lock(rt), |s| {
@@ -82,7 +82,7 @@ fn wait_once<R: Wait + Clock, I, O>(rt: &R, shared: &Shared<I, O>) -> Turn {
     }
 }
 
-/// Waits for the end of a client that has a byte to leave by.
+/// Waits for the end of a client that has a byte that leaves.
 pub fn wait_or_leave<
     R: Threads + Wait + Clock + Copy + Send + 'static,
     I: Read + Send + Drop + 'static,
@@ -100,7 +100,7 @@ pub fn wait_or_leave<
     take_ending(&mut standing)
 }
 
-// Says that the client goes, and gives the server a moment.
+// Sends DETACH, and waits a moment for the server.
 fn leave<
     R: Threads + Wait + Clock + Copy + Send + 'static,
     I: Read + Send + Drop + 'static,

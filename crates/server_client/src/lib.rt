@@ -1,4 +1,4 @@
-//! What `mux` does: a client, a window or a command of a session that is served.
+//! The program `mux`: a client, a window or a command of a session that a server serves.
 #![tactic(auto)]
 
 mod attach;

@@ -1,4 +1,4 @@
-//! What comes from the server: read, and written where it belongs.
+//! Reads the server's messages, and writes their bytes to standard output and the sizes' file.
 
 use crate::watching::Turns;
 use attach_proto::{LONGEST, Why};
@@ -11,7 +11,7 @@ use std::thread::Threads;
 use std::time::Clock;
 use std::{io, mem};
 
-// What a writing takes, and whether it was watched before.
+// The bytes of one write, and whether a thread watched writes before.
 #[derive(Drop)]
 struct Writing {
     bytes: Vec<u8>,
@@ -19,7 +19,8 @@ struct Writing {
     is_watched: bool,
 }
 
-// Takes what waits, for a writing that begins. None where nothing does: then no thread writes.
+// Takes the bytes that wait, for a write that begins. If there are none, no thread is writing any
+// more.
 fn begin_writing(standing: &mut Standing, alloc: Global) -> Option<Writing> {
     standing.is_writing = !standing.bytes.is_empty() || !standing.sizes.is_empty();
     if !standing.is_writing {
@@ -33,17 +34,17 @@ fn begin_writing(standing: &mut Standing, alloc: Global) -> Option<Writing> {
     })
 }
 
-// What a read of the socket came to.
+// The result of a read of the socket.
 #[derive(Clone, Copy)]
 enum Came {
     More,
-    /// The peer ended so.
+    /// The peer ended in this way.
     End(Result<Why, Fault>),
-    /// Another thread read how it ended.
+    /// Another thread has read the peer's end.
     Nothing,
 }
 
-// Puts in order what was read.
+// Sorts the bytes of a read.
 fn take_in<R: Wait, I, O>(
     rt: &R,
     shared: &Shared<I, O>,
@@ -61,7 +62,7 @@ fn take_in<R: Wait, I, O>(
     })
 }
 
-// Reads the socket, and puts in order what came.
+// Reads the socket, and sorts the bytes.
 fn receive<R: Wait, I, O>(
     rt: &R,
     shared: &Shared<I, O>,
@@ -80,7 +81,7 @@ fn receive<R: Wait, I, O>(
     }
 }
 
-// Once the peer is let in, its sizes and its input are read.
+// Once the peer is let in, starts reading its input and its sizes.
 fn start<
     R: Threads + Wait + Copy + Send + 'static,
     I: Read + Send + Drop + 'static,
@@ -96,7 +97,7 @@ fn start<
     start_sources(rt, shared)
 }
 
-// Reads the socket once.
+// Reads the socket once, and starts the sources if the peer was let in.
 fn read_once<
     R: Threads + Wait + Copy + Send + 'static,
     I: Read + Send + Drop + 'static,
@@ -108,7 +109,7 @@ fn read_once<
     Ok(came)
 }
 
-// Takes what waits. None where nothing does, or another thread writes.
+// Takes the bytes that wait. Returns none if there are none, or if another thread is writing.
 fn waiting<R: Wait, I, O>(rt: &R, shared: &Shared<I, O>, mine: bool) -> Option<Writing> {
     let mut standing = shared.standing.lock(rt);
     if standing.is_writing != mine {
@@ -125,9 +126,9 @@ fn waiting<R: Wait, I, O>(rt: &R, shared: &Shared<I, O>, mine: bool) -> Option<W
     waiting
 }
 
-// Writes what a writing took.
+// Writes the bytes of one write.
 fn write<O: Write>(outlet: &mut Outlet<O>, writing: &Writing) -> io::Result<()> {
-    // A size that nobody takes ends nothing.
+    // If the sizes' file takes no size, the peer goes on.
     if let Some(file) = &mut outlet.sizes {
         let _ = file.write_all(&writing.sizes);
     }
@@ -135,7 +136,7 @@ fn write<O: Write>(outlet: &mut Outlet<O>, writing: &Writing) -> io::Result<()> 
     outlet.output.flush()
 }
 
-// Writes what waits, unless another thread does. The answer is whether it did.
+// Writes the bytes that wait, unless another thread is writing. Returns whether it wrote some.
 fn write_next<R: Wait, I, O: Write>(rt: &R, shared: &Shared<I, O>, mine: bool) -> io::Result<bool> {
     match waiting(rt, shared, mine) {
         Some(writing) => {
@@ -159,7 +160,7 @@ fn write_waiting<R: Wait, I, O: Write>(rt: &R, shared: &Shared<I, O>) -> io::Res
     Ok(())
 }
 
-// The peer ends. Nobody waits for a window's program for long: it may read no more.
+// Ends the peer. A window's end is noted before its last write, since its program may read no more.
 fn finish<R: Wait, I, O: Write>(rt: &R, shared: &Shared<I, O>, end: Result<Why, Fault>) {
     if shared.way.is_window() {
         shared.end(rt, end);
@@ -170,7 +171,7 @@ fn finish<R: Wait, I, O: Write>(rt: &R, shared: &Shared<I, O>, end: Result<Why, 
     }
 }
 
-// Reads the socket once, and writes what that brings. The answer is whether to go on.
+// Reads the socket once, and writes the bytes that came. Returns whether to go on.
 fn pass_on<
     R: Threads + Wait + Copy + Send + 'static,
     I: Read + Send + Drop + 'static,
@@ -192,7 +193,7 @@ fn pass_on<
     false
 }
 
-// Connects. Only one thread does.
+// Connects. Only one thread calls it.
 fn connect<R: Connects, I, O>(rt: &R, shared: &Shared<I, O>, door: &Door) -> Result<(), Fault> {
     let stream = door.open(rt)?;
     match shared.stream.try_set(stream) {
@@ -201,8 +202,8 @@ fn connect<R: Connects, I, O>(rt: &R, shared: &Shared<I, O>, door: &Door) -> Res
     }
 }
 
-/// Connects, and reads and writes until the peer ends; without a door it stands in, while another
-/// thread's writing takes long.
+/// Connects, and reads and writes until the peer ends. Without a door it reads and writes only while
+/// another thread's write takes long.
 pub fn show<
     R: Connects + Threads + Wait + Clock + Copy + Send + 'static,
     I: Read + Send + Drop + 'static,

@@ -1,17 +1,17 @@
-//! When a window's second thread reads the socket: while the writing of the first takes long.
+//! Decides when a window's second thread reads the socket: while a write of the first takes long.
 
 use client_peer::{Shared, Standing};
 use std::sync::Wait;
 use std::time::{Clock, Duration};
 
-// A writing takes long that doesn't end within so many milliseconds.
+// A write takes long if it doesn't end within this time, in milliseconds.
 const PERIOD: u64 = 100;
 
-// After so many periods without a writing, nothing is looked at until the next one.
+// After this number of periods without a write, the thread sleeps until the next write.
 const IDLE: u32 = 20;
 
-// Whether the writing that a period began with goes on at its end. So many periods before it had no
-// writing.
+// Whether the write that was in progress when a period began is in progress at its end. `idle` counts
+// the periods without a write.
 fn goes_on(standing: &mut Standing, number: u64, idle: &mut u32) -> bool {
     if standing.writings != number {
         *idle = 0;
@@ -26,17 +26,17 @@ fn goes_on(standing: &mut Standing, number: u64, idle: &mut u32) -> bool {
     false
 }
 
-// What a period came to.
+// The result of one period.
 #[derive(Clone, Copy)]
 enum Seen {
-    /// The writing of this number takes long.
+    /// The write with this number takes long.
     Stuck(u64),
     Nothing,
     /// The peer ended.
     End,
 }
 
-// Looks at one period.
+// Watches for one period.
 fn look<R: Wait + Clock, I, O>(rt: &R, shared: &Shared<I, O>, idle: &mut u32) -> Seen {
     let begun = &shared.begun;
     let standing = begun.wait_while(rt, shared.standing.lock(rt), |s| {
@@ -54,7 +54,7 @@ fn look<R: Wait + Clock, I, O>(rt: &R, shared: &Shared<I, O>, idle: &mut u32) ->
     }
 }
 
-// Waits until a writing takes long: its number. None where the peer ended.
+// Waits until a write takes long, and returns its number; none if the peer ended.
 fn wait_for_stuck<R: Wait + Clock, I, O>(rt: &R, shared: &Shared<I, O>) -> Option<u64> {
     let mut idle = 0u32;
     for _ in rt.forever() {
@@ -67,7 +67,7 @@ fn wait_for_stuck<R: Wait + Clock, I, O>(rt: &R, shared: &Shared<I, O>) -> Optio
     None
 }
 
-// Whether the writing of this number goes on.
+// Whether the write with this number is still in progress.
 fn is_stuck<R: Wait, I, O>(rt: &R, shared: &Shared<I, O>, number: u64) -> bool {
     let standing = shared.standing.lock(rt);
     standing.is_writing && standing.writings == number
@@ -77,7 +77,7 @@ fn is_stuck<R: Wait, I, O>(rt: &R, shared: &Shared<I, O>, number: u64) -> bool {
 #[derive(Clone, Copy)]
 pub enum Turns {
     Always,
-    /// While the writing of another thread takes long: its number, where one was met.
+    /// While a write of another thread takes long, with that write's number once there was one.
     StandsIn(Option<u64>),
 }
 
@@ -90,7 +90,7 @@ impl Turns {
         }
     }
 
-    /// Waits until the thread may read. The answer is false where the peer ended.
+    /// Waits until the thread may read. Returns false if the peer ended.
     pub fn wait<R: Wait + Clock, I, O>(&mut self, rt: &R, shared: &Shared<I, O>) -> bool {
         match *self {
             Turns::Always => true,
