@@ -83,7 +83,7 @@ fn text_of(number: usize, line: &[u8]) -> Result<&str, SetupFault>
 pub fn read_setup<'a>(alloc: Global, file: &'a [u8]) -> Result<Vec<SetupLine<'a>>, SetupFault>
     ensures ok { IfOk result (λ lines. (map line_of lines.items ≡ commands_in file.now)
         × (first_fault (commands_in file.now) ≡ None)) }
-    // The error is the fault of the first line that has one.
+    // The error is a lack of memory, or the fault of the first line that has one.
     ensures err { IfErr result (λ fault. (fault ≡ OfMemory)
         ⊎ (first_fault (commands_in file.now) ≡ Some fault)) }
 {
