@@ -67,7 +67,8 @@ impl<L: Begun> Hub<L> {
         ))
     }
 
-    /// Submits one event. The answer is the one to this event, and the seat holds its receipt.
+    /// Submits one event. The answer is the one to this event, and the seat holds its receipt. If it is
+    /// refused (see `HubFault`), the seat is unchanged.
     pub fn submit<'a, R: Wait>(
         &self,
         rt: &R,

@@ -142,7 +142,8 @@ impl<L: Begun> Ledger<L> {
     }
 
     /// Takes one event for a seat: it makes one step of the session, writes the step's entry into
-    /// the trail, and puts the receipt into the seat. If it is refused, nothing has changed.
+    /// the trail, and puts the receipt into the seat. If it is refused (see `HubFault`), nothing has
+    /// changed.
     pub fn submit<'a>(
         &mut self,
         seat: &mut Seat<L>,

@@ -1,4 +1,4 @@
-//! Frames.
+//! Frames: the bytes that make a terminal show a view.
 
 ghost use Rattle.std.specs.Prelude.{◌≡◌, ◌≤◌, ◌↔◌, IsTrue, OnOk, OnErr, IfOk, IfNone, length};
 ghost use Rattle.std.specs.Prelude.{is_some};
