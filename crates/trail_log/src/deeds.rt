@@ -18,8 +18,8 @@ use hub_trail::Ending;
 use session_model::{Refusal, Verdict, push_decimal};
 use std::alloc::AllocError;
 
-/// Appends the user of a client, or its serial where it isn't attached.
-fn push_client(user: Option<UserId>, client: u32, out: &mut Vec<u8>) -> Result<(), AllocError>
+/// Appends the user of a client, or the client's serial if it isn't attached.
+pub fn push_client(user: Option<UserId>, client: u32, out: &mut Vec<u8>) -> Result<(), AllocError>
     ensures { OnOk result (out.new.items ≡ out.old.items ++ client_text user client) }
 {
     match user {
