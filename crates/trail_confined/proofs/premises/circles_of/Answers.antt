@@ -12,12 +12,17 @@ loop-user-preserved c =
     let found = sym c.leaders_in.ensures ∙ c.in-Some.is in
     record {
       circles = λ edition h leds.
-          circle_more edition h c.args.users.now c.loop-user.user-index u c.loop-user.circles.items _ _ c.as_slice.result.now
-          (take_more c.args.users.now c.loop-user.user-index _ c.loop-user-test.true) (c.loop-user.invariant.circles edition h leds)
-          c.in_ok-push.ensures.items c.in_ok-extend_from_slice.ensures.items (c.as_slice.ensures.names ∙ led_in edition h c.args.leds.now u c.in-Some.leaders leds found);
-      led = passes (is_led c.args.leds.now) c.args.users.now c.loop-user.user-index (record { name = [] }) _ c.loop-user-test.true (ap is_some found) c.loop-user.invariant.led;
+          circle_more edition h c.args.users.now c.loop-user.user-index u c.loop-user.circles.items _ _
+          c.as_slice.result.now
+          (take_more c.args.users.now c.loop-user.user-index _ c.loop-user-test.true)
+          (c.loop-user.invariant.circles edition h leds)
+          c.in_ok-push.ensures.items c.in_ok-extend_from_slice.ensures.items
+          (c.as_slice.ensures.names ∙ led_in edition h c.args.leds.now u c.in-Some.leaders leds found);
+      led = passes (is_led c.args.leds.now) c.args.users.now c.loop-user.user-index (record { name = [] }) _
+          c.loop-user-test.true (ap is_some found) c.loop-user.invariant.led;
     }
 
 pub returns-clause-circles : goal.returns-clause-circles
 returns-clause-circles c = λ edition h leds.
-    c.loop-user.invariant.circles edition h leds ∙ ap (circles_of edition h) (take_past c.loop-user.user-index c.args.users.now c.loop-user-test.false)
+    c.loop-user.invariant.circles edition h leds
+    ∙ ap (circles_of edition h) (take_past c.loop-user.user-index c.args.users.now c.loop-user-test.false)

@@ -9,5 +9,6 @@ loop-led-preserved c =
     let here = get_or c.loop-led.led-items c.loop-led.led-index c.led-item.result in
     let inside : c.loop-led.led-index < length c.loop-led.led-items = omega arith in
     rw c.after.ensures
-    (map_over_more (led_after c.args.edition c.args.act.now) c.deref_mut-led-items.result.now c.loop-led.led-items c.loop-led.led-index here c.loop-led-test.true c.loop-led.invariant
+    (map_over_more (led_after c.args.edition c.args.act.now) c.deref_mut-led-items.result.now c.loop-led.led-items
+    c.loop-led.led-index here c.loop-led-test.true c.loop-led.invariant
     (get_or_default c.loop-led.led-items c.loop-led.led-index c.led-item.result here inside))

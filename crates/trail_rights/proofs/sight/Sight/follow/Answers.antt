@@ -19,7 +19,9 @@ returns c = λ edition owner marked s. record {
       subst (AllByRecursion (HasDecided owner ((c.args.mark, c.args.act.now) ∷ marked))) (sym c.decide_all.ensures)
       (all_decided owner marked c.args.mark c.args.act.now c.args.self.now.deciders.items s.deciders);
   leds =
-      subst (AllByRecursion (HasLed edition (c.args.act.now ∷ acts_in marked))) (sym (c.lead_all.ensures ∙ ap (λ e. map (led_after e c.args.act.now) c.args.self.now.leds.items) s.edition_is))
+      subst (AllByRecursion (HasLed edition (c.args.act.now ∷ acts_in marked)))
+      (sym
+      (c.lead_all.ensures ∙ ap (λ e. map (led_after e c.args.act.now) c.args.self.now.leds.items) s.edition_is))
       (all_led edition (acts_in marked) c.args.act.now c.args.self.now.leds.items s.leds);
   settlers =
       subst (AllByRecursion (HasSettled ((c.args.mark, c.args.act.now) ∷ marked))) (sym c.settle_all.ensures)
