@@ -15,10 +15,8 @@ use Rattle.hub_check.specs.declared.replay.Replay.{Replay}
 use Rattle.hub_check.specs.Following.{StandsAfter}
 use Rattle.trail_confined.specs.declared.premises.Premise.{Premise}
 use Rattle.trail_confined.specs.declared.premises.Premise.TheVariants as premise
-use Rattle.trail_rights.specs.declared.led.Led.{Led}
 use Rattle.trail_rights.specs.declared.settler.Setting.TheVariants as setting
 use Rattle.trail_rights.specs.declared.settler.Settler.{Settler}
-use Rattle.trail_rights.specs.Leading.{leaders_in}
 use Rattle.trail_rights.specs.Settling.{settler_in}
 
 -- ---- what confinement rests on, after the acts of a history
@@ -43,7 +41,7 @@ abbrev pub may_open : Edition → UserId → History → UserId → Bool
 may_open edition owner h user =
     is_known owner h user && may edition owner h user Execute (object.Command name.Screen)
 
--- whose entries count for a user: his own, and his leaders'
+-- the users whose entries count for a user: the user, and then their leaders
 abbrev pub circle : Edition → History → UserId → List UserId
 circle edition h user = user ∷ leaders_of edition h user
 
@@ -122,14 +120,6 @@ abbrev pub is_asked : List Settler → Premise → Bool
 is_asked settlers (premise.Masks opener user bit) =
     is_some (settler_in settlers (setting.Mask opener user bit))
 is_asked settlers _ = true
-
-abbrev pub is_led : List Led → UserId → Bool
-is_led leds user = is_some (leaders_in leds user)
-
--- what is looked for tells of each premise whether it holds
-abbrev pub IsTold : List Led → List Settler → List UserId → List Premise → Type 0
-IsTold leds settlers users premises =
-    (list_all (is_led leds) users ≡ true) × (list_all (is_asked settlers) premises ≡ true)
 
 -- ---- laws
 

@@ -1,14 +1,13 @@
 //! How it is told whether users are confined on windows to come, and why they aren't.
 
 use crate::confined::is_confined;
-use crate::premises::{CHANGERS, Premise};
-use acl::{Act, Bit, CommandName, Leaders, Object, UserId};
+use crate::premises::{CHANGERS, Premise, push_circle};
+use acl::{Act, Bit, CommandName, Object, UserId};
 use command_lang::name_text;
 use std::alloc::{AllocError, Global};
 use std::io::{self, Write};
 use trail_rights::{
-    BITS, Decider, Question, Setting, Watch, found_in, leaders_in, letter_of, settler_in, text_of,
-    write_found,
+    BITS, Decider, Question, Setting, Watch, found_in, letter_of, settler_in, text_of, write_found,
 };
 
 /// What decides whether a user may open windows, or change rights, before the first act.
@@ -78,12 +77,10 @@ fn write_contrary<W: Write>(premise: Premise, output: &mut W) -> io::Result<()> 
     }
 }
 
-/// A user and those who lead him.
+/// A user and their leaders.
 fn members_of(alloc: Global, watch: &Watch, user: UserId) -> Result<Vec<UserId>, AllocError> {
-    let leaders = leaders_in(watch.sight().leds(), user).unwrap_or(Leaders::none());
     let mut members = Vec::new(alloc);
-    members.push(user)?;
-    members.extend_from_slice(leaders.as_slice())?;
+    push_circle(watch.audit().replay(), user, &mut members)?;
     Ok(members)
 }
 

@@ -1,20 +1,19 @@
 //! What the law on windows to come rests on, for some users.
 
-ghost use Rattle.std.specs.Prelude.{◌≡◌, ◌++◌, OnOk, IfOk, IfSome, is_some};
-ghost use Rattle.std.specs.List.{AllByRecursion, flat_map, list_all};
+ghost use Rattle.std.specs.Prelude.{◌≡◌, ◌++◌, OnOk, IfOk};
+ghost use Rattle.std.specs.List.{flat_map};
 ghost use Rattle.acl.specs.declared.edition.Edition.{Edition};
 ghost use Rattle.acl.specs.declared.user_id.UserId.{UserId};
 ghost use Rattle.acl.specs.History.{History};
 ghost use Rattle.hub_check.specs.Following.{StandsAfter};
-ghost use Rattle.trail_rights.specs.Leading.{HasLed};
-ghost use Rattle.trail_confined.specs.Confining.{circles_of, concerns, is_led, masks_by, masks_of};
-ghost use Rattle.trail_confined.specs.Confining.{may_open, openers_of, powers_of, premises_of};
+ghost use Rattle.trail_confined.specs.Confining.{circles_of, concerns, masks_by, masks_of};
+ghost use Rattle.trail_confined.specs.Confining.{circle, may_open, openers_of, powers_of, premises_of};
 ghost use Rattle.trail_confined.specs.Confining.{standing_of};
 
 use acl::{Bit, CommandName, Object, UserId};
 use hub_check::Replay;
 use std::alloc::{AllocError, Global};
-use trail_rights::{Led, leaders_in, may, users_of};
+use trail_rights::{may, users_of};
 
 /// The commands that change users, rights, leaders, masks and presets.
 pub const CHANGERS: [CommandName; 5] = [
@@ -194,28 +193,36 @@ pub fn openers_of(alloc: Global, replay: &Replay) -> Result<Vec<UserId>, AllocEr
     Ok(openers)
 }
 
-/// These users, each with his leaders behind him; None where a user's leaders weren't looked for.
-fn circles_of(
-    alloc: Global,
-    leds: &[Led],
-    users: &[UserId],
-) -> Result<Option<Vec<UserId>>, AllocError>
-    ensures circles { (edition : Edition) (h : History) → AllByRecursion (HasLed edition h) leds.now →
-        IfOk result (λ o. IfSome o (λ circles. circles.items ≡ circles_of edition h users.now)) }
-    ensures led { IfOk result (λ o. is_some o ≡ list_all (is_led leds.now) users.now) }
+/// Appends a user, and then the user's leaders.
+pub fn push_circle(
+    replay: &Replay,
+    user: UserId,
+    circles: &mut Vec<UserId>,
+) -> Result<(), AllocError>
+    ensures { (edition : Edition) (owner : UserId) (h : History) →
+        StandsAfter replay.now edition owner h →
+        OnOk result (circles.new.items ≡ circles.old.items ++ circle edition h user) }
+{
+    let leaders = replay.leaders_of(user);
+    circles.push(user)?;
+    circles.extend_from_slice(leaders.as_slice())?;
+    Ok(())
+}
+
+/// These users, each followed by their leaders.
+fn circles_of(alloc: Global, replay: &Replay, users: &[UserId]) -> Result<Vec<UserId>, AllocError>
+    ensures { (edition : Edition) (owner : UserId) (h : History) →
+        StandsAfter replay.now edition owner h →
+        IfOk result (λ circles. circles.items ≡ circles_of edition h users.now) }
 {
     let mut circles = Vec::new(alloc);
     for user in users {
-        let Some(leaders) = leaders_in(leds, *user) else {
-            return Ok(None);
-        };
-        circles.push(*user)?;
-        circles.extend_from_slice(leaders.as_slice())?;
+        push_circle(replay, *user, &mut circles)?;
     }
-    Ok(Some(circles))
+    Ok(circles)
 }
 
-/// What the law rests on for users of whom each one's leaders stand behind him.
+/// What the law rests on for users. The circles are these users, each followed by their leaders.
 fn push_premises(
     openers: &[UserId],
     users: &[UserId],
@@ -230,24 +237,19 @@ fn push_premises(
     push_all_masks(openers, circles, out)
 }
 
-/// What the law rests on for users; None where a user's leaders weren't looked for.
+/// What the law rests on for users.
 pub fn premises_of(
     alloc: Global,
     replay: &Replay,
-    leds: &[Led],
     users: &[UserId],
-) -> Result<Option<Vec<Premise>>, AllocError>
-    ensures premises { (edition : Edition) (owner : UserId) (h : History) →
-        StandsAfter replay.now edition owner h → AllByRecursion (HasLed edition h) leds.now →
-        IfOk result (λ o. IfSome o (λ premises.
-        premises.items ≡ premises_of edition owner h users.now)) }
-    ensures led { IfOk result (λ o. is_some o ≡ list_all (is_led leds.now) users.now) }
+) -> Result<Vec<Premise>, AllocError>
+    ensures { (edition : Edition) (owner : UserId) (h : History) →
+        StandsAfter replay.now edition owner h →
+        IfOk result (λ premises. premises.items ≡ premises_of edition owner h users.now) }
 {
-    let Some(circles) = circles_of(alloc, leds, users)? else {
-        return Ok(None);
-    };
+    let circles = circles_of(alloc, replay, users)?;
     let openers = openers_of(alloc, replay)?;
     let mut premises = Vec::new(alloc);
     push_premises(openers.as_slice(), users, circles.as_slice(), &mut premises)?;
-    Ok(Some(premises))
+    Ok(premises)
 }

@@ -8,9 +8,9 @@ use crate::tell::{ILLEGAL, LEGAL, UNCONFINED, tell_finish};
 use crate::words::{Asked, users_named};
 use acl::{Leaders, UserId};
 use std::alloc::Global;
+use std::fs;
 use std::io::{self, Read, Write};
 use std::rt::Files;
-use std::{fs, slice};
 use trail_confined::{failing_of, write_confinement};
 use trail_rights::{Question, users_of, write_reasons, write_rights};
 
@@ -28,14 +28,6 @@ struct Found {
     confined: Vec<UserId>,
 }
 
-/// The user who is asked about, if one is.
-fn users_asked(question: &Option<Question>) -> &[UserId] {
-    match question {
-        Some(question) => slice::from_ref(&question.user),
-        None => &[],
-    }
-}
-
 /// What the entries of a pass say of the user who is asked about.
 fn found_of_one(alloc: Global, question: Question, first: &Pass) -> io::Result<Found> {
     let mut users = Vec::new(alloc);
@@ -43,7 +35,7 @@ fn found_of_one(alloc: Global, question: Question, first: &Pass) -> io::Result<F
     Ok(Found {
         count: first.count(),
         users,
-        reasons: Some((question, first.leaders())),
+        reasons: Some((question, first.leaders_of(question.user))),
         looks: Looks::Nothing,
         confined: Vec::new(alloc),
     })
@@ -123,7 +115,7 @@ fn look<F: Read + Drop, W: Write>(
     output: &mut W,
 ) -> Result<Option<Found>, Fault> {
     let search = Search {
-        users: users_asked(&asked.question),
+        users: &[],
         reasons: None,
         looks: Looks::Nothing,
         last: asked.place.unwrap_or(u64::MAX),
@@ -135,7 +127,7 @@ fn look<F: Read + Drop, W: Write>(
 /// Whether a second pass has found what the first one had.
 fn is_unchanged(found: &Found, second: &Pass) -> bool {
     let same_leaders = match found.reasons {
-        Some((_, leaders)) => second.leaders() == leaders,
+        Some((question, leaders)) => second.leaders_of(question.user) == leaders,
         None => true,
     };
     second.count() == found.count && same_leaders

@@ -18,7 +18,7 @@ use Rattle.trail_rights.specs.Seeing.{HasSeen}
 pub record HasWatched (w : Watch) (edition : Edition) (owner : UserId) (said : List Said)
     : Type 0 where
   pub read : HasRead w.audit edition owner (entries_in said)
-  pub seen : HasSeen w.sight edition owner (marked_after [] said)
+  pub seen : HasSeen w.sight owner (marked_after [] said)
 
 -- the line says the next entry, which was read too
 pub record TakesNext (new : Watch) (line : List ℕ) (edition : Edition) (owner : UserId)

@@ -1,9 +1,8 @@
-//! Who may do what after the entries of a trail's file, and which act decides it; how it is told.
+//! Who may do what after the entries of a trail's file, which acts decide it, and how this is told.
 #![tactic(auto)]
 
 mod decider;
 mod laws;
-mod led;
 mod mark;
 mod masks;
 mod rights;
@@ -16,7 +15,6 @@ mod why;
 
 pub use decider::{Decider, found_in};
 pub use laws::{latest_decides, latest_settles, open_are_listed};
-pub use led::{Led, leaders_in};
 pub use mark::Mark;
 pub use masks::{BITS, settings_of};
 pub use rights::{holder, may, users_of};

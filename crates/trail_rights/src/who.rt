@@ -4,38 +4,30 @@ ghost use Rattle.std.specs.Prelude.{◌≡◌, ◌++◌, OnOk};
 ghost use Rattle.std.specs.List.{flat_map};
 ghost use Rattle.trail_rights.specs.Masking.{masks_text, newcomer_text};
 
-use crate::led::Led;
 use crate::masks::{push_mask_line, push_newcomer};
 use crate::rights::{holder, may, users_of};
 use crate::settler::Settler;
 use crate::texts::{letter_of, text_of};
 use crate::watch::Watch;
-use acl::{Bit, CommandName, Leaders, Object, UserId};
+use acl::{Bit, CommandName, Object, UserId};
 use command_lang::name_text;
 use hub_check::Replay;
 use std::alloc::{AllocError, Global};
 use std::io::{self, Write};
 
-/// Writes a user's leaders.
-fn write_leaders<W: Write>(leaders: Leaders, output: &mut W) -> io::Result<()> {
-    for leader in leaders.as_slice() {
+/// Writes a user and their leaders.
+fn write_user<W: Write>(replay: &Replay, user: UserId, output: &mut W) -> io::Result<()> {
+    write!(output, "user {}", text_of(&user))?;
+    for leader in replay.leaders_of(user).as_slice() {
         write!(output, " led by {}", text_of(leader))?;
     }
-    Ok(())
-}
-
-/// Writes a user and his leaders.
-fn write_user<W: Write>(led: &Led, output: &mut W) -> io::Result<()> {
-    let user = led.user();
-    write!(output, "user {}", text_of(&user))?;
-    write_leaders(led.leaders().unwrap_or(Leaders::none()), output)?;
     writeln!(output)
 }
 
 /// Writes users with their leaders.
-fn write_users<W: Write>(leds: &[Led], output: &mut W) -> io::Result<()> {
-    for led in leds {
-        write_user(led, output)?;
+fn write_users<W: Write>(replay: &Replay, users: &[UserId], output: &mut W) -> io::Result<()> {
+    for user in users {
+        write_user(replay, *user, output)?;
     }
     Ok(())
 }
@@ -159,8 +151,9 @@ pub fn write_rights<W: Write>(
     watch: &Watch,
     output: &mut W,
 ) -> io::Result<()> {
+    let replay = watch.audit().replay();
+    let users = users_of(alloc, replay)?;
     writeln!(output, "entries {}", watch.audit().count())?;
-    write_users(watch.sight().leds(), output)?;
-    let users = users_of(alloc, watch.audit().replay())?;
+    write_users(replay, users.as_slice(), output)?;
     write_objects(alloc, owner, watch, users.as_slice(), output)
 }
