@@ -7,13 +7,12 @@ use crate::heading::heading_of;
 use crate::tell::{LEGAL, tell_finish};
 use crate::words::{Asked, Window};
 use acl::{Edition, UserId};
-use line_fields::cut;
 use session_model::Bytes;
 use std::alloc::{AllocError, Global};
 use std::io::{self, BufRead, Write};
 use trail_audit::{Halt, Wrong, next_entry};
 use trail_log::{Choice, Log, Wanted, push_end};
-use trail_rights::time_of;
+use trail_rights::push_day;
 
 /// A day, in milliseconds.
 const DAY: u64 = 86_400_000;
@@ -31,28 +30,11 @@ struct Diary {
     day: Option<u64>,
 }
 
-/// A time in the form of RFC 3339, as bytes.
-fn time_text(alloc: Global, ms: u64) -> io::Result<Vec<u8>> {
-    let mut text = Vec::new(alloc);
-    match time_of(ms) {
-        Some(time) => write!(text, "{time}")?,
-        None => write!(text, "{ms}")?,
-    }
-    Ok(text)
-}
-
-/// The day of a time, which stands before its `T`, or all of it if it has none.
-fn day_in(time: &[u8]) -> &[u8] {
-    match cut(time, b'T') {
-        Some((day, _)) => day,
-        None => time,
-    }
-}
-
 /// Writes the day of a time.
 fn write_day<W: Write>(alloc: Global, ms: u64, output: &mut W) -> io::Result<()> {
-    let time = time_text(alloc, ms)?;
-    output.write_all(day_in(time.as_slice()))?;
+    let mut text = Vec::new(alloc);
+    push_day(ms, &mut text)?;
+    output.write_all(text.as_slice())?;
     output.write_all(b" (UTC)\n")
 }
 

@@ -12,7 +12,7 @@ use std::fs;
 use std::io::{self, Read, Write};
 use std::rt::Files;
 use trail_confined::{failing_of, write_confinement};
-use trail_rights::{Question, users_of, write_reasons, write_rights};
+use trail_rights::{Question, push_reasons, users_of, write_rights};
 
 /// What a first pass has found.
 #[derive(Drop)]
@@ -29,33 +29,23 @@ struct Found {
 }
 
 /// What the entries of a pass say of the user who is asked about.
-fn found_of_one(alloc: Global, question: Question, first: &Pass) -> io::Result<Found> {
-    let mut users = Vec::new(alloc);
-    users.push(question.user)?;
-    Ok(Found {
+fn found_of_one(alloc: Global, question: Question, first: &Pass) -> Found {
+    Found {
         count: first.count(),
-        users,
+        users: Vec::new(alloc),
         reasons: Some((question, first.leaders_of(question.user))),
         looks: Looks::Nothing,
         confined: Vec::new(alloc),
-    })
+    }
 }
 
-/// What the entries of a pass say of all users.
-fn found_of_all(alloc: Global, first: &Pass) -> io::Result<Found> {
-    let users = users_of(alloc, first.watch.audit().replay())?;
-    Ok(Found {
-        count: first.count(),
-        users,
-        reasons: None,
-        looks: Looks::Settings,
-        confined: Vec::new(alloc),
-    })
-}
-
-/// What the entries of a pass say of all users, and of those of whom it is asked whether they are
-/// confined.
-fn found_of_some(alloc: Global, confined: Vec<UserId>, first: &Pass) -> io::Result<Found> {
+/// What the entries of a pass say of all users, and of users who may be confined.
+fn found_of_all(
+    alloc: Global,
+    looks: Looks,
+    confined: Vec<UserId>,
+    first: &Pass,
+) -> io::Result<Found> {
     let mut users = users_of(alloc, first.watch.audit().replay())?;
     for user in &confined {
         if !users.as_slice().contains(user) {
@@ -66,7 +56,7 @@ fn found_of_some(alloc: Global, confined: Vec<UserId>, first: &Pass) -> io::Resu
         count: first.count(),
         users,
         reasons: None,
-        looks: Looks::Confinement,
+        looks,
         confined,
     })
 }
@@ -74,13 +64,13 @@ fn found_of_some(alloc: Global, confined: Vec<UserId>, first: &Pass) -> io::Resu
 /// What the entries of a pass say that a second one has to know.
 fn found_of(alloc: Global, asked: Asked<'_>, first: &Pass) -> Result<Found, Fault> {
     if let Some(question) = asked.question {
-        return Ok(found_of_one(alloc, question, first)?);
+        return Ok(found_of_one(alloc, question, first));
     }
     let Some(names) = asked.confined else {
-        return Ok(found_of_all(alloc, first)?);
+        return Ok(found_of_all(alloc, Looks::Settings, Vec::new(alloc), first)?);
     };
     match users_named(alloc, names) {
-        Ok(Some(users)) => Ok(found_of_some(alloc, users, first)?),
+        Ok(Some(users)) => Ok(found_of_all(alloc, Looks::Confinement, users, first)?),
         Ok(None) => Err(Fault::NoUsers),
         Err(error) => Err(Fault::Io(io::Error::from(error))),
     }
@@ -152,6 +142,18 @@ fn write_confined<W: Write>(
     })
 }
 
+/// Writes what decides the bit that is asked about.
+fn write_reasons<W: Write>(
+    alloc: Global,
+    question: Question,
+    second: &Pass,
+    output: &mut W,
+) -> io::Result<()> {
+    let mut text = Vec::new(alloc);
+    push_reasons(second.owner, &second.watch, question, &mut text)?;
+    output.write_all(text.as_slice())
+}
+
 /// Writes the rights after the entries of a second pass, what decides the bit that is asked about, or
 /// whether users are confined.
 fn write_answer<W: Write>(
@@ -167,7 +169,7 @@ fn write_answer<W: Write>(
         return write_confined(alloc, found.confined.as_slice(), second, output);
     }
     let written = match found.reasons {
-        Some((question, _)) => write_reasons(alloc, second.owner, &second.watch, question, output),
+        Some((question, _)) => write_reasons(alloc, question, second, output),
         None => write_rights(alloc, second.owner, &second.watch, output),
     };
     match written {

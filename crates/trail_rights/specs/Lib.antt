@@ -3,5 +3,7 @@ pub mod Deciding
 pub mod Windows
 pub mod Settling
 pub mod Masking
+pub mod Dates
+pub mod Reasons
 pub mod Seeing
 pub mod Watching

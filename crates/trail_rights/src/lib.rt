@@ -1,6 +1,7 @@
 //! Who may do what after the entries of a trail's file, which acts decide it, and how this is told.
 #![tactic(auto)]
 
+mod dates;
 mod decider;
 mod laws;
 mod mark;
@@ -13,6 +14,7 @@ mod watch;
 mod who;
 mod why;
 
+pub use dates::push_day;
 pub use decider::{Decider, found_in};
 pub use laws::{latest_decides, latest_settles, open_are_listed};
 pub use mark::Mark;
@@ -23,4 +25,4 @@ pub use sight::Sight;
 pub use texts::{When, letter_of, text_of, time_of};
 pub use watch::{Watch, watch_entries};
 pub use who::write_rights;
-pub use why::{Question, bit_of, write_found, write_reasons};
+pub use why::{Question, bit_of, push_found, push_reasons};

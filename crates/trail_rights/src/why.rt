@@ -1,15 +1,25 @@
 //! Which act decides a user's bit on an object.
 
+ghost use Rattle.std.specs.Prelude.{◌≡◌, ◌++◌, List, [], OnOk};
+ghost use Rattle.std.specs.List.{flat_map};
+ghost use Rattle.acl.specs.declared.edition.Edition.{Edition};
+ghost use Rattle.trail_lines.specs.Entries.{Said};
+ghost use Rattle.trail_rights.specs.Marks.{acts_in, marked_after};
+ghost use Rattle.trail_rights.specs.Reasons.{answer_text, cause_text, decider_text, found_text};
+ghost use Rattle.trail_rights.specs.Reasons.{giver_text, is_there, mark_text, owner_text};
+ghost use Rattle.trail_rights.specs.Reasons.{reasons_text, yes_text};
+ghost use Rattle.trail_rights.specs.Watching.{HasWatched};
+
+use crate::dates::push_when;
+use crate::decider::Decider;
 use crate::mark::Mark;
 use crate::rights::may;
-use crate::texts::{When, text_of};
 use crate::watch::Watch;
 use acl::{Act, Bit, CommandName, Object, UserId};
 use command_lang::name_text;
-use hub_check::Replay;
 use line_fields::acts::push_act;
-use std::alloc::{AllocError, Global};
-use std::io::{self, Write};
+use session_model::push_decimal;
+use std::alloc::AllocError;
 
 /// A user, a bit and an object.
 #[derive(Clone, Copy)]
@@ -60,82 +70,134 @@ fn command_of(name: &[u8]) -> Option<CommandName> {
 }
 
 /// Whether an object is there: a command, or one of the windows that are open.
-fn is_there(windows: &[u32], object: Object) -> bool {
+fn is_there(windows: &[u32], object: Object) -> bool
+    ensures { result ≡ is_there windows.now object }
+{
     match object {
-        Object::Window(window) => windows.contains(&window),
+        Object::Window(window) => windows.iter().any(|other| *other == window),
         Object::Command(_) => true,
     }
 }
 
-/// Writes where an act stands, when it was filed and who gave it.
-fn write_mark<W: Write>(mark: Mark, output: &mut W) -> io::Result<()> {
-    write!(output, "entry {}{}", mark.place, When(" at ", mark.ms))?;
-    match mark.giver {
-        Some(giver) => write!(output, " by {}: ", text_of(&giver)),
-        None => output.write_all(b": "),
+/// Appends who gave an event, if a user did.
+fn push_giver(giver: Option<UserId>, out: &mut Vec<u8>) -> Result<(), AllocError>
+    ensures { OnOk result (out.new.items ≡ out.old.items ++ giver_text giver) }
+{
+    match giver {
+        Some(giver) => {
+            out.extend_from_slice(b" by ")?;
+            out.extend_from_slice(giver.as_bytes())?;
+            out.extend_from_slice(b": ")
+        }
+        None => out.extend_from_slice(b": "),
     }
 }
 
-/// An act's line.
-fn line_of(alloc: Global, act: &Act) -> Result<Vec<u8>, AllocError> {
-    let mut text = Vec::new(alloc);
-    push_act(act, &mut text)?;
-    text.extend_from_slice(b"\n")?;
-    Ok(text)
+/// Appends which entry has an act, its time, and who gave its event.
+fn push_mark(mark: Mark, out: &mut Vec<u8>) -> Result<(), AllocError>
+    ensures { OnOk result (out.new.items ≡ out.old.items ++ mark_text mark) }
+{
+    out.extend_from_slice(b"entry ")?;
+    push_decimal(mark.place, out)?;
+    push_when(b" at ", mark.ms, out)?;
+    push_giver(mark.giver, out)
 }
 
-/// Writes an act, and whence it came.
-fn write_act<W: Write>(alloc: Global, mark: Mark, act: &Act, output: &mut W) -> io::Result<()> {
-    let text = line_of(alloc, act)?;
-    write_mark(mark, output)?;
-    output.write_all(text.as_slice())
+/// Appends the act that was found to decide, and its entry; or that no act decides.
+fn push_cause(found: Option<(Mark, Act)>, out: &mut Vec<u8>) -> Result<(), AllocError>
+    ensures { OnOk result (out.new.items ≡ out.old.items ++ cause_text found) }
+{
+    match found {
+        Some((mark, act)) => {
+            push_mark(mark, out)?;
+            push_act(&act, out)?;
+            out.extend_from_slice(b"\n")
+        }
+        None => out.extend_from_slice(b"no act decides\n"),
+    }
 }
 
-/// Writes the act that was found to decide for a user, and whence it came.
-pub fn write_found<W: Write>(
-    alloc: Global,
+/// Appends the act that was found to decide for a user, and its entry; or that no act decides.
+pub fn push_found(
     user: UserId,
     found: Option<(Mark, Act)>,
-    output: &mut W,
-) -> io::Result<()> {
-    write!(output, "{}: ", text_of(&user))?;
-    match found {
-        Some((mark, act)) => write_act(alloc, mark, &act, output),
-        None => writeln!(output, "no act decides"),
+    out: &mut Vec<u8>,
+) -> Result<(), AllocError>
+    ensures { OnOk result (out.new.items ≡ out.old.items ++ found_text user found) }
+{
+    out.extend_from_slice(user.as_bytes())?;
+    out.extend_from_slice(b": ")?;
+    push_cause(found, out)
+}
+
+/// Appends whether a user has a bit.
+fn push_yes(has_bit: bool, out: &mut Vec<u8>) -> Result<(), AllocError>
+    ensures { OnOk result (out.new.items ≡ out.old.items ++ yes_text has_bit) }
+{
+    if has_bit {
+        out.extend_from_slice(b"yes\n")
+    } else {
+        out.extend_from_slice(b"no\n")
     }
 }
 
-/// Writes whether the user has the bit, and whether he is the owner.
-fn write_answer<W: Write>(
-    replay: &Replay,
-    owner: UserId,
-    question: Question,
-    output: &mut W,
-) -> io::Result<()> {
-    let Question { user, bit, object } = question;
-    let has_bit = may(replay, user, bit, object);
-    writeln!(output, "{}", if has_bit { "yes" } else { "no" })?;
+/// Appends that a user is the owner, if they are.
+fn push_owner(owner: UserId, user: UserId, out: &mut Vec<u8>) -> Result<(), AllocError>
+    ensures { OnOk result (out.new.items ≡ out.old.items ++ owner_text owner user) }
+{
     if user == owner {
-        writeln!(output, "{}: the owner", text_of(&user))
+        out.extend_from_slice(user.as_bytes())?;
+        out.extend_from_slice(b": the owner\n")
     } else {
         Ok(())
     }
 }
 
-/// Writes whether the user has the bit, and the acts that decide it: his own, and his leaders'.
-pub fn write_reasons<W: Write>(
-    alloc: Global,
+/// Appends what each decider has found.
+fn push_deciders(deciders: &[Decider], out: &mut Vec<u8>) -> Result<(), AllocError>
+    ensures { OnOk result
+        (out.new.items ≡ out.old.items ++ flat_map decider_text deciders.now) }
+{
+    for decider in deciders {
+        push_found(decider.user(), decider.found(), out)?;
+    }
+    Ok(())
+}
+
+/// Appends whether a user has a bit, and the acts that decide it: the user's own, and their leaders'.
+fn push_answer(
+    owner: UserId,
+    user: UserId,
+    has_bit: bool,
+    deciders: &[Decider],
+    out: &mut Vec<u8>,
+) -> Result<(), AllocError>
+    ensures { OnOk result (out.new.items
+        ≡ out.old.items ++ answer_text owner user has_bit deciders.now) }
+{
+    push_yes(has_bit, out)?;
+    push_owner(owner, user, out)?;
+    push_deciders(deciders, out)
+}
+
+/// Appends whether the user has the bit after the entries that were read, and the acts that decide it:
+/// the user's own, and their leaders'. The watch has looked for these.
+pub fn push_reasons(
     owner: UserId,
     watch: &Watch,
     question: Question,
-    output: &mut W,
-) -> io::Result<()> {
+    out: &mut Vec<u8>,
+) -> Result<(), AllocError>
+    ensures { (edition : Edition) (said : List Said) → HasWatched watch.now edition owner said →
+        OnOk result (out.new.items ≡ out.old.items
+        ++ reasons_text edition owner (acts_in (marked_after [] said)) question
+        watch.now.sight.deciders.items) }
+{
     if !is_there(watch.sight().windows(), question.object) {
-        return writeln!(output, "no: the window isn't open");
+        out.extend_from_slice(b"no: the window isn't open\n")?;
+        return Ok(());
     }
-    write_answer(watch.audit().replay(), owner, question, output)?;
-    for decider in watch.sight().deciders() {
-        write_found(alloc, decider.user(), decider.found(), output)?;
-    }
-    Ok(())
+    let Question { user, bit, object } = question;
+    let has_bit = may(watch.audit().replay(), user, bit, object);
+    push_answer(owner, user, has_bit, watch.sight().deciders(), out)
 }
