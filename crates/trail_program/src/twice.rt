@@ -209,7 +209,7 @@ fn ask_twice<R: Files + AllocGlobal, W: Write>(
     if asked.titled.is_some() && !write_window(asked.question, output)? {
         return Ok(LEGAL);
     }
-    let again = fs::open(rt, asked.path)?;
+    let again = fs::open(rt, asked.path).map_err(Fault::NotOpened)?;
     answer(rt.alloc(), asked, &found, again, output)
 }
 
@@ -225,6 +225,6 @@ pub fn ask<R: Files + AllocGlobal, W: Write>(
         return ask_twice(rt, asked, file, output);
     };
     let question = question_in(rt.alloc(), asked, titled, file)?;
-    let file = fs::open(rt, asked.path)?;
+    let file = fs::open(rt, asked.path).map_err(Fault::NotOpened)?;
     ask_twice(rt, Asked { question, ..asked }, file, output)
 }
