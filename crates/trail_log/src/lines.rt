@@ -6,6 +6,13 @@ ghost use Rattle.trail_log.specs.Lines.{clock_text, end_line, end_text, two};
 use std::alloc::AllocError;
 use trail_audit::Ended;
 
+/// Appends bytes.
+pub fn push_text(text: &[u8], out: &mut Vec<u8>) -> Result<(), AllocError>
+    ensures { OnOk result (out.new.items ≡ out.old.items ++ text.now) }
+{
+    out.extend_from_slice(text)
+}
+
 /// Appends two digits.
 fn push_two(number: u64, out: &mut Vec<u8>) -> Result<(), AllocError>
     requires { number < 100 }
@@ -32,7 +39,7 @@ fn push_why(ended: &Ended, out: &mut Vec<u8>) -> Result<(), AllocError>
     ensures { OnOk result (out.new.items ≡ out.old.items ++ end_text ended.now) }
 {
     out.extend_from_slice(b" the session ended: ")?;
-    out.extend_from_slice(ended.cause.word())
+    push_text(ended.cause.word(), out)
 }
 
 /// Appends the line of a trail's end: when it ended, and why.

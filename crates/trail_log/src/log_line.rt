@@ -7,12 +7,14 @@ ghost use Rattle.trail_log.specs.Joining.{bytes_text, deed_of, line_by, line_of,
 ghost use Rattle.trail_log.specs.Joining.{plain_text};
 ghost use Rattle.trail_log.specs.Joining.{typed_alone, typed_head, typed_in, typed_tail};
 
-use crate::checks::{failed, from_command, window_in};
+use crate::checks::window_in;
 use crate::deeds::{push_client, push_deed};
-use crate::lines::push_clock;
+use crate::lines::{push_clock, push_text};
 use crate::names::Names;
 use crate::pressed::{push_count, push_typed_rest, typed_verb};
 use client_words::put_visible;
+use hub_acts::from_command;
+use hub_check::failed;
 use hub_record::KeptRef;
 use hub_trail::Ending;
 use session_model::{Bytes, Verdict};
@@ -148,13 +150,6 @@ pub fn line_of(alloc: Global, names: &Names, line: &Line) -> Result<LogLine, All
     let entry = &line.entry;
     let typed = typed_in(entry.event().get(), entry.verdicts(), entry.ending());
     line_by(alloc, names, line, typed)
-}
-
-/// Appends bytes.
-fn push_text(text: &[u8], out: &mut Vec<u8>) -> Result<(), AllocError>
-    ensures { OnOk result (out.new.items ≡ out.old.items ++ text.now) }
-{
-    out.extend_from_slice(text)
 }
 
 /// Appends how many bytes were typed, if the line is about typed bytes.

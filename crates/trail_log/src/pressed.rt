@@ -5,8 +5,10 @@ ghost use Rattle.trail_log.specs.Lines.{asked_by, asked_text, count_text, keys_t
 ghost use Rattle.trail_log.specs.Lines.{typed_by, typed_rest, typed_text, typed_verb};
 
 use crate::causes::{push_cause, push_check};
-use crate::checks::{before_command, command_text, failed, from_command, window_in};
+use crate::checks::{before_command, command_text, window_in};
 use crate::titles::{Titled, push_into, push_on};
+use hub_acts::from_command;
+use hub_check::failed;
 use hub_trail::Ending;
 use session_model::{Verdict, push_decimal};
 use std::alloc::AllocError;
