@@ -33,28 +33,28 @@ abbrev pub typed_head : Names → ℕ → List Verdict → List ℕ
 typed_head n client verdicts =
     client_text (user_in n.0 client) client ++ typed_verb (failed verdicts)
 
-abbrev pub typed_tail : Names → List Verdict → List ℕ
-typed_tail n verdicts = typed_rest n.1 (window_in verdicts) (failed verdicts)
-
-abbrev pub deed_of : Names → Said → List ℕ
-deed_of n x = deed_text n x.2.event x.2.verdicts x.2.reply
-
--- of typed bytes, their number stands between what the line says of who and of where
-abbrev pub line_by : Names → Said → Option (ℕ × ℕ) → LogLine
-line_by n x (Some p) = record {
+-- the number of typed bytes stands between what the line says of who and of where
+abbrev pub typed_line : Names → Said → ℕ → ℕ → LogLine
+typed_line n x client taken = record {
   ms = x.1;
   last = x.1;
-  head = typed_head n p.0 x.2.verdicts;
-  bytes = Some p.1;
-  tail = typed_tail n x.2.verdicts;
+  head = typed_head n client x.2.verdicts;
+  bytes = Some taken;
+  tail = typed_rest n.1 (window_in x.2.verdicts) (failed x.2.verdicts);
 }
-line_by n x None = record {
+
+abbrev pub deed_line : Names → Said → LogLine
+deed_line n x = record {
   ms = x.1;
   last = x.1;
-  head = deed_of n x;
+  head = deed_text n x.2.event x.2.verdicts x.2.reply;
   bytes = None;
   tail = [];
 }
+
+abbrev pub line_by : Names → Said → Option (ℕ × ℕ) → LogLine
+line_by n x (Some p) = typed_line n x p.0 p.1
+line_by n x None = deed_line n x
 
 abbrev pub line_of : Names → Said → LogLine
 line_of n x = line_by n x (typed_in x.2.event x.2.verdicts x.2.reply)
@@ -97,7 +97,7 @@ sum_in (Some l) next = joined l next
 abbrev pub grown : ℕ → ℕ → LogLine → LogLine
 grown last bytes l = record l { last = last; bytes = Some bytes }
 
--- after the next line: with its bytes, if it is joined, else the next line
+-- after the next line: the line before with the bytes of both, if they are joined, else the next line
 abbrev pub held_by : Option LogLine → LogLine → Option ℕ → Option LogLine
 held_by held next None = Some next
 held_by held next (Some bytes) = option_map (grown next.last bytes) held

@@ -1,16 +1,14 @@
 //! The line of a log that is held until it is known whether the next line is joined to it.
 
 ghost use Rattle.std.specs.Prelude.{◌≡◌, ◌++◌, IfOk, OnOk, option_map};
-ghost use Rattle.std.specs.Str.{bytes_eq};
 ghost use Rattle.trail_lines.specs.Entries.{said};
-ghost use Rattle.trail_log.specs.Joining.{goes_on, grown, held_by, held_ms, held_text, held_with};
-ghost use Rattle.trail_log.specs.Joining.{joined, ms_before, ms_by, next_held, next_ms, next_text};
-ghost use Rattle.trail_log.specs.Joining.{sum_in, sum_of, text_before, text_by};
+ghost use Rattle.trail_log.specs.Joining.{goes_on, grown, held_ms, held_text, held_with, joined};
+ghost use Rattle.trail_log.specs.Joining.{ms_before, next_held, next_ms, next_text, sum_in, sum_of};
+ghost use Rattle.trail_log.specs.Joining.{text_before};
 
 use crate::choice::Choice;
 use crate::log_line::{LogLine, line_of, push_line};
 use crate::names::Names;
-use session_model::Bytes;
 use std::alloc::AllocError;
 use std::mem;
 use trail_lines::Line;
@@ -21,13 +19,6 @@ const GAP: u64 = 10_000;
 /// Numbers of bytes are added below this one.
 const MANY: u64 = 4_294_967_296;
 
-/// Whether texts are equal.
-fn is_same(text: &Bytes, other: &Bytes) -> bool
-    ensures { result ≡ bytes_eq text.now other.now }
-{
-    text.as_slice() == other.as_slice()
-}
-
 /// Whether the next line says the same of who and of where, soon after the line before.
 fn goes_on(line: &LogLine, next: &LogLine) -> bool
     ensures { result ≡ goes_on line.now next.now }
@@ -35,7 +26,7 @@ fn goes_on(line: &LogLine, next: &LogLine) -> bool
     if next.ms.saturating_sub(line.last) >= GAP {
         return false;
     }
-    is_same(&line.head, &next.head) && is_same(&line.tail, &next.tail)
+    line.head.as_slice() == next.head.as_slice() && line.tail.as_slice() == next.tail.as_slice()
 }
 
 /// The sum of two numbers of bytes, if both are there.
@@ -43,11 +34,7 @@ fn sum_of(count: Option<u64>, more: Option<u64>) -> Option<u64>
     ensures { result ≡ sum_of count more }
 {
     match (count, more) {
-        (Some(count), Some(more)) => if count < MANY && more < MANY {
-            Some(count + more)
-        } else {
-            None
-        },
+        (Some(count), Some(more)) if count < MANY && more < MANY => Some(count + more),
         _ => None,
     }
 }
@@ -87,21 +74,6 @@ pub fn push_held(held: &Option<LogLine>, out: &mut Vec<u8>) -> Result<Option<u64
     }
 }
 
-/// Appends the line that is held, unless it grows to this many bytes, and returns its time.
-fn push_before(
-    held: &Option<LogLine>,
-    sum: Option<u64>,
-    out: &mut Vec<u8>,
-) -> Result<Option<u64>, AllocError>
-    ensures text { OnOk result (out.new.items ≡ out.old.items ++ text_by held.now sum) }
-    ensures ms { IfOk result (λ ms. ms ≡ ms_by held.now sum) }
-{
-    match sum {
-        Some(_) => Ok(None),
-        None => push_held(held, out),
-    }
-}
-
 /// A line that grows to this many bytes, by an entry of this time.
 fn grown(held: Option<LogLine>, last: u64, bytes: u64) -> Option<LogLine>
     ensures { result ≡ option_map (grown last bytes) held }
@@ -118,16 +90,6 @@ fn grown(held: Option<LogLine>, last: u64, bytes: u64) -> Option<LogLine>
     }
 }
 
-/// The line to hold: the one that was held, if it grows to this many bytes, else the next one.
-fn held_by(held: Option<LogLine>, next: LogLine, sum: Option<u64>) -> Option<LogLine>
-    ensures { result ≡ held_by held next sum }
-{
-    match sum {
-        Some(bytes) => grown(held, next.last, bytes),
-        None => Some(next),
-    }
-}
-
 /// Joins the next line to the one that is held; or appends the line that was held, returns its time,
 /// and holds the next one.
 fn hold(
@@ -139,11 +101,18 @@ fn hold(
     ensures ms { IfOk result (λ ms. ms ≡ ms_before held.old next) }
     ensures held { OnOk result (held.new ≡ held_with held.old next) }
 {
-    let sum = sum_in(held, &next);
-    let ms = push_before(held, sum, out)?;
-    let before = mem::replace(held, None);
-    *held = held_by(before, next, sum);
-    Ok(ms)
+    match sum_in(held, &next) {
+        Some(bytes) => {
+            let before = mem::replace(held, None);
+            *held = grown(before, next.last, bytes);
+            Ok(None)
+        }
+        None => {
+            let ms = push_held(held, out)?;
+            *held = Some(next);
+            Ok(ms)
+        }
+    }
 }
 
 /// Holds the line of an entry, if it is asked for, in place of the line that was held, which is

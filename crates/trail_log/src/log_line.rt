@@ -3,9 +3,8 @@
 ghost use Rattle.std.specs.Prelude.{◌≡◌, ◌++◌, ◌∷◌, [], IfOk, OnOk};
 ghost use Rattle.hub_record.specs.Stored.{kept_lent};
 ghost use Rattle.trail_lines.specs.Entries.{said};
-ghost use Rattle.trail_log.specs.Joining.{bytes_text, deed_of, line_by, line_of, line_text};
-ghost use Rattle.trail_log.specs.Joining.{plain_text};
-ghost use Rattle.trail_log.specs.Joining.{typed_alone, typed_head, typed_in, typed_tail};
+ghost use Rattle.trail_log.specs.Joining.{bytes_text, deed_line, line_of, line_text, plain_text};
+ghost use Rattle.trail_log.specs.Joining.{typed_head, typed_in, typed_line};
 
 use crate::checks::window_in;
 use crate::deeds::{push_client, push_deed};
@@ -34,16 +33,6 @@ pub struct LogLine {
     pub tail: Bytes,
 }
 
-/// The client and the number of bytes of typed keys, if no command was asked for.
-fn typed_alone(client: u32, taken: usize, asked: &[Verdict]) -> Option<(u32, usize)>
-    ensures { result ≡ typed_alone client taken asked.now }
-{
-    match asked {
-        [] => Some((client, taken)),
-        [_, ..] => None,
-    }
-}
-
 /// The client that typed bytes, and their number, if an entry is about nothing else.
 fn typed_in(event: KeptRef<'_>, verdicts: &[Verdict], ending: Ending) -> Option<(u32, usize)>
     ensures { result ≡ typed_in (kept_lent event.entry) verdicts.now ending }
@@ -51,8 +40,8 @@ fn typed_in(event: KeptRef<'_>, verdicts: &[Verdict], ending: Ending) -> Option<
     let Ok(finished) = ending else {
         return None;
     };
-    match event {
-        KeptRef::Keys { client } => typed_alone(client, finished.taken, from_command(verdicts)),
+    match (event, from_command(verdicts)) {
+        (KeptRef::Keys { client }, []) => Some((client, finished.taken)),
         _ => None,
     }
 }
@@ -72,75 +61,50 @@ fn push_typed_head(
     Ok(())
 }
 
-/// Who typed, and whether the bytes were denied.
-fn head_of(
+/// The line of an entry that is about typed bytes alone.
+fn typed_line(
     alloc: Global,
     names: &Names,
+    line: &Line,
     client: u32,
-    verdicts: &[Verdict],
-) -> Result<Bytes, AllocError>
-    ensures { IfOk result (λ text. text ≡ typed_head names.now client verdicts.now) }
+    taken: usize,
+) -> Result<LogLine, AllocError>
+    ensures { IfOk result (λ l. l ≡ typed_line names.now (said line.now) client taken) }
 {
-    let mut text = Vec::new(alloc);
-    push_typed_head(names, client, verdicts, &mut text)?;
-    Ok(Bytes::from_vec(text))
-}
-
-/// Into which window bytes were typed, and the check that denied them, if one did.
-fn tail_of(alloc: Global, names: &Names, verdicts: &[Verdict]) -> Result<Bytes, AllocError>
-    ensures { IfOk result (λ text. text ≡ typed_tail names.now verdicts.now) }
-{
-    let mut text = Vec::new(alloc);
+    let verdicts = line.entry.verdicts();
+    let mut head = Vec::new(alloc);
+    push_typed_head(names, client, verdicts, &mut head)?;
+    let mut tail = Vec::new(alloc);
     push_typed_rest(
         names.titles(),
         window_in(verdicts),
         failed(verdicts),
-        &mut text,
+        &mut tail,
     )?;
-    Ok(Bytes::from_vec(text))
+    Ok(LogLine {
+        ms: line.ms,
+        last: line.ms,
+        head: Bytes::from_vec(head),
+        bytes: Some(taken as u64),
+        tail: Bytes::from_vec(tail),
+    })
 }
 
-/// Who gave the event of an entry, and what became of it.
-fn deed_of(alloc: Global, names: &Names, line: &Line) -> Result<Bytes, AllocError>
-    ensures { IfOk result (λ text. text ≡ deed_of names.now (said line.now)) }
+/// The line of an entry that isn't about typed bytes alone.
+fn deed_line(alloc: Global, names: &Names, line: &Line) -> Result<LogLine, AllocError>
+    ensures { IfOk result (λ l. l ≡ deed_line names.now (said line.now)) }
 {
     let entry = &line.entry;
-    let mut text = Vec::new(alloc);
-    push_deed(
-        names,
-        entry.event().get(),
-        entry.verdicts(),
-        entry.ending(),
-        &mut text,
-    )?;
-    Ok(Bytes::from_vec(text))
-}
-
-/// The line of an entry, by the client that typed, and how many bytes, if it is about nothing else.
-fn line_by(
-    alloc: Global,
-    names: &Names,
-    line: &Line,
-    typed: Option<(u32, usize)>,
-) -> Result<LogLine, AllocError>
-    ensures { IfOk result (λ l. l ≡ line_by names.now (said line.now) typed) }
-{
-    match typed {
-        Some((client, taken)) => Ok(LogLine {
-            ms: line.ms,
-            last: line.ms,
-            head: head_of(alloc, names, client, line.entry.verdicts())?,
-            bytes: Some(taken as u64),
-            tail: tail_of(alloc, names, line.entry.verdicts())?,
-        }),
-        None => Ok(LogLine {
-            ms: line.ms,
-            last: line.ms,
-            head: deed_of(alloc, names, line)?,
-            bytes: None,
-            tail: Bytes::new(alloc),
-        }),
-    }
+    let event = entry.event().get();
+    let mut head = Vec::new(alloc);
+    push_deed(names, event, entry.verdicts(), entry.ending(), &mut head)?;
+    Ok(LogLine {
+        ms: line.ms,
+        last: line.ms,
+        head: Bytes::from_vec(head),
+        bytes: None,
+        tail: Bytes::new(alloc),
+    })
 }
 
 /// The line of an entry, before which clients and windows had these names.
@@ -148,8 +112,10 @@ pub fn line_of(alloc: Global, names: &Names, line: &Line) -> Result<LogLine, All
     ensures { IfOk result (λ l. l ≡ line_of names.now (said line.now)) }
 {
     let entry = &line.entry;
-    let typed = typed_in(entry.event().get(), entry.verdicts(), entry.ending());
-    line_by(alloc, names, line, typed)
+    match typed_in(entry.event().get(), entry.verdicts(), entry.ending()) {
+        Some((client, taken)) => typed_line(alloc, names, line, client, taken),
+        None => deed_line(alloc, names, line),
+    }
 }
 
 /// Appends how many bytes were typed, if the line is about typed bytes.

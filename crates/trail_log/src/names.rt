@@ -141,23 +141,15 @@ fn change_by(
 fn retitle(titles: &mut Vec<Titled>, change: Option<Change>) -> Result<(), AllocError>
     ensures { OnOk result (titles.new.items ≡ retitled change titles.old.items) }
 {
-    match change {
-        Some(
-            Change {
-                window,
-                title: Some(title),
-            },
-        ) => set_title(titles, window, title),
-        Some(
-            Change {
-                window,
-                title: None,
-            },
-        ) => {
+    let Some(Change { window, title }) = change else {
+        return Ok(());
+    };
+    match title {
+        Some(title) => set_title(titles, window, title),
+        None => {
             forget(titles, window);
             Ok(())
         }
-        None => Ok(()),
     }
 }
 
