@@ -1,1 +1,3 @@
 pub mod Confining
+pub mod Dates
+pub mod Reasons

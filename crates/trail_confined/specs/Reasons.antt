@@ -13,8 +13,8 @@ use Rattle.acl.specs.Same.{same_user}
 use Rattle.line_fields.specs.Acts.{act_text}
 use Rattle.trail_rights.specs.declared.decider.Decider.{Decider}
 use Rattle.trail_rights.specs.declared.mark.Mark.{Mark}
-use Rattle.trail_rights.specs.declared.why.Question.{Question}
-use Rattle.trail_rights.specs.Dates.{when_text}
+use Rattle.trail_confined.specs.declared.why.Question.{Question}
+use Rattle.trail_confined.specs.Dates.{when_text}
 
 abbrev pub giver_text : Option UserId → List ℕ
 giver_text None = codes ": "
@@ -43,17 +43,20 @@ abbrev pub owner_text : UserId → UserId → List ℕ
 owner_text owner user =
     if same_user user owner then name_of user ++ codes ": the owner\n" else []
 
--- whether a user has a bit, and what decides it
-abbrev pub answer_text : UserId → UserId → Bool → List Decider → List ℕ
-answer_text owner user has_bit deciders =
+-- whether a user has a bit, and what decides it; None if the object isn't there
+abbrev pub answer_text : UserId → UserId → Option Bool → List Decider → List ℕ
+answer_text owner user None deciders = codes "no: the window isn't open\n"
+answer_text owner user (Some has_bit) deciders =
     yes_text has_bit ++ (owner_text owner user ++ flat_map decider_text deciders)
 
--- the same after these acts, about an object that is there or isn't
+-- whether the user has the bit after these acts, if the object is there
+abbrev pub answer_of : Edition → UserId → History → Question → Option Bool
+answer_of edition owner h q =
+    if there h q.object then Some (may edition owner h q.user q.bit q.object) else None
+
 abbrev pub reasons_text : Edition → UserId → History → Question → List Decider → List ℕ
 reasons_text edition owner h q deciders =
-    if there h q.object
-    then answer_text owner q.user (may edition owner h q.user q.bit q.object) deciders
-    else codes "no: the window isn't open\n"
+    answer_text owner q.user (answer_of edition owner h q) deciders
 
 -- ---- as the code has it
 

@@ -1,10 +1,10 @@
 //! Times in the form of RFC 3339, as 2025-11-24T16:00:02.74Z.
 
 ghost use Rattle.std.specs.Prelude.{◌≡◌, ◌++◌, ◌<◌, ◌≤◌, ◌/◌, OnOk};
-ghost use Rattle.trail_rights.specs.Dates.{carry, clock_text, date_text, day_of_era, day_of_month, day_text};
-ghost use Rattle.trail_rights.specs.Dates.{day_of_year, digit, era_of, fraction_text, month_index};
-ghost use Rattle.trail_rights.specs.Dates.{month_of, time_text, two, when_text, year_of};
-ghost use Rattle.trail_rights.specs.Dates.{year_of_era};
+ghost use Rattle.trail_confined.specs.Dates.{carry, clock_text, date_text, day_of_era, day_of_month, day_text};
+ghost use Rattle.trail_confined.specs.Dates.{day_of_year, digit, era_of, fraction_text, month_index};
+ghost use Rattle.trail_confined.specs.Dates.{month_of, time_text, two, when_text, year_of};
+ghost use Rattle.trail_confined.specs.Dates.{year_of_era};
 
 use session_model::push_decimal;
 use std::alloc::AllocError;

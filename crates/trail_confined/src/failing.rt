@@ -6,9 +6,7 @@ use acl::{Act, Bit, CommandName, Object, UserId};
 use command_lang::name_text;
 use std::alloc::{AllocError, Global};
 use std::io::{self, Write};
-use trail_rights::{
-    BITS, Decider, Question, Setting, Watch, found_in, letter_of, settler_in, text_of, write_found,
-};
+use trail_rights::{BITS, Decider, Setting, Watch, found_in, letter_of, settler_in, text_of};
 
 /// What decides whether a user may open windows, or change rights, before the first act.
 fn push_commands(

@@ -1,25 +1,24 @@
 //! Which act decides a user's bit on an object.
 
-ghost use Rattle.std.specs.Prelude.{◌≡◌, ◌++◌, List, [], OnOk};
+ghost use Rattle.std.specs.Prelude.{◌≡◌, ◌++◌, OnOk};
 ghost use Rattle.std.specs.List.{flat_map};
 ghost use Rattle.acl.specs.declared.edition.Edition.{Edition};
-ghost use Rattle.trail_lines.specs.Entries.{Said};
-ghost use Rattle.trail_rights.specs.Marks.{acts_in, marked_after};
-ghost use Rattle.trail_rights.specs.Reasons.{answer_text, cause_text, decider_text, found_text};
-ghost use Rattle.trail_rights.specs.Reasons.{giver_text, is_there, mark_text, owner_text};
-ghost use Rattle.trail_rights.specs.Reasons.{reasons_text, yes_text};
-ghost use Rattle.trail_rights.specs.Watching.{HasWatched};
+ghost use Rattle.acl.specs.declared.user_id.UserId.{UserId};
+ghost use Rattle.acl.specs.History.{History};
+ghost use Rattle.hub_check.specs.Following.{StandsAfter};
+ghost use Rattle.trail_confined.specs.Reasons.{answer_of, answer_text, cause_text, decider_text};
+ghost use Rattle.trail_confined.specs.Reasons.{found_text, giver_text, is_there, mark_text, owner_text};
+ghost use Rattle.trail_confined.specs.Reasons.{reasons_text, yes_text};
+ghost use Rattle.trail_rights.specs.Windows.{windows_of};
 
 use crate::dates::push_when;
-use crate::decider::Decider;
-use crate::mark::Mark;
-use crate::rights::may;
-use crate::watch::Watch;
 use acl::{Act, Bit, CommandName, Object, UserId};
 use command_lang::name_text;
+use hub_check::Replay;
 use line_fields::acts::push_act;
 use session_model::push_decimal;
 use std::alloc::AllocError;
+use trail_rights::{Decider, Mark, Sight, may};
 
 /// A user, a bit and an object.
 #[derive(Clone, Copy)]
@@ -165,39 +164,54 @@ fn push_deciders(deciders: &[Decider], out: &mut Vec<u8>) -> Result<(), AllocErr
 }
 
 /// Appends whether a user has a bit, and the acts that decide it: the user's own, and their leaders'.
+/// The answer is None if the object isn't there.
 fn push_answer(
     owner: UserId,
     user: UserId,
-    has_bit: bool,
+    answer: Option<bool>,
     deciders: &[Decider],
     out: &mut Vec<u8>,
 ) -> Result<(), AllocError>
-    ensures { OnOk result (out.new.items
-        ≡ out.old.items ++ answer_text owner user has_bit deciders.now) }
+    ensures { OnOk result
+        (out.new.items ≡ out.old.items ++ answer_text owner user answer deciders.now) }
 {
-    push_yes(has_bit, out)?;
-    push_owner(owner, user, out)?;
-    push_deciders(deciders, out)
+    match answer {
+        Some(has_bit) => {
+            push_yes(has_bit, out)?;
+            push_owner(owner, user, out)?;
+            push_deciders(deciders, out)
+        }
+        None => out.extend_from_slice(b"no: the window isn't open\n"),
+    }
 }
 
-/// Appends whether the user has the bit after the entries that were read, and the acts that decide it:
-/// the user's own, and their leaders'. The watch has looked for these.
+/// Whether the user has the bit on the object. None if the object isn't there.
+fn answer_of(replay: &Replay, sight: &Sight, question: Question) -> Option<bool>
+    ensures { (edition : Edition) (owner : UserId) (h : History) →
+        StandsAfter replay.now edition owner h → sight.now.windows.items ≡ windows_of h →
+        result ≡ answer_of edition owner h question }
+{
+    if is_there(sight.windows(), question.object) {
+        Some(may(replay, question.user, question.bit, question.object))
+    } else {
+        None
+    }
+}
+
+/// Appends whether the user has the bit, after the acts that the replay and the sight have followed, and
+/// the acts that decide it: the user's own, and their leaders'. The sight has looked for these.
 pub fn push_reasons(
     owner: UserId,
-    watch: &Watch,
+    replay: &Replay,
+    sight: &Sight,
     question: Question,
     out: &mut Vec<u8>,
 ) -> Result<(), AllocError>
-    ensures { (edition : Edition) (said : List Said) → HasWatched watch.now edition owner said →
+    ensures { (edition : Edition) (h : History) → StandsAfter replay.now edition owner h →
+        sight.now.windows.items ≡ windows_of h →
         OnOk result (out.new.items ≡ out.old.items
-        ++ reasons_text edition owner (acts_in (marked_after [] said)) question
-        watch.now.sight.deciders.items) }
+        ++ reasons_text edition owner h question sight.now.deciders.items) }
 {
-    if !is_there(watch.sight().windows(), question.object) {
-        out.extend_from_slice(b"no: the window isn't open\n")?;
-        return Ok(());
-    }
-    let Question { user, bit, object } = question;
-    let has_bit = may(watch.audit().replay(), user, bit, object);
-    push_answer(owner, user, has_bit, watch.sight().deciders(), out)
+    let answer = answer_of(replay, sight, question);
+    push_answer(owner, question.user, answer, sight.deciders(), out)
 }

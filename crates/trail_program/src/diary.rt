@@ -11,8 +11,8 @@ use session_model::Bytes;
 use std::alloc::{AllocError, Global};
 use std::io::{self, BufRead, Write};
 use trail_audit::{Halt, Wrong, next_entry};
+use trail_confined::push_day;
 use trail_log::{Choice, Log, Wanted, push_end};
-use trail_rights::push_day;
 
 /// A day, in milliseconds.
 const DAY: u64 = 86_400_000;
@@ -75,9 +75,8 @@ impl Diary {
         self.write(ms, text.as_slice(), output)
     }
 
-    /// Takes the line of the next entry, and writes the line before it if nothing is joined to that; if
-    /// the file is followed, its own line at once. The answer is what is wrong with the entry, if
-    /// something is.
+    /// Takes the line of the next entry, and writes the lines to which nothing is joined. The answer is
+    /// what is wrong with the entry, if something is.
     fn take<W: Write>(
         &mut self,
         line: &[u8],

@@ -7,8 +7,8 @@ use acl::{Edition, Leaders, UserId};
 use std::alloc::Global;
 use std::io::{self, BufRead, BufReader, Read};
 use trail_audit::Audit;
-use trail_confined::powers_of;
-use trail_rights::{Decider, Question, Settler, Sight, Watch, settings_of, watch_entries};
+use trail_confined::{Question, powers_of};
+use trail_rights::{Decider, Settler, Sight, Watch, settings_of, watch_entries};
 
 /// What a pass looks for besides rights, locks and leaders.
 #[derive(Clone, Copy)]

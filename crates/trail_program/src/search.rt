@@ -7,8 +7,8 @@ use acl::Object;
 use std::alloc::Global;
 use std::io::{self, BufRead, BufReader, Read, Write};
 use trail_audit::next_entry;
+use trail_confined::Question;
 use trail_log::{Choice, Log, Names};
-use trail_rights::Question;
 
 /// The window that was given the title last, of those that are open.
 fn window_of(names: &Names, title: &[u8]) -> Option<u32> {

@@ -1,5 +1,4 @@
-//! Questions for which a file is read twice: what a first pass finds tells what the second one
-//! looks for.
+//! Questions for which a file is read twice: the first pass finds what the second one looks for.
 
 use crate::fault::Fault;
 use crate::pass::{Looks, Pass, Search, read_pass};
@@ -11,8 +10,8 @@ use std::alloc::Global;
 use std::fs;
 use std::io::{self, Read, Write};
 use std::rt::Files;
-use trail_confined::{failing_of, write_confinement};
-use trail_rights::{Question, push_reasons, users_of, write_rights};
+use trail_confined::{Question, failing_of, push_reasons, write_confinement};
+use trail_rights::{users_of, write_rights};
 
 /// What a first pass has found.
 #[derive(Drop)]
@@ -150,12 +149,13 @@ fn write_reasons<W: Write>(
     output: &mut W,
 ) -> io::Result<()> {
     let mut text = Vec::new(alloc);
-    push_reasons(second.owner, &second.watch, question, &mut text)?;
+    let watch = &second.watch;
+    let (replay, sight) = (watch.audit().replay(), watch.sight());
+    push_reasons(second.owner, replay, sight, question, &mut text)?;
     output.write_all(text.as_slice())
 }
 
-/// Writes the rights after the entries of a second pass, what decides the bit that is asked about, or
-/// whether users are confined.
+/// Writes the answer by the entries of a second pass, and gives the status to exit with.
 fn write_answer<W: Write>(
     alloc: Global,
     found: &Found,
@@ -178,7 +178,7 @@ fn write_answer<W: Write>(
     }
 }
 
-/// Makes the second pass, over what the first one has read: what stands behind that doesn't count.
+/// Makes the second pass, over the entries that the first one has read, and no further.
 fn answer<F: Read + Drop, W: Write>(
     alloc: Global,
     asked: Asked<'_>,

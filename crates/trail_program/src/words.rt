@@ -6,7 +6,7 @@ use jiff::Timestamp;
 use line_fields::{cut, read_u32, read_u64};
 use program_words::of_trail;
 use std::alloc::{AllocError, Global};
-use trail_rights::{Question, bit_of};
+use trail_confined::{Question, bit_of};
 use trail_show::Form;
 
 /// What the program does with a file.

@@ -3,7 +3,5 @@ pub mod Deciding
 pub mod Windows
 pub mod Settling
 pub mod Masking
-pub mod Dates
-pub mod Reasons
 pub mod Seeing
 pub mod Watching

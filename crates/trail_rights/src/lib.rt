@@ -1,7 +1,6 @@
-//! Who may do what after the entries of a trail's file, which acts decide it, and how this is told.
+//! Who may do what after the entries of a trail's file, which acts decide it, and how `who` is told.
 #![tactic(auto)]
 
-mod dates;
 mod decider;
 mod laws;
 mod mark;
@@ -12,9 +11,7 @@ mod sight;
 mod texts;
 mod watch;
 mod who;
-mod why;
 
-pub use dates::push_day;
 pub use decider::{Decider, found_in};
 pub use laws::{latest_decides, latest_settles, open_are_listed};
 pub use mark::Mark;
@@ -25,4 +22,3 @@ pub use sight::Sight;
 pub use texts::{When, letter_of, text_of, time_of};
 pub use watch::{Watch, watch_entries};
 pub use who::write_rights;
-pub use why::{Question, bit_of, push_found, push_reasons};
