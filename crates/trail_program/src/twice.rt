@@ -10,7 +10,7 @@ use std::alloc::Global;
 use std::fs;
 use std::io::{self, Read, Write};
 use std::rt::Files;
-use trail_confined::{Question, failing_of, push_reasons, write_confinement};
+use trail_confined::{Question, failing_of, push_confinement, push_reasons};
 use trail_rights::{users_of, write_rights};
 
 /// What a first pass has found.
@@ -133,7 +133,10 @@ fn write_confined<W: Write>(
         return Err(Fault::Changed);
     };
     let failing = failing.as_slice();
-    write_confinement(alloc, second.owner, &second.watch, failing, output)?;
+    let mut text = Vec::new(alloc);
+    let (replay, sight) = (second.watch.audit().replay(), second.watch.sight());
+    push_confinement(second.owner, replay, sight, failing, &mut text).map_err(io::Error::from)?;
+    output.write_all(text.as_slice())?;
     Ok(if failing.is_empty() {
         LEGAL
     } else {
@@ -168,14 +171,11 @@ fn write_answer<W: Write>(
     if let Looks::Confinement = found.looks {
         return write_confined(alloc, found.confined.as_slice(), second, output);
     }
-    let written = match found.reasons {
-        Some((question, _)) => write_reasons(alloc, question, second, output),
-        None => write_rights(alloc, second.owner, &second.watch, output),
-    };
-    match written {
-        Ok(()) => Ok(LEGAL),
-        Err(error) => Err(Fault::Io(error)),
+    match found.reasons {
+        Some((question, _)) => write_reasons(alloc, question, second, output)?,
+        None => write_rights(alloc, second.owner, &second.watch, output)?,
     }
+    Ok(LEGAL)
 }
 
 /// Makes the second pass, over the entries that the first one has read, and no further.

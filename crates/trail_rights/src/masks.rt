@@ -11,7 +11,7 @@ use acl::{Bit, PresetKind, UserId};
 use std::alloc::{AllocError, Global};
 
 /// The bits, in the order in which they are told.
-pub const BITS: [Bit; 3] = [Bit::Read, Bit::Write, Bit::Execute];
+const BITS: [Bit; 3] = [Bit::Read, Bit::Write, Bit::Execute];
 
 /// What an opener masks for a user.
 fn push_masks(opener: UserId, user: UserId, settlers: &mut Vec<Settler>) -> Result<(), AllocError> {
@@ -60,7 +60,7 @@ pub fn settings_of(alloc: Global, users: &[UserId]) -> Result<Vec<Settler>, Allo
 }
 
 /// The letter of a bit.
-fn letter(bit: Bit) -> &'static [u8]
+pub fn letter(bit: Bit) -> &'static [u8]
     ensures { result.now ≡ letter bit }
 {
     match bit {
