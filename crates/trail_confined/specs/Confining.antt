@@ -36,7 +36,7 @@ AreGuests edition owner h users =
     (user : UserId) (c : CommandName) → users user ≡ true → changes_rights c ≡ true →
     may edition owner h user Execute (object.Command c) ≡ false
 
--- who opens windows: each known user who has x on screen, as the owner has
+-- the users who may open windows: each known user who has x on screen, as the owner has
 abbrev pub may_open : Edition → UserId → History → UserId → Bool
 may_open edition owner h user =
     is_known owner h user && may edition owner h user Execute (object.Command name.Screen)
@@ -108,7 +108,7 @@ premises_of edition owner h users =
     flat_map powers_of users ++ (flat_map standing_of (circles_of edition h users)
     ++ flat_map (masks_of (openers_of edition owner h)) (circles_of edition h users))
 
--- those that don't hold
+-- the premises that don't hold
 abbrev pub failing_of : Edition → UserId → History → List UserId → List Premise
 failing_of edition owner h users =
     filter (λ p. not (holds edition owner h p)) (premises_of edition owner h users)
@@ -123,7 +123,7 @@ is_asked settlers _ = true
 
 -- ---- laws
 
--- users are confined exactly where each premise holds that concerns the bit: of any history for
+-- users are confined exactly if each premise holds that concerns the bit: of any history for
 -- which tables stand
 abbrev pub ConfinementIsDecided : Type 0
 ConfinementIsDecided =

@@ -71,6 +71,6 @@ time_text ms =
 abbrev pub day_text : ℕ → List ℕ
 day_text ms = if nat_lt ms 253402300800000 then date_text (ms / 86400000) else decimal ms
 
--- a time behind words; nothing if its year has more than four digits
+-- words and a time; nothing if its year has more than four digits
 abbrev pub when_text : List ℕ → ℕ → List ℕ
 when_text words ms = if nat_lt ms 253402300800000 then words ++ time_text ms else []

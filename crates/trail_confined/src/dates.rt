@@ -153,7 +153,7 @@ fn push_time(ms: u64, out: &mut Vec<u8>) -> Result<(), AllocError>
     out.extend_from_slice(b"Z")
 }
 
-/// Appends a time in milliseconds since 1970 behind words, or nothing if its year has more than four
+/// Appends words and a time in milliseconds since 1970, or nothing if its year has more than four
 /// digits.
 pub fn push_when(words: &[u8], ms: u64, out: &mut Vec<u8>) -> Result<(), AllocError>
     ensures { OnOk result (out.new.items ≡ out.old.items ++ when_text words.now ms) }

@@ -1,4 +1,4 @@
-//! What the law on windows to come rests on, for some users.
+//! The premises of the law on windows to come, for some users.
 
 ghost use Rattle.std.specs.Prelude.{◌≡◌, ◌++◌, OnOk, IfOk};
 ghost use Rattle.std.specs.List.{flat_map};
@@ -24,7 +24,7 @@ pub const CHANGERS: [CommandName; 5] = [
     CommandName::Aclumask,
 ];
 
-/// What the law on windows to come rests on.
+/// A premise of the law on windows to come.
 #[derive(Clone, Copy)]
 pub enum Premise {
     /// The user has no x on the command, which changes rights.
@@ -49,7 +49,7 @@ pub enum Premise {
 }
 
 impl Premise {
-    /// Whether the law rests on it for this bit.
+    /// Whether it is a premise of the law for this bit.
     pub fn concerns(&self, bit: Bit) -> bool
         ensures { result ≡ concerns bit self.now }
     {
@@ -60,7 +60,7 @@ impl Premise {
     }
 }
 
-/// That a user has x on none of the commands that change rights.
+/// Appends that a user has x on none of the commands that change rights.
 fn push_powers(user: UserId, out: &mut Vec<Premise>) -> Result<(), AllocError>
     ensures { OnOk result (out.new.items ≡ out.old.items ++ powers_of user) }
 {
@@ -88,7 +88,7 @@ fn push_powers(user: UserId, out: &mut Vec<Premise>) -> Result<(), AllocError>
     ])
 }
 
-/// That none of the users has x on a command that changes rights.
+/// Appends that none of the users has x on a command that changes rights.
 fn push_all_powers(users: &[UserId], out: &mut Vec<Premise>) -> Result<(), AllocError>
     ensures { OnOk result (out.new.items ≡ out.old.items ++ flat_map powers_of users.now) }
 {
@@ -98,14 +98,14 @@ fn push_all_powers(users: &[UserId], out: &mut Vec<Premise>) -> Result<(), Alloc
     Ok(())
 }
 
-/// That a user is known and opens no windows.
+/// Appends that a user is known and may open no windows.
 fn push_standing(user: UserId, out: &mut Vec<Premise>) -> Result<(), AllocError>
     ensures { OnOk result (out.new.items ≡ out.old.items ++ standing_of user) }
 {
     out.extend_from_slice(&[Premise::IsKnown { user }, Premise::OpensNone { user }])
 }
 
-/// That each user is known and opens no windows.
+/// Appends that each user is known and may open no windows.
 fn push_standings(users: &[UserId], out: &mut Vec<Premise>) -> Result<(), AllocError>
     ensures { OnOk result (out.new.items ≡ out.old.items ++ flat_map standing_of users.now) }
 {
@@ -115,7 +115,7 @@ fn push_standings(users: &[UserId], out: &mut Vec<Premise>) -> Result<(), AllocE
     Ok(())
 }
 
-/// That an opener masks each bit for a user.
+/// Appends that an opener masks each bit for a user.
 fn push_masks_by(user: UserId, opener: UserId, out: &mut Vec<Premise>) -> Result<(), AllocError>
     ensures { OnOk result (out.new.items ≡ out.old.items ++ masks_by user opener) }
 {
@@ -138,7 +138,7 @@ fn push_masks_by(user: UserId, opener: UserId, out: &mut Vec<Premise>) -> Result
     ])
 }
 
-/// That each opener masks each bit for a user.
+/// Appends that each opener masks each bit for a user.
 fn push_masks(openers: &[UserId], user: UserId, out: &mut Vec<Premise>) -> Result<(), AllocError>
     ensures { OnOk result (out.new.items ≡ out.old.items ++ masks_of openers.now user) }
 {
@@ -148,7 +148,7 @@ fn push_masks(openers: &[UserId], user: UserId, out: &mut Vec<Premise>) -> Resul
     Ok(())
 }
 
-/// That each opener masks each bit for each user.
+/// Appends that each opener masks each bit for each user.
 fn push_all_masks(
     openers: &[UserId],
     users: &[UserId],
@@ -163,7 +163,7 @@ fn push_all_masks(
     Ok(())
 }
 
-/// Whether a user opens windows.
+/// Whether a user is known and may open windows.
 pub fn may_open(replay: &Replay, user: UserId) -> bool
     ensures { (edition : Edition) (owner : UserId) (h : History) →
         StandsAfter replay.now edition owner h → result ≡ may_open edition owner h user }
@@ -177,7 +177,7 @@ pub fn may_open(replay: &Replay, user: UserId) -> bool
         )
 }
 
-/// The known users who open windows, in the order in which they became known.
+/// The known users who may open windows, in the order in which they became known.
 pub fn openers_of(alloc: Global, replay: &Replay) -> Result<Vec<UserId>, AllocError>
     ensures { (edition : Edition) (owner : UserId) (h : History) →
         StandsAfter replay.now edition owner h →
@@ -222,7 +222,7 @@ fn circles_of(alloc: Global, replay: &Replay, users: &[UserId]) -> Result<Vec<Us
     Ok(circles)
 }
 
-/// What the law rests on for users. The circles are these users, each followed by their leaders.
+/// Appends the premises of the law for users. The circles are these users, each followed by their leaders.
 fn push_premises(
     openers: &[UserId],
     users: &[UserId],
@@ -237,7 +237,7 @@ fn push_premises(
     push_all_masks(openers, circles, out)
 }
 
-/// What the law rests on for users.
+/// The premises of the law for users.
 pub fn premises_of(
     alloc: Global,
     replay: &Replay,

@@ -33,7 +33,7 @@ abbrev pub typed_head : Names → ℕ → List Verdict → List ℕ
 typed_head n client verdicts =
     client_text (user_in n.0 client) client ++ typed_verb (failed verdicts)
 
--- the number of typed bytes stands between what the line says of who and of where
+-- the number of typed bytes is between the user and the window
 abbrev pub typed_line : Names → Said → ℕ → ℕ → LogLine
 typed_line n x client taken = record {
   ms = x.1;
@@ -66,14 +66,14 @@ bytes_text (Some count) = count_text count
 abbrev pub plain_text : LogLine → List ℕ
 plain_text l = clock_text l.ms ++ (codes " " ++ (l.head ++ (bytes_text l.bytes ++ l.tail)))
 
--- no control character stands in it but the line feed at its end
+-- it has no control character but the line feed at its end
 abbrev pub line_text : LogLine → List ℕ
 line_text l = visible (plain_text l) ++ 0x0A ∷ []
 
 -- ---- joined lines
 
--- the next line says the same of who and of where, less than ten seconds after the last entry of
--- the line before
+-- the next line names the same user and the same window, less than ten seconds after the last entry
+-- of the line before
 abbrev pub goes_on : LogLine → LogLine → Bool
 goes_on l next =
     nat_lt (next.ms - l.last) 10000 && (bytes_eq l.head next.head && bytes_eq l.tail next.tail)

@@ -18,7 +18,7 @@ use Rattle.trail_log.specs.Checks.{before_command, command_text, window_in}
 
 -- ---- parts
 
--- `web2 (window 3)`, or `window 3` where the trail hasn't its title
+-- `web2 (window 3)`, or `window 3` if the trail hasn't its title
 abbrev pub titled_text : Option (List ℕ) → ℕ → List ℕ
 titled_text None w = codes "window " ++ decimal w
 titled_text (Some title) w = title ++ (codes " (window " ++ (decimal w ++ codes ")"))
@@ -68,7 +68,7 @@ asked_by titles name window (Some v) =
 abbrev pub asked_text : List Titled → List Verdict → List ℕ
 asked_text titles asked = asked_by titles (command_text asked) (window_in asked) (failed asked)
 
--- where no check was made of typed bytes and a command is asked for, none was typed
+-- if a command is asked for and no check was made of typed bytes, none were typed
 abbrev pub pressed_text : List Titled → ℕ → List Verdict → List Verdict → List ℕ
 pressed_text titles taken typed [] = typed_text titles taken typed
 pressed_text titles taken [] (v ∷ asked) = asked_text titles (v ∷ asked)

@@ -23,8 +23,7 @@ pub record HasLogged (l : Log) (edition : Edition) (owner : UserId) (said : List
   pub read : HasRead l.audit edition owner (entries_in said)
   pub named : l.names ≡ names_after nobody said
 
--- the line says the next entry; the line before it is printed or goes on, and the time of what is
--- printed is told
+-- the line says the next entry; the line before it is printed, and its time told, unless they are joined
 pub record Prints (ms : Option ℕ) (old new : Log) (choice : Choice) (line out printed : List ℕ)
     (edition : Edition) (owner : UserId) (said : List Said) : Type 0 where
   pub next : Said

@@ -19,7 +19,7 @@ const GAP: u64 = 10_000;
 /// Numbers of bytes are added below this one.
 const MANY: u64 = 4_294_967_296;
 
-/// Whether the next line says the same of who and of where, soon after the line before.
+/// Whether the next line names the same user and the same place, less than ten seconds later.
 fn goes_on(line: &LogLine, next: &LogLine) -> bool
     ensures { result ≡ goes_on line.now next.now }
 {

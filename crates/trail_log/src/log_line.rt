@@ -20,8 +20,7 @@ use session_model::{Bytes, Verdict};
 use std::alloc::{AllocError, Global};
 use trail_lines::Line;
 
-/// What a line says, beside its time. If it is about typed bytes, their number stands between the
-/// head and the tail.
+/// A line of the log. If it is about typed bytes, their number is between the head and the tail.
 #[derive(Drop)]
 pub struct LogLine {
     /// The time of its first entry, in milliseconds since 1970.

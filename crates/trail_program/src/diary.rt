@@ -1,5 +1,5 @@
 //! The log of a trail, for people: a line an entry, one line for bytes that a user types one after
-//! another, and a line where a day begins.
+//! another, and a line for each new day.
 
 use crate::check::{Finish, end_in, finish_of};
 use crate::fault::Fault;
@@ -38,7 +38,7 @@ fn write_day<W: Write>(alloc: Global, ms: u64, output: &mut W) -> io::Result<()>
     output.write_all(b" (UTC)\n")
 }
 
-/// The entries that words ask for.
+/// The entries that the words ask for.
 fn choice_of(alloc: Global, asked: Asked<'_>) -> Result<Choice, AllocError> {
     let window = match asked.window {
         Some(Window::Serial(serial)) => Some(Wanted::Serial(serial)),

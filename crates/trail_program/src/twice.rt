@@ -21,9 +21,9 @@ struct Found {
     users: Vec<UserId>,
     /// What is asked, and the leaders of the user who is asked about.
     reasons: Option<(Question, Leaders)>,
-    /// What else it looks for.
+    /// What else the second pass looks for.
     looks: Looks,
-    /// The users of whom it is asked whether they are confined.
+    /// The users who may be confined.
     confined: Vec<UserId>,
 }
 
@@ -75,7 +75,7 @@ fn found_of(alloc: Global, asked: Asked<'_>, first: &Pass) -> Result<Found, Faul
     }
 }
 
-/// What a first pass has found, unless something is wrong in the file, which is written.
+/// What the first pass has found. Writes what is wrong with the file instead, if something is.
 fn found_in<W: Write>(
     alloc: Global,
     asked: Asked<'_>,
@@ -113,7 +113,7 @@ fn look<F: Read + Drop, W: Write>(
     found_in(alloc, asked, &first, output)
 }
 
-/// Whether a second pass has found what the first one had.
+/// Whether the second pass has found what the first one found.
 fn is_unchanged(found: &Found, second: &Pass) -> bool {
     let same_leaders = match found.reasons {
         Some((question, leaders)) => second.leaders_of(question.user) == leaders,

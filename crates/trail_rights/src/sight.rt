@@ -50,7 +50,7 @@ fn follow_windows(windows: &mut Vec<u32>, act: &Act) -> Result<(), AllocError>
     Ok(())
 }
 
-/// Each decider after one act more.
+/// Each decider after one more act.
 fn decide_all(deciders: &mut Vec<Decider>, mark: Mark, act: &Act)
     ensures { deciders.new.items ≡ map (decider_after mark act.now) deciders.old.items }
 {

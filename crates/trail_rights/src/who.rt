@@ -1,4 +1,4 @@
-//! Who may do what after a file's entries.
+//! How it is told who may do what after a file's entries.
 
 ghost use Rattle.std.specs.Prelude.{◌≡◌, ◌++◌, OnOk};
 ghost use Rattle.std.specs.List.{flat_map};
@@ -32,7 +32,7 @@ fn write_users<W: Write>(replay: &Replay, users: &[UserId], output: &mut W) -> i
     Ok(())
 }
 
-/// The letter of a bit that a user has, or a hyphen.
+/// The letter of a bit if a user has it, else a hyphen.
 fn letter(replay: &Replay, user: UserId, bit: Bit, object: Object) -> char {
     if may(replay, user, bit, object) {
         letter_of(bit)
@@ -56,7 +56,7 @@ fn write_bits<W: Write>(
     write!(output, " {name}:{read}{write}{execute}")
 }
 
-/// Writes a window, and who holds its lock, where somebody does.
+/// Writes a window, and who holds its lock, if somebody does.
 fn write_holder<W: Write>(
     window: u32,
     held: Option<Option<UserId>>,
@@ -107,7 +107,7 @@ fn write_commands<W: Write>(replay: &Replay, user: UserId, output: &mut W) -> io
     writeln!(output)
 }
 
-/// Appends the users' masks, and what a name gets that becomes known now.
+/// Appends the users' masks, and what a user gets who becomes known now.
 fn push_all_masks(
     settlers: &[Settler],
     users: &[UserId],
@@ -142,9 +142,9 @@ fn write_objects<W: Write>(
     output.write_all(masks.as_slice())
 }
 
-/// Writes how many entries there are, users with their leaders, windows with their holders and
-/// rights, commands, masks, and what a name gets that becomes known now. The watch has looked for
-/// `settings_of` these users.
+/// Writes how many entries there are, users with their leaders, windows with their holders and rights,
+/// commands, masks, and what a user gets who becomes known now. The watch has looked for `settings_of`
+/// the known users.
 pub fn write_rights<W: Write>(
     alloc: Global,
     owner: UserId,
