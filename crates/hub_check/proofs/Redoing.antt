@@ -1,5 +1,6 @@
 -- What a list command of one name, bit and object gives.
-use Rattle.std.proofs.Common.{◌≡◌, ◌∙◌, ◌∷◌, ◌++◌, [], Bool, true, false, not, ◌&&◌, ◌||◌, Option, Some, None, Ok, refl, ap, sym, subst, is_none, if◌then◌else◌}
+use Rattle.std.proofs.Common.{◌≡◌, ◌∙◌, ◌∷◌, ◌++◌, [], Bool, true, false, not, ◌&&◌, ◌||◌, Option, Some, None, Ok, refl}
+use Rattle.std.proofs.Common.{ap, sym, subst, is_none, if◌then◌else◌}
 use Rattle.std.specs.Prelude.{Result, OnOk}
 use Rattle.std.specs.Option.{option_or}
 use Rattle.std.specs.declared.alloc.AllocError.{AllocError}
@@ -18,10 +19,12 @@ use Rattle.hub_trail.specs.Judging.{can_follow, leader_in}
 use Rattle.hub_check.specs.declared.replay.Replay.{Replay}
 use Rattle.hub_check.specs.Following.{Follows, Redoes, StandsAfter, Tells}
 
-pub redo : (old new : Replay) (done : Result (Unit {0}) AclFault) (result : Result Bool AllocError) (act : Act) → Tells done result
+pub redo : (old new : Replay) (done : Result (Unit {0}) AclFault) (result : Result Bool AllocError) (act : Act)
+    → Tells done result
     → ((edition : Edition) (owner : UserId) (h : History) → StandsAfter old edition owner h
     → (fault : Option AclFault) × Answers done fault × (is_none fault ≡ can_follow edition owner h act))
-    → (done ≡ Ok tt → (edition : Edition) (owner : UserId) (h : History) → StandsAfter old edition owner h → StandsAfter new edition owner (act ∷ h))
+    → (done ≡ Ok tt → (edition : Edition) (owner : UserId) (h : History) → StandsAfter old edition owner h
+    → StandsAfter new edition owner (act ∷ h))
     → Redoes old new result act
 redo old new done result act tells answers does =
     IfOk-weaker result _ (λ (b : Bool). Follows old new b act)
@@ -67,9 +70,13 @@ pub know_done : (owner : UserId) (h : History) (u : UserId) → among (users_of 
     → followed_by h (change_acts (users_of owner h) (Some u ∷ []) [] []) ≡ Known u ∷ h
 know_done owner h u e = ap (λ b. followed_by h (user_acts b u [] [] ++ [])) e
 
-pub set_done : (owner : UserId) (h : History) (u : UserId) (bit : Bit) (object : Object) (value : Bool) → among (users_of owner h) u ≡ true
-    → followed_by h (change_acts (users_of owner h) (Some u ∷ []) (record { bit = bit; value = value } ∷ []) (object ∷ [])) ≡ Set u bit object value ∷ h
-set_done owner h u bit object value e = ap (λ b. followed_by h (user_acts b u (record { bit = bit; value = value } ∷ []) (object ∷ []) ++ [])) e
+pub set_done : (owner : UserId) (h : History) (u : UserId) (bit : Bit) (object : Object) (value : Bool)
+    → among (users_of owner h) u ≡ true
+    → followed_by h
+    (change_acts (users_of owner h) (Some u ∷ []) (record { bit = bit; value = value } ∷ []) (object ∷ [])) ≡ Set u
+    bit object value ∷ h
+set_done owner h u bit object value e = ap
+    (λ b. followed_by h (user_acts b u (record { bit = bit; value = value } ∷ []) (object ∷ []) ++ [])) e
 
 pub chosen : (leader : Option UserId) → chosen_leader (leader_in leader) ≡ leader
 chosen None = refl

@@ -1,5 +1,6 @@
 -- What a replay stands for after one act more.
-use Rattle.std.proofs.Common.{◌≡◌, ◌∙◌, ◌∷◌, Bool, true, false, ◌||◌, Some, None, refl, ap, sym, subst, is_some, if◌then◌else◌}
+use Rattle.std.proofs.Common.{◌≡◌, ◌∙◌, ◌∷◌, Bool, true, false, ◌||◌, Some, None, refl, ap, sym, subst, is_some}
+use Rattle.std.proofs.Common.{if◌then◌else◌}
 use Rattle.std.proofs.lemmas.Bool.{false≢true}
 use Rattle.acl.specs.declared.act.Act.{Act}
 use Rattle.acl.specs.declared.edition.Edition.{Edition}
@@ -16,8 +17,10 @@ use Rattle.hub_check.specs.Clients.{Differ}
 
 -- an act that leaves clients and the number of windows
 pub stands_on : (old new : Replay) (edition : Edition) (owner : UserId) (h : History) (act : Act)
-    → new.clients ≡ old.clients → new.windows ≡ old.windows → clients_of (act ∷ h) ≡ clients_of h → open_count (act ∷ h) ≡ open_count h
-    → StandsAfter old edition owner h → StandsFor new.acl edition owner (act ∷ h) → LocksStandFor new.locks edition owner (act ∷ h)
+    → new.clients ≡ old.clients → new.windows ≡ old.windows → clients_of (act ∷ h) ≡ clients_of h
+    → open_count (act ∷ h) ≡ open_count h
+    → StandsAfter old edition owner h → StandsFor new.acl edition owner (act ∷ h)
+    → LocksStandFor new.locks edition owner (act ∷ h)
     → StandsAfter new edition owner (act ∷ h)
 stands_on old new edition owner h act rows count clients windows s rights locks = record {
   rights = rights;
@@ -29,12 +32,14 @@ stands_on old new edition owner h act rows count clients windows s rights locks 
 
 -- and one that leaves the rights too
 pub stands_aside : (old new : Replay) (edition : Edition) (owner : UserId) (h : History) (act : Act)
-    → IsAside act → new.acl ≡ old.acl → new.clients ≡ old.clients → new.windows ≡ old.windows → clients_of (act ∷ h) ≡ clients_of h → open_count (act ∷ h) ≡ open_count h
+    → IsAside act → new.acl ≡ old.acl → new.clients ≡ old.clients → new.windows ≡ old.windows
+    → clients_of (act ∷ h) ≡ clients_of h → open_count (act ∷ h) ≡ open_count h
     → StandsAfter old edition owner h → LocksStandFor new.locks edition owner (act ∷ h)
     → StandsAfter new edition owner (act ∷ h)
 stands_aside old new edition owner h act aside same rows count clients windows s locks =
     stands_on old new edition owner h act rows count clients windows s
-    (StandsFor-aside new.acl edition owner h act aside (subst (λ (t : Table). StandsFor t edition owner h) (sym same) s.rights)) locks
+    (StandsFor-aside new.acl edition owner h act aside
+    (subst (λ (t : Table). StandsFor t edition owner h) (sym same) s.rights)) locks
 
 pub or_rest : (a b : Bool) → (a || b) ≡ true → a ≡ false → b ≡ true
 or_rest true b e f = absurd (false≢true (sym f))

@@ -1,4 +1,4 @@
--- Rows of clients, with their users.
+-- Rows of attached clients, each with a serial and a user.
 use Rattle.std.specs.Prelude.{ℕ, Bool, false, not, ◌&&◌, ◌==◌, ◌≡◌, List, [], ◌∷◌}
 use Rattle.std.specs.Prelude.{Option, Some, None, if◌then◌else◌}
 use Rattle.std.specs.List.{list_any}
@@ -10,16 +10,16 @@ abbrev pub Differ : List (ℕ × UserId) → Type 0
 Differ [] = Unit {0}
 Differ (c ∷ clients) = (list_any (λ d. d.0 == c.0) clients ≡ false) × Differ clients
 
--- the user of a client
+-- the user of the client of this serial
 abbrev pub user_in : List (ℕ × UserId) → ℕ → Option UserId
 user_in [] client = None
 user_in (c ∷ clients) client = if c.0 == client then Some c.1 else user_in clients client
 
--- whether the user has a client beside this one
+-- whether the user has another client besides this one
 abbrev pub has_other : List (ℕ × UserId) → ℕ → UserId → Bool
 has_other clients client user = list_any (λ c. not (c.0 == client) && same_user c.1 user) clients
 
--- the user whose last client this is, if it is one's last
+-- the client's user, if the user has no other client
 abbrev pub unless_other : List (ℕ × UserId) → ℕ → Option UserId → Option UserId
 unless_other clients client None = None
 unless_other clients client (Some user) =

@@ -1,4 +1,4 @@
--- What a replay stands for, and what one act more makes of it.
+-- What a replay stands for, and what it stands for after one act more.
 use Rattle.std.specs.Prelude.{Bool, true, ◌≡◌, ◌↔◌, List, ◌∷◌, Option, Some, Ok, IfOk}
 use Rattle.std.specs.Prelude.{Result, is_none}
 use Rattle.std.specs.declared.alloc.AllocError.{AllocError}
@@ -24,18 +24,18 @@ pub record StandsAfter (r : Replay) (edition : Edition) (owner : UserId) (h : Hi
   pub differ : Differ r.clients.items
   pub count : r.windows ≡ open_count h
 
--- it is told whether the act can follow, and where it can, the replay stands after it
+-- the answer is whether the act can follow; if it can, the replay stands after it
 abbrev pub Follows : Replay → Replay → Bool → Act → Type 0
 Follows old new done act =
     (edition : Edition) (owner : UserId) (h : History) → StandsAfter old edition owner h
     → (done ≡ can_follow edition owner h act)
     × (done ≡ true → StandsAfter new edition owner (act ∷ h))
 
--- or memory was refused
+-- unless memory was refused
 abbrev pub Redoes : Replay → Replay → Result Bool AllocError → Act → Type 0
 Redoes old new result act = IfOk result (λ done. Follows old new done act)
 
--- and so for acts in order
+-- of acts in order: each can follow those before it
 abbrev pub FollowsAll : Replay → Replay → Bool → List Act → Type 0
 FollowsAll old new done acts =
     (edition : Edition) (owner : UserId) (h : History) → StandsAfter old edition owner h
@@ -47,12 +47,12 @@ RedoesAll old new result acts = IfOk result (λ done. FollowsAll old new done ac
 
 -- ---- list commands
 
--- whether a list command was done, where memory wasn't refused
+-- whether a list command was done, unless memory was refused
 abbrev pub Tells : Result (Unit {0}) AclFault → Result Bool AllocError → Type 0
 Tells done result =
     IfOk result (λ b. (b ≡ true → done ≡ Ok tt)
     × ((fault : Option AclFault) → Answers done fault → b ≡ is_none fault))
 
--- whether a list command may name the user: he is known, and not the owner
+-- whether a list command may name the user: the user is known, and isn't the owner
 abbrev pub is_nameable : UserId → History → UserId → Bool
 is_nameable owner h u = is_none (known_name_fault owner (users_of owner h) (Some u))

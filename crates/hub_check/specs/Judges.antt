@@ -1,4 +1,4 @@
--- What a judge of entries, taken one after another, stands for.
+-- What a judge stands for that has taken entries, one after another.
 use Rattle.std.specs.Prelude.{Bool, true, false, ◌≡◌, List, [], ◌∷◌, ◌++◌, length}
 use Rattle.acl.specs.declared.edition.Edition.{Edition}
 use Rattle.acl.specs.declared.user_id.UserId.{UserId}
@@ -15,7 +15,7 @@ pub record HasJudged (judge : Judge) (edition : Edition) (owner : UserId) (entri
   pub good : AreGood edition owner [] entries
   pub stands : StandsAfter judge.replay edition owner (acts_after [] entries)
 
--- the next one is good too, or it is the first that isn't, whatever comes behind it
+-- the next entry is good too, or it is the first one that isn't, whatever entries follow it
 abbrev pub Judges : Bool → Judge → Judge → Entry → Type 0
 Judges good old new e =
     (edition : Edition) (owner : UserId) (entries : List Entry)

@@ -1,4 +1,4 @@
--- The parts of what is judged of an entry.
+-- What is judged of an entry, part by part.
 use Rattle.std.specs.Prelude.{ℕ, Bool, true, ◌≡◌, ◌↔◌, List, Option, Some, None, Ok, Err}
 use Rattle.std.specs.List.{AllByRecursion}
 use Rattle.acl.specs.declared.act.Act.{Act}
@@ -23,7 +23,7 @@ use Rattle.hub_trail.specs.Judging.{is_on_there, IsGood}
 use Rattle.hub_check.specs.declared.replay.Replay.{Replay}
 use Rattle.hub_check.specs.Following.{StandsAfter}
 
--- verdicts on objects that are there, which tell the truth
+-- all verdicts are on objects that are there, and are true
 abbrev pub AreTrue : Edition → UserId → History → List Verdict → Type 0
 AreTrue edition owner h verdicts =
     AllByRecursion (λ v. (is_on_there h v ≡ true) × IsTrue edition owner h v) verdicts
@@ -32,9 +32,9 @@ AreTrue edition owner h verdicts =
 abbrev pub AsksFor : UserId → CommandName → Verdict → Type 0
 AsksFor user name v = (answer : Bool) × (v ≡ right user Execute (object.Command name) answer)
 
--- ---- a Command's line
+-- ---- the line of a Command
 
--- what a line is: no command, or one alone
+-- a line is no command, or just one
 abbrev pub IsReading : List ℕ → Option Command → Type 0
 IsReading line None = (c : Command) → Relates line c → ⊥
 IsReading line (Some c) = Relates line c × ((d : Command) → Relates line d → d ≡ c)
@@ -56,18 +56,18 @@ abbrev pub AreSaidIfDone : UserId → History → Command → Ending → List Ac
 AreSaidIfDone owner h c (Ok finished) acts = AreSaid owner h c acts
 AreSaidIfDone owner h c (Err r) acts = Unit {0}
 
--- a user who is known asks first for x on his command
+-- of a known user, the first verdict asks for x on the command
 abbrev pub AsksIfKnown : UserId → History → UserId → Command → List Verdict → Type 0
 AsksIfKnown owner h user c verdicts =
     is_known owner h user ≡ true → AsksFirst user (name_of c) verdicts
 
--- what an entry of a user's command needs
+-- what an entry of a user's command must have
 abbrev pub FitsCommand : UserId → History → UserId → Command → Entry → Type 0
 FitsCommand owner h user c e =
     AsksIfKnown owner h user c e.verdicts × HaveActsIfDone owner h c e.reply e.acts
     × AreSaidIfDone owner h c e.reply e.acts
 
--- and one of an event
+-- what an entry of an event with a line must have; of other events, the acts of the event
 abbrev pub FitsLine : UserId → History → Kept → Entry → Type 0
 FitsLine owner h event e =
     AsksForCommand owner h event e.verdicts × HasItsActs owner h event e.reply e.acts
@@ -75,17 +75,17 @@ FitsLine owner h event e =
 
 -- ---- an entry
 
--- its denial
+-- a denial carries the verdict that failed, and the event was denied if it had to be
 abbrev pub IsAnswered : Kept → Entry → Type 0
 IsAnswered event e =
     CarriesFailed (failed e.verdicts) e.reply × IsDenied event (failed e.verdicts) e.reply
 
--- tables can judge its verdicts, and it is legal
+-- tables can judge the verdicts of the entry, and the entry is legal
 abbrev pub IsJudged : Edition → UserId → History → Entry → Type 0
 IsJudged edition owner h e =
     AllByRecursion (λ v. is_on_there h v ≡ true) e.verdicts × IsLegalEntry edition owner h e
 
--- it is told whether the entry is good, and where it is, the replay stands after its acts
+-- the answer is whether the entry is good; if it is, the replay stands after its acts
 abbrev pub Takes : Bool → Replay → Edition → UserId → History → Entry → Type 0
 Takes good new edition owner h e =
     ((good ≡ true) ↔ IsGood edition owner h e)

@@ -1,4 +1,4 @@
-//! Acts of an entry.
+//! Whether the verdicts of an entry let its acts be done.
 
 ghost use Rattle.std.specs.Prelude.{◌≡◌, ◌↔◌, true};
 ghost use Rattle.hub_trail.specs.Legal.{is_let, AreLet};
@@ -10,7 +10,7 @@ use hub_acts::from_command;
 use hub_record::KeptRef;
 use session_model::Verdict;
 
-/// Whether what the event does is let by the verdicts.
+/// Whether the verdicts let the event change anything.
 fn is_let(event: KeptRef<'_>, verdicts: &[Verdict]) -> bool
     ensures { result ≡ is_let (kept_lent event.entry) verdicts.now }
 {
@@ -24,7 +24,7 @@ fn is_let(event: KeptRef<'_>, verdicts: &[Verdict]) -> bool
     }
 }
 
-/// Whether acts stand only where the verdicts let them.
+/// Whether there are no acts, or the verdicts let them be done.
 pub fn are_let(event: KeptRef<'_>, verdicts: &[Verdict], acts: &[Act]) -> bool
     ensures { (result ≡ true) ↔ AreLet (kept_lent event.entry) verdicts.now acts.now }
 {

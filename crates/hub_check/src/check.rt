@@ -1,4 +1,4 @@
-//! The check of entries that lie in memory.
+//! The check of entries in memory.
 
 ghost use Rattle.std.specs.Prelude.{◌≡◌, ℕ, [], Ok, Err};
 ghost use Rattle.hub_trail.specs.Judging.{AreGood, IsBadAt};
@@ -10,9 +10,9 @@ use acl::{Edition, UserId};
 use hub_record::Filed;
 use std::alloc::Global;
 
-/// Judges the entries of a trail from its first on: each by the acts of those before it. Rights and
-/// locks are made again from the acts, so each verdict is one look-up. BadEntry is the first that
-/// isn't good, NoMemory that memory was refused.
+/// Judges the entries of a trail in order, from the first one, each by the acts of the entries before
+/// it. Rights and locks are made again from the acts, so each verdict is one look-up. `BadEntry` is
+/// the first entry that isn't good; `NoMemory` means that memory was refused.
 pub fn check_entries(
     alloc: Global,
     edition: Edition,

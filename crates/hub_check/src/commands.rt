@@ -1,4 +1,4 @@
-//! What a Command's line asks of its entry.
+//! Whether the entry of a Command fits the command of its line.
 
 ghost use Rattle.std.specs.Prelude.{◌≡◌, ◌↔◌, ℕ, Option, true, is_err, IfOk};
 ghost use Rattle.hub_trail.specs.declared.kept.Kept.TheVariants as kept;
@@ -21,7 +21,7 @@ use hub_record::{Filed, KeptRef};
 use session_model::Verdict;
 use std::alloc::{AllocError, Global};
 
-/// The command of a line, if it is one.
+/// The command that a line says, if it says one.
 fn command_of(alloc: Global, line: &[u8]) -> Result<Option<Command>, AllocError>
     ensures { IfOk result (λ command. IsReading line.now command) }
 {
@@ -34,7 +34,7 @@ fn command_of(alloc: Global, line: &[u8]) -> Result<Option<Command>, AllocError>
     }
 }
 
-/// Whether an entry of this command has its acts, if it was done.
+/// Whether the entry has the acts of this command, or the command wasn't done.
 fn have_acts_if_done(owner: UserId, replay: &Replay, command: &Command, entry: &Filed) -> bool
     ensures { (edition : Edition) (h : History) → StandsAfter replay.now edition owner h →
         (result ≡ true)
@@ -46,7 +46,7 @@ fn have_acts_if_done(owner: UserId, replay: &Replay, command: &Command, entry: &
     }
 }
 
-/// Whether this command says the acts of an entry on users and rights, if it was done.
+/// Whether the command says each act of the entry on users and rights, or it wasn't done.
 fn are_said_if_done(owner: UserId, replay: &Replay, command: &Command, entry: &Filed) -> bool
     ensures { (edition : Edition) (h : History) → StandsAfter replay.now edition owner h →
         (result ≡ true)
@@ -58,7 +58,7 @@ fn are_said_if_done(owner: UserId, replay: &Replay, command: &Command, entry: &F
     }
 }
 
-/// Whether a user, if he is known, asks first for x on his command.
+/// Whether the first verdict asks for x on the command of this user, or the user isn't known.
 fn asks_if_known(replay: &Replay, user: UserId, command: &Command, verdicts: &[Verdict]) -> bool
     ensures { (edition : Edition) (owner : UserId) (h : History) →
         StandsAfter replay.now edition owner h →
@@ -71,8 +71,8 @@ fn asks_if_known(replay: &Replay, user: UserId, command: &Command, verdicts: &[V
     }
 }
 
-/// Whether an entry of this user's command asks first for x on it, and has its acts and no others
-/// on users and rights.
+/// Whether an entry of this user's command has what the command needs: its first verdict asks for x on
+/// the command, it has the command's acts, and of acts on users and rights it has no others.
 fn fits_command(
     owner: UserId,
     replay: &Replay,
@@ -92,7 +92,7 @@ fn fits_command(
     are_said_if_done(owner, replay, command, entry)
 }
 
-/// Whether the entry was refused.
+/// Whether the event of the entry was refused.
 fn is_refused(entry: &Filed) -> bool
     ensures { result ≡ is_err entry.now.reply }
 {
@@ -102,8 +102,8 @@ fn is_refused(entry: &Filed) -> bool
     }
 }
 
-/// Whether an entry of this user's line fits its command; a line that is no command must have been
-/// refused.
+/// Whether an entry of this user's line fits the command of the line. A line that is no command must
+/// have been refused.
 fn fits_text(
     alloc: Global,
     owner: UserId,
@@ -122,7 +122,7 @@ fn fits_text(
     }
 }
 
-/// Whether an entry of this event fits its command, if it has one, and has its acts.
+/// Whether an entry has the acts of its event, and fits the command of the event's line, if it has one.
 pub fn fits_line(
     alloc: Global,
     owner: UserId,

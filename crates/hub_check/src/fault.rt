@@ -1,4 +1,4 @@
-//! Why entries don't pass.
+//! Why a check of entries fails.
 
 ghost use Rattle.std.specs.Prelude.{◌≡◌};
 ghost use Rattle.hub_check.specs.declared.fault.CheckFault.TheVariants.{NoMemory};
@@ -6,10 +6,10 @@ ghost use Rattle.hub_check.specs.declared.fault.CheckFault.TheVariants.{NoMemory
 use std::alloc::AllocError;
 use thiserror::Error;
 
-/// Why entries don't pass.
+/// Why a check of entries fails.
 #[derive(Clone, Copy, Debug, Error)]
 pub enum CheckFault {
-    /// The first entry that isn't legal, or that tables can't judge, by its place from 0 on.
+    /// The place, from 0 on, of the first entry that isn't legal or that tables can't judge.
     #[error("entry {place} isn't legal")]
     BadEntry { place: usize },
     #[error("out of memory")]

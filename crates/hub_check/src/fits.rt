@@ -17,7 +17,7 @@ use hub_record::{Filed, KeptRef};
 use hub_trail::{Ending, Finished};
 use session_model::Verdict;
 
-/// Whether this client goes by the act, or its user leaves a window.
+/// Whether the act is that this client goes, or that its user leaves a window.
 fn detaches(replay: &Replay, client: u32, act: Act) -> bool
     ensures { (edition : Edition) (owner : UserId) (h : History) →
         StandsAfter replay.now edition owner h →
@@ -30,7 +30,7 @@ fn detaches(replay: &Replay, client: u32, act: Act) -> bool
     }
 }
 
-/// Whether this client goes by each act, or its user leaves a window.
+/// Whether by each act this client goes, or its user leaves a window.
 fn all_detach(replay: &Replay, client: u32, acts: &[Act]) -> bool
     ensures { (edition : Edition) (owner : UserId) (h : History) →
         StandsAfter replay.now edition owner h →
@@ -66,8 +66,7 @@ fn can_have(
     }
 }
 
-/// Whether an entry of this event has only acts that the event can have, and none where it was
-/// refused.
+/// Whether an entry of this event has only acts that the event can have, and none if it was refused.
 pub fn fits(replay: &Replay, event: KeptRef<'_>, entry: &Filed) -> bool
     ensures { (edition : Edition) (owner : UserId) (h : History) →
         StandsAfter replay.now edition owner h → (result ≡ true)
@@ -79,7 +78,7 @@ pub fn fits(replay: &Replay, event: KeptRef<'_>, entry: &Filed) -> bool
     }
 }
 
-/// Whether an Attach, a Command or an Open is a known user's, if it was done.
+/// Whether an Attach, a Command or an Open is a known user's, or it wasn't done. True of other events.
 pub fn is_of_known(replay: &Replay, event: KeptRef<'_>, ending: &Ending) -> bool
     ensures { (edition : Edition) (owner : UserId) (h : History) →
         StandsAfter replay.now edition owner h → (result ≡ true)

@@ -1,4 +1,4 @@
-//! The judge of entries, which takes one after another.
+//! The judge of entries, which takes one entry after another.
 
 ghost use Rattle.std.specs.Prelude.{◌≡◌, ◌↔◌, List, [], true, IfOk};
 ghost use Rattle.acl.specs.declared.edition.Edition.{Edition};
@@ -22,8 +22,8 @@ use hub_record::{Filed, KeptRef};
 use session_model::Verdict;
 use std::alloc::{AllocError, Global};
 
-/// Judges entries of a trail, one after another, each by the acts of those before it. It keeps
-/// tables of rights, locks and clients, and no entry.
+/// Judges the entries of a trail, one after another, each by the acts of the entries before it. It
+/// keeps tables of rights, locks and clients, and no entry.
 pub struct Judge {
     alloc: Global,
     owner: UserId,
@@ -40,8 +40,8 @@ impl Drop for Judge {
     }
 }
 
-/// Whether the verdicts of a Command or an Open are of its user, and those of Keys of their
-/// client's.
+/// Whether the verdicts of a Command or an Open are of its user, and those of Keys are of the user of
+/// their client.
 fn are_of_user(replay: &Replay, event: KeptRef<'_>, verdicts: &[Verdict]) -> bool
     ensures { (edition : Edition) (owner : UserId) (h : History) →
         StandsAfter replay.now edition owner h →
@@ -55,7 +55,7 @@ fn are_of_user(replay: &Replay, event: KeptRef<'_>, verdicts: &[Verdict]) -> boo
     }
 }
 
-/// Whether a denial carries the verdict that failed, and stands where it must.
+/// Whether a denial carries the verdict that failed, and the event was denied if it had to be.
 fn is_answered(event: KeptRef<'_>, entry: &Filed) -> bool
     ensures { (result ≡ true) ↔ IsAnswered (kept_lent event.entry) entry.now }
 {
@@ -64,7 +64,7 @@ fn is_answered(event: KeptRef<'_>, entry: &Filed) -> bool
     carries_failed(failed, &ending) && is_denied(event, failed, &ending)
 }
 
-/// Whether tables can judge the entry's verdicts, and it is legal.
+/// Whether tables can judge the verdicts of the entry, and the entry is legal.
 fn is_legal(
     alloc: Global,
     owner: UserId,
@@ -99,7 +99,7 @@ fn is_legal(
 }
 
 impl Judge {
-    /// No entry so far.
+    /// Before the first entry.
     pub fn new(alloc: Global, edition: Edition, owner: UserId) -> Result<Judge, AllocError>
         ensures { IfOk result (λ judge. HasJudged judge edition owner []) }
     {
@@ -111,8 +111,8 @@ impl Judge {
         })
     }
 
-    /// Whether the next entry is good: tables can judge it, and it is legal. Behind one that isn't,
-    /// or where memory was refused, the judge stands for nothing more.
+    /// Whether the next entry is good: tables can judge it, and it is legal. After an entry that isn't
+    /// good, or when memory was refused, the judge must not be used again.
     pub fn take(&mut self, entry: &Filed) -> Result<bool, AllocError>
         ensures { IfOk result (λ good. Judges good self.old self.new entry.now) }
     {
@@ -122,7 +122,7 @@ impl Judge {
         self.replay.follow_all(entry.acts())
     }
 
-    /// Rights, locks and clients after the entries so far.
+    /// Rights, locks and clients after the entries that were taken.
     pub fn replay(&self) -> &Replay
         ensures { (edition : Edition) (owner : UserId) (entries : List Entry) →
             HasJudged self.now edition owner entries →

@@ -2,14 +2,14 @@
 
 ghost use Rattle.hub_check.specs.Laws.{GoodIsLegal, GoodIsNotBad, BadIsIllegal, LegalIsGood};
 
-/// Good entries are legal, and none of them is bad.
+/// Entries that are all good are legal, and none of them is bad.
 pub fn good_is_legal()
     ensures legal { GoodIsLegal }
     ensures not_bad { GoodIsNotBad }
 {}
 
-/// Of entries that tables can judge, those that are legal are good, and the first that isn't good
-/// is the first that isn't legal.
+/// Entries that tables can judge are good if they are legal, and the first one that isn't good is the
+/// first one that isn't legal.
 pub fn judged_is_legal()
     ensures good { LegalIsGood }
     ensures bad { BadIsIllegal }

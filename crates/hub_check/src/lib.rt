@@ -1,4 +1,4 @@
-//! Whether a trail is legal: each entry is judged by the acts of those before it, from which rights,
+//! Judges whether a trail is legal: each entry by the acts of the entries before it, from which rights,
 //! locks and clients are made again.
 #![tactic(auto)]
 
@@ -19,7 +19,9 @@ mod says;
 mod verdicts;
 
 pub use check::check_entries;
+pub use clients::{follow_clients, user_of_client};
 pub use fault::CheckFault;
 pub use judge::Judge;
 pub use laws::{good_is_legal, judged_is_legal};
 pub use replay::Replay;
+pub use verdicts::{all_pass, failed};

@@ -1,4 +1,4 @@
-//! Acts of list commands, each by the list command that does it alone.
+//! Acts of list commands. Each act is done again by the list command that does this act alone.
 
 ghost use Rattle.std.specs.Prelude.{◌≡◌};
 ghost use Rattle.acl.specs.declared.act.Act.TheVariants.{Known, Gone, Set, Grouped, Masked, Preset};
@@ -15,7 +15,7 @@ use acl::{
 };
 use std::alloc::AllocError;
 
-/// Whether a list command was done; an error where memory was refused.
+/// Whether a list command was done; an error if memory was refused.
 fn redone(done: Result<(), AclFault>) -> Result<bool, AllocError>
     ensures { Tells done result }
 {
@@ -26,7 +26,7 @@ fn redone(done: Result<(), AclFault>) -> Result<bool, AllocError>
     }
 }
 
-/// Whether a list command may name the user: he is known, and not the owner.
+/// Whether a list command may name the user: the user is known, and isn't the owner.
 fn is_nameable(replay: &Replay, user: UserId) -> bool
     ensures { (edition : Edition) (owner : UserId) (h : History) →
         StandsAfter replay.now edition owner h → result ≡ is_nameable owner h user }
@@ -59,7 +59,7 @@ pub fn know(replay: &mut Replay, user: UserId) -> Result<bool, AllocError>
     )
 }
 
-/// A user goes.
+/// A user is known no more.
 pub fn forget(replay: &mut Replay, user: UserId) -> Result<bool, AllocError>
     ensures { Redoes replay.old replay.new result (Gone user) }
 {
@@ -71,7 +71,7 @@ pub fn forget(replay: &mut Replay, user: UserId) -> Result<bool, AllocError>
     )
 }
 
-/// A user's bit is set.
+/// A user's bit on an object is set.
 pub fn set(
     replay: &mut Replay,
     user: UserId,
@@ -102,7 +102,7 @@ pub fn set(
     )
 }
 
-/// Whom a user is to follow, by an act.
+/// The leader that an act gives a user, as the list command takes it.
 fn leader_in(leader: Option<UserId>) -> NewLeader
     ensures { result ≡ leader_in leader }
 {
@@ -112,7 +112,7 @@ fn leader_in(leader: Option<UserId>) -> NewLeader
     }
 }
 
-/// A user is given a leader, or none.
+/// A user is given a leader, or loses all leaders.
 pub fn group(replay: &mut Replay, user: UserId, leader: Option<UserId>) -> Result<bool, AllocError>
     ensures { Redoes replay.old replay.new result (Grouped user leader) }
 {

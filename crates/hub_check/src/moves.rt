@@ -30,7 +30,7 @@ pub fn open(replay: &mut Replay, by: UserId, window: u32) -> bool
     true
 }
 
-/// How many windows are open, once one is closed or none.
+/// How many windows stay open when a window is closed that is open or isn't.
 fn left_open(count: usize, is_open: bool) -> usize
     ensures { result ≡ (if is_open then count - 1 else count) }
 {
@@ -93,7 +93,7 @@ pub fn leave(replay: &mut Replay, user: UserId, window: u32) -> bool
     true
 }
 
-/// Whether a user who may write, or may not, can set the mode of a lock.
+/// Whether a user can set this mode of a lock. To set it off, they need not be able to write.
 fn may_set(mode: LockMode, may_write: bool) -> bool
     ensures { result ≡ (is_off mode || may_write) }
 {
@@ -118,7 +118,7 @@ pub fn set_mode(replay: &mut Replay, by: UserId, window: u32, mode: LockMode) ->
     true
 }
 
-/// The mode of new windows is set.
+/// The mode of the locks of new windows is set.
 pub fn set_default(replay: &mut Replay, mode: LockMode) -> bool
     ensures { Follows replay.old replay.new result (Default mode) }
 {

@@ -1,4 +1,4 @@
-//! Names in the lines of list commands, and the acts of those whom they name.
+//! Users whom the lines of list commands name, and their acts.
 
 ghost use Rattle.std.specs.Prelude.{◌≡◌, ◌↔◌, ◌||◌, true, Some, slice_get};
 ghost use Rattle.std.specs.List.{list_all};
@@ -18,14 +18,14 @@ use acl::{Act, UserId};
 use command_lang::{Command, Text, Users};
 use hub_acts::has_act_of;
 
-/// Whether the user whom the word names has an act.
+/// Whether the user whom the word names has one of the acts.
 fn has_named(acts: &[Act], word: &Text) -> bool
     ensures { result ≡ has_act_of acts.now (named_by word.now) }
 {
     has_act_of(acts, UserId::of(word.as_str().as_bytes()))
 }
 
-/// Whether each user whom a word names has an act.
+/// Whether each user whom a word names has one of the acts.
 fn have_named(acts: &[Act], words: &[Text]) -> bool
     ensures { result ≡ list_all (λ word. has_act_of acts.now (named_by word)) words.now }
 {
@@ -37,14 +37,14 @@ fn have_named(acts: &[Act], words: &[Text]) -> bool
     true
 }
 
-/// Whether a user is the owner, or has an act.
+/// Whether a user is the owner, or has one of the acts.
 fn is_owner_or_has(owner: UserId, acts: &[Act], user: UserId) -> bool
     ensures { result ≡ (same_user owner user || has_act_of acts.now (Some user)) }
 {
     owner == user || has_act_of(acts, Some(user))
 }
 
-/// Whether the known user at this place, if there is one, is the owner or has an act.
+/// Whether the known user at this place, if there is one, is the owner or has one of the acts.
 fn has_at(owner: UserId, replay: &Replay, acts: &[Act], place: usize) -> bool
     ensures { (edition : Edition) (h : History) → StandsAfter replay.now edition owner h →
         result ≡ option_map_or (λ u. same_user owner u || has_act_of acts.now (Some u))
@@ -56,7 +56,7 @@ fn has_at(owner: UserId, replay: &Replay, acts: &[Act], place: usize) -> bool
     }
 }
 
-/// Whether each known user but the owner has an act.
+/// Whether each known user but the owner has one of the acts.
 fn have_all(owner: UserId, replay: &Replay, acts: &[Act]) -> bool
     ensures { (edition : Edition) (h : History) → StandsAfter replay.now edition owner h →
         result ≡ list_all (λ u. same_user owner u || has_act_of acts.now (Some u))
@@ -70,7 +70,7 @@ fn have_all(owner: UserId, replay: &Replay, acts: &[Act]) -> bool
     true
 }
 
-/// Whether the users of an acladd have acts.
+/// Whether each user whom an acladd names has one of the acts.
 fn have_added(owner: UserId, replay: &Replay, users: &Users, acts: &[Act]) -> bool
     ensures { (edition : Edition) (h : History) → StandsAfter replay.now edition owner h →
         (result ≡ true) ↔ HaveActs owner h (command.Acladd users.now) acts.now }
@@ -81,7 +81,7 @@ fn have_added(owner: UserId, replay: &Replay, users: &Users, acts: &[Act]) -> bo
     }
 }
 
-/// Whether the users whom the first word of a list command names have acts.
+/// Whether each user whom the first word of a list command names has one of the acts.
 pub fn have_acts(owner: UserId, replay: &Replay, given: &Command, acts: &[Act]) -> bool
     ensures { (edition : Edition) (h : History) → StandsAfter replay.now edition owner h →
         (result ≡ true) ↔ HaveActs owner h given.now acts.now }

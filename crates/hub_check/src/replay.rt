@@ -4,7 +4,7 @@ ghost use Rattle.std.specs.Prelude.{◌≡◌, ◌↔◌, [], true, IfOk, slice_
 ghost use Rattle.acl.specs.declared.edition.Edition.{Edition};
 ghost use Rattle.acl.specs.declared.user_id.UserId.{UserId};
 ghost use Rattle.acl.specs.declared.act.Object.TheVariants.{Window};
-ghost use Rattle.acl.specs.History.{History, is_known, is_open, may, there, users_of};
+ghost use Rattle.acl.specs.History.{History, is_known, is_open, leaders_of, may, there, users_of};
 ghost use Rattle.hub_trail.specs.Legal.{IsTrue, is_client_of};
 ghost use Rattle.hub_trail.specs.Judging.{is_on_there};
 ghost use Rattle.hub_check.specs.Following.{Redoes, RedoesAll, StandsAfter};
@@ -12,27 +12,27 @@ ghost use Rattle.hub_check.specs.Following.{Redoes, RedoesAll, StandsAfter};
 use crate::clients::is_client_of;
 use crate::lists::{forget, group, know, mask, preset, set};
 use crate::moves::{attach, close, enter, leave, open, part, set_default, set_mode};
-use acl::{Acl, Act, Bit, Edition, Object, UserId};
+use acl::{Acl, Act, Bit, Edition, Leaders, Object, UserId};
 use session_model::Verdict;
 use std::alloc::{AllocError, Global};
 use writelock::Locks;
 
-/// Rights, locks, and the clients that are attached, by the acts so far. What a call answers holds
-/// after any history that the value stands for.
+/// Rights, locks, and the clients that are attached, after the acts that were followed. What a call
+/// answers holds after any history that the value stands for.
 #[derive(Drop)]
 pub struct Replay {
     pub(crate) acl: Acl,
     pub(crate) locks: Locks,
-    /// Serials and users, the newest first.
+    /// The serials and users of attached clients, the newest first.
     pub(crate) clients: Vec<(u32, UserId)>,
     /// How many windows are open.
     pub(crate) windows: usize,
-    /// Where list commands put their acts.
+    /// List commands put their acts here; nobody reads them.
     pub(crate) scratch: Vec<Act>,
 }
 
 impl Replay {
-    /// A session before its first act.
+    /// Before the first act of a session.
     pub fn new(alloc: Global, edition: Edition, owner: UserId) -> Result<Replay, AllocError>
         ensures { IfOk result (λ r. StandsAfter r edition owner []) }
     {
@@ -69,6 +69,14 @@ impl Replay {
         self.acl.user_at(place)
     }
 
+    /// The user's leaders, in the order in which they were named.
+    pub fn leaders_of(&self, user: UserId) -> Leaders
+        ensures { (edition : Edition) (owner : UserId) (h : History) →
+            StandsAfter self.now edition owner h → result ≡ leaders_of edition h user }
+    {
+        self.acl.leaders_of(user)
+    }
+
     /// Whether a window is open.
     pub(crate) fn is_open(&self, window: u32) -> bool
         ensures { (edition : Edition) (owner : UserId) (h : History) →
@@ -97,7 +105,7 @@ impl Replay {
         self.acl.may(user, bit, object).is_ok()
     }
 
-    /// Whether the client of this serial is attached, and the user's.
+    /// Whether the client of this serial is attached, and is this user's.
     pub fn is_client_of(&self, client: u32, user: UserId) -> bool
         ensures { (edition : Edition) (owner : UserId) (h : History) →
             StandsAfter self.now edition owner h → result ≡ is_client_of h client user }
@@ -122,8 +130,8 @@ impl Replay {
         }
     }
 
-    /// Does an act again, and answers whether it can follow those before it. Where it can't, the
-    /// value stands for nothing more.
+    /// Does an act again, and answers whether it can follow the acts before it. If it can't, or memory
+    /// was refused, the value must not be used again.
     pub fn follow(&mut self, act: Act) -> Result<bool, AllocError>
         ensures { Redoes self.old self.new result act }
     {
@@ -155,8 +163,8 @@ impl Replay {
         }
     }
 
-    /// Does acts again, and answers whether each can follow those before it. Where one can't, the
-    /// value stands for nothing more.
+    /// Does acts again in order, and answers whether each can follow the acts before it. If one can't,
+    /// or memory was refused, the value must not be used again.
     pub fn follow_all(&mut self, acts: &[Act]) -> Result<bool, AllocError>
         ensures { RedoesAll self.old self.new result acts.now }
     {

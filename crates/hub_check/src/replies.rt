@@ -1,4 +1,4 @@
-//! Replies of an entry.
+//! Whether the reply of an entry fits the verdict that failed.
 
 ghost use Rattle.std.specs.Prelude.{◌≡◌, ◌↔◌, true, false};
 ghost use Rattle.std.specs.Option.{option_map_or};
@@ -18,7 +18,7 @@ fn is_denial(refusal: &Refusal) -> bool
     matches!(refusal, Refusal::EntryDenied(_) | Refusal::LockDenied(_))
 }
 
-/// Whether a denial is of this object.
+/// Whether a denial names this object.
 fn is_named(denied: Denied, object: Object) -> bool
     ensures { result ≡ is_named denied object }
 {
@@ -30,7 +30,7 @@ fn is_named(denied: Denied, object: Object) -> bool
     }
 }
 
-/// Whether a denial is of this verdict.
+/// Whether a refusal denies what this verdict refuses.
 fn is_of(refusal: &Refusal, verdict: Verdict) -> bool
     ensures { result ≡ is_of refusal.now verdict }
 {
@@ -58,7 +58,7 @@ fn is_of(refusal: &Refusal, verdict: Verdict) -> bool
     }
 }
 
-/// Whether a reply that denies carries the verdict that failed.
+/// Whether a reply that denies carries the verdict that failed. True of other replies.
 pub fn carries_failed(failed: Option<Verdict>, ending: &Ending) -> bool
     ensures { (result ≡ true) ↔ CarriesFailed failed ending.now }
 {
@@ -68,7 +68,7 @@ pub fn carries_failed(failed: Option<Verdict>, ending: &Ending) -> bool
     }
 }
 
-/// Whether a denial is of this verdict, if there is one.
+/// Whether there is a verdict, and the refusal denies what it refuses.
 fn is_of_some(refusal: &Refusal, failed: Option<Verdict>) -> bool
     ensures { result ≡ option_map_or (is_of refusal.now) failed false }
 {
@@ -88,7 +88,7 @@ fn denies(ending: &Ending) -> bool
     }
 }
 
-/// Whether a Command or an Open is denied, where a verdict failed.
+/// Whether a Command or an Open was denied, or no verdict failed. True of other events.
 pub fn is_denied(event: KeptRef<'_>, failed: Option<Verdict>, ending: &Ending) -> bool
     ensures { (result ≡ true) ↔ IsDenied (kept_lent event.entry) failed ending.now }
 {

@@ -1,4 +1,4 @@
-//! Whether a Command does what its line says of users and rights.
+//! Whether a Command does to users and rights only what its line says.
 
 ghost use Rattle.std.specs.Prelude.{◌≡◌, ◌↔◌, ◌&&◌, not, true};
 ghost use Rattle.acl.specs.declared.edition.Edition.{Edition};
@@ -13,7 +13,7 @@ use acl::{Act, UserId};
 use command_lang::{Command, Users};
 use hub_acts::{gives, is_listed, leads, removes};
 
-/// Whether the user is known, and not the owner.
+/// Whether the user is known, and isn't the owner.
 fn is_other(owner: UserId, replay: &Replay, user: UserId) -> bool
     ensures { (edition : Edition) (h : History) → StandsAfter replay.now edition owner h →
         result ≡ (not (same_user owner user) && among (users_of owner h) user) }
@@ -47,7 +47,7 @@ fn concerns(owner: UserId, replay: &Replay, given: &Command, user: UserId) -> bo
     }
 }
 
-/// Whether the command says the act, if it is one on users and rights.
+/// Whether the command says the act, or the act isn't on users and rights.
 fn says(owner: UserId, replay: &Replay, given: &Command, act: Act) -> bool
     ensures { (edition : Edition) (h : History) → StandsAfter replay.now edition owner h →
         result ≡ says owner h given.now act }

@@ -1,4 +1,4 @@
-//! Verdicts: what they say, and whether they pass.
+//! What verdicts say, and whether they pass.
 
 ghost use Rattle.std.specs.Prelude.{◌≡◌, ◌↔◌, true};
 ghost use Rattle.std.specs.List.{list_all};
@@ -44,7 +44,7 @@ pub fn failed(verdicts: &[Verdict]) -> Option<Verdict>
     verdicts.iter().copied().find(|verdict| !passes(*verdict))
 }
 
-/// Whose verdict it is.
+/// The user whom the verdict is about.
 fn user_of(verdict: Verdict) -> UserId
     ensures { result ≡ user_of verdict }
 {
@@ -53,14 +53,14 @@ fn user_of(verdict: Verdict) -> UserId
     }
 }
 
-/// Whether the verdicts are of the user.
+/// Whether all verdicts are about this user.
 pub fn are_of(user: UserId, verdicts: &[Verdict]) -> bool
     ensures { result ≡ list_all (is_of_user user) verdicts.now }
 {
     verdicts.iter().all(|verdict| user_of(*verdict) == user)
 }
 
-/// Whether each verdict is on an object that is there, and tells the truth.
+/// Whether each verdict is on an object that is there, and is true.
 pub fn are_true(replay: &Replay, verdicts: &[Verdict]) -> bool
     ensures { (edition : Edition) (owner : UserId) (h : History) →
         StandsAfter replay.now edition owner h →
@@ -74,7 +74,7 @@ pub fn are_true(replay: &Replay, verdicts: &[Verdict]) -> bool
     true
 }
 
-/// Whether the verdicts are of the user of this client, who is attached.
+/// Whether all verdicts are about the user of this client, which is attached.
 pub fn are_of_client(replay: &Replay, client: u32, verdicts: &[Verdict]) -> bool
     ensures { (edition : Edition) (owner : UserId) (h : History) →
         StandsAfter replay.now edition owner h →
@@ -113,7 +113,7 @@ pub fn asks_first(user: UserId, name: CommandName, verdicts: &[Verdict]) -> bool
     }
 }
 
-/// Whether a command was asked for, and all verdicts pass.
+/// Whether the first verdict asks for x on a command, and all verdicts pass.
 pub fn is_granted(verdicts: &[Verdict]) -> bool
     ensures { result ≡ is_granted verdicts.now }
 {

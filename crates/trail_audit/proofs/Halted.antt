@@ -37,7 +37,8 @@ times_more t (y ∷ said) x = times_more (time_after t y.0 y.1) said x
 -- ---- one line more
 
 one_more : (said : List Said) (x : Said) (line bytes mid rest : List ℕ) → AreRead said bytes mid
-    → ComesAs came.Whole line mid rest → is_last line ≡ false → read_line line ≡ Some x → AreRead (said ++ x ∷ []) bytes rest
+    → ComesAs came.Whole line mid rest → is_last line ≡ false → read_line line ≡ Some x
+    → AreRead (said ++ x ∷ []) bytes rest
 one_more [] x line bytes mid rest a whole last is = (line, rest, (whole.0, a ∙ whole.1), last, is, refl)
 one_more (y ∷ said) x line bytes mid rest a whole last is =
     (a.0, a.1, a.2, a.3, a.4, one_more said x line a.1 mid rest a.5 whole last is)

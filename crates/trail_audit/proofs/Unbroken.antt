@@ -1,6 +1,8 @@
 -- The line of an entry has no line feed.
-use Rattle.std.proofs.Common.{◌≡◌, ℕ, ◌<◌, ◌≤◌, ◌^◌, ◌/◌, ◌%◌, List, [], ◌∷◌, ◌++◌, ap, refl, sym, ◌∙◌, arith, append-nil, append_assoc}
-use Rattle.std.specs.Prelude.{Bool, true, false, cond, ◌&&◌, Option, Some, None, option_map, Ok, Err, codes, decimal, map}
+use Rattle.std.proofs.Common.{◌≡◌, ℕ, ◌<◌, ◌≤◌, ◌^◌, ◌/◌, ◌%◌, List, [], ◌∷◌, ◌++◌, ap, refl, sym, ◌∙◌, arith}
+use Rattle.std.proofs.Common.{append-nil, append_assoc}
+use Rattle.std.specs.Prelude.{Bool, true, false, cond, ◌&&◌, Option, Some, None, option_map, Ok, Err, codes, decimal}
+use Rattle.std.specs.Prelude.{map}
 use Rattle.std.specs.List.{AllByRecursion, flat_map, list_all}
 use Rattle.std.specs.Fmt.{digit_glyph}
 use Rattle.std.specs.Str.{bytes_eq, is_utf8}
@@ -33,12 +35,18 @@ use Rattle.line_fields.specs.Parts.{colon, blank, field, user_at, nobody, mark, 
 use Rattle.line_fields.specs.Numbers.{number_at}
 use Rattle.line_fields.specs.Acts.{act_text, act_in, verdict_text, verdict_in, lock}
 use Rattle.trail_lines.specs.Replies.{leaders_text, denied_then, why_text, reply_text, reply_in}
-use Rattle.trail_lines.specs.Events.{text_field, text_in, title_of, title_in, window_text, window_in, event_then, event_by, event_at}
-use Rattle.trail_lines.specs.Entries.{checked_text, done_text, tail_text, Said, line_of, Noted, note_in, noting, notes_of, tail_of, tail_in, said_in, if_spelled, read_line}
+use Rattle.trail_lines.specs.Events.{text_field, text_in, title_of, title_in, window_text, window_in, event_then}
+use Rattle.trail_lines.specs.Events.{event_by, event_at}
+use Rattle.trail_lines.specs.Entries.{checked_text, done_text, tail_text, Said, line_of, Noted, note_in, noting}
+use Rattle.trail_lines.specs.Entries.{notes_of, tail_of, tail_in, said_in, if_spelled, read_line}
 use Rattle.line_fields.specs.Sayable.{IsNamed, IsNamedIfAny, IsSerial, IsObject, IsAct, IsVerdict}
-use Rattle.trail_lines.specs.Sayable.{AreLeaders, IsDenied, IsRefusal, IsReply, AreBytes, IsNumberIfAny, IsEvent, IsEntry, IsSayable, ReadsPrinted, IsSpelledSo}
-use Rattle.line_fields.proofs.Again.{IsPart, free, IsApart, part_byte, name_part, number_part, wide, most64, most32, most16, most8, number_at_again, user_at_again, user_part, change_part, object_part, mode_part, preset_part, command_part, kind_part, act_again, verdict_again}
-use Rattle.trail_lines.proofs.Replied.{mark_part, named_all, all_named, acl_small, windows_small, regions_small, line_small, reply_again}
+use Rattle.trail_lines.specs.Sayable.{AreLeaders, IsDenied, IsRefusal, IsReply, AreBytes, IsNumberIfAny, IsEvent}
+use Rattle.trail_lines.specs.Sayable.{IsEntry, IsSayable, ReadsPrinted, IsSpelledSo}
+use Rattle.line_fields.proofs.Again.{IsPart, free, IsApart, part_byte, name_part, number_part, wide, most64, most32}
+use Rattle.line_fields.proofs.Again.{most16, most8, number_at_again, user_at_again, user_part, change_part, object_part}
+use Rattle.line_fields.proofs.Again.{mode_part, preset_part, command_part, kind_part, act_again, verdict_again}
+use Rattle.trail_lines.proofs.Replied.{mark_part, named_all, all_named, acl_small, windows_small, regions_small}
+use Rattle.trail_lines.proofs.Replied.{line_small, reply_again}
 
 abbrev feed : ℕ
 feed = 0x0A
@@ -70,33 +78,46 @@ rest_free : (a : Act) → IsAct a → IsFree feed (act_text a)
 rest_free (act.Known u) is = colon_free (codes "known") (name_of u) (record { free = refl }) (name_free u is)
 rest_free (act.Gone u) is = colon_free (codes "gone") (name_of u) (record { free = refl }) (name_free u is)
 rest_free (act.Set u b o value) is =
-    colon_free (codes "set") (field colon (name_of u) (field colon (change_text b value) (object_text o))) (record { free = refl })
+    colon_free (codes "set") (field colon (name_of u) (field colon (change_text b value) (object_text o)))
+    (record { free = refl })
     (colon_free (name_of u) (field colon (change_text b value) (object_text o)) (name_free u is.0)
-    (colon_free (change_text b value) (object_text o) (free_part (change_text b value) (change_part b value)) (free_part (object_text o) (object_part o is.1))))
+    (colon_free (change_text b value) (object_text o) (free_part (change_text b value) (change_part b value))
+    (free_part (object_text o) (object_part o is.1))))
 rest_free (act.Grouped u leader) is =
     colon_free (codes "grouped") (field colon (name_of u) (user_text leader)) (record { free = refl })
-    (colon_free (name_of u) (user_text leader) (name_free u is.0) (free_part (user_text leader) (user_part leader is.1)))
+    (colon_free (name_of u) (user_text leader) (name_free u is.0)
+    (free_part (user_text leader) (user_part leader is.1)))
 rest_free (act.Masked by u b value) is =
-    colon_free (codes "masked") (field colon (name_of by) (field colon (name_of u) (change_text b value))) (record { free = refl })
+    colon_free (codes "masked") (field colon (name_of by) (field colon (name_of u) (change_text b value)))
+    (record { free = refl })
     (colon_free (name_of by) (field colon (name_of u) (change_text b value)) (name_free by is.0)
-    (colon_free (name_of u) (change_text b value) (name_free u is.1) (free_part (change_text b value) (change_part b value))))
+    (colon_free (name_of u) (change_text b value) (name_free u is.1)
+    (free_part (change_text b value) (change_part b value))))
 rest_free (act.Preset p b value) is =
-    colon_free (codes "preset") _ (record { free = refl }) (colon_free _ (change_text b value) (free_part _ (preset_part p)) (free_part (change_text b value) (change_part b value)))
-rest_free (act.Opened by w) is = colon_free (codes "opened") (field colon (name_of by) (decimal w)) (record { free = refl }) (colon_free (name_of by) (decimal w) (name_free by is.0) (serial_free w is.1))
+    colon_free (codes "preset") _ (record { free = refl })
+    (colon_free _ (change_text b value) (free_part _ (preset_part p))
+    (free_part (change_text b value) (change_part b value)))
+rest_free (act.Opened by w) is = colon_free (codes "opened") (field colon (name_of by) (decimal w))
+    (record { free = refl }) (colon_free (name_of by) (decimal w) (name_free by is.0) (serial_free w is.1))
 rest_free (act.Closed w) is = colon_free (codes "closed") (decimal w) (record { free = refl }) (serial_free w is)
-rest_free (act.Attached c u) is = colon_free (codes "attached") (field colon (decimal c) (name_of u)) (record { free = refl }) (colon_free (decimal c) (name_of u) (serial_free c is.0) (name_free u is.1))
+rest_free (act.Attached c u) is = colon_free (codes "attached") (field colon (decimal c) (name_of u))
+    (record { free = refl }) (colon_free (decimal c) (name_of u) (serial_free c is.0) (name_free u is.1))
 rest_free (act.Parted c) is = colon_free (codes "parted") (decimal c) (record { free = refl }) (serial_free c is)
-rest_free (act.Entered u w) is = colon_free (codes "entered") (field colon (name_of u) (decimal w)) (record { free = refl }) (colon_free (name_of u) (decimal w) (name_free u is.0) (serial_free w is.1))
-rest_free (act.Left u w) is = colon_free (codes "left") (field colon (name_of u) (decimal w)) (record { free = refl }) (colon_free (name_of u) (decimal w) (name_free u is.0) (serial_free w is.1))
+rest_free (act.Entered u w) is = colon_free (codes "entered") (field colon (name_of u) (decimal w))
+    (record { free = refl }) (colon_free (name_of u) (decimal w) (name_free u is.0) (serial_free w is.1))
+rest_free (act.Left u w) is = colon_free (codes "left") (field colon (name_of u) (decimal w)) (record { free = refl })
+    (colon_free (name_of u) (decimal w) (name_free u is.0) (serial_free w is.1))
 rest_free (act.Mode by w m) is =
     colon_free (codes "mode") _ (record { free = refl })
-    (colon_free (name_of by) _ (name_free by is.0) (colon_free (decimal w) _ (serial_free w is.1) (free_part _ (mode_part m))))
+    (colon_free (name_of by) _ (name_free by is.0)
+    (colon_free (decimal w) _ (serial_free w is.1) (free_part _ (mode_part m))))
 rest_free (act.Default m) is = colon_free (codes "default") _ (record { free = refl }) (free_part _ (mode_part m))
 
 verdict_free : (v : Verdict) → IsVerdict v → IsFree feed (verdict_text v)
 verdict_free (verdict.Right u b o answer) is =
     colon_free (name_of u) (field colon (change_text b answer) (object_text o)) (name_free u is.0)
-    (colon_free (change_text b answer) (object_text o) (free_part (change_text b answer) (change_part b answer)) (free_part (object_text o) (object_part o is.1)))
+    (colon_free (change_text b answer) (object_text o) (free_part (change_text b answer) (change_part b answer))
+    (free_part (object_text o) (object_part o is.1)))
 verdict_free (verdict.Lock u w held) is =
     colon_free (name_of u) (field colon lock (field colon (decimal w) (user_text held))) (name_free u is.0)
     (colon_free lock (field colon (decimal w) (user_text held)) (record { free = refl })
@@ -106,17 +127,21 @@ others_free : (users : List UserId) → named_all users → IsFree feed (behind 
 others_free [] all = record { free = refl }
 others_free (u ∷ users) all =
     free_append feed (codes ",") (name_of u ++ behind (codes ",") (map name_of users)) (record { free = refl })
-    (free_append feed (name_of u) (behind (codes ",") (map name_of users)) (name_free u all.0) (others_free users all.1))
+    (free_append feed (name_of u) (behind (codes ",") (map name_of users)) (name_free u all.0)
+    (others_free users all.1))
 
 leaders_free : (users : List UserId) → named_all users → IsFree feed (leaders_text users)
 leaders_free [] all = record { free = refl }
-leaders_free (u ∷ users) all = free_append feed (name_of u) (behind (codes ",") (map name_of users)) (name_free u all.0) (others_free users all.1)
+leaders_free (u ∷ users) all = free_append feed (name_of u) (behind (codes ",") (map name_of users)) (name_free u all.0)
+    (others_free users all.1)
 
 denied_free : (on : Denied) (rest : List ℕ) → IsDenied on → IsFree feed rest → IsFree feed (denied_then on rest)
 denied_free (denied.Window serial number) rest is f =
-    colon_free (decimal serial) (field colon (decimal number) rest) (serial_free serial is.0) (colon_free (decimal number) rest (small_free number is.1) f)
+    colon_free (decimal serial) (field colon (decimal number) rest) (serial_free serial is.0)
+    (colon_free (decimal number) rest (small_free number is.1) f)
 denied_free (denied.Command c) rest is f =
-    colon_free (name_text c) (field colon nobody rest) (free_part (name_text c) (command_part c)) (colon_free nobody rest (record { free = refl }) f)
+    colon_free (name_text c) (field colon nobody rest) (free_part (name_text c) (command_part c))
+    (colon_free nobody rest (record { free = refl }) f)
 
 why_free : (r : Refusal) → IsRefusal r → IsFree feed (why_text r)
 why_free (refusal.EntryDenied d) is =
@@ -126,7 +151,8 @@ why_free (refusal.EntryDenied d) is =
     (denied_free d.on (leaders_text d.leaders) is.1 (leaders_free d.leaders (all_named [] d.leaders is.2)))))
 why_free (refusal.LockDenied d) is =
     colon_free (codes "lock") _ (record { free = refl })
-    (colon_free (decimal d.serial) _ (serial_free d.serial is.0) (colon_free (decimal d.number) _ (small_free d.number is.1) (name_free d.holder is.2)))
+    (colon_free (decimal d.serial) _ (serial_free d.serial is.0)
+    (colon_free (decimal d.number) _ (small_free d.number is.1) (name_free d.holder is.2)))
 why_free refusal.NotMultiuser is = record { free = refl }
 why_free refusal.UnknownUser is = record { free = refl }
 why_free refusal.NoWindow is = record { free = refl }
@@ -134,16 +160,20 @@ why_free refusal.TooManyClients is = record { free = refl }
 why_free refusal.NoMemory is = record { free = refl }
 why_free refusal.BadSize is = record { free = refl }
 why_free (refusal.Acl f) is = colon_free (codes "acl") _ (record { free = refl }) (small_free _ (acl_small f).0)
-why_free (refusal.Windows f) is = colon_free (codes "windows") _ (record { free = refl }) (small_free _ (windows_small f).0)
+why_free (refusal.Windows f) is = colon_free (codes "windows") _ (record { free = refl })
+    (small_free _ (windows_small f).0)
 why_free (refusal.Line f) is =
     colon_free (codes "line") _ (record { free = refl })
-    (colon_free _ (decimal f.place) (small_free _ (line_small f.kind).0) (free_part (decimal f.place) (number_part f.place is)))
-why_free (refusal.Regions f) is = colon_free (codes "regions") _ (record { free = refl }) (small_free _ (regions_small f).0)
+    (colon_free _ (decimal f.place) (small_free _ (line_small f.kind).0)
+    (free_part (decimal f.place) (number_part f.place is)))
+why_free (refusal.Regions f) is = colon_free (codes "regions") _ (record { free = refl })
+    (small_free _ (regions_small f).0)
 
 reply_free : (r : Ending) → IsReply r → IsFree feed (reply_text r)
 reply_free (Ok f) is =
     colon_free (codes "ok") _ (record { free = refl })
-    (colon_free (decimal f.taken) _ (free_part (decimal f.taken) (number_part f.taken is.0)) (colon_free (decimal f.made) _ (serial_free f.made is.1) (small_free f.number is.2)))
+    (colon_free (decimal f.taken) _ (free_part (decimal f.taken) (number_part f.taken is.0))
+    (colon_free (decimal f.made) _ (serial_free f.made is.1) (small_free f.number is.2)))
 reply_free (Err r) is = colon_free (codes "no") (why_text r) (record { free = refl }) (why_free r is)
 
 -- ---- texts
@@ -160,7 +190,8 @@ escape_free byte false plain = record { free = λ i. glyph_other (byte / 16) i &
 
 escaped_free : (bytes : List ℕ) → IsFree feed (escaped 0x21 bytes)
 escaped_free [] = record { free = refl }
-escaped_free (byte ∷ bytes) = free_append feed (escape 0x21 byte) (escaped 0x21 bytes) (escape_free byte (is_plain 0x21 byte) refl) (escaped_free bytes)
+escaped_free (byte ∷ bytes) = free_append feed (escape 0x21 byte) (escaped 0x21 bytes)
+    (escape_free byte (is_plain 0x21 byte) refl) (escaped_free bytes)
 
 text_free : (bytes : List ℕ) → IsFree feed (text_field bytes)
 text_free bytes = free_append feed (codes ".") (escaped 0x21 bytes) (record { free = refl }) (escaped_free bytes)
@@ -182,29 +213,47 @@ long_free n small = free_part (decimal n) (number_part n small)
 
 event_free : (e : Kept) (rest : List ℕ) → IsEvent e → IsFree feed rest → IsFree feed (event_then e rest)
 event_free (kept.Attach user rows columns) rest is f =
-    blank_free (codes "attach") _ (record { free = refl }) (blank_free (name_of user) _ (name_free user is.0) (blank_free (decimal rows) _ (half_free rows is.1) (blank_free (decimal columns) rest (half_free columns is.2) f)))
-event_free (kept.Detach client) rest is f = blank_free (codes "detach") _ (record { free = refl }) (blank_free (decimal client) rest (serial_free client is) f)
-event_free (kept.Keys client) rest is f = blank_free (codes "keys") _ (record { free = refl }) (blank_free (decimal client) rest (serial_free client is) f)
+    blank_free (codes "attach") _ (record { free = refl })
+    (blank_free (name_of user) _ (name_free user is.0)
+    (blank_free (decimal rows) _ (half_free rows is.1)
+    (blank_free (decimal columns) rest (half_free columns is.2) f)))
+event_free (kept.Detach client) rest is f = blank_free (codes "detach") _ (record { free = refl })
+    (blank_free (decimal client) rest (serial_free client is) f)
+event_free (kept.Keys client) rest is f = blank_free (codes "keys") _ (record { free = refl })
+    (blank_free (decimal client) rest (serial_free client is) f)
 event_free (kept.Command user window line) rest is f =
-    blank_free (codes "command") _ (record { free = refl }) (blank_free (name_of user) _ (name_free user is.0) (blank_free (window_text window) _ (window_free window is.1) (blank_free (text_field line) rest (text_free line) f)))
+    blank_free (codes "command") _ (record { free = refl })
+    (blank_free (name_of user) _ (name_free user is.0)
+    (blank_free (window_text window) _ (window_free window is.1)
+    (blank_free (text_field line) rest (text_free line) f)))
 event_free (kept.Open user rows columns keep title) rest is f =
-    blank_free (codes "open") _ (record { free = refl }) (blank_free (name_of user) _ (name_free user is.0) (blank_free (decimal rows) _ (half_free rows is.1)
-    (blank_free (decimal columns) _ (half_free columns is.2) (blank_free (decimal keep) _ (half_free keep is.3) (blank_free (text_field title) rest (text_free title) f)))))
-event_free (kept.Closed window) rest is f = blank_free (codes "closed") _ (record { free = refl }) (blank_free (decimal window) rest (serial_free window is) f)
+    blank_free (codes "open") _ (record { free = refl })
+    (blank_free (name_of user) _ (name_free user is.0) (blank_free (decimal rows) _ (half_free rows is.1)
+    (blank_free (decimal columns) _ (half_free columns is.2)
+    (blank_free (decimal keep) _ (half_free keep is.3) (blank_free (text_field title) rest (text_free title) f)))))
+event_free (kept.Closed window) rest is f = blank_free (codes "closed") _ (record { free = refl })
+    (blank_free (decimal window) rest (serial_free window is) f)
 
-checks_free : (verdicts : List Verdict) → AllByRecursion IsVerdict verdicts → IsFree feed (flat_map checked_text verdicts)
+checks_free : (verdicts : List Verdict) → AllByRecursion IsVerdict verdicts
+    → IsFree feed (flat_map checked_text verdicts)
 checks_free [] all = record { free = refl }
 checks_free (v ∷ verdicts) all =
-    free_append feed (checked_text v) (flat_map checked_text verdicts) (free_append feed (codes " ?") (verdict_text v) (record { free = refl }) (verdict_free v all.0)) (checks_free verdicts all.1)
+    free_append feed (checked_text v) (flat_map checked_text verdicts)
+    (free_append feed (codes " ?") (verdict_text v) (record { free = refl }) (verdict_free v all.0))
+    (checks_free verdicts all.1)
 
 acts_free : (acts : List Act) → AllByRecursion IsAct acts → IsFree feed (flat_map done_text acts)
 acts_free [] all = record { free = refl }
-acts_free (a ∷ acts) all = free_append feed (done_text a) (flat_map done_text acts) (free_append feed (codes " !") (act_text a) (record { free = refl }) (rest_free a all.0)) (acts_free acts all.1)
+acts_free (a ∷ acts) all = free_append feed (done_text a) (flat_map done_text acts)
+    (free_append feed (codes " !") (act_text a) (record { free = refl }) (rest_free a all.0)) (acts_free acts all.1)
 
 tail_free : (e : Entry) → IsEntry e → IsFree feed (tail_text e)
 tail_free e is =
     free_append feed (reply_text e.reply) _ (reply_free e.reply is.reply)
-    (free_append feed (flat_map checked_text e.verdicts) (flat_map done_text e.acts) (checks_free e.verdicts is.verdicts) (acts_free e.acts is.acts))
+    (free_append feed (flat_map checked_text e.verdicts) (flat_map done_text e.acts)
+    (checks_free e.verdicts is.verdicts) (acts_free e.acts is.acts))
 
 pub line_free : (x : Said) → IsSayable x → IsFree feed (line_of x)
-line_free x is = blank_free (decimal x.0) _ (long_free x.0 is.0) (blank_free (decimal x.1) _ (long_free x.1 is.1) (event_free x.2.event (tail_text x.2) is.2.event (tail_free x.2 is.2)))
+line_free x is = blank_free (decimal x.0) _ (long_free x.0 is.0)
+    (blank_free (decimal x.1) _ (long_free x.1 is.1)
+    (event_free x.2.event (tail_text x.2) is.2.event (tail_free x.2 is.2)))

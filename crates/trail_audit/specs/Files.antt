@@ -8,14 +8,14 @@ use Rattle.trail_lines.specs.Sayable.{IsSayable}
 use Rattle.trail_audit.specs.Lines.{feed, is_unbroken}
 use Rattle.trail_audit.specs.Halting.{AreRead}
 
--- each line is ended by a line feed
+-- each line ends in a line feed
 abbrev pub ended_line : Said → List ℕ
 ended_line x = line_of x ++ feed ∷ []
 
 abbrev pub text_of : List Said → List ℕ
 text_of said = flat_map ended_line said
 
--- the lines of a file that a line feed ends, where these bytes of the first one are behind us
+-- the lines of a file that end in a line feed, if these bytes of the first line were read already
 abbrev pub lines_from : List ℕ → List ℕ → List (List ℕ)
 lines_from begun [] = []
 lines_from begun (byte ∷ bytes) =
@@ -35,20 +35,20 @@ read_lines (line ∷ lines) = do
 abbrev pub read_file : List ℕ → Option (List Said)
 read_file bytes = read_lines (whole_lines bytes)
 
--- of this many entries the line feed stands within the first n bytes, and of no more
+-- this many entries have their line feed within the first n bytes, and no more have
 pub record AreWhole (said : List Said) (n count : ℕ) : Type 0 where
   pub within : length (text_of (take count said)) ≤ n
   pub no_more : count < length said → n < length (text_of (take (suc count) said))
 
--- a file that is cut at any place reads as the entries whose line is whole
+-- a file that is cut at any place reads as the entries whose lines are whole
 abbrev pub CutFilesAreRead : Type 0
 CutFilesAreRead =
     (said : List Said) → AllByRecursion IsSayable said → (n : ℕ)
     → (count : ℕ) × AreWhole said n count
     × (read_file (take n (text_of said)) ≡ Some (take count said))
 
--- and where the lines of entries were read, one after another, up to bytes that no line feed ends,
--- they are those of the whole file
+-- if the lines of entries were read, one after another, up to bytes without a line feed, these are the
+-- entries of the whole file
 abbrev pub ReadIsTheFile : Type 0
 ReadIsTheFile =
     (said : List Said) (bytes rest : List ℕ) → AreRead said bytes rest → is_unbroken rest ≡ true

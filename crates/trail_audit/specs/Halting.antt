@@ -1,4 +1,4 @@
--- What the reading of a file's entries tells, and of which bytes.
+-- What is told when a file's entries were read, and which bytes were read.
 use Rattle.std.specs.Prelude.{ℕ, ◌≡◌, ◌+◌, Bool, true, false, List, [], ◌∷◌, Option, Some, None}
 use Rattle.std.specs.Prelude.{length, codes, nat_eq}
 use Rattle.std.specs.List.{starts_with}
@@ -20,7 +20,7 @@ abbrev pub IsEnd : Halt → Type 0
 IsEnd (halt.Stopped number w) = ⊥
 IsEnd h = Unit {0}
 
--- the line begins as a last one does
+-- the line begins as a last line does
 abbrev pub is_last : List ℕ → Bool
 is_last line = starts_with nat_eq line (codes "end ")
 
@@ -31,8 +31,8 @@ AreRead (x ∷ said) bytes rest =
     (line : List ℕ) × (more : List ℕ) × ComesAs came.Whole line bytes more
     × (is_last line ≡ false) × (read_line line ≡ Some x) × AreRead said more rest
 
--- what halts the reading of these bytes: their end, a last line without its line feed, or the line
--- of this number
+-- the reading of these bytes halts at their end, at bytes without a line feed, or at the line of this
+-- number
 abbrev pub Halts : Halt → ℕ → List ℕ → List ℕ → List ℕ → Type 0
 Halts halt.Nothing number line bytes rest = ComesAs came.Nothing line bytes rest
 Halts halt.Torn number line bytes rest = ComesAs came.Torn line bytes rest
@@ -41,25 +41,24 @@ Halts (halt.Last n) number line bytes rest =
 Halts (halt.Stopped n w) number line bytes rest =
     (n ≡ number) × ComesAs came.Whole line bytes rest × (is_last line ≡ false)
 
--- nothing halts it before a line
+-- None means that a line was read that doesn't halt the reading
 abbrev pub NextIs : Option Halt → ℕ → List ℕ → List ℕ → List ℕ → Type 0
 NextIs None number line bytes rest = ComesAs came.Whole line bytes rest × (is_last line ≡ false)
 NextIs (Some h) number line bytes rest = Halts h number line bytes rest
 
--- the lines of these entries were read, the first of which is the file's second, and then it was
--- halted
+-- the lines of these entries were read, from the file's line 2 on, and then the reading halted
 abbrev pub IsReadTo : Halt → List Said → List ℕ → List ℕ → List ℕ → Type 0
 IsReadTo h said line bytes rest =
     (behind : List ℕ) × AreRead said bytes behind × Halts h (length said + 2) line behind rest
 
--- the entries are good; where it stopped, the line behind theirs is wrong, and why
+-- the entries are good; if the reading stopped, the line after theirs is wrong, and w says why
 abbrev pub TellsOf : Halt → Audit → List ℕ → Edition → UserId → List Entry → Type 0
 TellsOf (halt.Stopped n w) audit line edition owner entries =
     (n ≡ length entries + 2) × IsWrong w line edition owner entries
 TellsOf h audit line edition owner entries = HasRead audit edition owner entries
 
--- the entries of the lines that were read, up to what halted it, and their times; the reader's bytes
--- are those that it had before and those that it has left, where they are known
+-- the entries of the lines that were read before the reading halted, and their times; if the bytes of
+-- the reader are known, `old` are those before and `new` those that are left
 pub record IsRead (h : Halt) (before : Times) (audit : Audit) (line : List ℕ) (edition : Edition)
     (owner : UserId) (old new : Option (List ℕ)) : Type 0 where
   pub said : List Said

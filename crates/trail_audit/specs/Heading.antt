@@ -72,7 +72,7 @@ cause_in word =
     else if bytes_eq word (codes "script") then Some cause.Script
     else None
 
--- how many entries stand before it, when the session ended, and why
+-- how many entries the trail has, when the session ended, and why
 abbrev pub end_text : Ended → List ℕ
 end_text e =
     field blank (codes "end") (field blank (decimal e.entries) (field blank (decimal e.ms)

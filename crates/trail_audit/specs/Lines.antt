@@ -1,4 +1,4 @@
--- How a line comes from a reader.
+-- How a line is read from a reader.
 use Rattle.std.specs.Prelude.{ℕ, ◌≡◌, ◌≢◌, ◌==◌, Bool, true, not, List, [], ◌∷◌, ◌++◌}
 use Rattle.std.specs.Prelude.{Option, Some, None}
 use Rattle.std.specs.List.{list_all}
@@ -12,15 +12,15 @@ feed = 0x0A
 abbrev pub is_unbroken : List ℕ → Bool
 is_unbroken bytes = list_all (λ byte. not (byte == feed)) bytes
 
--- of these bytes a line was read, and the rest is left: with its line feed; without one, up to the
--- end; or there was no byte
+-- a line was read from these bytes, and the rest is left: with its line feed, or without one up to the
+-- end, or there was no byte
 abbrev pub ComesAs : Came → List ℕ → List ℕ → List ℕ → Type 0
 ComesAs came.Whole line bytes rest = (is_unbroken line ≡ true) × (bytes ≡ line ++ feed ∷ rest)
 ComesAs came.Torn line bytes rest =
     (is_unbroken line ≡ true) × (line ≢ []) × (bytes ≡ line) × (rest ≡ [])
 ComesAs came.Nothing line bytes rest = (bytes ≡ []) × (line ≡ []) × (rest ≡ [])
 
--- what a reader had left and what it has left are related so, where its bytes are known
+-- P relates the bytes that a reader had to those that it has left, if its bytes are known
 abbrev pub OfKnown : Option (List ℕ) → Option (List ℕ) → (List ℕ → List ℕ → Type 0) → Type 0
 OfKnown None new P = Unit {0}
 OfKnown (Some bytes) None P = ⊥

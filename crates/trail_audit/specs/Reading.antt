@@ -1,4 +1,4 @@
--- What a reader of a trail's entries stands for, and what it tells of the next line.
+-- What an audit stands for, and what it tells of the next line.
 use Rattle.std.specs.Prelude.{ℕ, ◌≡◌, ◌≢◌, List, [], ◌∷◌, ◌++◌, length, Some, None}
 use Rattle.std.specs.Prelude.{Result, Ok, Err, map}
 use Rattle.acl.specs.declared.edition.Edition.{Edition}
@@ -16,7 +16,7 @@ use Rattle.trail_audit.specs.declared.audit.Audit.{Audit}
 use Rattle.trail_audit.specs.declared.fault.Wrong.{Wrong}
 use Rattle.trail_audit.specs.declared.fault.Wrong.TheVariants as wrong
 
--- these entries were read, in their places, and all are good
+-- these entries were read, each at its place, and all are good
 pub record HasRead (a : Audit) (edition : Edition) (owner : UserId) (entries : List Entry)
     : Type 0 where
   pub judged : HasJudged a.judge edition owner entries
@@ -34,7 +34,7 @@ pub record Takes (l : Line) (new : Audit) (line : List ℕ) (edition : Edition) 
   pub place_is : l.place ≡ length entries
   pub read : HasRead new edition owner (entries ++ l.entry ∷ [])
 
--- the line says the next entry, which isn't good, whatever comes behind it
+-- the line says the next entry, which isn't good, whatever entries follow it
 pub record IsIllegal (line : List ℕ) (edition : Edition) (owner : UserId) (entries : List Entry)
     : Type 0 where
   pub entry : Entry
@@ -74,6 +74,6 @@ ReadIsLegal =
     (a : Audit) (edition : Edition) (owner : UserId) (entries : List Entry)
     → HasRead a edition owner entries → AreLegal edition owner [] entries
 
--- and where one is wrong, no run of this edition and owner has this trail
+-- no run of an edition and owner has a trail with an entry that isn't good
 abbrev pub NoRunIsBad : Type 0
 NoRunIsBad = (h : Trace) (place : ℕ) → IsRun h → IsBadAt h.edition h.owner [] (entries_of h.entries) place → ⊥

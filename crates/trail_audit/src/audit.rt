@@ -1,4 +1,4 @@
-//! The audit of a trail's lines, one after another.
+//! Judges the lines of a trail's entries, one after another.
 
 ghost use Rattle.std.specs.Prelude.{◌≡◌, List, [], IfOk};
 ghost use Rattle.acl.specs.declared.edition.Edition.{Edition};
@@ -16,8 +16,8 @@ use hub_check::{Judge, Replay};
 use std::alloc::{AllocError, Global};
 use trail_lines::{Line, Unread, read_line};
 
-/// Reads the lines of entries, one after another, and judges them. It keeps tables of rights, locks
-/// and clients, and no entry.
+/// Reads the lines of entries, one after another, and judges the entries. It keeps tables of rights,
+/// locks and clients, and no entry.
 pub struct Audit {
     alloc: Global,
     judge: Judge,
@@ -38,7 +38,7 @@ impl Drop for Audit {
 }
 
 impl Audit {
-    /// No line so far.
+    /// Before the first line.
     pub fn new(alloc: Global, edition: Edition, owner: UserId) -> Result<Audit, AllocError>
         ensures begun { IfOk result (λ audit. HasRead audit edition owner []) }
         ensures times { IfOk result (λ audit. audit.times ≡ no_times) }
@@ -59,15 +59,15 @@ impl Audit {
         self.next
     }
 
-    /// What the times of the entries tell.
+    /// The time of the last entry, and the first entry whose time runs backwards.
     pub fn times(&self) -> Times
         ensures { result ≡ self.now.times }
     {
         self.times
     }
 
-    /// Takes the line of the next entry, without its line feed, and answers what it says. Behind an
-    /// `Err` the audit stands for nothing more.
+    /// Takes the line of the next entry, without its line feed, and returns what it says. After an
+    /// `Err` the audit must not be used again.
     pub fn take(&mut self, line: &[u8]) -> Result<Line, Wrong>
         ensures tells { (edition : Edition) (owner : UserId) (entries : List Entry) →
             HasRead self.old edition owner entries →
@@ -94,7 +94,7 @@ impl Audit {
         Ok(said)
     }
 
-    /// Rights, locks and clients after the entries so far.
+    /// Rights, locks and clients after the entries that were read.
     pub fn replay(&self) -> &Replay
         ensures { (edition : Edition) (owner : UserId) (entries : List Entry) →
             HasRead self.now edition owner entries →

@@ -17,26 +17,26 @@ pub enum Cause {
     Quit,
     /// The trail has as many entries as one may have.
     Full,
-    /// The disk took no more.
+    /// The file could take no more.
     Disk,
     /// Memory was refused.
     Memory,
-    /// The script ended that was played.
+    /// The script that was played ended.
     Script,
 }
 
 /// What the last line says.
 #[derive(Clone, Copy)]
 pub struct Ended {
-    /// How many entries stand before it.
+    /// How many entries the trail has.
     pub entries: u64,
-    /// When, in milliseconds since 1970.
+    /// When the trail ended, in milliseconds since 1970.
     pub ms: u64,
     pub cause: Cause,
 }
 
 impl Cause {
-    /// The word of the cause.
+    /// The word for the cause in a last line.
     pub fn word(self) -> &'static [u8]
         ensures { result.now ≡ cause_text self }
     {
@@ -50,7 +50,7 @@ impl Cause {
     }
 }
 
-/// The cause of a word.
+/// The cause that a word means, if it means one.
 fn cause_in(word: &[u8]) -> Option<Cause>
     ensures { result ≡ cause_in word.now }
 {
@@ -81,7 +81,7 @@ pub fn print_end(ended: &Ended, out: &mut Vec<u8>) -> Result<(), AllocError>
     out.extend_from_slice(ended.cause.word())
 }
 
-/// The fields of a last line, in whatever spelling.
+/// The fields of a last line, in any spelling.
 #[tactic(auto, unfolding(crate::specs::Heading::end_fields))]
 fn end_fields(line: &[u8]) -> Option<Ended>
     ensures { result ≡ end_fields line.now }
@@ -93,7 +93,7 @@ fn end_fields(line: &[u8]) -> Option<Ended>
     Some(Ended { entries, ms, cause })
 }
 
-/// What a last line says, which has no line feed: Malformed where nothing is printed so.
+/// What a last line says, given without its line feed. `Malformed` if no last line is printed so.
 #[tactic(auto, unfolding(crate::specs::Heading::read_end))]
 pub fn read_end(alloc: Global, line: &[u8]) -> Result<Ended, Unread>
     ensures { Gives (λ ended. ended) result (read_end line.now) }

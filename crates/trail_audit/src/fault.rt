@@ -1,4 +1,4 @@
-//! What is wrong with a line.
+//! Why a line isn't that of the next entry.
 
 ghost use Rattle.std.specs.Prelude.{◌≡◌};
 ghost use Rattle.trail_audit.specs.declared.fault.Wrong.TheVariants.{NoMemory};
@@ -13,7 +13,7 @@ pub enum Wrong {
     NoEntry,
     #[error("another entry's place stands there")]
     OtherPlace,
-    /// It isn't legal, or tables can't judge it, which they can any entry of a run.
+    /// The entry isn't legal, or tables can't judge it. They can judge each entry of a run.
     #[error("the entry isn't legal")]
     Illegal,
     #[error("out of memory")]

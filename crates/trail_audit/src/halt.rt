@@ -1,4 +1,4 @@
-//! The reading of a file's entries, in one pass: with memory for the tables and one line.
+//! Reads a file's entries in one pass, with memory for the tables and one line.
 
 ghost use Rattle.std.specs.Prelude.{[], IfOk, IfSome};
 ghost use Rattle.acl.specs.declared.edition.Edition.{Edition};
@@ -13,21 +13,21 @@ use crate::lines::{Came, next_line};
 use std::alloc::AllocError;
 use std::io::{self, BufRead};
 
-/// What halts the reading of a file's entries.
+/// Why the reading of a file's entries halts.
 #[derive(Clone, Copy)]
 pub enum Halt {
-    /// The file ends behind a whole line.
+    /// The file ends after a whole line.
     Nothing,
-    /// It ends in bytes that no line feed ends.
+    /// The file ends in bytes without a line feed.
     Torn,
-    /// In this line, which begins as a last one.
+    /// This line begins as a last line does.
     Last { line: u64 },
-    /// Before this line, in which something is wrong.
+    /// Something is wrong in this line.
     Stopped { line: u64, wrong: Wrong },
 }
 
-/// Reads the line of the next entry into `line`, without its line feed; it is the file's line of
-/// this number. Where there is none it says what halts the reading.
+/// Reads the line of the next entry into `line`, without its line feed. It is the line of this number
+/// in the file. If there is no such line, the answer is why the reading halts.
 pub fn next_entry<R: BufRead>(
     reader: &mut R,
     line: &mut Vec<u8>,
@@ -46,7 +46,7 @@ pub fn next_entry<R: BufRead>(
     Ok(Some(halt))
 }
 
-/// Reads the entries of a reader, the first of which stands in line 2. What halts it stands in
+/// Reads the entries of a reader, from the file's line 2 on. The line that halts the reading is left in
 /// `line`.
 pub fn read_entries<R: BufRead>(
     audit: &mut Audit,

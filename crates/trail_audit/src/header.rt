@@ -12,13 +12,13 @@ use session_model::{Bytes, push_decimal};
 use std::alloc::{AllocError, Global};
 use trail_lines::Unread;
 
-/// What the first line says. It is the writer's word: who reads it knows the owner or doesn't.
+/// What the first line says. Nothing proves it: the owner is whom the writer of the file named.
 pub struct Header {
     pub edition: Edition,
     pub owner: UserId,
-    /// What wrote the file: a word.
+    /// The program that wrote the file, and its version: one word.
     pub version: Bytes,
-    /// When, in milliseconds since 1970.
+    /// When the trail began, in milliseconds since 1970.
     pub ms: u64,
 }
 
@@ -33,7 +33,7 @@ impl Drop for Header {
     }
 }
 
-/// The edition of a digit.
+/// The edition that a digit means, if it means one.
 fn edition_in(word: &[u8]) -> Option<Edition>
     ensures { result ≡ edition_in word.now }
 {
@@ -46,7 +46,7 @@ fn edition_in(word: &[u8]) -> Option<Edition>
     }
 }
 
-/// What a first line begins with, by its edition of groups.
+/// The beginning of a first line, by the edition of groups.
 fn form_text(edition: Edition) -> &'static [u8]
     ensures { result.now ≡ form_text edition }
 {
@@ -68,7 +68,7 @@ pub fn print_header(header: &Header, out: &mut Vec<u8>) -> Result<(), AllocError
     push_decimal(header.ms, out)
 }
 
-/// The fields of a first line, in whatever spelling.
+/// The fields of a first line, in any spelling.
 #[tactic(auto, unfolding(crate::specs::Heading::header_fields))]
 fn header_fields(alloc: Global, line: &[u8]) -> Result<Header, Unread>
     ensures { Gives (λ header. header) result (header_fields line.now) }
@@ -89,7 +89,7 @@ fn header_fields(alloc: Global, line: &[u8]) -> Result<Header, Unread>
     })
 }
 
-/// What a first line says, which has no line feed: Malformed where nothing is printed so.
+/// What a first line says, given without its line feed. `Malformed` if no first line is printed so.
 #[tactic(auto, unfolding(crate::specs::Heading::read_header))]
 pub fn read_header(alloc: Global, line: &[u8]) -> Result<Header, Unread>
     ensures { Gives (λ header. header) result (read_header line.now) }

@@ -1,5 +1,5 @@
-//! A trail's file: its first line, its entries, its last line; whether it is legal, and what a cut
-//! leaves of it.
+//! The file of a trail: its first line, its entries and its last line, whether it is legal, and what is
+//! left of it when it is cut.
 #![tactic(auto)]
 
 pub mod audit;

@@ -5,18 +5,18 @@ ghost use Rattle.trail_audit.specs.Lines.{ComesAs, OfKnown};
 
 use std::io::{self, BufRead};
 
-/// How a line came.
+/// How a line was read.
 #[derive(Clone, Copy)]
 pub enum Came {
     /// With its line feed.
     Whole,
-    /// Without one: the file ends in it.
+    /// Without its line feed: the file ends in the line.
     Torn,
-    /// The file ended before it.
+    /// Not at all: the file has ended.
     Nothing,
 }
 
-/// Reads a line, which takes the place of what `line` had, without its line feed.
+/// Reads a line into `line`, without its line feed, in place of what `line` had.
 pub fn next_line<R: BufRead>(reader: &mut R, line: &mut Vec<u8>) -> io::Result<Came>
     ensures { IfOk result (λ came. OfKnown (R.remaining reader.old) (R.remaining reader.new)
         (ComesAs came line.new.items)) }

@@ -3,21 +3,21 @@
 ghost use Rattle.std.specs.Prelude.{◌≡◌};
 ghost use Rattle.trail_audit.specs.Times.{no_times, time_after};
 
-/// The loops of a server share the stamp of their lines, and one may overtake another: a line may
-/// have a time so many milliseconds before that of the line above it.
+/// A time may be up to this many milliseconds before the time of the entry above: the loops of a server
+/// share the stamp of their lines, and one loop may overtake another.
 const SLACK: u64 = 1_000;
 
-/// What the times of entries tell, one after another.
+/// The time of the last entry, and the first entry whose time runs backwards.
 #[derive(Clone, Copy)]
 pub struct Times {
-    /// That of the last entry, in milliseconds since 1970.
+    /// The time of the last entry, in milliseconds since 1970.
     last: u64,
-    /// The place of the first entry whose time is before that of the entry above it.
+    /// The place of the first entry whose time is more than a second before that of the entry above.
     back: Option<u64>,
 }
 
 impl Times {
-    /// No entry so far.
+    /// Before the first entry.
     pub fn new() -> Times
         ensures { result ≡ no_times }
     {
@@ -27,7 +27,7 @@ impl Times {
         }
     }
 
-    /// After the time of the next entry, which stands at this place.
+    /// After the time of the next entry, which has this place.
     pub fn after(self, place: u64, ms: u64) -> Times
         ensures { result ≡ time_after self place ms }
     {
@@ -39,8 +39,7 @@ impl Times {
         Times { last: ms, back }
     }
 
-    /// The place of the first entry whose time is more than a second before that of the entry above
-    /// it.
+    /// The place of the first entry whose time is more than a second before that of the entry above.
     pub fn back(&self) -> Option<u64>
         ensures { result ≡ self.now.back }
     {

@@ -15,10 +15,8 @@ use Rattle.hub_check.specs.declared.replay.Replay.{Replay}
 use Rattle.hub_check.specs.Following.{StandsAfter}
 use Rattle.trail_confined.specs.declared.premises.Premise.{Premise}
 use Rattle.trail_confined.specs.declared.premises.Premise.TheVariants as premise
-use Rattle.trail_rights.specs.declared.led.Led.{Led}
 use Rattle.trail_rights.specs.declared.settler.Setting.TheVariants as setting
 use Rattle.trail_rights.specs.declared.settler.Settler.{Settler}
-use Rattle.trail_rights.specs.Leading.{leaders_in}
 use Rattle.trail_rights.specs.Settling.{settler_in}
 
 -- ---- what confinement rests on, after the acts of a history
@@ -38,12 +36,12 @@ AreGuests edition owner h users =
     (user : UserId) (c : CommandName) → users user ≡ true → changes_rights c ≡ true →
     may edition owner h user Execute (object.Command c) ≡ false
 
--- who opens windows: each known user who has x on screen, as the owner has
+-- the users who may open windows: each known user who has x on screen, as the owner has
 abbrev pub may_open : Edition → UserId → History → UserId → Bool
 may_open edition owner h user =
     is_known owner h user && may edition owner h user Execute (object.Command name.Screen)
 
--- whose entries count for a user: his own, and his leaders'
+-- the users whose entries count for a user: the user, and then their leaders
 abbrev pub circle : Edition → History → UserId → List UserId
 circle edition h user = user ∷ leaders_of edition h user
 
@@ -110,7 +108,7 @@ premises_of edition owner h users =
     flat_map powers_of users ++ (flat_map standing_of (circles_of edition h users)
     ++ flat_map (masks_of (openers_of edition owner h)) (circles_of edition h users))
 
--- those that don't hold
+-- the premises that don't hold
 abbrev pub failing_of : Edition → UserId → History → List UserId → List Premise
 failing_of edition owner h users =
     filter (λ p. not (holds edition owner h p)) (premises_of edition owner h users)
@@ -123,17 +121,9 @@ is_asked settlers (premise.Masks opener user bit) =
     is_some (settler_in settlers (setting.Mask opener user bit))
 is_asked settlers _ = true
 
-abbrev pub is_led : List Led → UserId → Bool
-is_led leds user = is_some (leaders_in leds user)
-
--- what is looked for tells of each premise whether it holds
-abbrev pub IsTold : List Led → List Settler → List UserId → List Premise → Type 0
-IsTold leds settlers users premises =
-    (list_all (is_led leds) users ≡ true) × (list_all (is_asked settlers) premises ≡ true)
-
 -- ---- laws
 
--- users are confined exactly where each premise holds that concerns the bit: of any history for
+-- users are confined exactly if each premise holds that concerns the bit: of any history for
 -- which tables stand
 abbrev pub ConfinementIsDecided : Type 0
 ConfinementIsDecided =

@@ -1,1 +1,4 @@
 pub mod Confining
+pub mod Dates
+pub mod Reasons
+pub mod Telling

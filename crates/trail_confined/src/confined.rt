@@ -7,8 +7,7 @@ ghost use Rattle.acl.specs.declared.user_id.UserId.{UserId};
 ghost use Rattle.acl.specs.History.{History};
 ghost use Rattle.hub_check.specs.Following.{StandsAfter};
 ghost use Rattle.trail_lines.specs.Entries.{Said};
-ghost use Rattle.trail_confined.specs.Confining.{concerns, failing_of, holds, is_asked, is_led};
-ghost use Rattle.trail_confined.specs.Confining.{premises_of, IsTold};
+ghost use Rattle.trail_confined.specs.Confining.{concerns, failing_of, holds, is_asked, premises_of};
 ghost use Rattle.trail_rights.specs.Marks.{Marked, acts_in, marked_after};
 ghost use Rattle.trail_rights.specs.Settling.{HasSettled};
 ghost use Rattle.trail_rights.specs.Watching.{HasWatched};
@@ -19,7 +18,7 @@ use hub_check::Replay;
 use std::alloc::{AllocError, Global};
 use trail_rights::{Setting, Settler, Watch, may, settler_in};
 
-/// Whether a premise holds; None where its mask wasn't looked for.
+/// Whether a premise holds. None if it is about a mask that wasn't looked for.
 fn holds(replay: &Replay, settlers: &[Settler], premise: Premise) -> Option<bool>
     ensures holds { (edition : Edition) (owner : UserId) (marked : Marked) →
         StandsAfter replay.now edition owner (acts_in marked) →
@@ -47,7 +46,7 @@ fn holds(replay: &Replay, settlers: &[Settler], premise: Premise) -> Option<bool
     }
 }
 
-/// Those of the premises that don't hold; None where a mask wasn't looked for.
+/// The premises that don't hold. None if one is about a mask that wasn't looked for.
 fn failing_among(
     alloc: Global,
     replay: &Replay,
@@ -72,8 +71,8 @@ fn failing_among(
     Ok(Some(failing))
 }
 
-/// What the law on windows to come rests on and doesn't hold for these users, after what was read;
-/// None where the watch didn't look for all of it.
+/// The premises of the law on windows to come that don't hold for these users, after the entries that
+/// were read. None if the watch didn't look for a mask that they are about.
 pub fn failing_of(
     alloc: Global,
     watch: &Watch,
@@ -85,19 +84,17 @@ pub fn failing_of(
         ≡ failing_of edition owner (acts_in (marked_after [] said)) users.now)) }
     ensures told { (edition : Edition) (owner : UserId) (said : List Said) →
         HasWatched watch.now edition owner said →
-        IsTold watch.now.sight.leds.items watch.now.sight.settlers.items users.now
-        (premises_of edition owner (acts_in (marked_after [] said)) users.now) →
+        list_all (is_asked watch.now.sight.settlers.items)
+        (premises_of edition owner (acts_in (marked_after [] said)) users.now) ≡ true →
         IfOk result (λ o. is_some o ≡ true) }
 {
     let sight = watch.sight();
     let replay = watch.audit().replay();
-    match premises_of(alloc, replay, sight.leds(), users)? {
-        Some(premises) => failing_among(alloc, replay, sight.settlers(), premises.as_slice()),
-        None => Ok(None),
-    }
+    let premises = premises_of(alloc, replay, users)?;
+    failing_among(alloc, replay, sight.settlers(), premises.as_slice())
 }
 
-/// Whether the law applies for a bit, where these premises don't hold.
+/// Whether the law applies for a bit, if these are the premises that don't hold.
 pub fn is_confined(failing: &[Premise], bit: Bit) -> bool
     ensures { result ≡ not (list_any (concerns bit) failing.now) }
 {

@@ -1,15 +1,26 @@
 //! How it is told whether users are confined on windows to come, and why they aren't.
 
+ghost use Rattle.std.specs.Prelude.{◌≡◌, ◌++◌, OnOk, false};
+ghost use Rattle.std.specs.List.{flat_map, list_any};
+ghost use Rattle.acl.specs.declared.edition.Edition.{Edition};
+ghost use Rattle.acl.specs.declared.user_id.UserId.{UserId};
+ghost use Rattle.acl.specs.History.{History};
+ghost use Rattle.hub_check.specs.Following.{StandsAfter};
+ghost use Rattle.trail_confined.specs.Confining.{circle};
+ghost use Rattle.trail_confined.specs.Telling.{any_gives, bit_text, bits_text, causes_text};
+ghost use Rattle.trail_confined.specs.Telling.{concerned_text, confinement_text, contrary_text};
+ghost use Rattle.trail_confined.specs.Telling.{failing_text, found_of, giver_text, givers_text};
+ghost use Rattle.trail_confined.specs.Telling.{gives, letter_if, may_give, owner_text, power_text};
+ghost use Rattle.trail_confined.specs.Telling.{setting_text, settled_by, yes_text};
+
 use crate::confined::is_confined;
-use crate::premises::{CHANGERS, Premise};
-use acl::{Act, Bit, CommandName, Leaders, Object, UserId};
+use crate::premises::{CHANGERS, Premise, push_circle};
+use crate::why::push_found;
+use acl::{Act, Bit, CommandName, Object, UserId};
 use command_lang::name_text;
+use hub_check::Replay;
 use std::alloc::{AllocError, Global};
-use std::io::{self, Write};
-use trail_rights::{
-    BITS, Decider, Question, Setting, Watch, found_in, leaders_in, letter_of, settler_in, text_of,
-    write_found,
-};
+use trail_rights::{Decider, Mark, Setting, Settler, Sight, found_in, letter, settler_in};
 
 /// What decides whether a user may open windows, or change rights, before the first act.
 fn push_commands(
@@ -40,147 +51,269 @@ pub fn powers_of(
     Ok(deciders)
 }
 
-/// Writes for each bit whether the law on windows to come applies.
-fn write_bits<W: Write>(failing: &[Premise], output: &mut W) -> io::Result<()> {
-    for bit in &BITS {
-        let answer = if is_confined(failing, *bit) {
-            "yes"
-        } else {
-            "no"
-        };
-        writeln!(output, "confined {} {answer}", letter_of(*bit))?;
+/// Appends whether users are confined for a bit.
+fn push_yes(is: bool, out: &mut Vec<u8>) -> Result<(), AllocError>
+    ensures { OnOk result (out.new.items ≡ out.old.items ++ yes_text is) }
+{
+    if is {
+        out.extend_from_slice(b" yes\n")
+    } else {
+        out.extend_from_slice(b" no\n")
     }
-    Ok(())
 }
 
-/// Writes the letters of the bits that a premise concerns.
-fn write_concerned<W: Write>(premise: Premise, output: &mut W) -> io::Result<()> {
-    for bit in &BITS {
-        if premise.concerns(*bit) {
-            write!(output, "{}", letter_of(*bit))?;
-        }
-    }
-    Ok(())
+/// Appends a bit, and whether users are confined for it, if these premises fail.
+fn push_bit(failing: &[Premise], bit: Bit, out: &mut Vec<u8>) -> Result<(), AllocError>
+    ensures { OnOk result (out.new.items ≡ out.old.items ++ bit_text failing.now bit) }
+{
+    out.extend_from_slice(b"confined ")?;
+    out.extend_from_slice(letter(bit))?;
+    push_yes(is_confined(failing, bit), out)
 }
 
-/// Writes what is so in place of a premise.
-fn write_contrary<W: Write>(premise: Premise, output: &mut W) -> io::Result<()> {
+/// Appends each bit, and whether users are confined for it, if these premises fail.
+fn push_bits(failing: &[Premise], out: &mut Vec<u8>) -> Result<(), AllocError>
+    ensures { OnOk result (out.new.items ≡ out.old.items ++ bits_text failing.now) }
+{
+    push_bit(failing, Bit::Read, out)?;
+    push_bit(failing, Bit::Write, out)?;
+    push_bit(failing, Bit::Execute, out)
+}
+
+/// Appends the letter of a bit, if a premise concerns it.
+fn push_letter_if(premise: Premise, bit: Bit, out: &mut Vec<u8>) -> Result<(), AllocError>
+    ensures { OnOk result (out.new.items ≡ out.old.items ++ letter_if premise bit) }
+{
+    if premise.concerns(bit) {
+        out.extend_from_slice(letter(bit))
+    } else {
+        Ok(())
+    }
+}
+
+/// Appends the letters of the bits that a premise concerns.
+fn push_concerned(premise: Premise, out: &mut Vec<u8>) -> Result<(), AllocError>
+    ensures { OnOk result (out.new.items ≡ out.old.items ++ concerned_text premise) }
+{
+    push_letter_if(premise, Bit::Read, out)?;
+    push_letter_if(premise, Bit::Write, out)?;
+    push_letter_if(premise, Bit::Execute, out)
+}
+
+/// Appends what is so in place of a premise.
+fn push_contrary(premise: Premise, out: &mut Vec<u8>) -> Result<(), AllocError>
+    ensures { OnOk result (out.new.items ≡ out.old.items ++ contrary_text premise) }
+{
     match premise {
         Premise::NoPower { user, command } => {
-            writeln!(output, "{} has x on {}", text_of(&user), name_text(command))
+            out.extend_from_slice(user.as_bytes())?;
+            out.extend_from_slice(b" has x on ")?;
+            out.extend_from_slice(name_text(command).as_bytes())?;
+            out.extend_from_slice(b"\n")
         }
-        Premise::IsKnown { user } => writeln!(output, "{} isn't known", text_of(&user)),
-        Premise::OpensNone { user } => writeln!(output, "{} may open windows", text_of(&user)),
+        Premise::IsKnown { user } => {
+            out.extend_from_slice(user.as_bytes())?;
+            out.extend_from_slice(b" isn't known\n")
+        }
+        Premise::OpensNone { user } => {
+            out.extend_from_slice(user.as_bytes())?;
+            out.extend_from_slice(b" may open windows\n")
+        }
         Premise::Masks { opener, user, bit } => {
-            let (by, user) = (text_of(&opener), text_of(&user));
-            writeln!(output, "{by} gives {} to {user}", letter_of(bit))
+            out.extend_from_slice(opener.as_bytes())?;
+            out.extend_from_slice(b" gives ")?;
+            out.extend_from_slice(letter(bit))?;
+            out.extend_from_slice(b" to ")?;
+            out.extend_from_slice(user.as_bytes())?;
+            out.extend_from_slice(b"\n")
         }
     }
 }
 
-/// A user and those who lead him.
-fn members_of(alloc: Global, watch: &Watch, user: UserId) -> Result<Vec<UserId>, AllocError> {
-    let leaders = leaders_in(watch.sight().leds(), user).unwrap_or(Leaders::none());
-    let mut members = Vec::new(alloc);
-    members.push(user)?;
-    members.extend_from_slice(leaders.as_slice())?;
-    Ok(members)
-}
-
-/// Whether an act may be why a user has x: it gives it, or makes the user known, who may get it by a
+/// Whether an act may be why a user has x: it gives it; or it makes a user known, who may get x by a
 /// preset.
-fn may_give(act: &Act, is_preset: bool) -> bool {
+fn may_give(act: &Act, by_preset: bool) -> bool
+    ensures { result ≡ may_give act.now by_preset }
+{
     match *act {
-        Act::Set { value, .. } => value && !is_preset,
-        Act::Known { .. } => is_preset,
+        Act::Set { value, .. } => value && !by_preset,
+        Act::Known { .. } => by_preset,
         _ => false,
     }
 }
 
-/// Writes the acts of users that may be why one has a bit. Whether there was one.
-fn write_givers<W: Write>(
-    watch: &Watch,
-    members: &Vec<UserId>,
-    question: Question,
-    is_preset: bool,
-    output: &mut W,
-) -> io::Result<bool> {
-    let mut is_told = false;
-    for member in members {
-        let deciders = watch.sight().deciders();
-        let found = found_in(deciders, *member, question.bit, question.object);
-        if let Some((_, act)) = found
-            && may_give(&act, is_preset)
-        {
-            is_told = true;
-            output.write_all(b"  ")?;
-            write_found(*members.allocator(), *member, found, output)?;
-        }
+/// Whether the act that was found may be why a user has x.
+fn gives(found: Option<(Mark, Act)>, by_preset: bool) -> bool
+    ensures { result ≡ gives found by_preset }
+{
+    match found {
+        Some((_, act)) => may_give(&act, by_preset),
+        None => false,
     }
-    Ok(is_told)
 }
 
-/// Writes why a user has a bit: he is the owner, or by which acts he or a leader of his has it.
-fn write_givers_of<W: Write>(
-    alloc: Global,
-    owner: UserId,
-    watch: &Watch,
-    question: Question,
-    output: &mut W,
-) -> io::Result<()> {
-    if question.user == owner {
-        return writeln!(output, "  {}: the owner", text_of(&owner));
+/// The act that was found to decide a user's x on a command.
+fn found_of(deciders: &[Decider], command: CommandName, user: UserId) -> Option<(Mark, Act)>
+    ensures { result ≡ found_of deciders.now command user }
+{
+    found_in(deciders, user, Bit::Execute, Object::Command(command))
+}
+
+/// Appends the act by which a user has x on a command, if it may be why.
+fn push_giver(
+    deciders: &[Decider],
+    command: CommandName,
+    by_preset: bool,
+    user: UserId,
+    out: &mut Vec<u8>,
+) -> Result<(), AllocError>
+    ensures { OnOk result
+        (out.new.items ≡ out.old.items ++ giver_text deciders.now command by_preset user) }
+{
+    let found = found_of(deciders, command, user);
+    if gives(found, by_preset) {
+        out.extend_from_slice(b"  ")?;
+        push_found(user, found, out)
+    } else {
+        Ok(())
     }
-    let members = members_of(alloc, watch, question.user)?;
-    if !write_givers(watch, &members, question, false, output)? {
-        write_givers(watch, &members, question, true, output)?;
+}
+
+/// Whether an act gives x on a command to one of these users.
+fn any_gives(deciders: &[Decider], command: CommandName, users: &[UserId]) -> bool
+    ensures { result ≡ any_gives deciders.now command users.now }
+{
+    for user in users {
+        if gives(found_of(deciders, command, *user), false) {
+            return true;
+        }
+    }
+    false
+}
+
+/// Appends the acts by which these users have x on a command, those that may be why.
+fn push_each_giver(
+    deciders: &[Decider],
+    command: CommandName,
+    by_preset: bool,
+    users: &[UserId],
+    out: &mut Vec<u8>,
+) -> Result<(), AllocError>
+    ensures { OnOk result (out.new.items
+        ≡ out.old.items ++ flat_map (giver_text deciders.now command by_preset) users.now) }
+{
+    for user in users {
+        push_giver(deciders, command, by_preset, *user, out)?;
     }
     Ok(())
 }
 
-/// Writes which act gave a setting of a user its value.
-fn write_setting<W: Write>(
-    alloc: Global,
-    watch: &Watch,
-    user: UserId,
-    setting: Setting,
-    output: &mut W,
-) -> io::Result<()> {
-    let found = match settler_in(watch.sight().settlers(), setting) {
-        Some(settler) => settler.found(),
-        None => None,
-    };
-    output.write_all(b"  ")?;
-    write_found(alloc, user, found, output)
+/// Appends the acts that give x on a command to one of these users; if there are none, the acts that
+/// made them known.
+fn push_givers(
+    deciders: &[Decider],
+    command: CommandName,
+    users: &[UserId],
+    out: &mut Vec<u8>,
+) -> Result<(), AllocError>
+    ensures { OnOk result
+        (out.new.items ≡ out.old.items ++ givers_text deciders.now command users.now) }
+{
+    let by_preset = !any_gives(deciders, command, users);
+    push_each_giver(deciders, command, by_preset, users, out)
 }
 
-/// The question whether a user has x on a command.
-fn question_of(user: UserId, command: CommandName) -> Question {
-    Question {
-        user,
-        bit: Bit::Execute,
-        object: Object::Command(command),
+/// Appends that the owner has each right.
+fn push_owner(owner: UserId, out: &mut Vec<u8>) -> Result<(), AllocError>
+    ensures { OnOk result (out.new.items ≡ out.old.items ++ owner_text owner) }
+{
+    out.extend_from_slice(b"  ")?;
+    out.extend_from_slice(owner.as_bytes())?;
+    out.extend_from_slice(b": the owner\n")
+}
+
+/// Appends by which acts a user has x on a command: the user's own, and their leaders'.
+fn push_circle_givers(
+    replay: &Replay,
+    deciders: &[Decider],
+    user: UserId,
+    command: CommandName,
+    out: &mut Vec<u8>,
+) -> Result<(), AllocError>
+    ensures { (edition : Edition) (owner : UserId) (h : History) →
+        StandsAfter replay.now edition owner h → OnOk result (out.new.items
+        ≡ out.old.items ++ givers_text deciders.now command (circle edition h user)) }
+{
+    let mut users = Vec::new(*out.allocator());
+    push_circle(replay, user, &mut users)?;
+    push_givers(deciders, command, users.as_slice(), out)
+}
+
+/// Appends why a user has x on a command: they are the owner, or by which acts.
+fn push_power(
+    owner: UserId,
+    replay: &Replay,
+    sight: &Sight,
+    power: (UserId, CommandName),
+    out: &mut Vec<u8>,
+) -> Result<(), AllocError>
+    ensures { (edition : Edition) (h : History) → StandsAfter replay.now edition owner h →
+        OnOk result (out.new.items ≡ out.old.items
+        ++ power_text edition owner h sight.now.deciders.items power.0 power.1) }
+{
+    let (user, command) = power;
+    if user == owner {
+        push_owner(owner, out)
+    } else {
+        push_circle_givers(replay, sight.deciders(), user, command, out)
     }
 }
 
-/// Writes the entries by which a premise fails.
-fn write_causes<W: Write>(
-    alloc: Global,
+/// The act that gave a setting its value, if the setting was looked for and an act did.
+fn settled_by(settler: Option<Settler>) -> Option<(Mark, Act)>
+    ensures { result ≡ settled_by settler }
+{
+    match settler {
+        Some(settler) => settler.found(),
+        None => None,
+    }
+}
+
+/// Appends which act gave a setting of a user its value.
+fn push_setting(
+    settlers: &[Settler],
+    user: UserId,
+    setting: Setting,
+    out: &mut Vec<u8>,
+) -> Result<(), AllocError>
+    ensures { OnOk result
+        (out.new.items ≡ out.old.items ++ setting_text settlers.now user setting) }
+{
+    out.extend_from_slice(b"  ")?;
+    push_found(user, settled_by(settler_in(settlers, setting)), out)
+}
+
+/// Appends the acts by which a premise fails.
+fn push_causes(
     owner: UserId,
-    watch: &Watch,
+    replay: &Replay,
+    sight: &Sight,
     premise: Premise,
-    output: &mut W,
-) -> io::Result<()> {
+    out: &mut Vec<u8>,
+) -> Result<(), AllocError>
+    ensures { (edition : Edition) (h : History) → StandsAfter replay.now edition owner h →
+        OnOk result
+        (out.new.items ≡ out.old.items ++ causes_text edition owner h sight.now premise) }
+{
     match premise {
         Premise::NoPower { user, command } => {
-            write_givers_of(alloc, owner, watch, question_of(user, command), output)
-        }
-        Premise::OpensNone { user } => {
-            let question = question_of(user, CommandName::Screen);
-            write_givers_of(alloc, owner, watch, question, output)
+            push_power(owner, replay, sight, (user, command), out)
         }
         Premise::IsKnown { user } => {
-            write_setting(alloc, watch, user, Setting::Listed { user }, output)
+            push_setting(sight.settlers(), user, Setting::Listed { user }, out)
+        }
+        Premise::OpensNone { user } => {
+            push_power(owner, replay, sight, (user, CommandName::Screen), out)
         }
         Premise::Masks { opener, user, bit } => {
             let setting = Setting::Mask {
@@ -188,38 +321,61 @@ fn write_causes<W: Write>(
                 user,
                 bit,
             };
-            write_setting(alloc, watch, user, setting, output)
+            push_setting(sight.settlers(), user, setting, out)
         }
     }
 }
 
-/// Writes a premise that fails, and the entries by which it does.
-fn write_failing<W: Write>(
-    alloc: Global,
+/// Appends a premise that fails, and the acts by which it does.
+fn push_failing(
     owner: UserId,
-    watch: &Watch,
+    replay: &Replay,
+    sight: &Sight,
     premise: Premise,
-    output: &mut W,
-) -> io::Result<()> {
-    output.write_all(b"fails ")?;
-    write_concerned(premise, output)?;
-    output.write_all(b" ")?;
-    write_contrary(premise, output)?;
-    write_causes(alloc, owner, watch, premise, output)
+    out: &mut Vec<u8>,
+) -> Result<(), AllocError>
+    ensures { (edition : Edition) (h : History) → StandsAfter replay.now edition owner h →
+        OnOk result
+        (out.new.items ≡ out.old.items ++ failing_text edition owner h sight.now premise) }
+{
+    out.extend_from_slice(b"fails ")?;
+    push_concerned(premise, out)?;
+    out.extend_from_slice(b" ")?;
+    push_contrary(premise, out)?;
+    push_causes(owner, replay, sight, premise, out)
 }
 
-/// Writes for each bit whether the law on windows to come applies, then each premise that fails, and
-/// the entries by which it does.
-pub fn write_confinement<W: Write>(
-    alloc: Global,
+/// Appends each premise that fails, and the acts by which it does.
+fn push_each_failing(
     owner: UserId,
-    watch: &Watch,
+    replay: &Replay,
+    sight: &Sight,
     failing: &[Premise],
-    output: &mut W,
-) -> io::Result<()> {
-    write_bits(failing, output)?;
+    out: &mut Vec<u8>,
+) -> Result<(), AllocError>
+    ensures { (edition : Edition) (h : History) → StandsAfter replay.now edition owner h →
+        OnOk result (out.new.items ≡ out.old.items
+        ++ flat_map (failing_text edition owner h sight.now) failing.now) }
+{
     for premise in failing {
-        write_failing(alloc, owner, watch, *premise, output)?;
+        push_failing(owner, replay, sight, *premise, out)?;
     }
     Ok(())
+}
+
+/// Appends for each bit whether users are confined, and then each premise that fails, and the acts by
+/// which it does. The sight has looked for `powers_of` and `settings_of` the users and their leaders.
+pub fn push_confinement(
+    owner: UserId,
+    replay: &Replay,
+    sight: &Sight,
+    failing: &[Premise],
+    out: &mut Vec<u8>,
+) -> Result<(), AllocError>
+    ensures { (edition : Edition) (h : History) → StandsAfter replay.now edition owner h →
+        OnOk result (out.new.items ≡ out.old.items
+        ++ confinement_text edition owner h sight.now failing.now) }
+{
+    push_bits(failing, out)?;
+    push_each_failing(owner, replay, sight, failing, out)
 }

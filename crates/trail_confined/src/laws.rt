@@ -2,8 +2,7 @@
 
 ghost use Rattle.trail_confined.specs.Confining.{ConfinementIsDecided};
 
-/// Users are confined on windows to come, for a bit, exactly where none of the premises that fail
-/// concerns it.
+/// Users are confined for a bit on windows to come exactly if no premise fails that concerns the bit.
 pub fn confinement_is_decided()
     ensures { ConfinementIsDecided }
 {

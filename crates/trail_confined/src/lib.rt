@@ -1,12 +1,16 @@
-//! Whether users are confined on windows to come, and which premises of that fail; how it is told.
+//! How it is told which acts decide a bit, and whether users are confined on windows to come.
 #![tactic(auto)]
 
 mod confined;
+mod dates;
 mod failing;
 mod laws;
 mod premises;
+mod why;
 
 pub use confined::{failing_of, is_confined};
-pub use failing::{powers_of, write_confinement};
+pub use dates::push_day;
+pub use failing::{powers_of, push_confinement};
 pub use laws::confinement_is_decided;
 pub use premises::{Premise, may_open, openers_of, premises_of};
+pub use why::{Question, bit_of, push_reasons};

@@ -1,20 +1,19 @@
-//! What the law on windows to come rests on, for some users.
+//! The premises of the law on windows to come, for some users.
 
-ghost use Rattle.std.specs.Prelude.{◌≡◌, ◌++◌, OnOk, IfOk, IfSome, is_some};
-ghost use Rattle.std.specs.List.{AllByRecursion, flat_map, list_all};
+ghost use Rattle.std.specs.Prelude.{◌≡◌, ◌++◌, OnOk, IfOk};
+ghost use Rattle.std.specs.List.{flat_map};
 ghost use Rattle.acl.specs.declared.edition.Edition.{Edition};
 ghost use Rattle.acl.specs.declared.user_id.UserId.{UserId};
 ghost use Rattle.acl.specs.History.{History};
 ghost use Rattle.hub_check.specs.Following.{StandsAfter};
-ghost use Rattle.trail_rights.specs.Leading.{HasLed};
-ghost use Rattle.trail_confined.specs.Confining.{circles_of, concerns, is_led, masks_by, masks_of};
-ghost use Rattle.trail_confined.specs.Confining.{may_open, openers_of, powers_of, premises_of};
+ghost use Rattle.trail_confined.specs.Confining.{circles_of, concerns, masks_by, masks_of};
+ghost use Rattle.trail_confined.specs.Confining.{circle, may_open, openers_of, powers_of, premises_of};
 ghost use Rattle.trail_confined.specs.Confining.{standing_of};
 
 use acl::{Bit, CommandName, Object, UserId};
 use hub_check::Replay;
 use std::alloc::{AllocError, Global};
-use trail_rights::{Led, leaders_in, may, users_of};
+use trail_rights::{may, users_of};
 
 /// The commands that change users, rights, leaders, masks and presets.
 pub const CHANGERS: [CommandName; 5] = [
@@ -25,7 +24,7 @@ pub const CHANGERS: [CommandName; 5] = [
     CommandName::Aclumask,
 ];
 
-/// What the law on windows to come rests on.
+/// A premise of the law on windows to come.
 #[derive(Clone, Copy)]
 pub enum Premise {
     /// The user has no x on the command, which changes rights.
@@ -50,7 +49,7 @@ pub enum Premise {
 }
 
 impl Premise {
-    /// Whether the law rests on it for this bit.
+    /// Whether it is a premise of the law for this bit.
     pub fn concerns(&self, bit: Bit) -> bool
         ensures { result ≡ concerns bit self.now }
     {
@@ -61,7 +60,7 @@ impl Premise {
     }
 }
 
-/// That a user has x on none of the commands that change rights.
+/// Appends that a user has x on none of the commands that change rights.
 fn push_powers(user: UserId, out: &mut Vec<Premise>) -> Result<(), AllocError>
     ensures { OnOk result (out.new.items ≡ out.old.items ++ powers_of user) }
 {
@@ -89,7 +88,7 @@ fn push_powers(user: UserId, out: &mut Vec<Premise>) -> Result<(), AllocError>
     ])
 }
 
-/// That none of the users has x on a command that changes rights.
+/// Appends that none of the users has x on a command that changes rights.
 fn push_all_powers(users: &[UserId], out: &mut Vec<Premise>) -> Result<(), AllocError>
     ensures { OnOk result (out.new.items ≡ out.old.items ++ flat_map powers_of users.now) }
 {
@@ -99,14 +98,14 @@ fn push_all_powers(users: &[UserId], out: &mut Vec<Premise>) -> Result<(), Alloc
     Ok(())
 }
 
-/// That a user is known and opens no windows.
+/// Appends that a user is known and may open no windows.
 fn push_standing(user: UserId, out: &mut Vec<Premise>) -> Result<(), AllocError>
     ensures { OnOk result (out.new.items ≡ out.old.items ++ standing_of user) }
 {
     out.extend_from_slice(&[Premise::IsKnown { user }, Premise::OpensNone { user }])
 }
 
-/// That each user is known and opens no windows.
+/// Appends that each user is known and may open no windows.
 fn push_standings(users: &[UserId], out: &mut Vec<Premise>) -> Result<(), AllocError>
     ensures { OnOk result (out.new.items ≡ out.old.items ++ flat_map standing_of users.now) }
 {
@@ -116,7 +115,7 @@ fn push_standings(users: &[UserId], out: &mut Vec<Premise>) -> Result<(), AllocE
     Ok(())
 }
 
-/// That an opener masks each bit for a user.
+/// Appends that an opener masks each bit for a user.
 fn push_masks_by(user: UserId, opener: UserId, out: &mut Vec<Premise>) -> Result<(), AllocError>
     ensures { OnOk result (out.new.items ≡ out.old.items ++ masks_by user opener) }
 {
@@ -139,7 +138,7 @@ fn push_masks_by(user: UserId, opener: UserId, out: &mut Vec<Premise>) -> Result
     ])
 }
 
-/// That each opener masks each bit for a user.
+/// Appends that each opener masks each bit for a user.
 fn push_masks(openers: &[UserId], user: UserId, out: &mut Vec<Premise>) -> Result<(), AllocError>
     ensures { OnOk result (out.new.items ≡ out.old.items ++ masks_of openers.now user) }
 {
@@ -149,7 +148,7 @@ fn push_masks(openers: &[UserId], user: UserId, out: &mut Vec<Premise>) -> Resul
     Ok(())
 }
 
-/// That each opener masks each bit for each user.
+/// Appends that each opener masks each bit for each user.
 fn push_all_masks(
     openers: &[UserId],
     users: &[UserId],
@@ -164,7 +163,7 @@ fn push_all_masks(
     Ok(())
 }
 
-/// Whether a user opens windows.
+/// Whether a user is known and may open windows.
 pub fn may_open(replay: &Replay, user: UserId) -> bool
     ensures { (edition : Edition) (owner : UserId) (h : History) →
         StandsAfter replay.now edition owner h → result ≡ may_open edition owner h user }
@@ -178,7 +177,7 @@ pub fn may_open(replay: &Replay, user: UserId) -> bool
         )
 }
 
-/// The known users who open windows, in the order in which they became known.
+/// The known users who may open windows, in the order in which they became known.
 pub fn openers_of(alloc: Global, replay: &Replay) -> Result<Vec<UserId>, AllocError>
     ensures { (edition : Edition) (owner : UserId) (h : History) →
         StandsAfter replay.now edition owner h →
@@ -194,28 +193,36 @@ pub fn openers_of(alloc: Global, replay: &Replay) -> Result<Vec<UserId>, AllocEr
     Ok(openers)
 }
 
-/// These users, each with his leaders behind him; None where a user's leaders weren't looked for.
-fn circles_of(
-    alloc: Global,
-    leds: &[Led],
-    users: &[UserId],
-) -> Result<Option<Vec<UserId>>, AllocError>
-    ensures circles { (edition : Edition) (h : History) → AllByRecursion (HasLed edition h) leds.now →
-        IfOk result (λ o. IfSome o (λ circles. circles.items ≡ circles_of edition h users.now)) }
-    ensures led { IfOk result (λ o. is_some o ≡ list_all (is_led leds.now) users.now) }
+/// Appends a user, and then the user's leaders.
+pub fn push_circle(
+    replay: &Replay,
+    user: UserId,
+    circles: &mut Vec<UserId>,
+) -> Result<(), AllocError>
+    ensures { (edition : Edition) (owner : UserId) (h : History) →
+        StandsAfter replay.now edition owner h →
+        OnOk result (circles.new.items ≡ circles.old.items ++ circle edition h user) }
+{
+    let leaders = replay.leaders_of(user);
+    circles.push(user)?;
+    circles.extend_from_slice(leaders.as_slice())?;
+    Ok(())
+}
+
+/// These users, each followed by their leaders.
+fn circles_of(alloc: Global, replay: &Replay, users: &[UserId]) -> Result<Vec<UserId>, AllocError>
+    ensures { (edition : Edition) (owner : UserId) (h : History) →
+        StandsAfter replay.now edition owner h →
+        IfOk result (λ circles. circles.items ≡ circles_of edition h users.now) }
 {
     let mut circles = Vec::new(alloc);
     for user in users {
-        let Some(leaders) = leaders_in(leds, *user) else {
-            return Ok(None);
-        };
-        circles.push(*user)?;
-        circles.extend_from_slice(leaders.as_slice())?;
+        push_circle(replay, *user, &mut circles)?;
     }
-    Ok(Some(circles))
+    Ok(circles)
 }
 
-/// What the law rests on for users of whom each one's leaders stand behind him.
+/// Appends the premises of the law for users. The circles are these users, each followed by their leaders.
 fn push_premises(
     openers: &[UserId],
     users: &[UserId],
@@ -230,24 +237,19 @@ fn push_premises(
     push_all_masks(openers, circles, out)
 }
 
-/// What the law rests on for users; None where a user's leaders weren't looked for.
+/// The premises of the law for users.
 pub fn premises_of(
     alloc: Global,
     replay: &Replay,
-    leds: &[Led],
     users: &[UserId],
-) -> Result<Option<Vec<Premise>>, AllocError>
-    ensures premises { (edition : Edition) (owner : UserId) (h : History) →
-        StandsAfter replay.now edition owner h → AllByRecursion (HasLed edition h) leds.now →
-        IfOk result (λ o. IfSome o (λ premises.
-        premises.items ≡ premises_of edition owner h users.now)) }
-    ensures led { IfOk result (λ o. is_some o ≡ list_all (is_led leds.now) users.now) }
+) -> Result<Vec<Premise>, AllocError>
+    ensures { (edition : Edition) (owner : UserId) (h : History) →
+        StandsAfter replay.now edition owner h →
+        IfOk result (λ premises. premises.items ≡ premises_of edition owner h users.now) }
 {
-    let Some(circles) = circles_of(alloc, leds, users)? else {
-        return Ok(None);
-    };
+    let circles = circles_of(alloc, replay, users)?;
     let openers = openers_of(alloc, replay)?;
     let mut premises = Vec::new(alloc);
     push_premises(openers.as_slice(), users, circles.as_slice(), &mut premises)?;
-    Ok(Some(premises))
+    Ok(premises)
 }

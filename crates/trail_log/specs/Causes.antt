@@ -31,7 +31,7 @@ check_cause (right user bit object answer) = codes "entry " ++ missing_text user
 check_cause (lock user window None) = codes "locked"
 check_cause (lock user window (Some holder)) = lock_cause holder
 
--- what stands before a refused command
+-- the words before a refused command
 abbrev pub refused_verb : Refusal → List ℕ
 refused_verb (refusal.EntryDenied d) = codes " was denied "
 refused_verb (refusal.LockDenied d) = codes " was denied "

@@ -21,7 +21,7 @@ use Rattle.trail_log.specs.declared.titles.Titled.{Titled}
 use Rattle.trail_log.specs.Checks.{window_of}
 use Rattle.trail_log.specs.Naming.{Names, title_in}
 
--- who gives an event: nobody where a window's program ended
+-- the user who gives an event: nobody if a window's program ended
 abbrev pub giver : List (ℕ × UserId) → Kept → Option UserId
 giver clients (kept.Attach user rows columns) = Some user
 giver clients (kept.Detach client) = user_in clients client

@@ -3,4 +3,5 @@ pub mod Causes
 pub mod Checks
 pub mod Lines
 pub mod Choosing
+pub mod Joining
 pub mod Logging

@@ -1,18 +1,16 @@
--- The line of an entry in a log: the time of day (UTC), who, and what; a row an event.
+-- What a log tells of an entry: the time of day (UTC), who, and what; a row an event.
 use Rattle.std.specs.Prelude.{ℕ, ◌+◌, ◌/◌, ◌%◌, ◌==◌, if◌then◌else◌, List, [], ◌∷◌, ◌++◌}
 use Rattle.std.specs.Prelude.{Option, Some, None, Ok, Err, codes, decimal, find, not}
 use Rattle.acl.specs.Names.{name_of}
 use Rattle.acl.specs.declared.user_id.UserId.{UserId}
-use Rattle.client_words.specs.Visible.{visible}
 use Rattle.session_model.specs.declared.verdict.Verdict.{Verdict}
 use Rattle.hub_check.specs.Clients.{user_in}
 use Rattle.hub_trail.specs.declared.kept.Kept.{Kept}
 use Rattle.hub_trail.specs.declared.kept.Kept.TheVariants as kept
 use Rattle.hub_trail.specs.Legal.{failed, from_command}
-use Rattle.hub_trail.specs.Trails.{Ending, Entry}
+use Rattle.hub_trail.specs.Trails.{Ending}
 use Rattle.trail_audit.specs.declared.ending.Ended.{Ended}
 use Rattle.trail_audit.specs.Heading as heading
-use Rattle.trail_lines.specs.Entries.{Said}
 use Rattle.trail_log.specs.declared.titles.Titled.{Titled}
 use Rattle.trail_log.specs.Naming.{Names, title_in}
 use Rattle.trail_log.specs.Causes.{cause_text, check_cause, refused_verb}
@@ -20,7 +18,7 @@ use Rattle.trail_log.specs.Checks.{before_command, command_text, window_in}
 
 -- ---- parts
 
--- `web2 (window 3)`, or `window 3` where the trail hasn't its title
+-- `web2 (window 3)`, or `window 3` if the trail hasn't its title
 abbrev pub titled_text : Option (List ℕ) → ℕ → List ℕ
 titled_text None w = codes "window " ++ decimal w
 titled_text (Some title) w = title ++ (codes " (window " ++ (decimal w ++ codes ")"))
@@ -46,11 +44,18 @@ client_text (Some user) client = name_of user
 
 -- ---- keys: bytes that were typed, and then a command
 
+-- the check is the one that denied the bytes, if one did
+abbrev pub typed_verb : Option Verdict → List ℕ
+typed_verb None = codes " typed "
+typed_verb (Some v) = codes " was denied "
+
+abbrev pub typed_rest : List Titled → Option ℕ → Option Verdict → List ℕ
+typed_rest titles window None = into_text titles window
+typed_rest titles window (Some v) = into_text titles window ++ (codes ": " ++ check_cause v)
+
 abbrev pub typed_by : List Titled → ℕ → Option ℕ → Option Verdict → List ℕ
-typed_by titles taken window None = codes " typed " ++ (count_text taken ++ into_text titles window)
-typed_by titles taken window (Some v) =
-    codes " was denied " ++ (count_text taken ++ (into_text titles window
-    ++ (codes ": " ++ check_cause v)))
+typed_by titles taken window denied =
+    typed_verb denied ++ (count_text taken ++ typed_rest titles window denied)
 
 abbrev pub typed_text : List Titled → ℕ → List Verdict → List ℕ
 typed_text titles taken typed = typed_by titles taken (window_in typed) (failed typed)
@@ -63,7 +68,7 @@ asked_by titles name window (Some v) =
 abbrev pub asked_text : List Titled → List Verdict → List ℕ
 asked_text titles asked = asked_by titles (command_text asked) (window_in asked) (failed asked)
 
--- where no check was made of typed bytes and a command is asked for, none was typed
+-- if a command is asked for and no check was made of typed bytes, none were typed
 abbrev pub pressed_text : List Titled → ℕ → List Verdict → List Verdict → List ℕ
 pressed_text titles taken typed [] = typed_text titles taken typed
 pressed_text titles taken [] (v ∷ asked) = asked_text titles (v ∷ asked)
@@ -117,7 +122,7 @@ deed_text n (kept.Open user rows columns keep title) verdicts reply =
     name_of user ++ open_text title reply
 deed_text n (kept.Closed window) verdicts reply = closed_text n.1 window reply
 
--- ---- the line
+-- ---- times
 
 abbrev pub two : ℕ → List ℕ
 two n = (0x30 + n / 10) ∷ (0x30 + n % 10) ∷ []
@@ -128,15 +133,8 @@ clock_text ms =
     two (ms / 3600000 % 24) ++ (codes ":" ++ (two (ms / 60000 % 60)
     ++ (codes ":" ++ two (ms / 1000 % 60))))
 
-abbrev pub plain_text : Names → Said → List ℕ
-plain_text n x =
-    clock_text x.1 ++ (codes " " ++ deed_text n x.2.event x.2.verdicts x.2.reply)
+-- ---- the line of a trail's end
 
--- no control character stands in it but the line feed at its end
-abbrev pub line_text : Names → Said → List ℕ
-line_text n x = visible (plain_text n x) ++ 0x0A ∷ []
-
--- the line of a trail's end
 abbrev pub end_text : Ended → List ℕ
 end_text e = codes " the session ended: " ++ heading.cause_text e.cause
 

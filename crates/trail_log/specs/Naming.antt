@@ -53,7 +53,7 @@ abbrev pub follow_all : List Act → Names → Names
 follow_all [] n = n
 follow_all (a ∷ acts) n = follow_all acts (follow a n)
 
--- ---- the title that an entry gives a window: none where the trail hasn't what was typed
+-- ---- the title that an entry gives a window: none if it was typed, since the trail hasn't what is typed
 
 abbrev pub title_by : Result Command ParseFault → Option (List ℕ)
 title_by (Ok (command.Title text)) = Some text

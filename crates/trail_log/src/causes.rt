@@ -87,7 +87,7 @@ pub fn push_check(verdict: Verdict, out: &mut Vec<u8>) -> Result<(), AllocError>
     }
 }
 
-/// What stands before a refused command.
+/// The words before a refused command.
 pub fn refused_verb(refusal: &Refusal) -> &'static [u8]
     ensures { result.now ≡ refused_verb refusal.now }
 {

@@ -1,69 +1,13 @@
-//! An entry's checks: which are of typed bytes and which of a command, and what they name.
+//! The checks of an entry: which of them are before those of a command, and what they name.
 
 ghost use Rattle.std.specs.Prelude.{◌≡◌};
-ghost use Rattle.std.specs.List.{list_all};
-ghost use Rattle.hub_trail.specs.Legal.{asks_for_command, failed, from_command, passes};
 ghost use Rattle.trail_log.specs.Checks.{asks_title, before_command, command_by, command_text};
 ghost use Rattle.trail_log.specs.Checks.{is_title, window_in, window_of};
 
-use acl::{Bit, CommandName, Object};
+use acl::{CommandName, Object};
 use command_lang::name_text;
+use hub_acts::asks_for_command;
 use session_model::Verdict;
-
-/// Whether the check lets its user go on.
-fn passes(verdict: Verdict) -> bool
-    ensures { result ≡ passes verdict }
-{
-    match verdict {
-        Verdict::Right { answer, .. } => answer,
-        Verdict::Lock {
-            user,
-            holder: Some(holder),
-            ..
-        } => holder == user,
-        Verdict::Lock { holder: None, .. } => true,
-    }
-}
-
-/// Whether all checks pass.
-pub fn all_pass(verdicts: &[Verdict]) -> bool
-    ensures { result ≡ list_all passes verdicts.now }
-{
-    verdicts.iter().all(|verdict| passes(*verdict))
-}
-
-/// The first check that fails.
-pub fn failed(verdicts: &[Verdict]) -> Option<Verdict>
-    ensures { result ≡ failed verdicts.now }
-{
-    verdicts.iter().copied().find(|verdict| !passes(*verdict))
-}
-
-/// Whether the check asks for x on a command.
-fn asks_for_command(verdict: Verdict) -> bool
-    ensures { result ≡ asks_for_command verdict }
-{
-    matches!(
-        verdict,
-        Verdict::Right {
-            bit: Bit::Execute,
-            object: Object::Command(_),
-            ..
-        }
-    )
-}
-
-/// The checks from the first on that asks for x on a command.
-pub fn from_command(verdicts: &[Verdict]) -> &[Verdict]
-    ensures { result.now ≡ from_command verdicts.now }
-{
-    for i in 0..verdicts.len() {
-        if asks_for_command(verdicts[i]) {
-            return &verdicts[i..];
-        }
-    }
-    &[]
-}
 
 /// The checks before the first that asks for x on a command.
 pub fn before_command(verdicts: &[Verdict]) -> &[Verdict]

@@ -31,7 +31,7 @@ pub struct Choice {
     pub window: Option<Wanted>,
 }
 
-/// Who gives an event: nobody where a window's program ended.
+/// The user who gives an event: nobody if a window's program ended.
 fn giver(names: &Names, event: KeptRef<'_>) -> Option<UserId>
     ensures { result ≡ giver names.now.0 (kept_lent event.entry) }
 {

@@ -18,8 +18,8 @@ use hub_trail::Ending;
 use session_model::{Refusal, Verdict, push_decimal};
 use std::alloc::AllocError;
 
-/// Appends the user of a client, or its serial where it isn't attached.
-fn push_client(user: Option<UserId>, client: u32, out: &mut Vec<u8>) -> Result<(), AllocError>
+/// Appends the user of a client, or the client's serial if it isn't attached.
+pub fn push_client(user: Option<UserId>, client: u32, out: &mut Vec<u8>) -> Result<(), AllocError>
     ensures { OnOk result (out.new.items ≡ out.old.items ++ client_text user client) }
 {
     match user {
@@ -31,7 +31,7 @@ fn push_client(user: Option<UserId>, client: u32, out: &mut Vec<u8>) -> Result<(
     }
 }
 
-/// Appends a client's serial behind words.
+/// Appends words and a client's serial.
 fn push_serial(words: &[u8], client: u32, out: &mut Vec<u8>) -> Result<(), AllocError>
     ensures { OnOk result
         (out.new.items ≡ out.old.items ++ (words.now ++ (decimal client ++ codes ")"))) }
@@ -41,7 +41,7 @@ fn push_serial(words: &[u8], client: u32, out: &mut Vec<u8>) -> Result<(), Alloc
     out.extend_from_slice(b")")
 }
 
-/// Appends why something was refused, behind words.
+/// Appends words, and why something was refused.
 fn push_refused(words: &[u8], refusal: &Refusal, out: &mut Vec<u8>) -> Result<(), AllocError>
     ensures { OnOk result
         (out.new.items ≡ out.old.items ++ (words.now ++ cause_text refusal.now)) }
@@ -50,7 +50,7 @@ fn push_refused(words: &[u8], refusal: &Refusal, out: &mut Vec<u8>) -> Result<()
     push_cause(refusal, out)
 }
 
-/// Appends what became of an attachment.
+/// Appends whether a client was attached, or why not.
 fn push_attach(ending: Ending, out: &mut Vec<u8>) -> Result<(), AllocError>
     ensures { OnOk result (out.new.items ≡ out.old.items ++ attach_text ending) }
 {
@@ -70,7 +70,7 @@ fn push_detach(client: u32, ending: Ending, out: &mut Vec<u8>) -> Result<(), All
     }
 }
 
-/// Appends what became of a command's line, which acts on a window, if it does.
+/// Appends what became of a command's line, and the window on which it acts, if it does.
 fn push_command(
     titles: &[Titled],
     line: &[u8],
@@ -92,7 +92,7 @@ fn push_command(
     push_refused(b": ", &refusal, out)
 }
 
-/// Appends what became of a window that is to be opened.
+/// Appends whether a window was opened, or why not.
 fn push_open(title: &[u8], ending: Ending, out: &mut Vec<u8>) -> Result<(), AllocError>
     ensures { OnOk result (out.new.items ≡ out.old.items ++ open_text title.now ending) }
 {

@@ -1,18 +1,21 @@
-//! The log of a trail: a line an entry for people, of a user, a window or a time; who and what it names.
+//! The log of a trail for people: a line an entry, and one line for bytes that a user types one after
+//! another; of all entries, or of a user, a window or a time.
 #![tactic(auto)]
 
 mod causes;
 mod checks;
 mod choice;
 mod deeds;
+mod joining;
 mod lines;
+mod log_line;
 mod logging;
 mod names;
 mod pressed;
 mod titles;
 
 pub use choice::{Choice, Wanted};
-pub use lines::{push_end, push_line};
+pub use lines::push_end;
 pub use logging::Log;
 pub use names::Names;
 pub use titles::{Titled, title_in};

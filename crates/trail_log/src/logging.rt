@@ -1,47 +1,41 @@
 //! The log of a file's entries, one after another.
 
-ghost use Rattle.std.specs.Prelude.{◌≡◌, ◌++◌, List, [], IfOk, OnOk};
+ghost use Rattle.std.specs.Prelude.{◌≡◌, ◌≢◌, ◌++◌, List, [], None, IfErr, IfOk, OnOk};
 ghost use Rattle.acl.specs.declared.edition.Edition.{Edition};
 ghost use Rattle.acl.specs.declared.user_id.UserId.{UserId};
-ghost use Rattle.trail_lines.specs.Entries.{Said, said};
-ghost use Rattle.trail_log.specs.Logging.{HasLogged, PrintsNext, shown_text};
+ghost use Rattle.trail_audit.specs.declared.fault.Wrong.TheVariants.{NoMemory};
+ghost use Rattle.trail_lines.specs.Entries.{Said};
+ghost use Rattle.trail_log.specs.Joining.{held_ms, held_text};
+ghost use Rattle.trail_log.specs.Logging.{HasLogged, PrintsNext};
 
 use crate::choice::Choice;
-use crate::lines::push_line;
+use crate::joining::{push_held, tell};
+use crate::log_line::LogLine;
 use crate::names::Names;
 use acl::{Edition, UserId};
 use std::alloc::{AllocError, Global};
 use trail_audit::{Audit, Wrong};
-use trail_lines::Line;
 
-/// Reads the lines of entries, judges them, and prints them for people.
+/// Reads the lines of entries, judges the entries, and prints them for people. The last line is held
+/// until the next one comes, since typed bytes are joined.
 #[derive(Drop)]
 pub struct Log {
     audit: Audit,
     names: Names,
-}
-
-/// Appends the line of an entry, if it is asked for.
-fn show(choice: &Choice, names: &Names, line: &Line, out: &mut Vec<u8>) -> Result<(), AllocError>
-    ensures { OnOk result
-        (out.new.items ≡ out.old.items ++ shown_text choice.now names.now (said line.now)) }
-{
-    if choice.is_chosen(names, line) {
-        push_line(names, line, out)
-    } else {
-        Ok(())
-    }
+    held: Option<LogLine>,
 }
 
 impl Log {
-    /// No line so far.
+    /// Before the first line.
     pub fn new(alloc: Global, edition: Edition, owner: UserId) -> Result<Log, AllocError>
-        ensures { IfOk result (λ log. HasLogged log edition owner []) }
+        ensures logged { IfOk result (λ log. HasLogged log edition owner []) }
+        ensures held { IfOk result (λ log. log.held ≡ None) }
     {
         let audit = Audit::new(alloc, edition, owner)?;
         Ok(Log {
             audit,
             names: Names::new(alloc),
+            held: None,
         })
     }
 
@@ -52,24 +46,45 @@ impl Log {
         self.audit.count()
     }
 
-    /// What clients and windows are called after the entries so far.
+    /// What clients and windows are called after the entries that were read.
     pub fn names(&self) -> &Names
         ensures { result.now ≡ self.now.names }
     {
         &self.names
     }
 
-    /// Takes the line of the next entry, without its line feed, and appends what is printed of it.
-    /// Behind an `Err` it stands for nothing more.
-    pub fn take(&mut self, line: &[u8], choice: &Choice, out: &mut Vec<u8>) -> Result<u64, Wrong>
-        ensures { (edition : Edition) (owner : UserId) (said : List Said) →
+    /// Takes the line of the next entry, without its line feed. If the entry is asked for, its line is
+    /// held, and the line that was held is appended and its time returned; or the two are joined.
+    /// After an `Err` the log takes no line, but the line that is held can still be printed.
+    pub fn take(
+        &mut self,
+        line: &[u8],
+        choice: &Choice,
+        out: &mut Vec<u8>,
+    ) -> Result<Option<u64>, Wrong>
+        ensures tells { (edition : Edition) (owner : UserId) (said : List Said) →
             HasLogged self.old edition owner said →
-            PrintsNext result self.new choice.now line.now out.old.items out.new.items
+            PrintsNext result self.old self.new choice.now line.now out.old.items out.new.items
             edition owner said }
+        ensures held { IfErr result (λ wrong. wrong ≢ NoMemory → self.new.held ≡ self.old.held) }
     {
         let said = self.audit.take(line)?;
-        show(choice, &self.names, &said, out)?;
+        let ms = tell(&mut self.held, choice, &self.names, &said, out)?;
         self.names.take(&said)?;
-        Ok(said.ms)
+        Ok(ms)
+    }
+
+    /// Appends the line that is held, if there is one, and returns its time in milliseconds since
+    /// 1970. Nothing is joined to it any more.
+    pub fn end(&mut self, out: &mut Vec<u8>) -> Result<Option<u64>, AllocError>
+        ensures text { OnOk result (out.new.items ≡ out.old.items ++ held_text self.old.held) }
+        ensures ms { IfOk result (λ ms. ms ≡ held_ms self.old.held) }
+        ensures held { OnOk result (self.new.held ≡ None) }
+        ensures logged { (edition : Edition) (owner : UserId) (said : List Said) →
+            HasLogged self.old edition owner said → HasLogged self.new edition owner said }
+    {
+        let ms = push_held(&self.held, out)?;
+        self.held = None;
+        Ok(ms)
     }
 }

@@ -1,7 +1,6 @@
 //! What a log calls clients and windows.
 
-ghost use Rattle.std.specs.Prelude.{◌≡◌, ◌==◌, IfOk, OnOk, Some, filter, not};
-ghost use Rattle.writelock.specs.Holding.{clients_after};
+ghost use Rattle.std.specs.Prelude.{◌≡◌, IfOk, OnOk, Some};
 ghost use Rattle.hub_check.specs.Clients.{user_in};
 ghost use Rattle.hub_record.specs.Stored.{kept_lent};
 ghost use Rattle.trail_lines.specs.Entries.{said};
@@ -9,10 +8,12 @@ ghost use Rattle.trail_log.specs.Naming.{change_by, follow, follow_all, line_by,
 ghost use Rattle.trail_log.specs.Naming.{nobody, retitled, some_title, title_said, typed_change};
 ghost use Rattle.trail_log.specs.Naming.{with_change};
 
-use crate::checks::{all_pass, asks_title, from_command, window_in};
+use crate::checks::{asks_title, window_in};
 use crate::titles::{Titled, follow_titles, forget, set_title};
 use acl::{Act, UserId};
 use command_lang::{Command, FaultKind, ParseFault, parse};
+use hub_acts::from_command;
+use hub_check::{all_pass, follow_clients, user_of_client};
 use hub_record::KeptRef;
 use hub_trail::Ending;
 use session_model::{Bytes, Verdict};
@@ -43,7 +44,8 @@ impl Model for Names {
     ghost view = { λ n. (n.clients.items, n.titles.items) };
 }
 
-/// The title that an entry gives a window; none where the trail hasn't what was typed.
+/// The title that an entry gives a window. None if the title was typed, since what is typed isn't in
+/// the trail.
 #[derive(Drop)]
 struct Change {
     window: u32,
@@ -71,7 +73,7 @@ fn title_said(alloc: Global, line: &[u8]) -> Result<Option<Bytes>, AllocError>
     }
 }
 
-/// What a command's line, that acts on a window, changes.
+/// What a command's line changes, if it acts on a window.
 fn line_by(alloc: Global, line: &[u8], window: Option<u32>) -> Result<Option<Change>, AllocError>
     ensures { IfOk result (λ change. change ≡ line_by line.now window) }
 {
@@ -139,59 +141,20 @@ fn change_by(
 fn retitle(titles: &mut Vec<Titled>, change: Option<Change>) -> Result<(), AllocError>
     ensures { OnOk result (titles.new.items ≡ retitled change titles.old.items) }
 {
-    match change {
-        Some(
-            Change {
-                window,
-                title: Some(title),
-            },
-        ) => set_title(titles, window, title),
-        Some(
-            Change {
-                window,
-                title: None,
-            },
-        ) => {
+    let Some(Change { window, title }) = change else {
+        return Ok(());
+    };
+    match title {
+        Some(title) => set_title(titles, window, title),
+        None => {
             forget(titles, window);
             Ok(())
         }
-        None => Ok(()),
     }
-}
-
-/// Without this client.
-fn drop_client(clients: &mut Vec<(u32, UserId)>, client: u32)
-    ensures { clients.new.items ≡ filter (λ row. not (row.0 == client)) clients.old.items }
-{
-    clients.retain(|row| row.0 != client);
-}
-
-/// The clients after an act.
-fn follow_clients(clients: &mut Vec<(u32, UserId)>, act: &Act) -> Result<(), AllocError>
-    ensures { OnOk result (clients.new.items ≡ clients_after act.now clients.old.items) }
-{
-    match *act {
-        Act::Attached { client, user } => clients.insert(0, (client, user))?,
-        Act::Parted { client } => drop_client(clients, client),
-        _ => {}
-    }
-    Ok(())
-}
-
-/// The user of a client.
-fn user_in(clients: &[(u32, UserId)], client: u32) -> Option<UserId>
-    ensures { result ≡ user_in clients.now client }
-{
-    for row in clients {
-        if row.0 == client {
-            return Some(row.1);
-        }
-    }
-    None
 }
 
 impl Names {
-    /// Of no client and no window.
+    /// Without a client or a window.
     pub fn new(alloc: Global) -> Names
         ensures { result ≡ nobody }
     {
@@ -205,7 +168,7 @@ impl Names {
     pub fn user_of(&self, client: u32) -> Option<UserId>
         ensures { result ≡ user_in self.now.0 client }
     {
-        user_in(self.clients.as_slice(), client)
+        user_of_client(self.clients.as_slice(), client)
     }
 
     /// The titles of open windows, the one that was set last at the end.
@@ -215,7 +178,7 @@ impl Names {
         self.titles.as_slice()
     }
 
-    /// One act more.
+    /// Follows one act.
     fn follow(&mut self, act: &Act) -> Result<(), AllocError>
         ensures { OnOk result (self.new ≡ follow act.now self.old) }
     {
@@ -224,7 +187,7 @@ impl Names {
         Ok(())
     }
 
-    /// These acts more.
+    /// Follows acts in order.
     fn follow_all(&mut self, acts: &[Act]) -> Result<(), AllocError>
         ensures { OnOk result (self.new ≡ follow_all acts.now self.old) }
     {
@@ -234,14 +197,14 @@ impl Names {
         Ok(())
     }
 
-    /// One change of a title more.
+    /// Changes a title.
     fn retitle(&mut self, change: Option<Change>) -> Result<(), AllocError>
         ensures { OnOk result (self.new ≡ with_change change self.old) }
     {
         retitle(&mut self.titles, change)
     }
 
-    /// One entry more.
+    /// Follows the acts of the next entry, and the title that it gives.
     pub fn take(&mut self, line: &Line) -> Result<(), AllocError>
         ensures { OnOk result (self.new ≡ names_with self.old (said line.now)) }
     {

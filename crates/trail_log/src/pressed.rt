@@ -2,27 +2,56 @@
 
 ghost use Rattle.std.specs.Prelude.{◌≡◌, ◌++◌, OnOk};
 ghost use Rattle.trail_log.specs.Lines.{asked_by, asked_text, count_text, keys_text, pressed_text};
-ghost use Rattle.trail_log.specs.Lines.{typed_by, typed_text};
+ghost use Rattle.trail_log.specs.Lines.{typed_by, typed_rest, typed_text, typed_verb};
 
 use crate::causes::{push_cause, push_check};
-use crate::checks::{before_command, command_text, failed, from_command, window_in};
+use crate::checks::{before_command, command_text, window_in};
 use crate::titles::{Titled, push_into, push_on};
+use hub_acts::from_command;
+use hub_check::failed;
 use hub_trail::Ending;
 use session_model::{Verdict, push_decimal};
 use std::alloc::AllocError;
 
 /// Appends how many bytes.
-fn push_count(count: usize, out: &mut Vec<u8>) -> Result<(), AllocError>
+pub fn push_count(count: u64, out: &mut Vec<u8>) -> Result<(), AllocError>
     ensures { OnOk result (out.new.items ≡ out.old.items ++ count_text count) }
 {
     if count == 1 {
         return out.extend_from_slice(b"1 byte");
     }
-    push_decimal(count as u64, out)?;
+    push_decimal(count, out)?;
     out.extend_from_slice(b" bytes")
 }
 
-/// Appends that so many bytes were typed into a window, or denied by a check.
+/// Whether bytes were typed, or denied by a check.
+pub fn typed_verb(denied: Option<Verdict>) -> &'static [u8]
+    ensures { result.now ≡ typed_verb denied }
+{
+    match denied {
+        Some(_) => b" was denied ",
+        None => b" typed ",
+    }
+}
+
+/// Appends into which window bytes were typed, and the check that denied them, if one did.
+pub fn push_typed_rest(
+    titles: &[Titled],
+    window: Option<u32>,
+    denied: Option<Verdict>,
+    out: &mut Vec<u8>,
+) -> Result<(), AllocError>
+    ensures { OnOk result (out.new.items ≡ out.old.items ++ typed_rest titles.now window denied) }
+{
+    let Some(verdict) = denied else {
+        return push_into(titles, window, out);
+    };
+    push_into(titles, window, out)?;
+    out.extend_from_slice(b": ")?;
+    push_check(verdict, out)
+}
+
+/// Appends how many bytes were typed into a window, or denied by a check.
 fn push_typed_by(
     titles: &[Titled],
     taken: usize,
@@ -33,16 +62,9 @@ fn push_typed_by(
     ensures { OnOk result
         (out.new.items ≡ out.old.items ++ typed_by titles.now taken window denied) }
 {
-    let Some(verdict) = denied else {
-        out.extend_from_slice(b" typed ")?;
-        push_count(taken, out)?;
-        return push_into(titles, window, out);
-    };
-    out.extend_from_slice(b" was denied ")?;
-    push_count(taken, out)?;
-    push_into(titles, window, out)?;
-    out.extend_from_slice(b": ")?;
-    push_check(verdict, out)
+    out.extend_from_slice(typed_verb(denied))?;
+    push_count(taken as u64, out)?;
+    push_typed_rest(titles, window, denied, out)
 }
 
 /// Appends what became of typed bytes by their checks.

@@ -68,7 +68,7 @@ pub fn title_in(titles: &[Titled], window: u32) -> Option<&[u8]>
     None
 }
 
-/// Appends a window's serial behind a word.
+/// Appends a word and a window's serial.
 fn push_serial(word: &[u8], window: u32, out: &mut Vec<u8>) -> Result<(), AllocError>
     ensures { OnOk result (out.new.items ≡ out.old.items ++ (word.now ++ decimal window)) }
 {

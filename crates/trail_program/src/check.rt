@@ -8,17 +8,17 @@ use trail_lines::Unread;
 /// How a file ends.
 #[derive(Clone, Copy)]
 pub enum Finish {
-    /// With a last line, which counts its entries.
+    /// With a last line that counts the entries.
     Ended { ended: Ended },
-    /// Without one: the session runs still, or its server was killed.
+    /// Without a last line: the session still runs, or its server was killed.
     Open,
-    /// In bytes that no line feed ends.
+    /// In bytes without a line feed.
     Torn,
-    /// In a last line that isn't one, or counts other entries.
+    /// In a line that begins as a last line, but isn't one, or counts other entries.
     Miscounted { line: u64 },
-    /// With lines behind the last one.
+    /// With more after the last line.
     Continued { line: u64 },
-    /// Before this line, in which something is wrong.
+    /// In a line in which something is wrong.
     Stopped { line: u64, wrong: Wrong },
 }
 
@@ -32,7 +32,7 @@ impl Finish {
     }
 }
 
-/// What a line says that begins as a last one does, if it is one behind so many entries.
+/// What a line says that begins as a last line does, if it is the last line of this many entries.
 pub fn end_in(alloc: Global, count: u64, line: &[u8]) -> Result<Option<Ended>, AllocError> {
     match read_end(alloc, line) {
         Ok(ended) if ended.entries == count => Ok(Some(ended)),
@@ -41,7 +41,7 @@ pub fn end_in(alloc: Global, count: u64, line: &[u8]) -> Result<Option<Ended>, A
     }
 }
 
-/// What a line tells that begins as a last one does, and whether nothing stands behind it.
+/// How a file ends at a line that begins as a last line does.
 fn finish_in<R: BufRead>(
     alloc: Global,
     count: u64,
@@ -58,8 +58,8 @@ fn finish_in<R: BufRead>(
     }
 }
 
-/// How a file ends, of which so many entries were read, where this halted the reading; `line` is
-/// what it was halted by.
+/// How a file ends, of which this many entries were read, if this halted the reading. The line that
+/// halted it is in `line`.
 pub fn finish_of<R: BufRead>(
     alloc: Global,
     count: u64,
@@ -75,7 +75,7 @@ pub fn finish_of<R: BufRead>(
     }
 }
 
-/// Judges the entries of a reader, the first of which stands in line 2, and says how it ends.
+/// Judges the entries of a reader, from the file's line 2 on, and says how the file ends.
 pub fn check_lines<R: BufRead>(
     alloc: Global,
     audit: &mut Audit,

@@ -1,4 +1,5 @@
-//! The log of a trail, for people: a line an entry, and a line where a day begins.
+//! The log of a trail, for people: a line an entry, one line for bytes that a user types one after
+//! another, and a line for each new day.
 
 use crate::check::{Finish, end_in, finish_of};
 use crate::fault::Fault;
@@ -6,52 +7,38 @@ use crate::heading::heading_of;
 use crate::tell::{LEGAL, tell_finish};
 use crate::words::{Asked, Window};
 use acl::{Edition, UserId};
-use line_fields::cut;
 use session_model::Bytes;
 use std::alloc::{AllocError, Global};
 use std::io::{self, BufRead, Write};
 use trail_audit::{Halt, Wrong, next_entry};
+use trail_confined::push_day;
 use trail_log::{Choice, Log, Wanted, push_end};
-use trail_rights::time_of;
 
-/// So many milliseconds has a day.
+/// A day, in milliseconds.
 const DAY: u64 = 86_400_000;
 
-/// A log on its way to people: what is asked for, and the day of the last line.
+/// A log on its way to people.
 #[derive(Drop)]
 struct Diary {
     alloc: Global,
     log: Log,
+    /// Which entries are asked for.
     choice: Choice,
+    /// Whether more is waited for at the file's end: then each line is written at once.
+    follows: bool,
+    /// The day of the last line that was written.
     day: Option<u64>,
-}
-
-/// A time in the form of RFC 3339, as bytes.
-fn time_text(alloc: Global, ms: u64) -> io::Result<Vec<u8>> {
-    let mut text = Vec::new(alloc);
-    match time_of(ms) {
-        Some(time) => write!(text, "{time}")?,
-        None => write!(text, "{ms}")?,
-    }
-    Ok(text)
-}
-
-/// What stands before the `T` of a time: its day; or all of it.
-fn day_in(time: &[u8]) -> &[u8] {
-    match cut(time, b'T') {
-        Some((day, _)) => day,
-        None => time,
-    }
 }
 
 /// Writes the day of a time.
 fn write_day<W: Write>(alloc: Global, ms: u64, output: &mut W) -> io::Result<()> {
-    let time = time_text(alloc, ms)?;
-    output.write_all(day_in(time.as_slice()))?;
+    let mut text = Vec::new(alloc);
+    push_day(ms, &mut text)?;
+    output.write_all(text.as_slice())?;
     output.write_all(b" (UTC)\n")
 }
 
-/// The entries that words ask for.
+/// The entries that the words ask for.
 fn choice_of(alloc: Global, asked: Asked<'_>) -> Result<Choice, AllocError> {
     let window = match asked.window {
         Some(Window::Serial(serial)) => Some(Wanted::Serial(serial)),
@@ -66,12 +53,12 @@ fn choice_of(alloc: Global, asked: Asked<'_>) -> Result<Choice, AllocError> {
 }
 
 impl Diary {
-    /// Writes a line of this time at once, and before it the day where that is another one; nothing
-    /// where the line is empty.
-    fn write<W: Write>(&mut self, ms: u64, text: &[u8], output: &mut W) -> io::Result<()> {
-        if text.is_empty() {
+    /// Writes a line of this time at once, and before it the day if that is another day than the last
+    /// line's. Writes nothing if there is no line.
+    fn write<W: Write>(&mut self, ms: Option<u64>, text: &[u8], output: &mut W) -> io::Result<()> {
+        let Some(ms) = ms else {
             return Ok(());
-        }
+        };
         let day = Some(ms / DAY);
         if self.day != day {
             write_day(self.alloc, ms, output)?;
@@ -81,8 +68,15 @@ impl Diary {
         output.flush()
     }
 
-    /// Takes the line of the next entry, and writes what is told of it. The answer is what is wrong
-    /// with it, if something is.
+    /// Writes the line that the log holds, if it holds one.
+    fn write_held<W: Write>(&mut self, text: &mut Vec<u8>, output: &mut W) -> io::Result<()> {
+        text.clear();
+        let ms = self.log.end(text)?;
+        self.write(ms, text.as_slice(), output)
+    }
+
+    /// Takes the line of the next entry, and writes the lines to which nothing is joined. The answer is
+    /// what is wrong with the entry, if something is.
     fn take<W: Write>(
         &mut self,
         line: &[u8],
@@ -93,26 +87,29 @@ impl Diary {
         match self.log.take(line, &self.choice, text) {
             Ok(ms) => {
                 self.write(ms, text.as_slice(), output)?;
+                if self.follows {
+                    self.write_held(text, output)?;
+                }
                 Ok(None)
             }
             Err(wrong) => Ok(Some(wrong)),
         }
     }
 
-    /// Writes the lines of entries that are asked for, as far as what halts the reading, which stands
-    /// in `line`.
+    /// Writes the lines of entries that are asked for, up to the line that halts the reading, which is
+    /// left in `line`. A line may still be held.
     fn write_entries<R: BufRead, W: Write>(
         &mut self,
         reader: &mut R,
         line: &mut Vec<u8>,
+        text: &mut Vec<u8>,
         output: &mut W,
     ) -> io::Result<Halt> {
-        let mut text = Vec::new(self.alloc);
         for number in 2..u64::MAX {
             if let Some(halt) = next_entry(reader, line, number)? {
                 return Ok(halt);
             }
-            if let Some(wrong) = self.take(line.as_slice(), &mut text, output)? {
+            if let Some(wrong) = self.take(line.as_slice(), text, output)? {
                 return Ok(Halt::Stopped {
                     line: number,
                     wrong,
@@ -122,8 +119,8 @@ impl Diary {
         Ok(Halt::Nothing)
     }
 
-    /// Writes how a file ends: when and why the session did, or what is wrong; nothing of a file that
-    /// is written still. The answer is the status to exit with.
+    /// Writes how a file ends: when and why the session ended, or what is wrong. Writes nothing if the
+    /// file is still being written. The answer is the status to exit with.
     fn write_finish<W: Write>(
         &mut self,
         finish: Finish,
@@ -134,7 +131,7 @@ impl Diary {
             Finish::Ended { ended } => {
                 let mut text = Vec::new(self.alloc);
                 push_end(&ended, &mut text)?;
-                self.write(ended.ms, text.as_slice(), output)?;
+                self.write(Some(ended.ms), text.as_slice(), output)?;
                 Ok(LEGAL)
             }
             Finish::Open | Finish::Torn => Ok(LEGAL),
@@ -143,7 +140,7 @@ impl Diary {
     }
 }
 
-/// How a file ends that is followed: nothing is waited for behind its last line.
+/// How a file that is followed ends. Nothing is waited for after its last line.
 fn finish_at<R: BufRead>(
     alloc: Global,
     count: u64,
@@ -160,19 +157,20 @@ fn finish_at<R: BufRead>(
     }
 }
 
-/// Writes the log of a trail of this owner, behind its first line.
+/// Writes the log of a trail of this owner, after its first line.
 fn write_diary<R: BufRead, W: Write>(
     mut diary: Diary,
     owner: UserId,
-    follows: bool,
     reader: &mut R,
     output: &mut W,
 ) -> io::Result<u8> {
     let alloc = diary.alloc;
     let mut line = Vec::new(alloc);
-    let halt = diary.write_entries(reader, &mut line, output)?;
+    let mut text = Vec::new(alloc);
+    let halt = diary.write_entries(reader, &mut line, &mut text, output)?;
+    diary.write_held(&mut text, output)?;
     let count = diary.log.count();
-    let finish = if follows {
+    let finish = if diary.follows {
         finish_at(alloc, count, halt, reader, &mut line)?
     } else {
         finish_of(alloc, count, halt, reader, &mut line)?
@@ -180,12 +178,13 @@ fn write_diary<R: BufRead, W: Write>(
     diary.write_finish(finish, owner, output)
 }
 
-/// A log that has told nothing.
+/// A log that has read nothing.
 fn diary_of(alloc: Global, asked: Asked<'_>, edition: Edition, owner: UserId) -> io::Result<Diary> {
     Ok(Diary {
         alloc,
         log: Log::new(alloc, edition, owner)?,
         choice: choice_of(alloc, asked)?,
+        follows: asked.follows,
         day: None,
     })
 }
@@ -200,7 +199,7 @@ pub fn tell_log<R: BufRead, W: Write>(
     let heading = heading_of(alloc, reader)?;
     let owner = asked.owner.unwrap_or(heading.owner);
     let diary = diary_of(alloc, asked, heading.edition, owner)?;
-    match write_diary(diary, owner, asked.follows, reader, output) {
+    match write_diary(diary, owner, reader, output) {
         Ok(status) => Ok(status),
         Err(error) => Err(Fault::Io(error)),
     }

@@ -1,30 +1,55 @@
-//! Why a file isn't judged, nor shown.
+//! Why a file isn't read to its end, as the program tells it.
 
-use std::fmt::{self, Display, Formatter};
-use std::io;
+use std::io::{self, Write};
 
-/// Why a file isn't judged, nor shown.
+/// Why a file isn't read to its end.
 #[derive(Clone, Copy)]
 pub enum Fault {
+    /// The file can't be opened.
+    NotOpened(io::Error),
+    /// Reading or writing failed, or memory was refused.
     Io(io::Error),
+    /// This line isn't the first line of a trail.
     NoHeader(u64),
+    /// This line isn't a line of a trail.
     NoLine(u64),
+    /// `--at` names none of this many entries.
     NoPlace(u64),
+    /// `--confined` names no users.
     NoUsers,
+    /// The file changed between two passes.
     Changed,
 }
 
-impl Display for Fault {
-    fn fmt<W: fmt::Write>(&self, f: &mut Formatter<W>) -> fmt::Result {
+impl Fault {
+    /// Writes what happened, the path, and what to do.
+    pub fn write<W: Write>(self, path: &str, output: &mut W) -> io::Result<()> {
+        output.write_all(b"mux-trail: ")?;
         match self {
-            Fault::Io(error) => Display::fmt(error, f),
-            Fault::NoHeader(line) => {
-                write!(f, "line {line}: no first line of a trail is spelled so")
+            Fault::NotOpened(error) => writeln!(output, "can't open the file: {path}: {error}"),
+            Fault::Io(error) => writeln!(output, "can't go on: {path}: {error}"),
+            Fault::NoHeader(line) => writeln!(
+                output,
+                "line {line} isn't the first line of a trail: {path}: name a file of muxd --trail"
+            ),
+            Fault::NoLine(line) => writeln!(
+                output,
+                "line {line} isn't a line of a trail: {path}: mux-trail check says more"
+            ),
+            Fault::NoPlace(count) => writeln!(
+                output,
+                "--at names no entry: {path}: give a place below {count}, the number of entries"
+            ),
+            Fault::NoUsers => writeln!(
+                output,
+                "--confined names no users: {path}: give names with commas between, as ann,bob"
+            ),
+            Fault::Changed => {
+                writeln!(
+                    output,
+                    "the file changed while it was read: {path}: try again"
+                )
             }
-            Fault::NoLine(line) => write!(f, "line {line}: no line of a trail is spelled so"),
-            Fault::NoPlace(count) => write!(f, "it has {count} entries"),
-            Fault::NoUsers => f.write_str("--confined takes names of users, with commas between"),
-            Fault::Changed => f.write_str("it was changed while it was read"),
         }
     }
 }

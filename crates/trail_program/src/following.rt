@@ -6,10 +6,10 @@ use std::io::Read;
 use std::time::{Clock, Duration};
 use std::{io, thread};
 
-/// At the end of the file it is looked for more after so many milliseconds.
+/// How often the end of the file is looked at for more, in milliseconds.
 const PAUSE: u64 = 100;
 
-/// A file without an end: where it has no more, more is waited for.
+/// A file without an end: at the end of the file, reading waits for more.
 #[derive(Drop)]
 pub struct Following<'a, R, F> {
     pub rt: &'a R,
@@ -17,7 +17,7 @@ pub struct Following<'a, R, F> {
 }
 
 impl<R: Clock, F: Read + Drop> Following<'_, R, F> {
-    /// What the file has next, once it has some.
+    /// Reads what the file has next, and waits until it has more.
     fn read_next(&mut self, buf: &mut [u8]) -> io::Result<usize>
         ensures { ReadsAtMost result buf.new }
     {

@@ -1,4 +1,4 @@
-//! A pass over a file's entries, as far as one place.
+//! A pass over a file's entries, up to one place.
 
 use crate::check::{Finish, finish_of};
 use crate::fault::Fault;
@@ -7,10 +7,10 @@ use acl::{Edition, Leaders, UserId};
 use std::alloc::Global;
 use std::io::{self, BufRead, BufReader, Read};
 use trail_audit::Audit;
-use trail_confined::powers_of;
-use trail_rights::{Decider, Led, Question, Settler, Sight, Watch, settings_of, watch_entries};
+use trail_confined::{Question, powers_of};
+use trail_rights::{Decider, Settler, Sight, Watch, settings_of, watch_entries};
 
-/// What a pass looks for beside rights, locks and leaders.
+/// What a pass looks for besides rights, locks and leaders.
 #[derive(Clone, Copy)]
 pub enum Looks {
     Nothing,
@@ -23,9 +23,9 @@ pub enum Looks {
 /// What a pass looks for.
 #[derive(Clone, Copy)]
 pub struct Search<'a> {
-    /// The users whose leaders, and what else it looks for, it looks for.
+    /// The users whose settings and powers it looks for.
     pub users: &'a [UserId],
-    /// What decides a bit of the user and of these leaders of his.
+    /// What decides a bit of the user and of these leaders of theirs.
     pub reasons: Option<(Question, Leaders)>,
     pub looks: Looks,
     /// The place of the last entry that it reads.
@@ -37,7 +37,7 @@ pub struct Search<'a> {
 pub struct Pass {
     pub owner: UserId,
     pub watch: Watch,
-    /// How the file ends, where it was read to its end.
+    /// How the file ends, if it was read to its end.
     pub finish: Finish,
 }
 
@@ -47,16 +47,13 @@ impl Pass {
         self.watch.audit().count()
     }
 
-    /// The leaders of the first user whose leaders it has looked for.
-    pub fn leaders(&self) -> Leaders {
-        match self.watch.sight().leds() {
-            [led, ..] => led.leaders().unwrap_or(Leaders::none()),
-            [] => Leaders::none(),
-        }
+    /// The user's leaders after the entries that it has read.
+    pub fn leaders_of(&self, user: UserId) -> Leaders {
+        self.watch.audit().replay().leaders_of(user)
     }
 }
 
-/// What decides a bit of a user and his leaders, before the first act.
+/// What decides a bit of a user and of their leaders, before the first act.
 fn deciders_of(
     alloc: Global,
     owner: UserId,
@@ -72,7 +69,7 @@ fn deciders_of(
     Ok(deciders)
 }
 
-/// What decides who may open windows or change rights, where a search looks for that.
+/// What decides who may open windows or change rights, if a search looks for that.
 fn powers_in(alloc: Global, owner: UserId, search: &Search<'_>) -> io::Result<Vec<Decider>> {
     match search.looks {
         Looks::Confinement => Ok(powers_of(alloc, owner, search.users)?),
@@ -88,23 +85,14 @@ fn settlers_in(alloc: Global, search: &Search<'_>) -> io::Result<Vec<Settler>> {
     }
 }
 
-/// A sight that has seen nothing, of what a search looks for.
-fn sight_of(
-    alloc: Global,
-    edition: Edition,
-    owner: UserId,
-    search: &Search<'_>,
-) -> io::Result<Sight> {
+/// A sight of what a search looks for, before the first act.
+fn sight_of(alloc: Global, owner: UserId, search: &Search<'_>) -> io::Result<Sight> {
     let deciders = match search.reasons {
         Some((question, leaders)) => deciders_of(alloc, owner, question, leaders)?,
         None => powers_in(alloc, owner, search)?,
     };
-    let mut leds = Vec::new(alloc);
-    for user in search.users {
-        leds.push(Led::new(*user))?;
-    }
     let settlers = settlers_in(alloc, search)?;
-    Ok(Sight::new(alloc, edition, deciders, leds, settlers))
+    Ok(Sight::new(alloc, deciders, settlers))
 }
 
 /// A watch that has read nothing.
@@ -114,12 +102,12 @@ fn watch_of(
     owner: UserId,
     search: &Search<'_>,
 ) -> io::Result<Watch> {
-    let sight = sight_of(alloc, edition, owner, search)?;
+    let sight = sight_of(alloc, owner, search)?;
     let audit = Audit::new(alloc, edition, owner)?;
     Ok(Watch::new(audit, sight))
 }
 
-/// Reads entries as far as the place `last`, and says how the file ends where it ends before.
+/// Reads entries up to the place `last`, and says how the file ends if it ends before.
 fn watch_lines<R: BufRead>(
     alloc: Global,
     watch: &mut Watch,
@@ -131,7 +119,7 @@ fn watch_lines<R: BufRead>(
     finish_of(alloc, watch.audit().count(), halt, reader, &mut line)
 }
 
-/// Reads what a reader has.
+/// Reads the entries of a reader, after its first line.
 fn pass_over<R: BufRead>(
     alloc: Global,
     owner: Option<UserId>,
@@ -149,7 +137,7 @@ fn pass_over<R: BufRead>(
     })
 }
 
-/// Reads a file, of the owner that its first line names where no other is given.
+/// Reads a file. If no owner is given, the owner is the one that the first line names.
 pub fn read_pass<F: Read + Drop>(
     alloc: Global,
     owner: Option<UserId>,

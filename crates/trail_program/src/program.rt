@@ -7,7 +7,7 @@ use crate::following::Following;
 use crate::heading::{Heading, heading_of};
 use crate::tell::{ILLEGAL, LEGAL, TROUBLE, tell_back, tell_finish, tell_heading};
 use crate::twice::ask;
-use crate::words::{Asked, Given, Way, asked_of, given_in};
+use crate::words::{Asked, Given, Mistake, Way, asked_of, given_in};
 use acl::{Edition, UserId};
 use clap::Error;
 use std::alloc::Global;
@@ -50,8 +50,8 @@ fn check<R: BufRead, W: Write>(
     }
 }
 
-/// Shows what a first line says, and the lines of a reader. The answer is the number of a line
-/// that is spelled as none of a trail.
+/// Shows what a first line says, and the lines of a reader. The answer is the number of the first line
+/// that isn't a line of a trail, if there is one.
 fn show_all<R: BufRead, W: Write>(
     alloc: Global,
     form: Form,
@@ -102,7 +102,7 @@ fn run<R: Clock + Files + AllocGlobal, W: Write>(
     asked: Asked<'_>,
     output: &mut W,
 ) -> Result<u8, Fault> {
-    let file = fs::open(rt, asked.path)?;
+    let file = fs::open(rt, asked.path).map_err(Fault::NotOpened)?;
     match asked.way {
         Way::Ask => ask(rt, asked, file, output),
         _ if asked.follows => read_file(rt.alloc(), asked, Following { rt, file }, output),
@@ -110,7 +110,7 @@ fn run<R: Clock + Files + AllocGlobal, W: Write>(
     }
 }
 
-/// Writes why the words give nothing: the help, with status 0, or a mistake.
+/// Writes the help, with status 0, or which words aren't understood, with status 2.
 fn tell<W: Write, E: Write>(error: &Error, output: &mut W, errors: &mut E) -> u8 {
     if error.use_stderr() {
         let _ = write!(errors, "{error}");
@@ -122,18 +122,18 @@ fn tell<W: Write, E: Write>(error: &Error, output: &mut W, errors: &mut E) -> u8
     }
 }
 
-/// What words ask, or the status to exit with, once it is written which isn't understood.
+/// What words ask. If a word isn't understood, writes which one, and gives the status to exit with.
 fn understand<'a, E: Write>(given: Given<'a>, errors: &mut E) -> Result<Asked<'a>, u8> {
     match asked_of(given) {
         Ok(asked) => Ok(asked),
-        Err(mistake) => {
-            let _ = writeln!(errors, "mux-trail: {mistake}");
+        Err(Mistake(what, advice)) => {
+            let _ = writeln!(errors, "mux-trail: {what}: {}: {advice}", given.path);
             Err(TROUBLE)
         }
     }
 }
 
-/// What the words ask, or the status to exit with, once it is written why they ask nothing.
+/// What the words ask. If they ask nothing, writes why, and gives the status to exit with.
 fn asked_by<'a, W: Write, E: Write>(
     alloc: Global,
     words: &'a [String],
@@ -147,18 +147,19 @@ fn asked_by<'a, W: Write, E: Write>(
     }
 }
 
-/// Writes why a file isn't judged, nor shown, and gives the status to exit with.
+/// Writes why a file isn't read to its end, and gives the status to exit with.
 fn tell_fault<E: Write>(fault: Fault, path: &str, errors: &mut E) -> u8 {
-    let _ = writeln!(errors, "mux-trail: {path}: {fault}");
+    let _ = fault.write(path, errors);
     match fault {
         Fault::NoHeader(_) | Fault::NoLine(_) => ILLEGAL,
-        Fault::Io(_) | Fault::NoPlace(_) | Fault::NoUsers | Fault::Changed => TROUBLE,
+        Fault::NotOpened(_) | Fault::Io(_) | Fault::NoPlace(_) | Fault::NoUsers | Fault::Changed =>
+            TROUBLE,
     }
 }
 
-/// `mux-trail check|log|show|who|why FILE`: the status is 0 for a legal file that is whole, and for what
-/// was shown; 1 for a file that isn't legal, 2 for words or a file that can't be read, 3 for legal
-/// entries without a last line, and 4 for users who aren't confined.
+/// `mux-trail check|log|show|who|why FILE`. The status is 0 for a legal file that is whole, and if what
+/// was asked for was shown; 1 for a file that isn't legal; 2 for invalid arguments and a file that can't
+/// be read; 3 for legal entries without a last line; and 4 for users who aren't confined.
 pub fn trail<R: Clock + Files + AllocGlobal, W: Write, E: Write>(
     rt: &R,
     words: &[String],

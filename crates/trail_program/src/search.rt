@@ -7,10 +7,10 @@ use acl::Object;
 use std::alloc::Global;
 use std::io::{self, BufRead, BufReader, Read, Write};
 use trail_audit::next_entry;
+use trail_confined::Question;
 use trail_log::{Choice, Log, Names};
-use trail_rights::Question;
 
-/// The window that was given the title last, of those that are open.
+/// The open window that was given the title last.
 fn window_of(names: &Names, title: &[u8]) -> Option<u32> {
     let mut window = None;
     for titled in names.titles() {
@@ -21,8 +21,8 @@ fn window_of(names: &Names, title: &[u8]) -> Option<u32> {
     window
 }
 
-/// Reads the entries of a reader as far as the place `last`, or as far as one that is wrong: what is
-/// wrong is told by whoever judges them.
+/// Reads the entries of a reader up to the place `last`, or up to one that is wrong. What is wrong is
+/// told by the pass that follows.
 fn read_names<R: BufRead>(
     alloc: Global,
     log: &mut Log,
@@ -80,7 +80,7 @@ pub fn question_in<F: Read + Drop>(
     question_by(alloc, asked, titled, &mut reader)
 }
 
-/// Writes which window of a title is meant, or that there is none. Whether there is one.
+/// Writes which window has the title, or that none has it. The answer is whether one has it.
 pub fn write_window<W: Write>(question: Option<Question>, output: &mut W) -> io::Result<bool> {
     match question {
         Some(

@@ -9,22 +9,22 @@ use std::str;
 use trail_audit::{Ended, Wrong};
 use trail_rights::{When, text_of};
 
-/// The file is legal, and whole.
+/// The file is legal and whole.
 pub const LEGAL: u8 = 0;
 
-/// It isn't, or isn't spelled as a trail's file.
+/// The file isn't legal, or isn't a trail's file.
 pub const ILLEGAL: u8 = 1;
 
-/// The words aren't understood, or the file can't be read.
+/// The arguments are invalid, or the file can't be read.
 pub const TROUBLE: u8 = 2;
 
-/// The entries are legal, and no last line stands behind them.
+/// The entries are legal, and the file has no last line.
 const UNENDED: u8 = 3;
 
-/// The users aren't confined on windows to come, for a bit at least.
+/// The users aren't confined for at least one bit on windows to come.
 pub const UNCONFINED: u8 = 4;
 
-/// Writes that no session of the owner has a trail, where an entry isn't legal.
+/// Writes that no session of the owner has this trail, if an entry isn't legal.
 fn tell_illegal<W: Write>(wrong: Wrong, owner: UserId, output: &mut W) -> io::Result<()> {
     if wrong == Wrong::Illegal {
         write!(output, "; no session of {} has this trail", text_of(&owner))?;
@@ -58,12 +58,12 @@ fn tell_ended<W: Write>(ended: Ended, count: u64, output: &mut W) -> io::Result<
     )
 }
 
-/// Writes that entries are legal, and why the file isn't whole.
+/// Writes that the entries are legal, and why the file isn't whole.
 fn tell_unended<W: Write>(count: u64, why: &str, output: &mut W) -> io::Result<()> {
     writeln!(output, "legal: {count} entries\n{why}")
 }
 
-/// Writes that a last line counts other entries.
+/// Writes that the last line counts other entries.
 fn tell_miscounted<W: Write>(line: u64, count: u64, output: &mut W) -> io::Result<()> {
     writeln!(
         output,
@@ -71,11 +71,11 @@ fn tell_miscounted<W: Write>(line: u64, count: u64, output: &mut W) -> io::Resul
     )
 }
 
-/// Writes that lines stand behind a last one.
+/// Writes that there is more after the last line.
 fn tell_continued<W: Write>(line: u64, output: &mut W) -> io::Result<()> {
     writeln!(
         output,
-        "bad: behind line {line}: more stands behind the last line"
+        "bad: after line {line}: there is more after the last line"
     )
 }
 
@@ -104,8 +104,8 @@ pub fn tell_finish<W: Write>(
     Ok(status)
 }
 
-/// Writes that a time runs backwards, if that of an entry does: the clock may have been set back, so
-/// this is nothing wrong.
+/// Writes that the time of an entry runs backwards, if one does. Nothing is wrong with that: the clock may
+/// have been set back.
 pub fn tell_back<W: Write>(back: Option<u64>, output: &mut W) -> io::Result<()> {
     match back {
         Some(place) => writeln!(
@@ -117,7 +117,7 @@ pub fn tell_back<W: Write>(back: Option<u64>, output: &mut W) -> io::Result<()> 
     }
 }
 
-/// Writes what a first line says.
+/// Writes what the first line says.
 pub fn tell_heading<W: Write>(heading: Heading, output: &mut W) -> io::Result<()> {
     let owner = text_of(&heading.owner);
     let when = When(", begun at ", heading.ms);

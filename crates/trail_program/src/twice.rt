@@ -1,5 +1,4 @@
-//! Questions for which a file is read twice: what a first pass finds tells what the second one
-//! looks for.
+//! Questions for which a file is read twice: the first pass finds what the second one looks for.
 
 use crate::fault::Fault;
 use crate::pass::{Looks, Pass, Search, read_pass};
@@ -8,11 +7,11 @@ use crate::tell::{ILLEGAL, LEGAL, UNCONFINED, tell_finish};
 use crate::words::{Asked, users_named};
 use acl::{Leaders, UserId};
 use std::alloc::Global;
+use std::fs;
 use std::io::{self, Read, Write};
 use std::rt::Files;
-use std::{fs, slice};
-use trail_confined::{failing_of, write_confinement};
-use trail_rights::{Question, users_of, write_reasons, write_rights};
+use trail_confined::{Question, failing_of, push_confinement, push_reasons};
+use trail_rights::{users_of, write_rights};
 
 /// What a first pass has found.
 #[derive(Drop)]
@@ -22,48 +21,30 @@ struct Found {
     users: Vec<UserId>,
     /// What is asked, and the leaders of the user who is asked about.
     reasons: Option<(Question, Leaders)>,
-    /// What else it looks for.
+    /// What else the second pass looks for.
     looks: Looks,
-    /// The users of whom it is asked whether they are confined.
+    /// The users who may be confined.
     confined: Vec<UserId>,
 }
 
-/// The user who is asked about, if one is.
-fn users_asked(question: &Option<Question>) -> &[UserId] {
-    match question {
-        Some(question) => slice::from_ref(&question.user),
-        None => &[],
+/// What the entries of a pass say of the user who is asked about.
+fn found_of_one(alloc: Global, question: Question, first: &Pass) -> Found {
+    Found {
+        count: first.count(),
+        users: Vec::new(alloc),
+        reasons: Some((question, first.leaders_of(question.user))),
+        looks: Looks::Nothing,
+        confined: Vec::new(alloc),
     }
 }
 
-/// What the entries of a pass say of the user who is asked about.
-fn found_of_one(alloc: Global, question: Question, first: &Pass) -> io::Result<Found> {
-    let mut users = Vec::new(alloc);
-    users.push(question.user)?;
-    Ok(Found {
-        count: first.count(),
-        users,
-        reasons: Some((question, first.leaders())),
-        looks: Looks::Nothing,
-        confined: Vec::new(alloc),
-    })
-}
-
-/// What the entries of a pass say of all users.
-fn found_of_all(alloc: Global, first: &Pass) -> io::Result<Found> {
-    let users = users_of(alloc, first.watch.audit().replay())?;
-    Ok(Found {
-        count: first.count(),
-        users,
-        reasons: None,
-        looks: Looks::Settings,
-        confined: Vec::new(alloc),
-    })
-}
-
-/// What the entries of a pass say of all users, and of those of whom it is asked whether they are
-/// confined.
-fn found_of_some(alloc: Global, confined: Vec<UserId>, first: &Pass) -> io::Result<Found> {
+/// What the entries of a pass say of all users, and of users who may be confined.
+fn found_of_all(
+    alloc: Global,
+    looks: Looks,
+    confined: Vec<UserId>,
+    first: &Pass,
+) -> io::Result<Found> {
     let mut users = users_of(alloc, first.watch.audit().replay())?;
     for user in &confined {
         if !users.as_slice().contains(user) {
@@ -74,7 +55,7 @@ fn found_of_some(alloc: Global, confined: Vec<UserId>, first: &Pass) -> io::Resu
         count: first.count(),
         users,
         reasons: None,
-        looks: Looks::Confinement,
+        looks,
         confined,
     })
 }
@@ -82,19 +63,19 @@ fn found_of_some(alloc: Global, confined: Vec<UserId>, first: &Pass) -> io::Resu
 /// What the entries of a pass say that a second one has to know.
 fn found_of(alloc: Global, asked: Asked<'_>, first: &Pass) -> Result<Found, Fault> {
     if let Some(question) = asked.question {
-        return Ok(found_of_one(alloc, question, first)?);
+        return Ok(found_of_one(alloc, question, first));
     }
     let Some(names) = asked.confined else {
-        return Ok(found_of_all(alloc, first)?);
+        return Ok(found_of_all(alloc, Looks::Settings, Vec::new(alloc), first)?);
     };
     match users_named(alloc, names) {
-        Ok(Some(users)) => Ok(found_of_some(alloc, users, first)?),
+        Ok(Some(users)) => Ok(found_of_all(alloc, Looks::Confinement, users, first)?),
         Ok(None) => Err(Fault::NoUsers),
         Err(error) => Err(Fault::Io(io::Error::from(error))),
     }
 }
 
-/// What a first pass has found, unless something is wrong in the file, which is written.
+/// What the first pass has found. Writes what is wrong with the file instead, if something is.
 fn found_in<W: Write>(
     alloc: Global,
     asked: Asked<'_>,
@@ -123,7 +104,7 @@ fn look<F: Read + Drop, W: Write>(
     output: &mut W,
 ) -> Result<Option<Found>, Fault> {
     let search = Search {
-        users: users_asked(&asked.question),
+        users: &[],
         reasons: None,
         looks: Looks::Nothing,
         last: asked.place.unwrap_or(u64::MAX),
@@ -132,10 +113,10 @@ fn look<F: Read + Drop, W: Write>(
     found_in(alloc, asked, &first, output)
 }
 
-/// Whether a second pass has found what the first one had.
+/// Whether the second pass has found what the first one found.
 fn is_unchanged(found: &Found, second: &Pass) -> bool {
     let same_leaders = match found.reasons {
-        Some((_, leaders)) => second.leaders() == leaders,
+        Some((question, leaders)) => second.leaders_of(question.user) == leaders,
         None => true,
     };
     second.count() == found.count && same_leaders
@@ -152,7 +133,10 @@ fn write_confined<W: Write>(
         return Err(Fault::Changed);
     };
     let failing = failing.as_slice();
-    write_confinement(alloc, second.owner, &second.watch, failing, output)?;
+    let mut text = Vec::new(alloc);
+    let (replay, sight) = (second.watch.audit().replay(), second.watch.sight());
+    push_confinement(second.owner, replay, sight, failing, &mut text).map_err(io::Error::from)?;
+    output.write_all(text.as_slice())?;
     Ok(if failing.is_empty() {
         LEGAL
     } else {
@@ -160,8 +144,21 @@ fn write_confined<W: Write>(
     })
 }
 
-/// Writes the rights after the entries of a second pass, what decides the bit that is asked about, or
-/// whether users are confined.
+/// Writes what decides the bit that is asked about.
+fn write_reasons<W: Write>(
+    alloc: Global,
+    question: Question,
+    second: &Pass,
+    output: &mut W,
+) -> io::Result<()> {
+    let mut text = Vec::new(alloc);
+    let watch = &second.watch;
+    let (replay, sight) = (watch.audit().replay(), watch.sight());
+    push_reasons(second.owner, replay, sight, question, &mut text)?;
+    output.write_all(text.as_slice())
+}
+
+/// Writes the answer by the entries of a second pass, and gives the status to exit with.
 fn write_answer<W: Write>(
     alloc: Global,
     found: &Found,
@@ -174,17 +171,14 @@ fn write_answer<W: Write>(
     if let Looks::Confinement = found.looks {
         return write_confined(alloc, found.confined.as_slice(), second, output);
     }
-    let written = match found.reasons {
-        Some((question, _)) => write_reasons(alloc, second.owner, &second.watch, question, output),
-        None => write_rights(alloc, second.owner, &second.watch, output),
-    };
-    match written {
-        Ok(()) => Ok(LEGAL),
-        Err(error) => Err(Fault::Io(error)),
+    match found.reasons {
+        Some((question, _)) => write_reasons(alloc, question, second, output)?,
+        None => write_rights(alloc, second.owner, &second.watch, output)?,
     }
+    Ok(LEGAL)
 }
 
-/// Makes the second pass, over what the first one has read: what stands behind that doesn't count.
+/// Makes the second pass, over the entries that the first one has read, and no further.
 fn answer<F: Read + Drop, W: Write>(
     alloc: Global,
     asked: Asked<'_>,
@@ -215,7 +209,7 @@ fn ask_twice<R: Files + AllocGlobal, W: Write>(
     if asked.titled.is_some() && !write_window(asked.question, output)? {
         return Ok(LEGAL);
     }
-    let again = fs::open(rt, asked.path)?;
+    let again = fs::open(rt, asked.path).map_err(Fault::NotOpened)?;
     answer(rt.alloc(), asked, &found, again, output)
 }
 
@@ -231,6 +225,6 @@ pub fn ask<R: Files + AllocGlobal, W: Write>(
         return ask_twice(rt, asked, file, output);
     };
     let question = question_in(rt.alloc(), asked, titled, file)?;
-    let file = fs::open(rt, asked.path)?;
+    let file = fs::open(rt, asked.path).map_err(Fault::NotOpened)?;
     ask_twice(rt, Asked { question, ..asked }, file, output)
 }

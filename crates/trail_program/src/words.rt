@@ -6,22 +6,23 @@ use jiff::Timestamp;
 use line_fields::{cut, read_u32, read_u64};
 use program_words::of_trail;
 use std::alloc::{AllocError, Global};
-use trail_rights::{Question, bit_of};
+use trail_confined::{Question, bit_of};
 use trail_show::Form;
 
-/// What is done with a file.
+/// What the program does with a file.
 #[derive(Clone, Copy)]
 pub enum Way {
-    /// It is judged.
+    /// Judges it.
     Check,
+    /// Prints its lines.
     Show,
-    /// It is told, a line an entry.
+    /// Prints its log.
     Log,
-    /// Rights are told, or what decides one.
+    /// Prints rights, or the acts that decide one.
     Ask,
 }
 
-/// A window as it is named.
+/// A window, by its serial or its title.
 #[derive(Clone, Copy)]
 pub enum Window<'a> {
     Serial(u32),
@@ -46,18 +47,18 @@ pub struct Asked<'a> {
     pub place: Option<u64>,
     /// The question of `why`.
     pub question: Option<Question>,
-    /// The same about the window of a title, before it is known which one that is.
+    /// The question of `why` about a title, before it is known which window has it.
     pub titled: Option<Titled<'a>>,
     /// The names of the users of `who --confined`.
     pub confined: Option<&'a str>,
     pub form: Form,
     /// Whether more is waited for at the file's end, until the trail ends.
     pub follows: bool,
-    /// Whose entries are told.
+    /// The user whose entries are asked for.
     pub user: Option<UserId>,
-    /// Of which window entries are told.
+    /// The window whose entries are asked for.
     pub window: Option<Window<'a>>,
-    /// From when on entries are told, in milliseconds since 1970.
+    /// The time from which on entries are asked for, in milliseconds since 1970.
     pub since: u64,
 }
 
@@ -65,7 +66,7 @@ pub struct Asked<'a> {
 #[derive(Clone, Copy)]
 pub struct Given<'a> {
     way: &'a str,
-    path: &'a str,
+    pub path: &'a str,
     owner: Option<&'a str>,
     place: Option<&'a str>,
     confined: Option<&'a str>,
@@ -106,27 +107,38 @@ pub fn given_in<'a>(alloc: Global, words: &'a [String]) -> Result<Option<Given<'
     }
 }
 
-fn owner_of(name: Option<&str>) -> Result<Option<UserId>, &'static str> {
-    match name {
-        Some(name) => match UserId::of(name.as_bytes()) {
-            Some(owner) => Ok(Some(owner)),
-            None => Err("the owner is no name"),
-        },
-        None => Ok(None),
+/// A word that isn't understood: what is wrong, and what to do.
+#[derive(Clone, Copy)]
+pub struct Mistake(pub &'static str, pub &'static str);
+
+/// What a user's name looks like.
+const NAMES: &str = "a name has 1 to 20 lower-case letters, digits and _, and begins with a letter";
+
+/// The user of a word, if it is given.
+fn user_named(name: Option<&str>, mistake: &'static str) -> Result<Option<UserId>, Mistake> {
+    let Some(name) = name else {
+        return Ok(None);
+    };
+    match UserId::of(name.as_bytes()) {
+        Some(user) => Ok(Some(user)),
+        None => Err(Mistake(mistake, NAMES)),
     }
 }
 
-fn place_of(place: Option<&str>) -> Result<Option<u64>, &'static str> {
+fn place_of(place: Option<&str>) -> Result<Option<u64>, Mistake> {
     match place {
         Some(place) => match read_u64(place.as_bytes()) {
             Some(place) => Ok(Some(place)),
-            None => Err("the place is no number"),
+            None => Err(Mistake(
+                "--at names no entry",
+                "give the place of an entry, a number from 0 on",
+            )),
         },
         None => Ok(None),
     }
 }
 
-/// The first name of a list, whose names commas part, and what stands behind its comma.
+/// The first name of a list with commas between, and what follows its comma.
 fn first_name(names: &[u8]) -> (&[u8], Option<&[u8]>) {
     match cut(names, b',') {
         Some((name, rest)) => (name, Some(rest)),
@@ -134,7 +146,7 @@ fn first_name(names: &[u8]) -> (&[u8], Option<&[u8]>) {
     }
 }
 
-/// The users of a list of names; none where something in it is no name.
+/// The users of a list of names. None if something in the list is no name.
 pub fn users_named(alloc: Global, names: &str) -> Result<Option<Vec<UserId>>, AllocError> {
     let mut users = Vec::new(alloc);
     let mut rest = Some(names.as_bytes());
@@ -143,12 +155,12 @@ pub fn users_named(alloc: Global, names: &str) -> Result<Option<Vec<UserId>>, Al
         let Some(names) = rest else {
             break;
         };
-        let (name, behind) = first_name(names);
+        let (name, others) = first_name(names);
         let Some(user) = UserId::of(name) else {
             return Ok(None);
         };
         users.push(user)?;
-        rest = behind;
+        rest = others;
     }
     Ok(Some(users))
 }
@@ -175,26 +187,24 @@ fn titled_by<'a>(given: Given<'a>) -> Option<Titled<'a>> {
     })
 }
 
-/// The question of `why`, if it names a window's title: other ways have none.
-fn titled_of<'a>(given: Given<'a>) -> Result<Option<Titled<'a>>, &'static str> {
+/// The question of `why`, if it names a window's title. Other ways have none.
+fn titled_of<'a>(given: Given<'a>) -> Result<Option<Titled<'a>>, Mistake> {
     if given.way != "why" || question_of(given).is_some() {
         return Ok(None);
     }
     match titled_by(given) {
         Some(titled) => Ok(Some(titled)),
-        None => Err("this names no user and bit"),
+        None => Err(Mistake(
+            "USER and BIT name no user's bit",
+            "give a user's name, and then r, w or x",
+        )),
     }
 }
 
-/// The user of `log`: other ways have none.
-fn user_of(given: Given<'_>) -> Result<Option<UserId>, &'static str> {
-    match given.user {
-        Some(user) if given.way == "log" => match UserId::of(user.as_bytes()) {
-            Some(user) => Ok(Some(user)),
-            None => Err("the user is no name"),
-        },
-        _ => Ok(None),
-    }
+/// The user of `log`. Other ways have none.
+fn user_of(given: Given<'_>) -> Result<Option<UserId>, Mistake> {
+    let name = if given.way == "log" { given.user } else { None };
+    user_named(name, "--user names no user")
 }
 
 /// A window's serial or title.
@@ -212,11 +222,11 @@ fn ms_of(time: &str) -> Option<u64> {
     u64::try_from(time.as_millisecond()).ok()
 }
 
-fn since_of(time: Option<&str>) -> Result<u64, &'static str> {
+fn since_of(time: Option<&str>) -> Result<u64, Mistake> {
     match time {
         Some(time) => match ms_of(time) {
             Some(ms) => Ok(ms),
-            None => Err("the time has no form as 2025-11-24T16:00:02Z"),
+            None => Err(Mistake("--since is no time", "give a time as 2025-11-24T16:00:02Z")),
         },
         None => Ok(0),
     }
@@ -235,9 +245,9 @@ fn form_of(is_json: bool) -> Form {
     if is_json { Form::Json } else { Form::Plain }
 }
 
-/// What the words of a way ask: an error says which word isn't understood.
-pub fn asked_of(given: Given<'_>) -> Result<Asked<'_>, &'static str> {
-    let owner = owner_of(given.owner)?;
+/// What the words of a way ask, or the word that isn't understood.
+pub fn asked_of(given: Given<'_>) -> Result<Asked<'_>, Mistake> {
+    let owner = user_named(given.owner, "--owner names no user")?;
     let place = place_of(given.place)?;
     let titled = titled_of(given)?;
     let user = user_of(given)?;

@@ -16,11 +16,13 @@ kept true false r s is never = refl
 kept true true r s is never = absurd (never refl refl)
 
 -- a window that is left out, or not
-one : (b c d r : Bool) (x w : ℕ) (rest : List ℕ) → (x == w) ≡ c → lists w rest ≡ (not d && r) → (b ≡ true → c ≡ d) → (c ≡ true → d ≡ true → b ≡ true)
+one : (b c d r : Bool) (x w : ℕ) (rest : List ℕ) → (x == w) ≡ c → lists w rest ≡ (not d && r) → (b ≡ true → c ≡ d)
+    → (c ≡ true → d ≡ true → b ≡ true)
     → lists w (cond (not b) (x ∷ rest) rest) ≡ (not d && (c || r))
 one true c true r x w rest e is same both = is
 one true c false r x w rest e is same both = is ∙ ap (λ k. k || r) (sym (same refl))
-one false c d r x w rest e is same both = ap (λ k. k || lists w rest) e ∙ kept c d r (lists w rest) is (λ p q. absurd (false≢true (both p q)))
+one false c d r x w rest e is same both = ap (λ k. k || lists w rest) e
+    ∙ kept c d r (lists w rest) is (λ p q. absurd (false≢true (both p q)))
 
 none_of : (b : Bool) → false ≡ (not b && false)
 none_of true = refl
@@ -35,7 +37,8 @@ without v w (x ∷ windows) =
 
 at_end : (w v : ℕ) (windows : List ℕ) → lists w (windows ++ v ∷ []) ≡ (lists w windows || ((v == w) || false))
 at_end w v [] = refl
-at_end w v (x ∷ windows) = ap (λ k. (x == w) || k) (at_end w v windows) ∙ grouped (x == w) (lists w windows) ((v == w) || false)
+at_end w v (x ∷ windows) = ap (λ k. (x == w) || k) (at_end w v windows)
+    ∙ grouped (x == w) (lists w windows) ((v == w) || false)
   where
     grouped : (a b c : Bool) → (a || (b || c)) ≡ ((a || b) || c)
     grouped true b c = refl
@@ -60,7 +63,8 @@ open_listed (act.Opened by v ∷ h) w =
     ∙ ap (λ k. k || ((v == w) || false)) (without v w (windows_of h))
     ∙ ap (λ r. (not (v == w) && r) || ((v == w) || false)) (open_listed h w)
     ∙ opened (v == w) (is_open h w)
-open_listed (act.Closed v ∷ h) w = without v w (windows_of h) ∙ ap (λ r. not (v == w) && r) (open_listed h w) ∙ closed (v == w) (is_open h w)
+open_listed (act.Closed v ∷ h) w = without v w (windows_of h) ∙ ap (λ r. not (v == w) && r) (open_listed h w)
+    ∙ closed (v == w) (is_open h w)
 open_listed (act.Known u ∷ h) w = open_listed h w
 open_listed (act.Gone u ∷ h) w = open_listed h w
 open_listed (act.Set u b o value ∷ h) w = open_listed h w

@@ -15,27 +15,35 @@ use Rattle.trail_rights.specs.declared.settler.Setting.{Setting}
 use Rattle.trail_rights.specs.declared.settler.Setting.TheVariants as setting
 use Rattle.trail_rights.specs.declared.settler.Settler.{Settler}
 use Rattle.trail_rights.specs.Marks.{Marked, acts_in}
-use Rattle.trail_rights.specs.Settling.{settles, value_of, settling, IsSet, SettlingIsLatest, same_setting, settler_after, HasSettled, settler_in}
+use Rattle.trail_rights.specs.Settling.{settles, value_of, settling, IsSet, SettlingIsLatest, same_setting}
+use Rattle.trail_rights.specs.Settling.{settler_after, HasSettled, settler_in}
 
-pub settled_next : (marked : Marked) (s : Settler) (m : Mark) (a : Act) → HasSettled marked s → HasSettled ((m, a) ∷ marked) (settler_after m a s)
+pub settled_next : (marked : Marked) (s : Settler) (m : Mark) (a : Act) → HasSettled marked s
+    → HasSettled ((m, a) ∷ marked) (settler_after m a s)
 settled_next marked s m a is = record {
   value = ap (unwrap_or (settles s.setting a)) is.value;
   found = ap (cond (is_some (settles s.setting a)) (Some (m, a))) is.found;
 }
 
-pub all_settled : (marked : Marked) (m : Mark) (a : Act) (settlers : List Settler) → AllByRecursion (HasSettled marked) settlers
+pub all_settled : (marked : Marked) (m : Mark) (a : Act) (settlers : List Settler)
+    → AllByRecursion (HasSettled marked) settlers
     → AllByRecursion (HasSettled ((m, a) ∷ marked)) (map (settler_after m a) settlers)
 all_settled marked m a [] all = tt
 all_settled marked m a (s ∷ settlers) all = (settled_next marked s m a all.0, all_settled marked m a settlers all.1)
 
 -- an act that gives no setting a value leaves all as they are
-unsettled_one : (s : Settler) (m : Mark) (a : Act) (o : Option Bool) → settles s.setting a ≡ o → o ≡ None → settler_after m a s ≡ s
-unsettled_one s m a None e is = ap (λ o. record s { value = unwrap_or o s.value; found = cond (is_some o) (Some (m, a)) s.found }) e
+unsettled_one : (s : Settler) (m : Mark) (a : Act) (o : Option Bool) → settles s.setting a ≡ o → o ≡ None
+    → settler_after m a s ≡ s
+unsettled_one s m a None e is = ap
+    (λ o. record s { value = unwrap_or o s.value; found = cond (is_some o) (Some (m, a)) s.found }) e
 unsettled_one s m a (Some v) e is = cc
 
-pub unsettled : (m : Mark) (a : Act) → ((s : Setting) → settles s a ≡ None) → (settlers : List Settler) → settlers ≡ map (settler_after m a) settlers
+pub unsettled : (m : Mark) (a : Act) → ((s : Setting) → settles s a ≡ None) → (settlers : List Settler)
+    → settlers ≡ map (settler_after m a) settlers
 unsettled m a none [] = refl
-unsettled m a none (s ∷ settlers) = ap (λ t. t ∷ settlers) (sym (unsettled_one s m a (settles s.setting a) refl (none s.setting))) ∙ ap (λ ts. settler_after m a s ∷ ts) (unsettled m a none settlers)
+unsettled m a none (s ∷ settlers) = ap (λ t. t ∷ settlers)
+    (sym (unsettled_one s m a (settles s.setting a) refl (none s.setting)))
+    ∙ ap (λ ts. settler_after m a s ∷ ts) (unsettled m a none settlers)
 
 -- ---- the first that looks for a setting
 
@@ -61,7 +69,9 @@ same_setting-true (setting.Listed u) (setting.Listed v) e = ap setting.Listed (s
 same_setting-true (setting.Mask by u b) (setting.Mask other v c) e =
     let last = and_parts (same_user by other && same_user u v) (same_bit b c) e in
     let first = and_parts (same_user by other) (same_user u v) last.0 in
-    ap (λ x. setting.Mask x u b) (same_user-true by other first.0) ∙ ap (λ x. setting.Mask other x b) (same_user-true u v first.1) ∙ ap (setting.Mask other v) (same_bit-true b c last.1)
+    ap (λ x. setting.Mask x u b) (same_user-true by other first.0)
+    ∙ ap (λ x. setting.Mask other x b) (same_user-true u v first.1)
+    ∙ ap (setting.Mask other v) (same_bit-true b c last.1)
 same_setting-true (setting.Preset j b) (setting.Preset k c) e =
     let both = and_parts (same_preset j k) (same_bit b c) e in
     ap (λ x. setting.Preset x b) (same_preset-true j k both.0) ∙ ap (setting.Preset k) (same_bit-true b c both.1)
@@ -70,20 +80,27 @@ same_setting-true s q e = absurd (false≢true e)
 abbrev pub IsSettled : Marked → Setting → Settler → Type 0
 IsSettled marked q t = (t.value ≡ value_of q (acts_in marked)) × (t.found ≡ settling marked q)
 
-found_if : (marked : Marked) (t : Settler) (q : Setting) (b : Bool) (rest : Option Settler) → same_setting t.setting q ≡ b → HasSettled marked t → IfSome rest (IsSettled marked q) → IfSome (cond b (Some t) rest) (IsSettled marked q)
+found_if : (marked : Marked) (t : Settler) (q : Setting) (b : Bool) (rest : Option Settler)
+    → same_setting t.setting q ≡ b → HasSettled marked t → IfSome rest (IsSettled marked q)
+    → IfSome (cond b (Some t) rest) (IsSettled marked q)
 found_if marked t q true rest e is later =
-    let same = same_setting-true t.setting q e in (is.value ∙ ap (λ s. value_of s (acts_in marked)) same, is.found ∙ ap (settling marked) same)
+    let same = same_setting-true t.setting q e in
+    (is.value ∙ ap (λ s. value_of s (acts_in marked)) same, is.found ∙ ap (settling marked) same)
 found_if marked t q false rest e is later = later
 
-pub settled_in : (marked : Marked) (settlers : List Settler) (q : Setting) → AllByRecursion (HasSettled marked) settlers → IfSome (settler_in settlers q) (IsSettled marked q)
+pub settled_in : (marked : Marked) (settlers : List Settler) (q : Setting) → AllByRecursion (HasSettled marked) settlers
+    → IfSome (settler_in settlers q) (IsSettled marked q)
 settled_in marked [] q all = tt
-settled_in marked (t ∷ settlers) q all = found_if marked t q (same_setting t.setting q) (settler_in settlers q) refl all.0 (settled_in marked settlers q all.1)
+settled_in marked (t ∷ settlers) q all = found_if marked t q (same_setting t.setting q) (settler_in settlers q) refl
+    all.0 (settled_in marked settlers q all.1)
 
 -- ---- what was found is the latest that gives the value
 
 module _ (s : Setting) where
-  behind : (p : Mark × Act) (marked : Marked) (found : Option (Mark × Act)) → settles s p.1 ≡ None → IsSet marked s found → IsSet (p ∷ marked) s found
-  behind p marked None e is = record { none = (e, is.none); value = ap (λ o. unwrap_or o (value_of s (acts_in marked))) e ∙ is.value }
+  behind : (p : Mark × Act) (marked : Marked) (found : Option (Mark × Act)) → settles s p.1 ≡ None
+      → IsSet marked s found → IsSet (p ∷ marked) s found
+  behind p marked None e is = record
+      { none = (e, is.none); value = ap (λ o. unwrap_or o (value_of s (acts_in marked))) e ∙ is.value }
   behind p marked (Some q) e is = record {
     later = p ∷ is.later;
     before = is.before;
@@ -92,7 +109,8 @@ module _ (s : Setting) where
     last = (e, is.last);
   }
 
-  found_by : (p : Mark × Act) (marked : Marked) (o : Option Bool) → settles s p.1 ≡ o → IsSet marked s (settling marked s) → IsSet (p ∷ marked) s (cond (is_some o) (Some p) (settling marked s))
+  found_by : (p : Mark × Act) (marked : Marked) (o : Option Bool) → settles s p.1 ≡ o
+      → IsSet marked s (settling marked s) → IsSet (p ∷ marked) s (cond (is_some o) (Some p) (settling marked s))
   found_by p marked (Some v) e is = record {
     later = [];
     before = marked;

@@ -22,14 +22,14 @@ deciding owner (p ∷ marked) u bit object =
 
 -- ---- laws
 
--- none of the acts decides, each after those behind it
+-- none of these later acts decides, each after the acts before it
 abbrev pub NoneDecides : UserId → Marked → Marked → UserId → Bit → Object → Type 0
 NoneDecides owner [] before u bit object = Unit {0}
 NoneDecides owner (p ∷ later) before u bit object =
     (decision owner p.1 (acts_in (later ++ before)) u bit object ≡ None)
     × NoneDecides owner later before u bit object
 
--- an act, after those before it, gives the user's bit its value, and none behind it decides
+-- an act, after the acts before it, gives the user's bit its value, and no later act decides
 pub record IsLatest (owner : UserId) (marked : Marked) (u : UserId) (bit : Bit) (object : Object)
     (p : Mark × Act) : Type 0 where
   pub later : Marked
@@ -39,7 +39,7 @@ pub record IsLatest (owner : UserId) (marked : Marked) (u : UserId) (bit : Bit) 
       ≡ Some (has owner (acts_in marked) u bit object)
   pub last : NoneDecides owner later (p ∷ before) u bit object
 
--- where no act decides, the user hasn't the bit
+-- if no act decides, the user hasn't the bit
 abbrev pub IsDecided : UserId → Marked → UserId → Bit → Object → Option (Mark × Act) → Type 0
 IsDecided owner marked u bit object None = has owner (acts_in marked) u bit object ≡ false
 IsDecided owner marked u bit object (Some p) = IsLatest owner marked u bit object p
@@ -80,7 +80,7 @@ pub record HasDecided (owner : UserId) (marked : Marked) (d : Decider) : Type 0 
   pub there_is : d.there ≡ there (acts_in marked) d.object
   pub found : d.found ≡ deciding owner marked d.user d.bit d.object
 
--- what the first has found that looks for a user's bit on an object
+-- what the first decider has found that looks for a user's bit on an object
 abbrev pub found_in : List Decider → UserId → Bit → Object → Option (Mark × Act)
 found_in [] u bit object = None
 found_in (d ∷ deciders) u bit object =

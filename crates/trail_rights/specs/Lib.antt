@@ -1,6 +1,5 @@
 pub mod Marks
 pub mod Deciding
-pub mod Leading
 pub mod Windows
 pub mod Settling
 pub mod Masking

@@ -1,5 +1,5 @@
--- The acts of a file's entries, each with its mark: where its entry stands, when it was filed, and
--- who gave it.
+-- The acts of a file's entries, each with its mark: the place and the time of its entry, and the user
+-- who gave the event.
 use Rattle.std.specs.Prelude.{ℕ, List, [], ◌∷◌, Option, Some, None, map}
 use Rattle.acl.specs.declared.act.Act.{Act}
 use Rattle.acl.specs.declared.user_id.UserId.{UserId}
@@ -12,7 +12,7 @@ use Rattle.hub_trail.specs.Trails.{Entry}
 use Rattle.trail_lines.specs.Entries.{Said}
 use Rattle.trail_rights.specs.declared.mark.Mark.{Mark}
 
--- who gives an event, where these clients are attached
+-- the user who gives an event, when these clients are attached
 abbrev pub giver_among : List (ℕ × UserId) → Kept → Option UserId
 giver_among clients (kept.Attach user rows columns) = Some user
 giver_among clients (kept.Detach client) = user_in clients client
@@ -38,16 +38,16 @@ act_of p = p.1
 abbrev pub acts_in : Marked → History
 acts_in marked = map act_of marked
 
--- these acts behind others, the first of them first
+-- acts of one mark after others, in their order
 abbrev pub marked_by : Mark → Marked → List Act → Marked
 marked_by m marked [] = marked
 marked_by m marked (a ∷ acts) = marked_by m ((m, a) ∷ marked) acts
 
--- the acts of an entry behind others
+-- the acts of an entry after others
 abbrev pub marked_with : Marked → Said → Marked
 marked_with marked x = marked_by (mark_among (clients_of (acts_in marked)) x) marked x.2.acts
 
--- and of all of a file's entries
+-- the acts of entries after others
 abbrev pub marked_after : Marked → List Said → Marked
 marked_after marked [] = marked
 marked_after marked (x ∷ said) = marked_after (marked_with marked x) said

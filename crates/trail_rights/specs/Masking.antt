@@ -1,4 +1,4 @@
--- What is printed of masks, and of what a name gets that becomes known.
+-- What is printed of masks, and of what a user gets who becomes known.
 use Rattle.std.specs.Prelude.{ℕ, if◌then◌else◌, List, [], ◌∷◌, ◌++◌, Option, Some, None, codes}
 use Rattle.std.specs.List.{flat_map}
 use Rattle.acl.specs.Names.{name_of}
@@ -14,7 +14,7 @@ use Rattle.trail_rights.specs.declared.settler.Setting.TheVariants as setting
 use Rattle.trail_rights.specs.declared.settler.Settler.{Settler}
 use Rattle.trail_rights.specs.Settling.{settler_in}
 
--- the letter of a bit that a setting gives, or a hyphen; a question mark where that wasn't looked for
+-- the letter of a bit if the setting gives it, else a hyphen; a question mark if it wasn't looked for
 abbrev pub given_text : Option Settler → Bit → List ℕ
 given_text None bit = codes "?"
 given_text (Some s) bit = if s.value then letter bit else codes "-"

@@ -1,4 +1,4 @@
--- What acts set beside rights: who is known, masks and presets; and which act set it last.
+-- What acts set besides rights: who is known, masks and presets; and which act set it last.
 use Rattle.std.specs.Prelude.{◌≡◌, Bool, true, false, ◌&&◌, if◌then◌else◌, List, [], ◌∷◌, ◌++◌}
 use Rattle.std.specs.Prelude.{Option, Some, None, is_some, unwrap_or}
 use Rattle.std.specs.List.{AllByRecursion}
@@ -36,7 +36,7 @@ settling (p ∷ marked) s = if is_some (settles s p.1) then Some p else settling
 abbrev pub NoneSettles : Setting → Marked → Type 0
 NoneSettles s marked = AllByRecursion (λ (p : Mark × Act). settles s p.1 ≡ None) marked
 
--- an act gives the setting its value, and none behind it does
+-- an act gives the setting its value, and no later act does
 pub record SetsLast (marked : Marked) (s : Setting) (p : Mark × Act) : Type 0 where
   pub later : Marked
   pub before : Marked
@@ -44,7 +44,7 @@ pub record SetsLast (marked : Marked) (s : Setting) (p : Mark × Act) : Type 0 w
   pub value : settles s p.1 ≡ Some (value_of s (acts_in marked))
   pub last : NoneSettles s later
 
--- where no act gives it one, it has its first value
+-- if no act gives it a value, it has its first one
 pub record IsUnset (marked : Marked) (s : Setting) : Type 0 where
   pub none : NoneSettles s marked
   pub value : value_of s (acts_in marked) ≡ first_value s
@@ -77,7 +77,7 @@ pub record HasSettled (marked : Marked) (s : Settler) : Type 0 where
   pub value : s.value ≡ value_of s.setting (acts_in marked)
   pub found : s.found ≡ settling marked s.setting
 
--- the first that looks for a setting
+-- the first settler that looks for a setting
 abbrev pub settler_in : List Settler → Setting → Option Settler
 settler_in [] s = None
 settler_in (t ∷ settlers) s = if same_setting t.setting s then Some t else settler_in settlers s

@@ -1,4 +1,4 @@
--- What a reader of a file's entries stands for that sees their acts.
+-- What a watch stands for, and what it tells of a file's entries.
 use Rattle.std.specs.Prelude.{ℕ, ◌≡◌, ◌+◌, ◌≤◌, ◌⊎◌, List, [], ◌∷◌, ◌++◌, length}
 use Rattle.std.specs.Prelude.{Result, Ok, Err, Option, Some}
 use Rattle.acl.specs.declared.edition.Edition.{Edition}
@@ -14,11 +14,11 @@ use Rattle.trail_rights.specs.declared.watch.Watch.{Watch}
 use Rattle.trail_rights.specs.Marks.{marked_after, entries_in}
 use Rattle.trail_rights.specs.Seeing.{HasSeen}
 
--- these entries were read, in their places; all are good, and their acts were seen
+-- these entries were read, each at its place; all are good, and their acts were seen
 pub record HasWatched (w : Watch) (edition : Edition) (owner : UserId) (said : List Said)
     : Type 0 where
   pub read : HasRead w.audit edition owner (entries_in said)
-  pub seen : HasSeen w.sight edition owner (marked_after [] said)
+  pub seen : HasSeen w.sight owner (marked_after [] said)
 
 -- the line says the next entry, which was read too
 pub record TakesNext (new : Watch) (line : List ℕ) (edition : Edition) (owner : UserId)
@@ -33,21 +33,21 @@ abbrev pub TellsNext : Result (Unit {0}) Wrong → Watch → List ℕ → Editio
 TellsNext (Ok x) new line edition owner said = TakesNext new line edition owner said
 TellsNext (Err w) new line edition owner said = IsWrong w line edition owner (entries_in said)
 
--- the entries before what halts are those that were read; a wrong line is the one behind theirs
+-- the entries before the line that halts the reading were read; a wrong line is the one after theirs
 abbrev pub TellsAll : Halt → Watch → List ℕ → Edition → UserId → List Said → Type 0
 TellsAll (halt.Stopped n w) watch line edition owner said =
     (n ≡ length said + 2) × IsWrong w line edition owner (entries_in said)
 TellsAll h watch line edition owner said = HasWatched watch edition owner said
 
--- the lines of all entries up to the place `last` were read, and nothing behind them; or fewer, and
--- then it was halted
+-- the lines of all entries up to the place `last` were read, and nothing after them; or fewer lines,
+-- and then the reading halted
 abbrev pub IsWatchedTo : Halt → ℕ → List Said → List ℕ → List ℕ → List ℕ → Type 0
 IsWatchedTo h last said line bytes rest =
     ((length said ≡ last + 1) × (h ≡ halt.Nothing) × AreRead said bytes rest)
     ⊎ ((length said ≤ last) × IsReadTo h said line bytes rest)
 
--- so the entries of the lines that were read, as far as the place `last`, of the bytes that the
--- reader had and has, where they are known
+-- the entries of the lines that were read, up to the place `last`; if the bytes of the reader are
+-- known, `old` are those before and `new` those that are left
 pub record IsWatched (h : Halt) (watch : Watch) (line : List ℕ) (last : ℕ) (edition : Edition)
     (owner : UserId) (old new : Option (List ℕ)) : Type 0 where
   pub said : List Said

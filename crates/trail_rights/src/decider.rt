@@ -68,7 +68,7 @@ fn there_after(act: &Act, object: Object, before: bool) -> bool
 }
 
 impl Decider {
-    /// No act so far.
+    /// Before the first act.
     pub fn new(owner: UserId, user: UserId, bit: Bit, object: Object) -> Decider
         ensures decided { HasDecided owner [] result }
         ensures user { result.user ≡ user }
@@ -107,7 +107,7 @@ impl Decider {
         self.owner == self.user || self.listed
     }
 
-    /// Whether something is decided of the user on a window that `by` opens.
+    /// Whether it is decided what the user gets on a window that `by` opens.
     fn is_given_by(&self, by: UserId) -> bool
         ensures { result ≡ (same_user by self.now.user
             || (same_user self.now.owner self.now.user || self.now.listed)) }
@@ -149,7 +149,7 @@ impl Decider {
         }
     }
 
-    /// After one act more.
+    /// The decider after one more act.
     pub fn after(self, mark: Mark, act: &Act) -> Decider
         ensures { result ≡ decider_after mark act.now self }
     {
@@ -167,7 +167,7 @@ impl Decider {
     }
 }
 
-/// What decides a user's bit on an object, by the first that looks for it.
+/// What decides a user's bit on an object, by the first decider that looks for it.
 pub fn found_in(deciders: &[Decider], user: UserId, bit: Bit, object: Object) -> Option<(Mark, Act)>
     ensures { result ≡ found_in deciders.now user bit object }
 {

@@ -4,19 +4,19 @@ ghost use Rattle.trail_rights.specs.Deciding.{DecidingIsLatest};
 ghost use Rattle.trail_rights.specs.Settling.{SettlingIsLatest};
 ghost use Rattle.trail_rights.specs.Windows.{OpenAreListed};
 
-/// What was found to decide a bit is the latest act that does: it gives the bit its value, and none
-/// behind it decides.
+/// The act that was found to decide a bit is the latest one that does: it gives the bit its value, and no
+/// later act decides.
 pub fn latest_decides()
     ensures { DecidingIsLatest }
 {}
 
-/// What was found to give a setting its value is the latest act that does, and none behind it gives
-/// one; where none was found the setting has its first value.
+/// The act that was found to give a setting its value is the latest one that does. If none was found, the
+/// setting has its first value.
 pub fn latest_settles()
     ensures { SettlingIsLatest }
 {}
 
-/// The windows that are listed are those that are open.
+/// The listed windows are the open ones.
 pub fn open_are_listed()
     ensures { OpenAreListed }
 {}

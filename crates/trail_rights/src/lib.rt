@@ -1,9 +1,8 @@
-//! Who may do what after the entries of a trail's file, and which act decides it; how it is told.
+//! Who may do what after the entries of a trail's file, which acts decide it, and how `who` is told.
 #![tactic(auto)]
 
 mod decider;
 mod laws;
-mod led;
 mod mark;
 mod masks;
 mod rights;
@@ -12,17 +11,14 @@ mod sight;
 mod texts;
 mod watch;
 mod who;
-mod why;
 
 pub use decider::{Decider, found_in};
 pub use laws::{latest_decides, latest_settles, open_are_listed};
-pub use led::{Led, leaders_in};
 pub use mark::Mark;
-pub use masks::{BITS, settings_of};
+pub use masks::{letter, settings_of};
 pub use rights::{holder, may, users_of};
 pub use settler::{Setting, Settler, settler_in};
 pub use sight::Sight;
-pub use texts::{When, letter_of, text_of, time_of};
+pub use texts::{When, text_of, time_of};
 pub use watch::{Watch, watch_entries};
 pub use who::write_rights;
-pub use why::{Question, bit_of, write_found, write_reasons};

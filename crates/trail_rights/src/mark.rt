@@ -1,17 +1,17 @@
-//! Marks of acts: where they stand, when they were filed, and who gave them.
+//! Marks of acts: the entry that has the act, its time, and who gave its event.
 
 ghost use Rattle.std.specs.Prelude.{◌≡◌};
 ghost use Rattle.hub_record.specs.Stored.{kept_lent};
-ghost use Rattle.hub_check.specs.Clients.{user_in};
 ghost use Rattle.trail_lines.specs.Entries.{said};
 ghost use Rattle.trail_rights.specs.Marks.{giver_among, mark_among};
 
 use acl::UserId;
+use hub_check::user_of_client;
 use hub_record::KeptRef;
 use trail_lines::Line;
 
-/// The place and the time of an entry, in milliseconds since 1970, and who gave its event: nobody
-/// where a window's program ended.
+/// The place of an entry, its time in milliseconds since 1970, and the user who gave its event: nobody
+/// if a window's program ended.
 #[derive(Clone, Copy)]
 pub struct Mark {
     pub place: u64,
@@ -19,19 +19,7 @@ pub struct Mark {
     pub giver: Option<UserId>,
 }
 
-/// The user of a client.
-fn user_of(clients: &[(u32, UserId)], client: u32) -> Option<UserId>
-    ensures { result ≡ user_in clients.now client }
-{
-    for row in clients {
-        if row.0 == client {
-            return Some(row.1);
-        }
-    }
-    None
-}
-
-/// Who gives an event, where these clients are attached.
+/// The user who gives an event, when these clients are attached.
 fn giver_among(clients: &[(u32, UserId)], event: KeptRef<'_>) -> Option<UserId>
     ensures { result ≡ giver_among clients.now (kept_lent event.entry) }
 {
@@ -39,13 +27,13 @@ fn giver_among(clients: &[(u32, UserId)], event: KeptRef<'_>) -> Option<UserId>
         KeptRef::Attach { user, .. } => Some(user),
         KeptRef::Command { user, .. } => Some(user),
         KeptRef::Open { user, .. } => Some(user),
-        KeptRef::Detach { client } => user_of(clients, client),
-        KeptRef::Keys { client } => user_of(clients, client),
+        KeptRef::Detach { client } => user_of_client(clients, client),
+        KeptRef::Keys { client } => user_of_client(clients, client),
         KeptRef::Closed { .. } => None,
     }
 }
 
-/// The mark of an entry's acts, where these clients are attached.
+/// The mark of an entry's acts, when these clients are attached.
 pub fn mark_among(clients: &[(u32, UserId)], line: &Line) -> Mark
     ensures { result ≡ mark_among clients.now (said line.now) }
 {

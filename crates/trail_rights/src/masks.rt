@@ -1,4 +1,4 @@
-//! Masks, and what a name gets that becomes known.
+//! Masks, and what a user gets who becomes known.
 
 ghost use Rattle.std.specs.Prelude.{◌≡◌, ◌++◌, OnOk};
 ghost use Rattle.std.specs.List.{flat_map};
@@ -11,9 +11,9 @@ use acl::{Bit, PresetKind, UserId};
 use std::alloc::{AllocError, Global};
 
 /// The bits, in the order in which they are told.
-pub const BITS: [Bit; 3] = [Bit::Read, Bit::Write, Bit::Execute];
+const BITS: [Bit; 3] = [Bit::Read, Bit::Write, Bit::Execute];
 
-/// What an opener masks for a user.
+/// Looks for what an opener masks for a user.
 fn push_masks(opener: UserId, user: UserId, settlers: &mut Vec<Settler>) -> Result<(), AllocError> {
     for bit in &BITS {
         settlers.push(Settler::new(Setting::Mask {
@@ -25,7 +25,7 @@ fn push_masks(opener: UserId, user: UserId, settlers: &mut Vec<Settler>) -> Resu
     Ok(())
 }
 
-/// What an opener masks for each user.
+/// Looks for what an opener masks for each user.
 fn push_all_masks(
     opener: UserId,
     users: &[UserId],
@@ -37,7 +37,7 @@ fn push_all_masks(
     Ok(())
 }
 
-/// The presets of a kind.
+/// Looks for the presets of a kind.
 fn push_presets(kind: PresetKind, settlers: &mut Vec<Settler>) -> Result<(), AllocError> {
     for bit in &BITS {
         settlers.push(Settler::new(Setting::Preset { kind, bit: *bit }))?;
@@ -45,7 +45,7 @@ fn push_presets(kind: PresetKind, settlers: &mut Vec<Settler>) -> Result<(), All
     Ok(())
 }
 
-/// Before the first act: who of these users is known, what each of them masks for each, and presets.
+/// Settlers before the first act: of who is known, what each user masks for each, and the presets.
 pub fn settings_of(alloc: Global, users: &[UserId]) -> Result<Vec<Settler>, AllocError> {
     let mut settlers = Vec::new(alloc);
     for user in users {
@@ -60,7 +60,7 @@ pub fn settings_of(alloc: Global, users: &[UserId]) -> Result<Vec<Settler>, Allo
 }
 
 /// The letter of a bit.
-fn letter(bit: Bit) -> &'static [u8]
+pub fn letter(bit: Bit) -> &'static [u8]
     ensures { result.now ≡ letter bit }
 {
     match bit {
@@ -70,8 +70,8 @@ fn letter(bit: Bit) -> &'static [u8]
     }
 }
 
-/// The letter of a bit that a setting gives, or a hyphen; a question mark where that wasn't looked
-/// for.
+/// The letter of a bit if the setting gives it, else a hyphen; a question mark if the setting wasn't
+/// looked for.
 fn given_text(settler: Option<Settler>, bit: Bit) -> &'static [u8]
     ensures { result.now ≡ given_text settler bit }
 {
@@ -82,7 +82,7 @@ fn given_text(settler: Option<Settler>, bit: Bit) -> &'static [u8]
     }
 }
 
-/// Appends the letter of a bit that a setting gives.
+/// Appends the letter of a bit if the setting gives it, else a hyphen or a question mark.
 fn push_setting(
     settlers: &[Settler],
     setting: Setting,
@@ -94,7 +94,7 @@ fn push_setting(
     out.extend_from_slice(given_text(settler_in(settlers, setting), bit))
 }
 
-/// Appends the letter of a bit that a user gets by a mask.
+/// Appends the letter of a bit if a mask leaves it to a user, else a hyphen or a question mark.
 fn push_mask_bit(
     settlers: &[Settler],
     by: UserId,
@@ -125,7 +125,7 @@ fn push_mask(
     push_mask_bit(settlers, by, user, Bit::Execute, out)
 }
 
-/// Appends the same of a user who isn't the opener.
+/// Appends which bits a user gets on windows that an opener opens later, unless they are the opener.
 fn push_other(
     settlers: &[Settler],
     by: UserId,
@@ -140,7 +140,7 @@ fn push_other(
     push_mask(settlers, by, user, out)
 }
 
-/// Appends the same of all other users.
+/// Appends which bits each other user gets on windows that an opener opens later.
 fn push_others(
     settlers: &[Settler],
     users: &[UserId],
@@ -156,7 +156,7 @@ fn push_others(
     Ok(())
 }
 
-/// Appends which bits the other users get on windows that an opener opens later.
+/// Appends the line of an opener: which bits each other user gets on windows that they open later.
 pub fn push_mask_line(
     settlers: &[Settler],
     users: &[UserId],
@@ -204,8 +204,8 @@ fn push_preset(settlers: &[Settler], kind: PresetKind, out: &mut Vec<u8>) -> Res
     )
 }
 
-/// Appends what a name gets that becomes known now: on open windows, on commands, and on windows that
-/// are opened later, where nobody's mask takes a bit from it yet.
+/// Appends what a user gets who becomes known now: on open windows, on commands, and on windows that are
+/// opened later, since no mask takes a bit from them yet.
 pub fn push_newcomer(settlers: &[Settler], out: &mut Vec<u8>) -> Result<(), AllocError>
     ensures { OnOk result (out.new.items ≡ out.old.items ++ newcomer_text settlers.now) }
 {

@@ -13,7 +13,7 @@ use hub_check::Replay;
 use session_model::Verdict;
 use std::alloc::{AllocError, Global};
 
-/// Whether the user has the bit on the object, which is there.
+/// Whether the user has the bit on an object that is there.
 pub fn may(replay: &Replay, user: UserId, bit: Bit, object: Object) -> bool
     ensures { (edition : Edition) (owner : UserId) (h : History) →
         StandsAfter replay.now edition owner h → there h object ≡ true →
@@ -27,7 +27,7 @@ pub fn may(replay: &Replay, user: UserId, bit: Bit, object: Object) -> bool
     })
 }
 
-/// Whether the lock of the window is held so.
+/// Whether this user holds the lock of the window, or nobody does.
 fn is_held(replay: &Replay, user: UserId, window: u32, held: Option<UserId>) -> bool
     ensures { (edition : Edition) (owner : UserId) (h : History) →
         StandsAfter replay.now edition owner h → result ≡ true →
@@ -40,7 +40,7 @@ fn is_held(replay: &Replay, user: UserId, window: u32, held: Option<UserId>) -> 
     })
 }
 
-/// Who holds the lock of the window, or nobody, where that is a known user.
+/// The user who holds the lock of the window, if one does. None if the holder isn't a known user.
 pub fn holder(replay: &Replay, owner: UserId, window: u32) -> Option<Option<UserId>>
     ensures { (edition : Edition) (owner : UserId) (h : History) →
         StandsAfter replay.now edition owner h →
@@ -68,7 +68,7 @@ fn push_user(user: Option<UserId>, users: &mut Vec<UserId>) -> Result<(), AllocE
     Ok(())
 }
 
-/// The known users in the order in which they became known, the owner first.
+/// The known users, in the order in which they became known; the owner is first.
 pub fn users_of(alloc: Global, replay: &Replay) -> Result<Vec<UserId>, AllocError>
     ensures { (edition : Edition) (owner : UserId) (h : History) →
         StandsAfter replay.now edition owner h →

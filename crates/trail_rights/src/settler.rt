@@ -1,4 +1,4 @@
-//! What acts set beside rights.
+//! What acts set besides rights: who is known, masks and presets.
 
 ghost use Rattle.std.specs.Prelude.{◌≡◌, ◌||◌, [], None, true, false, map};
 ghost use Rattle.acl.specs.Same.{same_user, same_bit, same_preset};
@@ -10,14 +10,14 @@ use crate::decider::decides_known;
 use crate::mark::Mark;
 use acl::{Act, Bit, PresetKind, UserId};
 
-/// What acts set: its value is that of the latest act that gives one.
+/// What acts set. Its value is the one that the latest act gives.
 #[derive(Clone, Copy)]
 pub enum Setting {
-    /// Whether the user was made known; the owner needs no act for it.
+    /// Whether an act made the user known. The owner is known without an act.
     Listed { user: UserId },
     /// Whether the user gets the bit on windows that `by` opens later.
     Mask { by: UserId, user: UserId, bit: Bit },
-    /// Whether a name that becomes known gets the bit on open windows, or on commands.
+    /// Whether a user who becomes known gets the bit on open windows, or on commands.
     Preset { kind: PresetKind, bit: Bit },
 }
 
@@ -29,7 +29,7 @@ pub struct Settler {
     found: Option<(Mark, Act)>,
 }
 
-/// Whether masks of a user, or for him, begin anew.
+/// Whether the masks of this user, or those for this user, begin anew.
 fn begins(named: UserId, by: UserId, user: UserId) -> Option<bool>
     ensures { result ≡ decided (same_user named by || same_user named user) true }
 {
@@ -116,7 +116,7 @@ fn is_same(setting: Setting, other: Setting) -> bool
 }
 
 impl Settler {
-    /// No act so far.
+    /// Before the first act.
     pub fn new(setting: Setting) -> Settler
         ensures settled { HasSettled [] result }
         ensures setting { result.setting ≡ setting }
@@ -128,7 +128,7 @@ impl Settler {
         }
     }
 
-    /// What it looks for.
+    /// The setting that it looks for.
     pub fn setting(&self) -> Setting
         ensures { result ≡ self.now.setting }
     {
@@ -142,14 +142,14 @@ impl Settler {
         self.value
     }
 
-    /// The act that gave it, with its mark, if one did.
+    /// The act that gave the value, with its mark, if one did.
     pub fn found(&self) -> Option<(Mark, Act)>
         ensures { result ≡ self.now.found }
     {
         self.found
     }
 
-    /// After one act more.
+    /// The settler after one more act.
     pub fn after(self, mark: Mark, act: &Act) -> Settler
         ensures { result ≡ settler_after mark act.now self }
     {
@@ -164,7 +164,7 @@ impl Settler {
     }
 }
 
-/// The first that looks for a setting.
+/// The first settler that looks for a setting.
 pub fn settler_in(settlers: &[Settler], setting: Setting) -> Option<Settler>
     ensures { result ≡ settler_in settlers.now setting }
 {
@@ -186,7 +186,7 @@ fn may_settle(act: &Act) -> bool
     )
 }
 
-/// Each settler after one act more.
+/// Each settler after one more act.
 pub fn settle_all(settlers: &mut Vec<Settler>, mark: Mark, act: &Act)
     ensures { settlers.new.items ≡ map (settler_after mark act.now) settlers.old.items }
 {

@@ -1,4 +1,4 @@
-//! Names and times as they are told.
+//! Names and times as text.
 
 use acl::{Bit, UserId};
 use jiff::Timestamp;
@@ -19,12 +19,12 @@ pub fn letter_of(bit: Bit) -> char {
     }
 }
 
-/// A time in milliseconds since 1970, in the form of RFC 3339.
+/// The time of milliseconds since 1970, if it has a form of RFC 3339.
 pub fn time_of(ms: u64) -> Option<Timestamp> {
     Timestamp::from_millisecond(i64::try_from(ms).ok()?).ok()
 }
 
-/// A time behind a text; nothing where it has no such form.
+/// A time after a text. Nothing if the time has no form of RFC 3339.
 #[derive(Clone, Copy)]
 pub struct When(pub &'static str, pub u64);
 

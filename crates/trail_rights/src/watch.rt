@@ -1,4 +1,4 @@
-//! The reading of a file's entries, of which the acts are seen.
+//! Reads a file's entries, and sees their acts.
 
 ghost use Rattle.std.specs.Prelude.{◌≡◌, List, [], IfOk};
 ghost use Rattle.acl.specs.declared.edition.Edition.{Edition};
@@ -13,7 +13,7 @@ use std::alloc::AllocError;
 use std::io::{self, BufRead};
 use trail_audit::{Audit, Halt, Wrong, next_entry};
 
-/// Reads the lines of entries, judges them, and sees their acts.
+/// Reads the lines of entries, judges the entries, and sees their acts.
 #[derive(Drop)]
 pub struct Watch {
     audit: Audit,
@@ -21,10 +21,10 @@ pub struct Watch {
 }
 
 impl Watch {
-    /// No line so far.
+    /// Before the first line.
     pub fn new(audit: Audit, sight: Sight) -> Watch
         ensures { (edition : Edition) (owner : UserId) → HasRead audit edition owner [] →
-            HasSeen sight edition owner [] → HasWatched result edition owner [] }
+            HasSeen sight owner [] → HasWatched result edition owner [] }
     {
         Watch { audit, sight }
     }
@@ -43,8 +43,8 @@ impl Watch {
         &self.sight
     }
 
-    /// Takes the line of the next entry, without its line feed. Behind an `Err` it stands for
-    /// nothing more.
+    /// Takes the line of the next entry, without its line feed. After an `Err` the watch must not be
+    /// used again.
     pub fn take(&mut self, line: &[u8]) -> Result<(), Wrong>
         ensures { (edition : Edition) (owner : UserId) (said : List Said) →
             HasWatched self.old edition owner said →
@@ -56,8 +56,8 @@ impl Watch {
     }
 }
 
-/// Reads the entries of a reader, the first of which stands in line 2, as far as the entry of the
-/// place `last`. What halts it stands in `line`.
+/// Reads the entries of a reader, from the file's line 2 on, up to the entry of the place `last`. The
+/// line that halts the reading is left in `line`.
 pub fn watch_entries<R: BufRead>(
     watch: &mut Watch,
     reader: &mut R,

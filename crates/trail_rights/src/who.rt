@@ -1,46 +1,38 @@
-//! Who may do what after a file's entries.
+//! How it is told who may do what after a file's entries.
 
 ghost use Rattle.std.specs.Prelude.{◌≡◌, ◌++◌, OnOk};
 ghost use Rattle.std.specs.List.{flat_map};
 ghost use Rattle.trail_rights.specs.Masking.{masks_text, newcomer_text};
 
-use crate::led::Led;
 use crate::masks::{push_mask_line, push_newcomer};
 use crate::rights::{holder, may, users_of};
 use crate::settler::Settler;
 use crate::texts::{letter_of, text_of};
 use crate::watch::Watch;
-use acl::{Bit, CommandName, Leaders, Object, UserId};
+use acl::{Bit, CommandName, Object, UserId};
 use command_lang::name_text;
 use hub_check::Replay;
 use std::alloc::{AllocError, Global};
 use std::io::{self, Write};
 
-/// Writes a user's leaders.
-fn write_leaders<W: Write>(leaders: Leaders, output: &mut W) -> io::Result<()> {
-    for leader in leaders.as_slice() {
+/// Writes a user and their leaders.
+fn write_user<W: Write>(replay: &Replay, user: UserId, output: &mut W) -> io::Result<()> {
+    write!(output, "user {}", text_of(&user))?;
+    for leader in replay.leaders_of(user).as_slice() {
         write!(output, " led by {}", text_of(leader))?;
     }
-    Ok(())
-}
-
-/// Writes a user and his leaders.
-fn write_user<W: Write>(led: &Led, output: &mut W) -> io::Result<()> {
-    let user = led.user();
-    write!(output, "user {}", text_of(&user))?;
-    write_leaders(led.leaders().unwrap_or(Leaders::none()), output)?;
     writeln!(output)
 }
 
 /// Writes users with their leaders.
-fn write_users<W: Write>(leds: &[Led], output: &mut W) -> io::Result<()> {
-    for led in leds {
-        write_user(led, output)?;
+fn write_users<W: Write>(replay: &Replay, users: &[UserId], output: &mut W) -> io::Result<()> {
+    for user in users {
+        write_user(replay, *user, output)?;
     }
     Ok(())
 }
 
-/// The letter of a bit that a user has, or a hyphen.
+/// The letter of a bit if a user has it, else a hyphen.
 fn letter(replay: &Replay, user: UserId, bit: Bit, object: Object) -> char {
     if may(replay, user, bit, object) {
         letter_of(bit)
@@ -64,7 +56,7 @@ fn write_bits<W: Write>(
     write!(output, " {name}:{read}{write}{execute}")
 }
 
-/// Writes a window, and who holds its lock, where somebody does.
+/// Writes a window, and who holds its lock, if somebody does.
 fn write_holder<W: Write>(
     window: u32,
     held: Option<Option<UserId>>,
@@ -115,7 +107,7 @@ fn write_commands<W: Write>(replay: &Replay, user: UserId, output: &mut W) -> io
     writeln!(output)
 }
 
-/// Appends the users' masks, and what a name gets that becomes known now.
+/// Appends the users' masks, and what a user gets who becomes known now.
 fn push_all_masks(
     settlers: &[Settler],
     users: &[UserId],
@@ -150,17 +142,18 @@ fn write_objects<W: Write>(
     output.write_all(masks.as_slice())
 }
 
-/// Writes how many entries there are, users with their leaders, windows with their holders and
-/// rights, commands, masks, and what a name gets that becomes known now. The watch has looked for
-/// `settings_of` these users.
+/// Writes how many entries there are, users with their leaders, windows with their holders and rights,
+/// commands, masks, and what a user gets who becomes known now. The watch has looked for `settings_of`
+/// the known users.
 pub fn write_rights<W: Write>(
     alloc: Global,
     owner: UserId,
     watch: &Watch,
     output: &mut W,
 ) -> io::Result<()> {
+    let replay = watch.audit().replay();
+    let users = users_of(alloc, replay)?;
     writeln!(output, "entries {}", watch.audit().count())?;
-    write_users(watch.sight().leds(), output)?;
-    let users = users_of(alloc, watch.audit().replay())?;
+    write_users(replay, users.as_slice(), output)?;
     write_objects(alloc, owner, watch, users.as_slice(), output)
 }

@@ -6,7 +6,7 @@ use std::io::{self, Write};
 use trail_audit::Ended;
 use trail_rights::time_of;
 
-/// Writes a byte 20 to 7E of a string.
+/// Writes a byte of a string. The byte is 0x20 to 0x7E.
 fn write_byte<W: Write>(byte: u8, output: &mut W) -> io::Result<()> {
     if byte == b'"' || byte == b'\\' {
         output.write_all(b"\\")?;
@@ -14,7 +14,7 @@ fn write_byte<W: Write>(byte: u8, output: &mut W) -> io::Result<()> {
     output.write_all(&[byte])
 }
 
-/// Writes bytes 20 to 7E as a string.
+/// Writes bytes as a string. They are 0x20 to 0x7E.
 fn write_string<W: Write>(bytes: &[u8], output: &mut W) -> io::Result<()> {
     output.write_all(b"\"")?;
     for byte in bytes {
@@ -23,8 +23,8 @@ fn write_string<W: Write>(bytes: &[u8], output: &mut W) -> io::Result<()> {
     output.write_all(b"\"")
 }
 
-/// Writes a number behind what begins an object, and a time: milliseconds since 1970, and where it
-/// can be the form of RFC 3339.
+/// Writes the beginning of an object, a number and a time: its milliseconds since 1970 and, if it has
+/// one, its form of RFC 3339.
 fn begin<W: Write>(begin: &str, number: u64, ms: u64, output: &mut W) -> io::Result<()> {
     write!(output, "{begin}{number},\"ms\":{ms}")?;
     match time_of(ms) {
@@ -33,7 +33,7 @@ fn begin<W: Write>(begin: &str, number: u64, ms: u64, output: &mut W) -> io::Res
     }
 }
 
-/// Writes one more string of a list.
+/// Writes the next string of a list.
 fn write_item<W: Write>(bytes: &[u8], is_first: bool, output: &mut W) -> io::Result<()> {
     if !is_first {
         output.write_all(b",")?;
@@ -53,8 +53,7 @@ fn write_event<W: Write>(text: &[u8], count: usize, output: &mut W) -> io::Resul
     output.write_all(b"]")
 }
 
-/// Writes the words that begin with a mark as a list, without their mark; what stands before the
-/// list begins it.
+/// Writes the beginning of a list, and the words with this mark as its strings, without the mark.
 fn write_notes<W: Write>(begin: &[u8], text: &[u8], mark: u8, output: &mut W) -> io::Result<()> {
     output.write_all(begin)?;
     let mut rest = text;
@@ -73,7 +72,7 @@ fn write_notes<W: Write>(begin: &[u8], text: &[u8], mark: u8, output: &mut W) ->
     output.write_all(b"]")
 }
 
-/// Writes the word of a reply, and the checks and acts behind it.
+/// Writes the word of a reply, and the checks and acts that follow it.
 fn write_reply<W: Write>(text: &[u8], output: &mut W) -> io::Result<()> {
     let (reply, notes) = first_word(text);
     output.write_all(b",\"reply\":")?;
@@ -82,7 +81,7 @@ fn write_reply<W: Write>(text: &[u8], output: &mut W) -> io::Result<()> {
     write_notes(b",\"acts\":[", notes, b'!', output)
 }
 
-/// Writes an entry, whose line this is.
+/// Writes the entry of a line.
 pub fn write_entry<W: Write>(said: Said, text: &[u8], output: &mut W) -> io::Result<()> {
     let event = behind_words(text, 2);
     begin("{\"place\":", said.place, said.ms, output)?;

@@ -9,7 +9,7 @@ use trail_audit::{Came, Ended, next_line, read_end};
 use trail_lines::{Unread, read_line};
 use trail_rights::time_of;
 
-/// What an entry's line says that is shown in another form.
+/// What an entry's line says, as it is shown.
 #[derive(Clone, Copy)]
 pub struct Said {
     pub place: u64,
@@ -18,12 +18,12 @@ pub struct Said {
     pub words: usize,
 }
 
-/// A line behind the first one.
+/// A line after the first one.
 #[derive(Clone, Copy)]
 enum Told {
     Entry(Said),
     End(Ended),
-    /// A line that is spelled as none of a trail.
+    /// A line that isn't a line of a trail.
     Nothing,
 }
 
@@ -48,7 +48,7 @@ fn read_said(alloc: Global, text: &[u8]) -> Result<Said, Unread> {
     }
 }
 
-/// What a line tells.
+/// What a line is.
 fn read_told(alloc: Global, text: &[u8]) -> Result<Told, AllocError> {
     match read_said(alloc, text) {
         Ok(said) => return Ok(Told::Entry(said)),
@@ -65,7 +65,7 @@ fn read_told(alloc: Global, text: &[u8]) -> Result<Told, AllocError> {
 /// How lines are shown.
 #[derive(Clone, Copy)]
 pub enum Form {
-    /// As the file has them, with times that are read.
+    /// As the file has them, but with times in the form of RFC 3339.
     Plain,
     /// As objects of JSON.
     Json,
@@ -80,7 +80,7 @@ fn write_times<W: Write>(place: u64, ms: u64, output: &mut W) -> io::Result<()> 
     }
 }
 
-/// Writes an entry with its time, as the file has it otherwise.
+/// Writes an entry as the file has it, but with its time in the form of RFC 3339.
 fn show_entry<W: Write>(said: Said, text: &[u8], output: &mut W) -> io::Result<()> {
     write_times(said.place, said.ms, output)?;
     output.write_all(behind_words(text, 2))?;
@@ -93,7 +93,7 @@ fn show_end<W: Write>(text: &[u8], output: &mut W) -> io::Result<()> {
     output.write_all(b"\n")
 }
 
-/// Writes a line that tells this.
+/// Writes a line, by what it is.
 fn show_told<W: Write>(form: Form, told: Told, text: &[u8], output: &mut W) -> io::Result<()> {
     match (told, form) {
         (Told::Entry(said), Form::Plain) => show_entry(said, text, output),
@@ -104,7 +104,7 @@ fn show_told<W: Write>(form: Form, told: Told, text: &[u8], output: &mut W) -> i
     }
 }
 
-/// Writes a line at once, and gives what it tells.
+/// Writes a line at once, and gives what it is.
 fn show_text<W: Write>(alloc: Global, form: Form, text: &[u8], output: &mut W) -> io::Result<Told> {
     let told = read_told(alloc, text)?;
     show_told(form, told, text, output)?;
@@ -112,8 +112,8 @@ fn show_text<W: Write>(alloc: Global, form: Form, text: &[u8], output: &mut W) -
     Ok(told)
 }
 
-/// Writes the lines of a reader behind the first one, each as soon as it is read, as far as the
-/// last one. The answer is the number of a line that is spelled as none of a trail.
+/// Writes the lines of a reader after the first one, each as soon as it is read, up to the last one. The
+/// answer is the number of the first line that isn't a line of a trail, if there is one.
 pub fn show_lines<R: BufRead, W: Write>(
     alloc: Global,
     form: Form,

@@ -8,5 +8,7 @@ use Rattle.hub_check.proofs.commands.fits_line.Goals as goal
 
 pub returns-in-Command : goal.returns-in-Command
 returns-in-Command c = IfOk-weaker c.fits_text.result _ _
-    (λ (b : Bool) f edition h s. subst (λ (x : KeptRef). (b ≡ true) ↔ FitsLine c.args.owner h (kept_lent x) c.args.entry.now) (sym c.in-Command.is) (f edition h c.in-Command.window s))
+    (λ (b : Bool) f edition h s. subst
+    (λ (x : KeptRef). (b ≡ true) ↔ FitsLine c.args.owner h (kept_lent x) c.args.entry.now) (sym c.in-Command.is)
+    (f edition h c.in-Command.window s))
     c.fits_text.ensures

@@ -9,7 +9,12 @@ use Rattle.hub_check.proofs.lists.forget.Goals as goal
 pub returns : goal.returns
 returns c =
     redo c.args.replay.now _ c.remove.result c.redone.result (Gone c.args.user) c.redone.ensures
-    (λ edition owner h s. (known_name_fault owner (users_of owner h) (Some c.args.user), c.remove.ensures.answer edition owner h s.rights, refl))
+    (λ edition owner h s. (
+      known_name_fault owner (users_of owner h) (Some c.args.user),
+      c.remove.ensures.answer edition owner h s.rights,
+      refl,
+    ))
     (λ is edition owner h s.
     let done = on_ok c.remove.result c.remove.ensures.done is edition owner h s.rights in
-    stands_on c.args.replay.now _ edition owner h (Gone c.args.user) refl refl refl refl s done.stands (done.follower s.locks))
+    stands_on c.args.replay.now _ edition owner h (Gone c.args.user) refl refl refl refl s done.stands
+    (done.follower s.locks))

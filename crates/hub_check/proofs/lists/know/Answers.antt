@@ -18,22 +18,34 @@ pub returns-then-knows : goal.returns-then-knows
 returns-then-knows c = λ edition owner h s.
     let u : UserId = c.args.user in
     let known : among (users_of owner h) u ≡ true =
-    ap (λ (us : List UserId). among us u) (sym s.rights.users) ∙ (ap (λ (t : Table). among (users_in t) u) (sym c.lists.ensures) ∙ (sym c.knows.ensures.listed ∙ c.if-knows.true)) in
-    (sym (ap (λ b. not b && is_none (new_name_fault owner (users_of owner h) (Some u))) known), λ is. absurd (false≢true is))
+    ap (λ (us : List UserId). among us u) (sym s.rights.users)
+    ∙
+    (ap (λ (t : Table). among (users_in t) u) (sym c.lists.ensures)
+    ∙ (sym c.knows.ensures.listed ∙ c.if-knows.true)) in (
+      sym (ap (λ b. not b && is_none (new_name_fault owner (users_of owner h) (Some u))) known),
+      λ is. absurd
+          (false≢true is),
+    )
 
 pub returns : goal.returns
 returns c =
     let u : UserId = c.args.user in
-    let unknown : (owner : UserId) (h : History) (edition : Edition) → StandsAfter c.args.replay.now edition owner h → among (users_of owner h) u ≡ false =
-    λ owner h edition s. ap (λ (us : List UserId). among us u) (sym s.rights.users) ∙ (ap (λ (t : Table). among (users_in t) u) (sym c.lists.ensures) ∙ (sym c.knows.ensures.listed ∙ c.if-knows.false)) in
+    let unknown : (owner : UserId) (h : History) (edition : Edition) → StandsAfter c.args.replay.now edition owner h
+    → among (users_of owner h) u ≡ false =
+    λ owner h edition s. ap (λ (us : List UserId). among us u) (sym s.rights.users)
+    ∙
+    (ap (λ (t : Table). among (users_in t) u) (sym c.lists.ensures)
+    ∙ (sym c.knows.ensures.listed ∙ c.if-knows.false)) in
     redo c.args.replay.now _ c.change.result c.redone.result (Known u) c.redone.ensures
     (λ edition owner h s. (
       change_fault owner (users_of owner h) (Some u ∷ []),
       c.change.ensures.answer edition owner h s.rights,
-      new_alone (among (users_of owner h) u) (new_name_fault owner (users_of owner h) (Some u)) (unknown owner h edition s),
+      new_alone (among (users_of owner h) u) (new_name_fault owner (users_of owner h) (Some u))
+          (unknown owner h edition s),
     ))
     (λ is edition owner h s.
-    let done = on_ok c.change.result c.change.ensures.done is edition owner h s.rights (All-nil (λ (object : Object). there h object ≡ true)) in
+    let done = on_ok c.change.result c.change.ensures.done is edition owner h s.rights
+    (All-nil (λ (object : Object). there h object ≡ true)) in
     let all = know_done owner h u (unknown owner h edition s) in
     stands_on c.args.replay.now _ edition owner h (Known u) refl refl refl refl s
     (subst (λ g. StandsFor c.change.new.self edition owner g) all done.stands)

@@ -9,12 +9,15 @@ use Rattle.hub_check.proofs.lists.mask.Goals as goal
 
 pub returns : goal.returns
 returns c =
-    redo c.args.replay.now _ c.mask.result c.redone.result (Masked c.args.by c.args.user c.args.bit c.args.value) c.redone.ensures
+    redo c.args.replay.now _ c.mask.result c.redone.result (Masked c.args.by c.args.user c.args.bit c.args.value)
+    c.redone.ensures
     (λ edition owner h s. (
-      mask_fault owner (users_of owner h) (record { scope = scope.User (Some c.args.user); bit = c.args.bit; value = c.args.value } ∷ []),
+      mask_fault owner (users_of owner h)
+          (record { scope = scope.User (Some c.args.user); bit = c.args.bit; value = c.args.value } ∷ []),
       c.mask.ensures.answer edition owner h s.rights,
       alone (known_name_fault owner (users_of owner h) (Some c.args.user)),
     ))
     (λ is edition owner h s.
     let done = on_ok c.mask.result c.mask.ensures.done is edition owner h s.rights in
-    stands_on c.args.replay.now _ edition owner h (Masked c.args.by c.args.user c.args.bit c.args.value) refl refl refl refl s done.stands (done.follower s.locks))
+    stands_on c.args.replay.now _ edition owner h (Masked c.args.by c.args.user c.args.bit c.args.value) refl refl refl
+    refl s done.stands (done.follower s.locks))

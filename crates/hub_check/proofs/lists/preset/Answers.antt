@@ -10,4 +10,5 @@ returns c =
     (λ edition owner h s. (None, c.mask.ensures.answer edition owner h s.rights, refl))
     (λ is edition owner h s.
     let done = on_ok c.mask.result c.mask.ensures.done is edition owner h s.rights in
-    stands_on c.args.replay.now _ edition owner h (Preset c.args.kind c.args.bit c.args.value) refl refl refl refl s done.stands (done.follower s.locks))
+    stands_on c.args.replay.now _ edition owner h (Preset c.args.kind c.args.bit c.args.value) refl refl refl refl s
+    done.stands (done.follower s.locks))

@@ -18,8 +18,11 @@ use Rattle.hub_check.proofs.Redoing.{redo, on_ok, changeable, listed, set_done, 
 use Rattle.hub_check.proofs.lists.set.Goals as goal
 
 pub returns-then-not-is_nameable : goal.returns-then-not-is_nameable
-returns-then-not-is_nameable c = λ edition owner h s.
-    (sym (ap (λ b. b && there h c.args.object) (sym (c.is_nameable.ensures edition owner h s) ∙ c.if-not-is_nameable.true)), λ is. absurd (false≢true is))
+returns-then-not-is_nameable c = λ edition owner h s. (
+  sym (ap (λ b. b && there h c.args.object)
+      (sym (c.is_nameable.ensures edition owner h s) ∙ c.if-not-is_nameable.true)),
+  λ is. absurd (false≢true is),
+)
 
 pub returns-then-not-is_there : goal.returns-then-not-is_there
 returns-then-not-is_there c = λ edition owner h s. (
@@ -31,21 +34,27 @@ returns-then-not-is_there c = λ edition owner h s. (
 pub returns : goal.returns
 returns c =
     let u : UserId = c.args.user in
-    let can : (edition : Edition) (owner : UserId) (h : History) → StandsAfter c.args.replay.now edition owner h → is_nameable owner h u ≡ true =
+    let can : (edition : Edition) (owner : UserId) (h : History) → StandsAfter c.args.replay.now edition owner h
+    → is_nameable owner h u ≡ true =
     λ edition owner h s. sym (c.is_nameable.ensures edition owner h s) ∙ c.if-not-is_nameable.false in
-    let here : (edition : Edition) (owner : UserId) (h : History) → StandsAfter c.args.replay.now edition owner h → there h c.args.object ≡ true =
+    let here : (edition : Edition) (owner : UserId) (h : History) → StandsAfter c.args.replay.now edition owner h
+    → there h c.args.object ≡ true =
     λ edition owner h s. sym (c.is_there.ensures edition owner h s) ∙ c.if-not-is_there.false in
-    redo c.args.replay.now _ c.change.result c.redone.result (Set u c.args.bit c.args.object c.args.value) c.redone.ensures
+    redo c.args.replay.now _ c.change.result c.redone.result (Set u c.args.bit c.args.object c.args.value)
+    c.redone.ensures
     (λ edition owner h s. (
       change_fault owner (users_of owner h) (Some u ∷ []),
       c.change.ensures.answer edition owner h s.rights,
-      changeable OwnerKept UnknownUser OwnerKept TooManyUsers (same_user owner u) (among (users_of owner h) u) (nat_lt (length (users_of owner h)) 64) (can edition owner h s)
+      changeable OwnerKept UnknownUser OwnerKept TooManyUsers (same_user owner u) (among (users_of owner h) u)
+          (nat_lt (length (users_of owner h)) 64) (can edition owner h s)
           ∙ sym (both (is_nameable owner h u) (there h c.args.object) (can edition owner h s) (here edition owner h s)),
     ))
     (λ is edition owner h s.
-    let known = listed OwnerKept UnknownUser OwnerKept TooManyUsers (same_user owner u) (among (users_of owner h) u) (can edition owner h s) in
+    let known = listed OwnerKept UnknownUser OwnerKept TooManyUsers (same_user owner u) (among (users_of owner h) u)
+    (can edition owner h s) in
     let all : All (λ object. there h object ≡ true) (c.args.object ∷ []) =
-    All-cons (λ object. there h object ≡ true) c.args.object [] (here edition owner h s) (All-nil (λ (object : Object). there h object ≡ true)) in
+    All-cons (λ object. there h object ≡ true) c.args.object [] (here edition owner h s)
+    (All-nil (λ (object : Object). there h object ≡ true)) in
     let done = on_ok c.change.result c.change.ensures.done is edition owner h s.rights all in
     let given = set_done owner h u c.args.bit c.args.object c.args.value known in
     stands_on c.args.replay.now _ edition owner h (Set u c.args.bit c.args.object c.args.value) refl refl refl refl s

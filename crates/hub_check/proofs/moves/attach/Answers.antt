@@ -13,8 +13,11 @@ returns c = λ edition owner h s.
     let rows = c.args.replay.now.clients.items in
     let row : ℕ × UserId = (c.args.client, c.args.user) in
     let none : list_any (λ (d : ℕ × UserId). d.0 == c.args.client) rows ≡ false =
-    ap (λ (l : List (ℕ × UserId)). list_any (λ (d : ℕ × UserId). d.0 == c.args.client) l) (sym c.deref.ensures.value) ∙ (sym c.has_client.ensures ∙ c.if-has_client.false) in (
-      sym (ap not (ap (λ (l : List (ℕ × UserId)). list_any (λ (d : ℕ × UserId). d.0 == c.args.client) l) (sym s.clients) ∙ none)),
+    ap (λ (l : List (ℕ × UserId)). list_any (λ (d : ℕ × UserId). d.0 == c.args.client) l) (sym c.deref.ensures.value)
+    ∙ (sym c.has_client.ensures ∙ c.if-has_client.false) in (
+      sym (ap not
+          (ap (λ (l : List (ℕ × UserId)). list_any (λ (d : ℕ × UserId). d.0 == c.args.client) l) (sym s.clients)
+          ∙ none)),
       λ is. record {
         rights = StandsFor-aside c.args.replay.now.acl edition owner h (Attached c.args.client c.args.user) tt s.rights;
         locks = LocksStandFor-Attached c.args.replay.now.locks edition owner h c.args.client c.args.user s.locks;

@@ -11,7 +11,8 @@ returns c = λ edition owner h s. (
     clients = s.clients;
     differ = s.differ;
     count = c.left_open-replay.ensures
-        ∙ (ap (λ b. if b then c.args.replay.now.windows - 1 else c.args.replay.now.windows) (c.is_open-is_open.ensures edition owner h s)
+        ∙ (ap (λ b. if b then c.args.replay.now.windows - 1 else c.args.replay.now.windows)
+        (c.is_open-is_open.ensures edition owner h s)
         ∙ ap (λ k. if is_open h c.args.window then k - 1 else k) s.count);
   },
 )

@@ -6,11 +6,13 @@ use Rattle.hub_check.proofs.moves.open.Goals as goal
 
 pub returns : goal.returns
 returns c = λ edition owner h s.
-    let known : is_known owner h c.args.by ≡ true = sym (s.rights.known c.args.by) ∙ (sym c.knows.ensures ∙ c.if-not-knows.false) in
+    let known : is_known owner h c.args.by ≡ true = sym (s.rights.known c.args.by)
+    ∙ (sym c.knows.ensures ∙ c.if-not-knows.false) in
     let closed : is_open h c.args.window ≡ false = sym (c.is_open.ensures edition owner h s) ∙ c.if-is_open.false in
     let room : open_count h < 40 = subst (λ (k : ℕ). k < 40) s.count c.if-replay-ge-WINDOWS.false in (
       sym (both (is_known owner h c.args.by) (not (is_open h c.args.window) && nat_lt (open_count h) 40) known
-          (both (not (is_open h c.args.window)) (nat_lt (open_count h) 40) (ap not closed) (lt-ltb (open_count h) 40 room))),
+          (both (not (is_open h c.args.window)) (nat_lt (open_count h) 40) (ap not closed)
+          (lt-ltb (open_count h) 40 room))),
       λ is. record {
         rights = c.window_opened.ensures edition owner h s.rights known closed room;
         locks = c.opened.ensures edition owner h s.locks closed room;

@@ -30,5 +30,6 @@ returns c = λ edition h s.
     let p = λ (u : UserId). same_user c.args.owner u || has_act_of c.args.acts.now (Some u) in
     let us = users_of c.args.owner h in
     let i = c.loop-place.place in
-    let over : length us ≤ i = subst (λ (n : ℕ). n ≤ i) (c.user_count-place-end.ensures edition c.args.owner h s) c.loop-place-test.false in
+    let over : length us ≤ i = subst (λ (n : ℕ). n ≤ i) (c.user_count-place-end.ensures edition c.args.owner h s)
+    c.loop-place-test.false in
     sym (c.loop-place.invariant edition h s ∙ ap (list_all p) (drop-past i us over))

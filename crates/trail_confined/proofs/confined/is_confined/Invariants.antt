@@ -4,4 +4,5 @@ use Rattle.trail_confined.specs.Confining.{concerns}
 use Rattle.trail_confined.proofs.confined.is_confined.Given as goal
 
 abbrev pub invariant-loop-premise : goal.invariant-loop-premise
-invariant-loop-premise l = list_any (concerns l.bit) (drop l.premise-index l.failing) ≡ list_any (concerns l.bit) l.failing
+invariant-loop-premise l = list_any (concerns l.bit) (drop l.premise-index l.failing) ≡ list_any (concerns l.bit)
+    l.failing

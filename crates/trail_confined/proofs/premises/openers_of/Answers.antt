@@ -18,11 +18,17 @@ loop-user-preserved c = λ edition owner h stands.
     let opens = c.may_open.ensures edition owner h stands in
     let before = c.loop-user.invariant edition owner h stands in
     elim c.if-may_open.branch [
-      | then-may_open+in_ok-push w ↦ ap (λ v. v.items) w.openers-is ∙ w.in_ok-push.ensures.items ∙ keeps_next (may_open edition owner h) users c.loop-user.openers.items i x next (sym opens ∙ w.if-may_open.true) before
-      | else-may_open w ↦ ap (λ v. v.items) w.openers-is ∙ leaves_next (may_open edition owner h) users c.loop-user.openers.items i x next (sym opens ∙ w.if-may_open.false) before
+      | then-may_open+in_ok-push w ↦ ap (λ v. v.items) w.openers-is ∙ w.in_ok-push.ensures.items
+          ∙ keeps_next (may_open edition owner h) users c.loop-user.openers.items i x next
+          (sym opens ∙ w.if-may_open.true) before
+      | else-may_open w ↦ ap (λ v. v.items) w.openers-is
+          ∙ leaves_next (may_open edition owner h) users c.loop-user.openers.items i x next
+          (sym opens ∙ w.if-may_open.false) before
     ]
 
 pub returns : goal.returns
 returns c = λ edition owner h stands.
     c.loop-user.invariant edition owner h stands
-    ∙ ap (filter (may_open edition owner h)) (take_past c.loop-user.user-index c.as_slice-user-items.result.now c.loop-user-test.false ∙ c.as_slice-user-items.ensures.value ∙ c.in_ok-users.ensures edition owner h stands)
+    ∙ ap (filter (may_open edition owner h))
+    (take_past c.loop-user.user-index c.as_slice-user-items.result.now c.loop-user-test.false
+    ∙ c.as_slice-user-items.ensures.value ∙ c.in_ok-users.ensures edition owner h stands)

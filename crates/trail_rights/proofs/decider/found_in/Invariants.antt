@@ -3,4 +3,5 @@ use Rattle.trail_rights.specs.Deciding.{found_in}
 use Rattle.trail_rights.proofs.decider.found_in.Given as goal
 
 abbrev pub invariant-loop-decider : goal.invariant-loop-decider
-invariant-loop-decider l = found_in (drop l.decider-index l.deciders) l.user l.bit l.object ≡ found_in l.deciders l.user l.bit l.object
+invariant-loop-decider l = found_in (drop l.decider-index l.deciders) l.user l.bit l.object ≡ found_in l.deciders l.user
+    l.bit l.object

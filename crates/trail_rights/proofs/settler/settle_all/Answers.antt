@@ -15,8 +15,10 @@ loop-settler-preserved c =
     let here = get_or c.loop-settler.settler-items c.loop-settler.settler-index blank in
     let inside : c.loop-settler.settler-index < length c.loop-settler.settler-items = omega arith in
     rw c.after.ensures
-    (map_over_more (settler_after c.args.mark c.args.act.now) c.deref_mut-settler-items.result.now c.loop-settler.settler-items c.loop-settler.settler-index here c.loop-settler-test.true c.loop-settler.invariant
+    (map_over_more (settler_after c.args.mark c.args.act.now) c.deref_mut-settler-items.result.now
+    c.loop-settler.settler-items c.loop-settler.settler-index here c.loop-settler-test.true c.loop-settler.invariant
     (get_or_default c.loop-settler.settler-items c.loop-settler.settler-index blank here inside))
 
 pub returns-then-not-may_settle : goal.returns-then-not-may_settle
-returns-then-not-may_settle c = unsettled c.args.mark c.args.act.now (c.may_settle.ensures c.if-not-may_settle.true) c.args.settlers.now.items
+returns-then-not-may_settle c = unsettled c.args.mark c.args.act.now (c.may_settle.ensures c.if-not-may_settle.true)
+    c.args.settlers.now.items

@@ -30,7 +30,11 @@ returns-then-not-branch c = λ edition owner h s.
     let i = c.loop-act.invariant edition owner h s in
     let next = drop-next c.args.acts.now c.loop-act.act-index (Known (record { name = [] })) (omega arith) in
     let done = c.in_ok-follow.ensures edition owner i.0 i.1 in (
-      (λ is. absurd (false≢true is), λ all. sym c.if-not-branch.true ∙ (done.0 ∙ (subst (CanFollow edition owner i.0) (sym next) (i.2.0 all)).0)),
+      (
+        λ is. absurd (false≢true is),
+        λ all. sym c.if-not-branch.true
+            ∙ (done.0 ∙ (subst (CanFollow edition owner i.0) (sym next) (i.2.0 all)).0),
+      ),
       λ is. absurd (false≢true is),
     )
 

@@ -6,4 +6,7 @@ use Rattle.hub_check.proofs.replay.Replay.is_open.Goals as goal
 
 pub returns : goal.returns
 returns c = λ edition owner h s.
-    c.is_some.ensures ∙ (ap is_some (c.mode.ensures edition owner h s.locks) ∙ some_if (is_open h c.args.window) (mode_of h c.args.window))
+    c.is_some.ensures
+    ∙
+    (ap is_some (c.mode.ensures edition owner h s.locks)
+    ∙ some_if (is_open h c.args.window) (mode_of h c.args.window))

@@ -1,22 +1,27 @@
-use Rattle.std.proofs.Common.{◌∙◌, ◌++◌, refl, sym, subst, ap}
+use Rattle.std.proofs.Common.{◌∙◌, ◌++◌, sym, subst, ap}
 use Rattle.trail_lines.specs.Entries.{said}
 use Rattle.trail_audit.specs.Reading.{HasRead}
-use Rattle.trail_log.specs.Logging.{entries_in, shown_text}
-use Rattle.trail_log.specs.Naming.{names_after, names_with, nobody}
+use Rattle.trail_log.specs.Joining.{next_held, next_ms, next_text}
+use Rattle.trail_log.specs.Logging.{entries_in}
+use Rattle.trail_log.specs.Naming.{names_with, nobody}
 use Rattle.trail_log.proofs.Logged.{entries_more, names_more}
 use Rattle.trail_log.proofs.logging.Log.take.Goals as goal
 
 pub returns : goal.returns
 returns c = λ edition owner xs w.
     let t = c.in_ok-said.ensures.tells edition owner (entries_in xs) w.read in
-    let next = said c.in_ok-said.said in record {
+    let next = said c.in_ok-said.said in
+    let choice = c.args.choice.now in
+    let held = c.args.self.now.held in record {
       next = next;
       is = t.is;
-      ms_is = refl;
       place_is = t.place_is;
       logged = record {
         read = subst (HasRead c.take.new.self edition owner) (sym (entries_more xs next)) t.read;
         named = c.in_ok-take.ensures ∙ (ap (λ n. names_with n next) w.named ∙ sym (names_more nobody xs next));
       };
-      text = c.in_ok-show.ensures ∙ ap (λ n. c.args.out.now.items ++ shown_text c.args.choice.now n next) w.named;
+      text =
+          c.in_ok-ms.ensures.text ∙ ap (λ n. c.args.out.now.items ++ next_text choice held n next) w.named;
+      ms_is = c.in_ok-ms.ensures.ms ∙ ap (λ n. next_ms choice held n next) w.named;
+      held = c.in_ok-ms.ensures.held ∙ ap (λ n. next_held choice held n next) w.named;
     }

@@ -6,17 +6,17 @@ use Rattle.trail_rights.specs.Seeing.{HasSeen}
 use Rattle.trail_rights.proofs.sight.Sight.follow_all.Goals as goal
 
 pub loop-act-init : goal.loop-act-init
-loop-act-init c = λ edition owner marked s. (marked, s, refl)
+loop-act-init c = λ owner marked s. (marked, s, refl)
 
 pub loop-act-preserved : goal.loop-act-preserved
-loop-act-preserved c = λ edition owner marked s.
-    let i = c.loop-act.invariant edition owner marked s in
+loop-act-preserved c = λ owner marked s.
+    let i = c.loop-act.invariant owner marked s in
     let a = slice_index_or c.args.acts.now c.loop-act.act-index (Known (record { name = [] })) in
     let next = drop-next c.args.acts.now c.loop-act.act-index (Known (record { name = [] })) (omega arith) in
-    ((c.args.mark, a) ∷ i.0, c.in_ok-follow.ensures edition owner i.0 i.1, ap (marked_by c.args.mark i.0) next ∙ i.2)
+    ((c.args.mark, a) ∷ i.0, c.in_ok-follow.ensures owner i.0 i.1, ap (marked_by c.args.mark i.0) next ∙ i.2)
 
 pub returns : goal.returns
-returns c = λ edition owner marked s.
-    let i = c.loop-act.invariant edition owner marked s in
+returns c = λ owner marked s.
+    let i = c.loop-act.invariant owner marked s in
     let none = drop-past c.loop-act.act-index c.args.acts.now c.loop-act-test.false in
-    subst (HasSeen c.loop-act.self edition owner) (ap (marked_by c.args.mark i.0) (sym none) ∙ i.2) i.1
+    subst (HasSeen c.loop-act.self owner) (ap (marked_by c.args.mark i.0) (sym none) ∙ i.2) i.1

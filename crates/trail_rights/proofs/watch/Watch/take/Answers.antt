@@ -15,7 +15,7 @@ returns c = λ edition owner xs w.
       place_is = t.place_is;
       watched = record {
         read = subst (HasRead c.take.new.self edition owner) (sym (entries_more xs next)) t.read;
-        seen = subst (HasSeen c.take-2.new.self edition owner) (sym (marked_more [] xs next))
-            (c.in_ok-take.ensures edition owner (marked_after [] xs) w.seen);
+        seen = subst (HasSeen c.take-2.new.self owner) (sym (marked_more [] xs next))
+            (c.in_ok-take.ensures owner (marked_after [] xs) w.seen);
       };
     }

@@ -2,7 +2,7 @@ use Rattle.std.proofs.Common.{ℕ, not, rules}
 use Rattle.std.specs.Prelude.{◌==◌}
 use Rattle.std.proofs.lemmas.Fn.{filter_same}
 use Rattle.acl.specs.declared.user_id.UserId.{UserId}
-use Rattle.trail_log.proofs.names.drop_client.Goals as goal
+use Rattle.hub_check.proofs.clients.drop_client.Goals as goal
 
 pub returns : goal.returns
 returns c =

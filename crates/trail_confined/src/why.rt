@@ -1,0 +1,217 @@
+//! Which act decides a user's bit on an object.
+
+ghost use Rattle.std.specs.Prelude.{◌≡◌, ◌++◌, OnOk};
+ghost use Rattle.std.specs.List.{flat_map};
+ghost use Rattle.acl.specs.declared.edition.Edition.{Edition};
+ghost use Rattle.acl.specs.declared.user_id.UserId.{UserId};
+ghost use Rattle.acl.specs.History.{History};
+ghost use Rattle.hub_check.specs.Following.{StandsAfter};
+ghost use Rattle.trail_confined.specs.Reasons.{answer_of, answer_text, cause_text, decider_text};
+ghost use Rattle.trail_confined.specs.Reasons.{found_text, giver_text, is_there, mark_text, owner_text};
+ghost use Rattle.trail_confined.specs.Reasons.{reasons_text, yes_text};
+ghost use Rattle.trail_rights.specs.Windows.{windows_of};
+
+use crate::dates::push_when;
+use acl::{Act, Bit, CommandName, Object, UserId};
+use command_lang::name_text;
+use hub_check::Replay;
+use line_fields::acts::push_act;
+use session_model::push_decimal;
+use std::alloc::AllocError;
+use trail_rights::{Decider, Mark, Sight, may};
+
+/// A user, a bit and an object.
+#[derive(Clone, Copy)]
+pub struct Question {
+    pub user: UserId,
+    pub bit: Bit,
+    pub object: Object,
+}
+
+impl Question {
+    /// The question of three words: a name, `r`, `w` or `x`, and a window's serial or a command's
+    /// name.
+    pub fn read(user: &[u8], bit: &[u8], object: &[u8]) -> Option<Question> {
+        Some(Question {
+            user: UserId::of(user)?,
+            bit: bit_of(bit)?,
+            object: object_of(object)?,
+        })
+    }
+}
+
+/// The bit of a letter.
+pub fn bit_of(word: &[u8]) -> Option<Bit> {
+    match word {
+        [b'r'] => Some(Bit::Read),
+        [b'w'] => Some(Bit::Write),
+        [b'x'] => Some(Bit::Execute),
+        _ => None,
+    }
+}
+
+/// The object of a window's serial or a command's name.
+fn object_of(word: &[u8]) -> Option<Object> {
+    match line_fields::read_u32(word) {
+        Some(window) => Some(Object::Window(window)),
+        None => Some(Object::Command(command_of(word)?)),
+    }
+}
+
+/// The command of this name.
+fn command_of(name: &[u8]) -> Option<CommandName> {
+    for command in &CommandName::ALL {
+        if name_text(*command).as_bytes() == name {
+            return Some(*command);
+        }
+    }
+    None
+}
+
+/// Whether an object is there: a command, or one of the windows that are open.
+fn is_there(windows: &[u32], object: Object) -> bool
+    ensures { result ≡ is_there windows.now object }
+{
+    match object {
+        Object::Window(window) => windows.iter().any(|other| *other == window),
+        Object::Command(_) => true,
+    }
+}
+
+/// Appends who gave an event, if a user did.
+fn push_giver(giver: Option<UserId>, out: &mut Vec<u8>) -> Result<(), AllocError>
+    ensures { OnOk result (out.new.items ≡ out.old.items ++ giver_text giver) }
+{
+    match giver {
+        Some(giver) => {
+            out.extend_from_slice(b" by ")?;
+            out.extend_from_slice(giver.as_bytes())?;
+            out.extend_from_slice(b": ")
+        }
+        None => out.extend_from_slice(b": "),
+    }
+}
+
+/// Appends which entry has an act, its time, and who gave its event.
+fn push_mark(mark: Mark, out: &mut Vec<u8>) -> Result<(), AllocError>
+    ensures { OnOk result (out.new.items ≡ out.old.items ++ mark_text mark) }
+{
+    out.extend_from_slice(b"entry ")?;
+    push_decimal(mark.place, out)?;
+    push_when(b" at ", mark.ms, out)?;
+    push_giver(mark.giver, out)
+}
+
+/// Appends the act that was found to decide, and its entry; or that no act decides.
+fn push_cause(found: Option<(Mark, Act)>, out: &mut Vec<u8>) -> Result<(), AllocError>
+    ensures { OnOk result (out.new.items ≡ out.old.items ++ cause_text found) }
+{
+    match found {
+        Some((mark, act)) => {
+            push_mark(mark, out)?;
+            push_act(&act, out)?;
+            out.extend_from_slice(b"\n")
+        }
+        None => out.extend_from_slice(b"no act decides\n"),
+    }
+}
+
+/// Appends the act that was found to decide for a user, and its entry; or that no act decides.
+pub fn push_found(
+    user: UserId,
+    found: Option<(Mark, Act)>,
+    out: &mut Vec<u8>,
+) -> Result<(), AllocError>
+    ensures { OnOk result (out.new.items ≡ out.old.items ++ found_text user found) }
+{
+    out.extend_from_slice(user.as_bytes())?;
+    out.extend_from_slice(b": ")?;
+    push_cause(found, out)
+}
+
+/// Appends whether a user has a bit.
+fn push_yes(has_bit: bool, out: &mut Vec<u8>) -> Result<(), AllocError>
+    ensures { OnOk result (out.new.items ≡ out.old.items ++ yes_text has_bit) }
+{
+    if has_bit {
+        out.extend_from_slice(b"yes\n")
+    } else {
+        out.extend_from_slice(b"no\n")
+    }
+}
+
+/// Appends that a user is the owner, if they are.
+fn push_owner(owner: UserId, user: UserId, out: &mut Vec<u8>) -> Result<(), AllocError>
+    ensures { OnOk result (out.new.items ≡ out.old.items ++ owner_text owner user) }
+{
+    if user == owner {
+        out.extend_from_slice(user.as_bytes())?;
+        out.extend_from_slice(b": the owner\n")
+    } else {
+        Ok(())
+    }
+}
+
+/// Appends what each decider has found.
+fn push_deciders(deciders: &[Decider], out: &mut Vec<u8>) -> Result<(), AllocError>
+    ensures { OnOk result
+        (out.new.items ≡ out.old.items ++ flat_map decider_text deciders.now) }
+{
+    for decider in deciders {
+        push_found(decider.user(), decider.found(), out)?;
+    }
+    Ok(())
+}
+
+/// Appends whether a user has a bit, and the acts that decide it: the user's own, and their leaders'.
+/// The answer is None if the object isn't there.
+fn push_answer(
+    owner: UserId,
+    user: UserId,
+    answer: Option<bool>,
+    deciders: &[Decider],
+    out: &mut Vec<u8>,
+) -> Result<(), AllocError>
+    ensures { OnOk result
+        (out.new.items ≡ out.old.items ++ answer_text owner user answer deciders.now) }
+{
+    match answer {
+        Some(has_bit) => {
+            push_yes(has_bit, out)?;
+            push_owner(owner, user, out)?;
+            push_deciders(deciders, out)
+        }
+        None => out.extend_from_slice(b"no: the window isn't open\n"),
+    }
+}
+
+/// Whether the user has the bit on the object. None if the object isn't there.
+fn answer_of(replay: &Replay, sight: &Sight, question: Question) -> Option<bool>
+    ensures { (edition : Edition) (owner : UserId) (h : History) →
+        StandsAfter replay.now edition owner h → sight.now.windows.items ≡ windows_of h →
+        result ≡ answer_of edition owner h question }
+{
+    if is_there(sight.windows(), question.object) {
+        Some(may(replay, question.user, question.bit, question.object))
+    } else {
+        None
+    }
+}
+
+/// Appends whether the user has the bit, after the acts that the replay and the sight have followed, and
+/// the acts that decide it: the user's own, and their leaders'. The sight has looked for these.
+pub fn push_reasons(
+    owner: UserId,
+    replay: &Replay,
+    sight: &Sight,
+    question: Question,
+    out: &mut Vec<u8>,
+) -> Result<(), AllocError>
+    ensures { (edition : Edition) (h : History) → StandsAfter replay.now edition owner h →
+        sight.now.windows.items ≡ windows_of h →
+        OnOk result (out.new.items ≡ out.old.items
+        ++ reasons_text edition owner h question sight.now.deciders.items) }
+{
+    let answer = answer_of(replay, sight, question);
+    push_answer(owner, question.user, answer, sight.deciders(), out)
+}
