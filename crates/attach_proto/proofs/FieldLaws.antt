@@ -1,10 +1,13 @@
 -- A field that is read is the field that was written, and what was written is read again.
-use Rattle.std.proofs.Common.{◌≡◌, ℕ, suc, ◌+◌, ◌*◌, ◌/◌, ◌%◌, ◌<◌, ◌≤◌, Bool, true, false, ◌&&◌, cond, ltb, eqb, List, [], ◌∷◌, ◌++◌, length, get_or, take, drop, Option, Some, None, refl, sym, ap, subst, ◌∙◌, append_assoc, arith, inl, inr}
+use Rattle.std.proofs.Common.{◌≡◌, ℕ, suc, ◌+◌, ◌*◌, ◌/◌, ◌%◌, ◌<◌, ◌≤◌, Bool, true, false, ◌&&◌, cond, ltb, eqb, List}
+use Rattle.std.proofs.Common.{[], ◌∷◌, ◌++◌, length, get_or, take, drop, Option, Some, None, refl, sym, ap, subst, ◌∙◌}
+use Rattle.std.proofs.Common.{append_assoc, arith, inl, inr}
 use Rattle.std.specs.List.{list_all}
 use Rattle.std.specs.Str.{is_utf8}
 use Rattle.std.proofs.lemmas.Bool.Decides.{nat_tests}
 use Rattle.std.proofs.lemmas.Bool.{cases_lt, ltb-false, le-ltb, eqb-true}
-use Rattle.std.proofs.lemmas.List.{take_at, drop_at, take-append-drop, length-append, length-take, get_or-drop, get_or-take, get_or_past, nil_from_length}
+use Rattle.std.proofs.lemmas.List.{take_at, drop_at, take-append-drop, length-append, length-take, get_or-drop}
+use Rattle.std.proofs.lemmas.List.{get_or-take, get_or_past, nil_from_length}
 use Rattle.attach_proto.specs.Texts.{token_of, text_of, is_token, is_digit, IsToken, IsText}
 use Rattle.attach_proto.specs.Spelling.{two, named}
 use Rattle.attach_proto.specs.Reading.{◌>>=◌, one_at, two_at, split_at, token_at, name_at, end_at, some_of}
@@ -23,7 +26,8 @@ IsBytes-take n bytes h i =
     ]
 
 -- the value of a step that did not fail
-pub bind_some : {A B : Type 0} (r : Option A) (f : A → Option B) (y : B) → (r >>= f) ≡ Some y → (x : A) × (r ≡ Some x) × (f x ≡ Some y)
+pub bind_some : {A B : Type 0} (r : Option A) (f : A → Option B) (y : B) → (r >>= f) ≡ Some y → (x : A) × (r ≡ Some x)
+    × (f x ≡ Some y)
 bind_some (Some x) f y e = (x, refl, e)
 bind_some None f y e = absurd cc
 
@@ -51,11 +55,13 @@ pub record Takes (bytes text rest : List ℕ) : Type 0 where
   pub rest_fits : IsBytes rest
 
 pub Takes-then : (a x b y c : List ℕ) → Takes a x b → Takes b y c → Takes a (x ++ y) c
-Takes-then a x b y c p q = record { parts = p.parts ∙ ap (λ (t : List ℕ). x ++ t) q.parts ∙ sym (append_assoc x y c); rest_fits = q.rest_fits }
+Takes-then a x b y c p q = record
+    { parts = p.parts ∙ ap (λ (t : List ℕ). x ++ t) q.parts ∙ sym (append_assoc x y c); rest_fits = q.rest_fits }
 
 -- ---- numbers
 
-pub two_takes : (bytes : List ℕ) (x : ℕ × List ℕ) → IsBytes bytes → two_at bytes ≡ Some x → Takes bytes (two x.0) x.1 × (x.0 < 65536)
+pub two_takes : (bytes : List ℕ) (x : ℕ × List ℕ) → IsBytes bytes → two_at bytes ≡ Some x → Takes bytes (two x.0) x.1
+    × (x.0 < 65536)
 two_takes [] x fits e = absurd cc
 two_takes (h ∷ []) x fits e = absurd cc
 two_takes (h ∷ l ∷ rest) x fits e =
@@ -72,10 +78,12 @@ two_is n = omega arith
 pub two_again : (n : ℕ) (rest : List ℕ) → two_at (two n ++ rest) ≡ Some (n, rest)
 two_again n rest = let e : 256 * (n / 256) + n % 256 ≡ n = omega arith in rw e refl
 
-pub one_takes : (bytes : List ℕ) (x : ℕ × List ℕ) → IsBytes bytes → one_at bytes ≡ Some x → Takes bytes (x.0 ∷ []) x.1 × (x.0 < 256)
+pub one_takes : (bytes : List ℕ) (x : ℕ × List ℕ) → IsBytes bytes → one_at bytes ≡ Some x → Takes bytes (x.0 ∷ []) x.1
+    × (x.0 < 256)
 one_takes [] x fits e = absurd cc
 one_takes (n ∷ rest) x fits e =
-    subst (λ (y : ℕ × List ℕ). Takes (n ∷ rest) (y.0 ∷ []) y.1 × (y.0 < 256)) (some_is (n, rest) x e) (record { parts = refl; rest_fits = λ i. fits (suc i) }, fits 0)
+    subst (λ (y : ℕ × List ℕ). Takes (n ∷ rest) (y.0 ∷ []) y.1 × (y.0 < 256)) (some_is (n, rest) x e)
+    (record { parts = refl; rest_fits = λ i. fits (suc i) }, fits 0)
 
 -- ---- parts
 
@@ -84,7 +92,8 @@ pub record Parts (n : ℕ) (bytes front rest : List ℕ) : Type 0 where
   pub len : length front ≡ n
   pub front_fits : IsBytes front
 
-pub split_takes : (n : ℕ) (bytes : List ℕ) (x : List ℕ × List ℕ) → IsBytes bytes → split_at n bytes ≡ Some x → Parts n bytes x.0 x.1
+pub split_takes : (n : ℕ) (bytes : List ℕ) (x : List ℕ × List ℕ) → IsBytes bytes → split_at n bytes ≡ Some x
+    → Parts n bytes x.0 x.1
 split_takes n bytes x fits e =
     let g = if_none (ltb (length bytes) n) (take n bytes, drop n bytes) x e in
     let long : n ≤ length bytes = ltb-false _ _ g.0 in
@@ -101,14 +110,16 @@ split_again n front rest len =
 
 -- ---- tokens and names
 
-pub token_takes : (bytes : List ℕ) (x : List ℕ × List ℕ) → IsBytes bytes → token_at bytes ≡ Some x → Takes bytes x.0 x.1 × IsToken x.0
+pub token_takes : (bytes : List ℕ) (x : List ℕ × List ℕ) → IsBytes bytes → token_at bytes ≡ Some x → Takes bytes x.0 x.1
+    × IsToken x.0
 unfolding token_at
 token_takes bytes x fits e =
     let a = bind_some (split_at 64 bytes) (λ p. token_of p.0 >>= λ t. Some (t, p.1)) x e in
     let b = bind_some (token_of a.0.0) (λ t. Some (t, a.0.1)) x a.2 in
     let p = split_takes 64 bytes a.0 fits a.1 in
     let g = if_some (is_token a.0.0) a.0.0 b.0 b.1 in
-    let moved : Takes bytes b.0 a.0.1 × IsToken b.0 = subst (λ (t : List ℕ). Takes bytes t a.0.1 × IsToken t) g.1 (p.takes, g.0) in
+    let moved : Takes bytes b.0 a.0.1
+    × IsToken b.0 = subst (λ (t : List ℕ). Takes bytes t a.0.1 × IsToken t) g.1 (p.takes, g.0) in
     subst (λ (y : List ℕ × List ℕ). Takes bytes y.0 y.1 × IsToken y.0) (some_is (b.0, a.0.1) x b.2) moved
 
 pub token_again : (token rest : List ℕ) → IsToken token → token_at (token ++ rest) ≡ Some (token, rest)
@@ -140,8 +151,11 @@ name_takes bytes x fits e =
     let one = one_takes bytes a.0 fits a.1 in
     let p = split_takes a.0.0 a.0.1 b.0 one.0.rest_fits b.1 in
     let t = text_takes b.0.0 d.0 d.1 in
-    let whole : bytes ≡ named b.0.0 b.0.1 = one.0.parts ∙ ap (λ (r : List ℕ). a.0.0 ∷ r) p.takes.parts ∙ ap (λ (n : ℕ). n ∷ (b.0.0 ++ b.0.1)) (sym p.len) in
-    let moved : Named bytes d.0 b.0.1 = subst (λ (n : List ℕ). Named bytes n b.0.1) t.0 (record { parts = whole; rest_fits = p.takes.rest_fits; short = omega (arith, p.len, one.1); is_text = rw t.0 t.1 }) in
+    let whole : bytes ≡ named b.0.0 b.0.1 = one.0.parts ∙ ap (λ (r : List ℕ). a.0.0 ∷ r) p.takes.parts
+    ∙ ap (λ (n : ℕ). n ∷ (b.0.0 ++ b.0.1)) (sym p.len) in
+    let moved : Named bytes d.0 b.0.1 = subst (λ (n : List ℕ). Named bytes n b.0.1) t.0
+    (record
+    { parts = whole; rest_fits = p.takes.rest_fits; short = omega (arith, p.len, one.1); is_text = rw t.0 t.1 }) in
     subst (λ (y : List ℕ × List ℕ). Named bytes y.0 y.1) (some_is (d.0, b.0.1) x d.2) moved
 
 pub name_again : (name rest : List ℕ) → IsText name → name_at (named name rest) ≡ Some (name, rest)

@@ -1,5 +1,6 @@
 -- A whole frame at the front is the one that spells its message.
-use Rattle.std.proofs.Common.{◌≡◌, ℕ, suc, ◌+◌, ◌*◌, ◌/◌, ◌%◌, ◌<◌, ◌≤◌, Bool, true, false, cond, eqb, ltb, List, [], ◌∷◌, ◌++◌, length, take, drop, Option, Some, None, refl, sym, ap, ◌∙◌, arith}
+use Rattle.std.proofs.Common.{◌≡◌, ℕ, suc, ◌+◌, ◌*◌, ◌/◌, ◌%◌, ◌<◌, ◌≤◌, Bool, true, false, cond, eqb, ltb, List, []}
+use Rattle.std.proofs.Common.{◌∷◌, ◌++◌, length, take, drop, Option, Some, None, refl, sym, ap, ◌∙◌, arith}
 use Rattle.std.proofs.lemmas.List.{take_at, take-append-drop, length-append, length-take}
 use Rattle.std.proofs.lemmas.Bool.{eqb-true, ltb-false, le-ltb}
 use Rattle.attach_proto.specs.declared.fault.ProtoFault.{ProtoFault}
@@ -47,7 +48,8 @@ same_again Peer = refl
 
 -- ---- what a whole frame says
 
-not_broken : (b : Bool) (f : ProtoFault) (x : Front) (m : Message) (n : ℕ) → cond b (Broken f) x ≡ Whole m n → (b ≡ false) × (x ≡ Whole m n)
+not_broken : (b : Bool) (f : ProtoFault) (x : Front) (m : Message) (n : ℕ) → cond b (Broken f) x ≡ Whole m n
+    → (b ≡ false) × (x ≡ Whole m n)
 not_broken true f x m n e = absurd cc
 not_broken false f x m n e = (refl, e)
 
@@ -57,15 +59,18 @@ not_part false x m n e = (refl, e)
 
 ended_is : (len : ℕ) (o : Option Message) (m : Message) (n : ℕ) → ended len o ≡ Whole m n → (o ≡ Some m) × (n ≡ len + 3)
 ended_is len None m n e = absurd cc
-ended_is len (Some x) m n e = let same : x ≡ m = cc in let long : len + 3 ≡ n = cc in (ap (λ (y : Message). Some y) same, sym long)
+ended_is len (Some x) m n e = let same : x ≡ m = cc in let long : len + 3 ≡ n = cc in
+    (ap (λ (y : Message). Some y) same, sym long)
 
 kind_is : (side : Side) (o : Option Kind) (bytes : List ℕ) (m : Message) (n : ℕ) → of_kind side o bytes ≡ Whole m n
     → (k : Kind) × (o ≡ Some k) × (same_side (reader_of k) side ≡ true) × (sized k bytes ≡ Whole m n)
 kind_is side None bytes m n e = absurd cc
-kind_is side (Some k) bytes m n e = let t = side_test (same_side (reader_of k) side) (sized k bytes) m n e in (k, refl, t.0, t.1) where
-  side_test : (b : Bool) (x : Front) (m : Message) (n : ℕ) → cond b x (Broken WrongSide) ≡ Whole m n → (b ≡ true) × (x ≡ Whole m n)
-  side_test true x m n e = (refl, e)
-  side_test false x m n e = absurd cc
+kind_is side (Some k) bytes m n e = let t = side_test (same_side (reader_of k) side) (sized k bytes) m n e in
+    (k, refl, t.0, t.1) where
+      side_test : (b : Bool) (x : Front) (m : Message) (n : ℕ) → cond b x (Broken WrongSide) ≡ Whole m n → (b ≡ true)
+          × (x ≡ Whole m n)
+      side_test true x m n e = (refl, e)
+      side_test false x m n e = absurd cc
 
 -- what stands at the front of these bytes
 pub record Fronts (side : Side) (bytes : List ℕ) (m : Message) (n : ℕ) : Type 0 where
@@ -74,12 +79,14 @@ pub record Fronts (side : Side) (bytes : List ℕ) (m : Message) (n : ℕ) : Typ
   pub long : n ≡ length (spelling m)
   pub read : IsRead side m
 
-whole_is : (side : Side) (c h l : ℕ) (bytes : List ℕ) (m : Message) (n : ℕ) → IsBytes (c ∷ h ∷ l ∷ bytes) → of_kind side (kind_at c) (h ∷ l ∷ bytes) ≡ Whole m n → Fronts side (c ∷ h ∷ l ∷ bytes) m n
+whole_is : (side : Side) (c h l : ℕ) (bytes : List ℕ) (m : Message) (n : ℕ) → IsBytes (c ∷ h ∷ l ∷ bytes)
+    → of_kind side (kind_at c) (h ∷ l ∷ bytes) ≡ Whole m n → Fronts side (c ∷ h ∷ l ∷ bytes) m n
 unfolding spelling
 whole_is side c h l bytes m n fits e =
     let a = kind_is side (kind_at c) (h ∷ l ∷ bytes) m n e in
     let len = 256 * h + l in
-    let b = not_broken (ltb 8192 len) TooLong (cond (ltb (length bytes) len) Part (ended len (message_of a.0 (take len bytes)))) m n a.3 in
+    let b = not_broken (ltb 8192 len) TooLong
+    (cond (ltb (length bytes) len) Part (ended len (message_of a.0 (take len bytes)))) m n a.3 in
     let d = not_part (ltb (length bytes) len) (ended len (message_of a.0 (take len bytes))) m n b.1 in
     let f = ended_is len (message_of a.0 (take len bytes)) m n d.1 in
     let short : len ≤ 8192 = ltb-false _ _ b.0 in
@@ -93,26 +100,45 @@ whole_is side c h l bytes m n fits e =
     let e1 : h ≡ length (payload m) / 256 = omega (arith, size) in
     let e2 : l ≡ length (payload m) % 256 = omega (arith, size) in
     let first : c ≡ code (kind_of m) = kind_takes c a.0 a.1 ∙ ap code (sym s.kind_is) in
-    let body : bytes ≡ payload m ++ drop len bytes = sym (take-append-drop len bytes) ∙ ap (λ (x : List ℕ). x ++ drop len bytes) s.payload_is in
-    let parts : c ∷ h ∷ l ∷ bytes ≡ code (kind_of m) ∷ (length (payload m) / 256) ∷ (length (payload m) % 256) ∷ (payload m ++ drop len bytes) = cc in
+    let body : bytes ≡ payload m ++ drop len bytes = sym (take-append-drop len bytes)
+    ∙ ap (λ (x : List ℕ). x ++ drop len bytes) s.payload_is in
+    let parts : c ∷ h ∷ l ∷ bytes ≡ code (kind_of m) ∷ (length (payload m) / 256) ∷ (length (payload m) % 256) ∷
+    (payload m ++ drop len bytes) = cc in
     record {
       rest = drop len bytes;
       parts = parts;
       long = omega (arith, size, f.1);
-      read = record { fits = record { fields = s.fields; short = omega (arith, size, short) }; side_is = ap reader_of s.kind_is ∙ same_is _ _ a.2 };
+      read = record {
+        fits = record { fields = s.fields; short = omega (arith, size, short) };
+        side_is = ap reader_of s.kind_is
+            ∙ same_is _ _ a.2;
+      };
     }
 
-pub front_takes : (side : Side) (bytes : List ℕ) (m : Message) (n : ℕ) → IsBytes bytes → front side bytes ≡ Whole m n → Fronts side bytes m n
+pub front_takes : (side : Side) (bytes : List ℕ) (m : Message) (n : ℕ) → IsBytes bytes → front side bytes ≡ Whole m n
+    → Fronts side bytes m n
 unfolding front
 front_takes side [] m n fits e = absurd cc
 front_takes side (c ∷ []) m n fits e = let a = kind_is side (kind_at c) [] m n e in absurd (cc (a.3))
 front_takes side (c ∷ h ∷ []) m n fits e = let a = kind_is side (kind_at c) (h ∷ []) m n e in absurd (cc (a.3))
 front_takes side (c ∷ h ∷ l ∷ bytes) m n fits e = whole_is side c h l bytes m n fits e
 
-pub front_again : (side : Side) (m : Message) (rest : List ℕ) → IsRead side m → front side (spelling m ++ rest) ≡ Whole m (length (payload m) + 3)
+pub front_again : (side : Side) (m : Message) (rest : List ℕ) → IsRead side m
+    → front side (spelling m ++ rest) ≡ Whole m (length (payload m) + 3)
 unfolding front spelling
 front_again side m rest h =
     let len = length (payload m) in
     let short : ltb 8192 len ≡ false = le-ltb _ _ h.fits.short in
-    let enough : ltb (length (payload m ++ rest)) len ≡ false = le-ltb _ _ (omega (arith, length-append (payload m) rest)) in
-    rw (kind_again (kind_of m), h.side_is, same_again side, two_is len, short, enough, take_at (payload m) rest len refl, message_again m h.fits.fields) refl
+    let enough : ltb (length (payload m ++ rest)) len ≡ false = le-ltb _ _
+    (omega (arith, length-append (payload m) rest)) in
+    rw (
+      kind_again (kind_of m),
+      h.side_is,
+      same_again side,
+      two_is len,
+      short,
+      enough,
+      take_at (payload m) rest len
+          refl,
+      message_again m h.fits.fields,
+    ) refl
