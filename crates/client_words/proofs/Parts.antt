@@ -1,4 +1,4 @@
--- The lines that end in some bytes behind others, and what is left unended.
+-- The lines that end in some bytes after others, and the line that is left unended.
 use Rattle.std.proofs.Common.{◌≡◌, ℕ, ◌<◌, Bool, true, false, cond, ◌||◌, List, [], ◌∷◌, ◌++◌, length, refl, sym, ap}
 use Rattle.std.proofs.Common.{◌∙◌, append-nil, arith}
 use Rattle.std.specs.List.{slice_split, onto_first, list_any}
@@ -58,7 +58,7 @@ last_part (p ∷ []) [] some = absurd (omega arith)
 last_part (p ∷ []) (t ∷ tail) some = refl
 last_part (p ∷ q ∷ front) tail some = last_part (q ∷ front) tail some
 
--- ---- bytes behind others
+-- ---- bytes after others
 
 pub ended-behind : (xs ys : List ℕ) → ended (xs ++ ys) ≡ ended xs ++ ended (unended xs ++ ys)
 unfolding ended unended
@@ -92,7 +92,7 @@ plain (x ∷ xs) = go (is_feed x) refl (plain xs)
     go true h e = rw (front-yes x xs h) (plain-yes (parts xs) (parts_some xs) e)
     go false h e = rw (front-no x xs h) (plain-no x (parts xs) h (parts_some xs) e)
 
--- ---- one byte behind such bytes
+-- ---- one byte after such bytes
 
 one-feed : (line : List ℕ) (byte : ℕ) → list_any is_feed line ≡ false → is_feed byte ≡ true
     → parts (line ++ byte ∷ []) ≡ line ∷ [] ∷ []

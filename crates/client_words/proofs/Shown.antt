@@ -7,7 +7,7 @@ use Rattle.std.proofs.lemmas.Bool.Decides.{nat_tests}
 use Rattle.client_words.specs.Visible.{is_control, is_lead, is_second, digit, escaped, shown, visible, has_c1, put_now}
 use Rattle.client_words.specs.Visible.{holds_after}
 
--- what is written of bytes before which one may be held back
+-- what is written of bytes, if one before them may be held back
 abbrev pub from : Bool → List ℕ → List ℕ
 from holds rest = if holds then visible (0xC2 ∷ rest) else visible rest
 
@@ -83,7 +83,7 @@ all-plain (x ∷ y ∷ rest) = go (is_lead x && is_second y) refl (all-plain res
     go true h e f = rw h (both-plain (escaped y) (visible rest) (escaped-plain y (grind (arith, nat_tests))) e)
     go false h e f = rw h (both-plain (shown x) (visible (y ∷ rest)) (shown-plain x) f)
 
--- whether some bytes begin with the second one of a character of C1
+-- whether some bytes begin with the second byte of a character of C1
 abbrev begins : List ℕ → Bool
 begins [] = false
 begins (x ∷ xs) = is_second x

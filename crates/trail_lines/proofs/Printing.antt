@@ -39,7 +39,7 @@ title_read Why (Err e) bytes h = no_title bytes (is_utf8 bytes) (λ is. h.0 (IsU
 abbrev others_text : List UserId → List ℕ
 others_text users = behind (codes ",") (map name_of users)
 
--- one name more, behind a comma
+-- one name more, after a comma
 pub one_more : (out₀ out₁ out₂ out₃ : List ℕ) (users : List UserId) (user : UserId) (more : List UserId)
     → out₁ ≡ out₀ ++ others_text users → out₂ ≡ out₁ ++ codes "," → out₃ ≡ out₂ ++ name_of user
     → more ≡ users ++ user ∷ [] → out₃ ≡ out₀ ++ others_text more
@@ -51,7 +51,7 @@ one_more out₀ out₁ out₂ out₃ users user more e₁ e₂ e₃ e =
     ∙ ap (behind (codes ",")) (sym (map_push name_of users user)))
     ∙ ap (λ u. out₀ ++ others_text u) (sym e)
 
--- what is printed of one more, behind a mark
+-- what is printed of one more, after a mark
 pub mark_more : {X : Type 0} (text : X → List ℕ) (out₀ out₁ out₂ out₃ mark own : List ℕ) (done more : List X) (x : X)
     → out₁ ≡ out₀ ++ flat_map text done → out₂ ≡ out₁ ++ mark → out₃ ≡ out₂ ++ own
     → text x ≡ mark ++ own → more ≡ done ++ x ∷ [] → out₃ ≡ out₀ ++ flat_map text more

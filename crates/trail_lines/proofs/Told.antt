@@ -284,7 +284,7 @@ event_again (kept.Closed window) rest is =
           is,
     ) refl
 
--- ---- what stands behind an event
+-- ---- what follows an event
 
 abbrev asked : Verdict → List ℕ
 asked v = 0x3F ∷ verdict_text v
