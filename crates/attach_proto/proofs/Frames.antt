@@ -12,29 +12,19 @@ use Rattle.attach_proto.specs.declared.kind.Kind.TheVariants as kind
 use Rattle.attach_proto.specs.declared.message.Message.{Message}
 use Rattle.attach_proto.specs.declared.reading.Front.{Front}
 use Rattle.attach_proto.specs.declared.reading.Front.TheVariants.{Part, Broken, Whole}
+use Rattle.attach_proto.specs.Table.{all_kinds}
 use Rattle.attach_proto.specs.Spelling.{code, reader_of, kind_of, payload, spelling}
-use Rattle.attach_proto.specs.Reading.{kind_at, all_kinds, message_of, ended, sized, same_side, of_kind, front}
+use Rattle.attach_proto.specs.Reading.{kind_at, message_of, ended, sized, same_side, of_kind, front}
 use Rattle.attach_proto.specs.Streams.{IsRead}
-use Rattle.attach_proto.proofs.FieldLaws.{IsBytes, IsBytes-take, two_is}
-use Rattle.attach_proto.proofs.Payloads.{found, message_takes, message_again}
+use Rattle.attach_proto.proofs.FieldLaws.{found, IsBytes, IsBytes-take, two_is}
+use Rattle.attach_proto.proofs.Payloads.{message_takes, message_again}
 
 pub kind_takes : (n : ℕ) (k : Kind) → kind_at n ≡ Some k → n ≡ code k
 kind_takes n k e = eqb-true n (code k) (found (λ j. eqb n (code j)) all_kinds k e)
 
 pub kind_again : (k : Kind) → kind_at (code k) ≡ Some k
 kind_again kind.Attach = refl
-kind_again kind.Window = refl
-kind_again kind.Command = refl
-kind_again kind.Keys = refl
-kind_again kind.Resize = refl
-kind_again kind.Output = refl
-kind_again kind.Detach = refl
-kind_again kind.Welcome = refl
-kind_again kind.Draw = refl
-kind_again kind.Input = refl
-kind_again kind.Say = refl
-kind_again kind.Size = refl
-kind_again kind.Gone = refl
+kind_again _ = refl
 
 pub same_is : (a b : Side) → same_side a b ≡ true → a ≡ b
 same_is Server Server e = refl
@@ -72,7 +62,7 @@ kind_is side (Some k) bytes m n e = let t = side_test (same_side (reader_of k) s
       side_test true x m n e = (refl, e)
       side_test false x m n e = absurd cc
 
--- what stands at the front of these bytes
+-- the frame at the front of these bytes
 pub record Fronts (side : Side) (bytes : List ℕ) (m : Message) (n : ℕ) : Type 0 where
   pub rest : List ℕ
   pub parts : bytes ≡ spelling m ++ rest

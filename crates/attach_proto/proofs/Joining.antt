@@ -1,4 +1,4 @@
--- Streams that go on, and that a stream is read in one way.
+-- A stream can be read piece by piece, and only in one way.
 use Rattle.std.proofs.Common.{◌≡◌, ℕ, ◌+◌, ◌<◌, ◌≤◌, List, [], ◌∷◌, ◌++◌, length, take, drop, ◌-◌, Option, Some, None}
 use Rattle.std.proofs.Common.{refl, sym, ap, subst, inl, ◌∙◌, append_assoc, arith}
 use Rattle.std.specs.Prelude.{MatchOption}
@@ -35,7 +35,7 @@ splits_join side stream ms rest more ns last p q = record {
   each = each_append side ms ns p.each q.each;
 }
 
--- a frame more
+-- one frame more
 pub one_more : (side : Side) (stream : List ℕ) (ms : List Message) (taken : ℕ) (m : Message) (len : ℕ)
     → Splits side stream ms (drop taken stream) → Fronts side (drop taken stream) m len
     → Splits side stream (ms ++ m ∷ []) (drop (taken + len) stream)
@@ -111,7 +111,7 @@ pub fresh : (side : Side) (rest : List ℕ) → rest ≡ []
     → HasRead (record { side = side; rest = rest; fault = None }) [] []
 fresh side rest is = record { rest = []; splits = record { whole = refl; each = tt }; ends = (inl refl, sym is) }
 
--- a frame at the front of what is left of these bytes
+-- a frame at the front of the bytes that are left
 pub here : (side : Side) (bytes : List ℕ) (taken : ℕ) (f : Front) (m : Message) (n : ℕ) → IsBytes bytes
     → f ≡ front side (take (length bytes - taken) (drop taken bytes)) → f ≡ Whole m n
     → Fronts side (drop taken bytes) m n
@@ -150,7 +150,7 @@ ends_unlike : (side : Side) (kept : List ℕ) (fault : Option ProtoFault) (m : M
 ends_unlike side kept None m more read h = waits_no_whole side m more read h.0
 ends_unlike side kept (Some f) m more read h = fault_no_whole side m more f read h
 
--- no frame stands where a reader's messages end
+-- there is no whole frame after a reader's messages
 not_ended : (r : Reading) (rest : List ℕ) (m : Message) (more : List ℕ) → IsRead r.side m → rest ≡ spelling m ++ more
     → EndsIn r rest → ⊥
 not_ended r rest m more read is h = ends_unlike r.side r.rest r.fault m more read

@@ -1,4 +1,4 @@
--- What stands behind the messages of a stream.
+-- The bytes after the messages of a stream.
 use Rattle.std.proofs.Common.{◌≡◌, ◌≢◌, ℕ, ◌+◌, ◌*◌, ◌/◌, ◌%◌, ◌<◌, ◌≤◌, Bool, true, false, cond, ltb, List, [], ◌∷◌}
 use Rattle.std.proofs.Common.{◌++◌, length, take, drop, Option, Some, None, refl, sym, ap, subst, ◌∙◌, append_assoc}
 use Rattle.std.proofs.Common.{inl, inr, arith}
@@ -18,7 +18,7 @@ use Rattle.attach_proto.proofs.FieldLaws.{two_is}
 use Rattle.attach_proto.proofs.Payloads.{message_again}
 use Rattle.attach_proto.proofs.Frames.{kind_takes, kind_again, same_is, same_again}
 
--- ---- the front of a stream that has no whole frame there
+-- ---- less than a whole frame at the front
 
 unended_is : (k : Kind) (n : ℕ) (bytes : List ℕ) (a b : Bool) → a ≡ ltb 8192 n → b ≡ ltb (length bytes) n
     → cond a (Broken TooLong) (cond b Part (ended n (message_of k (take n bytes)))) ≡ Part → (n ≤ 8192)
@@ -49,7 +49,7 @@ unfolding front
 front_waits side [] e = inl refl
 front_waits side (byte ∷ bytes) e = kind_waits side byte (kind_at byte) bytes refl e
 
--- ---- the front of a stream with a fault there
+-- ---- a fault at the front
 
 fault_is : (f g : ProtoFault) → Broken f ≡ Broken g → f ≡ g
 fault_is f g e = cc
@@ -121,7 +121,7 @@ unfolding front
 front_fault side [] f e = absurd cc
 front_fault side (byte ∷ bytes) f e = kind_fault side byte (kind_at byte) bytes f refl e
 
--- ---- a fault stays, whatever follows
+-- ---- a fault stays, whatever bytes follow
 
 pub fault_stays : (side : Side) (rest more : List ℕ) (f : ProtoFault) → HasFault side rest f
     → HasFault side (rest ++ more) f
@@ -143,7 +143,7 @@ fault_stays side rest more BadPayload h = (
 )
 fault_stays side rest more NoMemory h = h
 
--- ---- one thing stands there: the fault as it is found without a look into payloads
+-- ---- the front is one of these alone: the fault as it is found without a look into payloads
 
 abbrev mark_length : ℕ → List ℕ → Option ProtoFault
 mark_length n bytes = if nat_lt 8192 n then Some TooLong else
