@@ -1,4 +1,4 @@
--- Bytes are the same where their differences, put together, are nothing.
+-- Two lists of bytes are the same if the differences of their bytes, put together, are zero.
 use Rattle.std.proofs.Common.{◌≡◌, ◌↔◌, ℕ, ◌+◌, ◌<◌, List, length, get_or, take, refl, sym, ◌∙◌, ap, arith, bit_or}
 use Rattle.std.specs.Int.Bits.{bit_xor, xor_add_and, xor_self}
 use Rattle.std.proofs.lemmas.Nat.{le_or_l, le_or_r, and_le_l, and_le_r}

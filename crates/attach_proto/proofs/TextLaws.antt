@@ -12,4 +12,5 @@ not_true true h = absurd (h refl)
 not_true false h = refl
 
 pub text_isnt : (bytes : List ℕ) → (IsUtf8 bytes → ⊥) → text_of bytes ≡ None
-text_isnt bytes h = let e : is_utf8 bytes ≡ false = not_true (is_utf8 bytes) (λ t. h (IsUtf8-from_is_utf8 bytes t)) in rw e refl
+text_isnt bytes h = let e : is_utf8 bytes ≡ false = not_true (is_utf8 bytes) (λ t. h (IsUtf8-from_is_utf8 bytes t)) in
+    rw e refl

@@ -1,4 +1,6 @@
 pub mod Texts
+pub mod Fields
+pub mod Table
 pub mod Spelling
 pub mod Reading
 pub mod Streams

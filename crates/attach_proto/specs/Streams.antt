@@ -1,4 +1,4 @@
--- The messages of a stream, and what stands behind them.
+-- The messages of a stream, and the bytes after them.
 use Rattle.std.specs.Prelude.{◌≡◌, ◌≢◌, ◌⊎◌, ℕ, ◌+◌, ◌*◌, ◌<◌, ◌≤◌, List, [], ◌∷◌, ◌++◌, length}
 use Rattle.std.specs.Prelude.{drop, Option, Result, Ok, Err, MatchOption}
 use Rattle.std.specs.List.{flat_map, AllByRecursion}
@@ -24,7 +24,7 @@ pub record Splits (side : Side) (stream : List ℕ) (messages : List Message) (r
 
 -- ---- less than a whole frame
 
--- behind the kind: less than two bytes, or a length with fewer bytes than it says
+-- after the kind: less than two bytes, or a length and fewer bytes than it says
 abbrev pub IsUnended : List ℕ → Type 0
 IsUnended [] = Unit {0}
 IsUnended (h ∷ []) = Unit {0}
@@ -37,7 +37,7 @@ Waits side rest =
     ⊎ ((k : Kind) × (more : List ℕ)
     × (rest ≡ code k ∷ more) × (reader_of k ≡ side) × IsUnended more)
 
--- ---- faults, each at the byte that shows it, whatever follows
+-- ---- faults, each at the byte that shows it, whatever bytes follow
 
 -- no message has this payload in a frame of this kind
 abbrev pub IsNoPayload : Kind → List ℕ → Type 0
@@ -62,23 +62,23 @@ HasFault side rest NoMemory = ⊥
 
 -- ---- readers
 
--- What a reader keeps: the beginning of a frame, or its fault.
+-- What a reader keeps: the beginning of a frame, or a fault.
 pub record Reading : Type 0 where
   pub side : Side
   pub rest : List ℕ
   pub fault : Option ProtoFault
 
--- This stands behind its messages: less than a whole frame, which it keeps, or a fault.
+-- What follows the messages of a reader: less than a whole frame, which it keeps, or a fault.
 abbrev pub EndsIn : Reading → List ℕ → Type 0
 EndsIn r rest = MatchOption r.fault (Waits r.side rest × (rest ≡ r.rest)) (HasFault r.side rest)
 
--- it has read this stream, and has given these messages and no others
+-- the reader has read this stream, and has given these messages and no others
 pub record HasRead (r : Reading) (messages : List Message) (stream : List ℕ) : Type 0 where
   pub rest : List ℕ
   pub splits : Splits r.side stream messages rest
   pub ends : EndsIn r rest
 
--- What stands behind the messages of a run over a stream: less than a whole frame, or a fault.
+-- What follows the messages at the front of a stream: less than a whole frame, or a fault.
 abbrev pub Behind : Side → List ℕ → Option ProtoFault → Type 0
 Behind side rest fault = MatchOption fault (Waits side rest) (HasFault side rest)
 
@@ -95,6 +95,6 @@ TakesPiece old piece made new =
     (messages : List Message) (stream : List ℕ) → HasRead old messages stream
     → HasRead new (messages ++ made) (stream ++ piece)
 
--- what a reader that keeps this answers: its fault, for good
+-- what a reader answers: its fault, for good
 abbrev pub Answers : Reading → Result (Prim.Unit {0}) ProtoFault → Type 0
 Answers r answer = MatchOption r.fault (answer ≡ Ok tt) (λ f. answer ≡ Err f)

@@ -1,4 +1,4 @@
--- Tokens and texts, and what a reader of a payload gives.
+-- Tokens and texts, and what the functions that read payloads return.
 use Rattle.std.specs.Prelude.{◌≡◌, ℕ, Bool, true, ◌&&◌, ◌||◌, nat_lt, ◌==◌, if◌then◌else◌, List}
 use Rattle.std.specs.Prelude.{length, Option, Some, None, Result, Ok, Err}
 use Rattle.std.specs.List.{list_all}

@@ -1,4 +1,4 @@
-//! What can be wrong.
+//! The faults of reading and of writing.
 
 ghost use Rattle.std.specs.Prelude.{◌≡◌};
 ghost use Rattle.attach_proto.specs.Faults.{proto_number, write_number};
@@ -8,7 +8,7 @@ ghost use Rattle.attach_proto.specs.declared.fault.WriteFault.TheVariants as wri
 use std::alloc::{AllocError, AllocFailed};
 use thiserror::Error;
 
-/// Why a stream isn't read on.
+/// Why a stream can't be read further.
 #[derive(Clone, Copy, Debug, PartialEq, Eq, Error)]
 pub enum ProtoFault {
     #[error("no frame begins with this byte")]
@@ -38,7 +38,7 @@ impl ProtoFault {
     }
 }
 
-/// Why a message isn't written.
+/// Why a message can't be written.
 #[derive(Clone, Copy, Debug, PartialEq, Eq, Error)]
 pub enum WriteFault {
     #[error("no frame spells the message")]
@@ -67,7 +67,7 @@ impl From<AllocError> for WriteFault {
     }
 }
 
-// Why a payload gives no message.
+// Why no message was read from a payload: memory ran out, or the payload is wrong.
 #[derive(Clone, Copy, PartialEq, Eq)]
 pub enum Unread {
     Memory,

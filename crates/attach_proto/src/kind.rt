@@ -68,7 +68,7 @@ impl Kind {
         }
     }
 
-    /// Who reads its frames.
+    /// The side that reads its frames.
     pub fn reader(self) -> Side
         ensures { result ≡ reader_of self }
     {

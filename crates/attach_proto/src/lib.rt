@@ -1,7 +1,9 @@
-//! Frames between the server and its peers: messages as bytes, and a stream of bytes as messages.
+//! Frames between the server and its peers: messages written as bytes, and streams of bytes read as
+//! messages.
 #![tactic(auto)]
 
 mod fault;
+mod fields;
 mod kind;
 mod laws;
 mod message;

@@ -1,16 +1,25 @@
-//! The messages.
+//! The messages, and how the payload of each is read and written.
 
-ghost use Rattle.std.specs.Prelude.{◌≡◌};
-ghost use Rattle.attach_proto.specs.Spelling.{kind_of};
+ghost use Rattle.std.specs.Prelude.{◌≡◌, ◌++◌, OnOk, true, false};
+ghost use Rattle.attach_proto.specs.Texts.{Gives};
+ghost use Rattle.attach_proto.specs.Spelling.{kind_of, payload, HasFields};
+ghost use Rattle.attach_proto.specs.Reading.{message_of};
 
+use crate::fault::Unread;
+use crate::fields::{
+    end_of, is_short, is_some, is_text, is_token, is_window, name_at, one_at, put_bytes, put_name,
+    put_size, put_text, put_token, put_two, some_of, text_of, token_at, two_at, why_at, window_at,
+    window_byte,
+};
 use crate::kind::Kind;
 use crate::token::Token;
 use crate::why::Why;
+use std::alloc::{AllocError, Global};
 use strings::{Bytes, Text};
 
-// No `==`: its fields keep capacities that no contract sees, and a comparison is derived only where a
-// value gives the fields back.
-/// What is sent in one frame.
+// No `==`: texts and bytes have capacities that no contract sees, and a comparison can be derived only
+// for types whose contract value determines all fields.
+/// What one frame says.
 #[derive(Debug, Drop)]
 pub enum Message {
     /// A client begins, on a terminal of this size.
@@ -29,7 +38,7 @@ pub enum Message {
         name: Text,
         title: Text,
     },
-    /// One command line, on the window of this number or on none.
+    /// One command line, for the window of this number or for none.
     Command {
         window: Option<u8>,
         token: Token,
@@ -53,18 +62,19 @@ pub enum Message {
     Draw(Bytes),
     /// Bytes for a window's program.
     Input(Bytes),
-    /// A text for a peer's user.
+    /// A text for the user of a peer.
     Say(Text),
     /// A window has this size now.
     Size {
         rows: u16,
         columns: u16,
     },
-    /// The peer is let go.
+    /// The server lets the peer go.
     Gone(Why),
 }
 
 impl Message {
+    /// The kind of the message's frame.
     pub fn kind(&self) -> Kind
         ensures { result ≡ kind_of self.now }
     {
@@ -84,4 +94,206 @@ impl Message {
             Message::Gone(_) => Kind::Gone,
         }
     }
+}
+
+#[tactic(auto, unfolding(crate::specs::Reading::message_of))]
+fn attach_of(alloc: Global, bytes: &[u8]) -> Result<Message, Unread>
+    ensures { Gives (λ m. m) result (message_of Kind.Attach bytes.now) }
+{
+    let (rows, rest) = two_at(bytes)?;
+    let (columns, rest) = two_at(rest)?;
+    let (token, rest) = token_at(rest)?;
+    let name = text_of(alloc, rest)?;
+    Ok(Message::Attach {
+        rows,
+        columns,
+        token,
+        name,
+    })
+}
+
+#[tactic(auto, unfolding(crate::specs::Reading::message_of))]
+fn window_frame_of(alloc: Global, bytes: &[u8]) -> Result<Message, Unread>
+    ensures { Gives (λ m. m) result (message_of Kind.Window bytes.now) }
+{
+    let (rows, rest) = two_at(bytes)?;
+    let (columns, rest) = two_at(rest)?;
+    let (keep, rest) = two_at(rest)?;
+    let (token, rest) = token_at(rest)?;
+    let (name, rest) = name_at(alloc, rest)?;
+    let title = text_of(alloc, rest)?;
+    Ok(Message::Window {
+        rows,
+        columns,
+        keep,
+        token,
+        name,
+        title,
+    })
+}
+
+#[tactic(auto, unfolding(crate::specs::Reading::message_of))]
+fn command_of(alloc: Global, bytes: &[u8]) -> Result<Message, Unread>
+    ensures { Gives (λ m. m) result (message_of Kind.Command bytes.now) }
+{
+    let (window, rest) = window_at(bytes)?;
+    let (token, rest) = token_at(rest)?;
+    let (name, rest) = name_at(alloc, rest)?;
+    let line = Bytes::of(alloc, rest)?;
+    Ok(Message::Command {
+        window,
+        token,
+        name,
+        line,
+    })
+}
+
+#[tactic(auto, unfolding(crate::specs::Reading::message_of))]
+fn resize_of(bytes: &[u8]) -> Result<Message, Unread>
+    ensures { Gives (λ m. m) result (message_of Kind.Resize bytes.now) }
+{
+    let (rows, rest) = two_at(bytes)?;
+    let (columns, rest) = two_at(rest)?;
+    end_of(rest)?;
+    Ok(Message::Resize { rows, columns })
+}
+
+#[tactic(auto, unfolding(crate::specs::Reading::message_of))]
+fn welcome_of(bytes: &[u8]) -> Result<Message, Unread>
+    ensures { Gives (λ m. m) result (message_of Kind.Welcome bytes.now) }
+{
+    let (number, rest) = one_at(bytes)?;
+    end_of(rest)?;
+    Ok(Message::Welcome(number))
+}
+
+#[tactic(auto, unfolding(crate::specs::Reading::message_of))]
+fn size_of(bytes: &[u8]) -> Result<Message, Unread>
+    ensures { Gives (λ m. m) result (message_of Kind.Size bytes.now) }
+{
+    let (rows, rest) = two_at(bytes)?;
+    let (columns, rest) = two_at(rest)?;
+    end_of(rest)?;
+    Ok(Message::Size { rows, columns })
+}
+
+#[tactic(auto, unfolding(crate::specs::Reading::message_of))]
+fn gone_of(bytes: &[u8]) -> Result<Message, Unread>
+    ensures { Gives (λ m. m) result (message_of Kind.Gone bytes.now) }
+{
+    let (why, rest) = why_at(bytes)?;
+    end_of(rest)?;
+    Ok(Message::Gone(why))
+}
+
+/// The message of a frame of this kind with this payload.
+#[tactic(auto, unfolding(crate::specs::Reading::message_of))]
+pub fn message_of(alloc: Global, kind: Kind, bytes: &[u8]) -> Result<Message, Unread>
+    ensures { Gives (λ m. m) result (message_of kind bytes.now) }
+{
+    match kind {
+        Kind::Attach => attach_of(alloc, bytes),
+        Kind::Window => window_frame_of(alloc, bytes),
+        Kind::Command => command_of(alloc, bytes),
+        Kind::Keys => Ok(Message::Keys(some_of(alloc, bytes)?)),
+        Kind::Resize => resize_of(bytes),
+        Kind::Output => Ok(Message::Output(some_of(alloc, bytes)?)),
+        Kind::Detach => {
+            end_of(bytes)?;
+            Ok(Message::Detach)
+        }
+        Kind::Welcome => welcome_of(bytes),
+        Kind::Draw => Ok(Message::Draw(some_of(alloc, bytes)?)),
+        Kind::Input => Ok(Message::Input(some_of(alloc, bytes)?)),
+        Kind::Say => Ok(Message::Say(text_of(alloc, bytes)?)),
+        Kind::Size => size_of(bytes),
+        Kind::Gone => gone_of(bytes),
+    }
+}
+
+/// Whether the message's fields have a spelling.
+pub fn has_fields(message: &Message) -> bool
+    ensures yes { result ≡ true → HasFields message.now }
+    ensures otherwise { result ≡ false → HasFields message.now → ⊥ }
+{
+    match message {
+        Message::Attach { token, name, .. } => is_token(token) && is_text(name),
+        Message::Window {
+            token,
+            name,
+            title,
+            ..
+        } => { is_token(token) && is_text(name) && is_text(title) && is_short(name) }
+        Message::Command {
+            window,
+            token,
+            name,
+            ..
+        } => { is_token(token) && is_text(name) && is_short(name) && is_window(*window) }
+        Message::Keys(bytes) => is_some(bytes),
+        Message::Output(bytes) => is_some(bytes),
+        Message::Draw(bytes) => is_some(bytes),
+        Message::Input(bytes) => is_some(bytes),
+        Message::Say(text) => is_text(text),
+        Message::Resize { .. } => true,
+        Message::Detach => true,
+        Message::Welcome(_) => true,
+        Message::Size { .. } => true,
+        Message::Gone(_) => true,
+    }
+}
+
+/// Appends the payload of the message.
+pub fn put_payload(out: &mut Vec<u8>, message: &Message) -> Result<(), AllocError>
+    requires { HasFields message.now }
+    ensures { OnOk result (out.new.items ≡ out.old.items ++ payload message.now) }
+{
+    match message {
+        Message::Attach {
+            rows,
+            columns,
+            token,
+            name,
+        } => {
+            put_size(out, *rows, *columns)?;
+            put_token(out, token)?;
+            put_text(out, name)?;
+        }
+        Message::Window {
+            rows,
+            columns,
+            keep,
+            token,
+            name,
+            title,
+        } => {
+            put_size(out, *rows, *columns)?;
+            put_two(out, *keep)?;
+            put_token(out, token)?;
+            put_name(out, name)?;
+            put_text(out, title)?;
+        }
+        Message::Command {
+            window,
+            token,
+            name,
+            line,
+        } => {
+            out.push(window_byte(*window))?;
+            put_token(out, token)?;
+            put_name(out, name)?;
+            put_bytes(out, line)?;
+        }
+        Message::Keys(bytes) => put_bytes(out, bytes)?,
+        Message::Output(bytes) => put_bytes(out, bytes)?,
+        Message::Draw(bytes) => put_bytes(out, bytes)?,
+        Message::Input(bytes) => put_bytes(out, bytes)?,
+        Message::Say(text) => put_text(out, text)?,
+        Message::Resize { rows, columns } => put_size(out, *rows, *columns)?,
+        Message::Size { rows, columns } => put_size(out, *rows, *columns)?,
+        Message::Detach => {}
+        Message::Welcome(number) => out.push(*number)?,
+        Message::Gone(why) => out.push(why.number())?,
+    }
+    Ok(())
 }

@@ -1,4 +1,4 @@
-//! A stream that comes in pieces.
+//! Streams that come in pieces.
 
 ghost use Rattle.std.specs.Prelude.{◌≡◌, ◌++◌, ◌≤◌, List, [], drop, vec_len, IfOk, IfSome, OnOk};
 ghost use Rattle.std.specs.Prelude.{OnErr, Some, None, Ok, Err};
@@ -12,7 +12,7 @@ use crate::side::Side;
 use std::alloc::{AllocError, Global};
 use std::marker::Model;
 
-// The messages at the front of some bytes, how many bytes they take, and what is wrong behind them.
+// The messages at the front of some bytes, how many bytes they take, and the fault after them.
 #[derive(Drop)]
 struct Run {
     messages: Vec<Message>,
@@ -49,7 +49,8 @@ fn run_of(alloc: Global, side: Side, bytes: &[u8]) -> Result<Run, AllocError>
     }
 }
 
-// Adds the messages of a run to `out`; what it tells of the rest.
+// Appends the messages at the front of some bytes to `out`. Returns how many bytes they take, and the
+// fault after them.
 fn read_run(
     alloc: Global,
     side: Side,
@@ -72,7 +73,7 @@ fn drop_front(bytes: &mut Vec<u8>, taken: usize)
     bytes.drain(..taken);
 }
 
-/// Reads the frames of a connection. It answers a fault for good.
+/// Reads the frames of a connection. After a fault it answers with this fault for good.
 pub struct Reader {
     alloc: Global,
     side: Side,
@@ -136,16 +137,16 @@ impl Reader {
         }
     }
 
-    /// Reads one piece, and adds the messages that are whole with it.
+    /// Reads one piece, and appends the messages whose frames it completes.
     pub fn feed(&mut self, piece: &[u8], out: &mut Vec<Message>) -> Result<(), ProtoFault>
-        // Without memory nothing of this piece was read.
+        // If memory ran out, nothing of this piece was read.
         ensures memory { result ≡ Err ProtoFault.NoMemory
             → (self.new ≡ self.old) × (out.new.items ≡ out.old.items) }
-        // Else it was, whatever was read before.
+        // If not, the piece was read, whatever was read before.
         ensures reads { (result ≡ Err ProtoFault.NoMemory → ⊥) →
             (made : List Message) × (out.new.items ≡ out.old.items ++ made)
             × TakesPiece self.old piece.now made self.new }
-        // The answer is the fault that it keeps.
+        // The answer is the fault that the reader keeps.
         ensures answer { (result ≡ Err ProtoFault.NoMemory → ⊥) → Answers self.new result }
         ensures stays { IfSome self.old.fault (λ f.
             (self.new ≡ self.old) × (out.new.items ≡ out.old.items) × (result ≡ Err f)) }

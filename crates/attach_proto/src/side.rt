@@ -1,6 +1,6 @@
-//! The two ends of a connection.
+//! The two sides of a connection.
 
-/// Who reads.
+/// The side that reads.
 #[derive(Clone, Copy, PartialEq, Eq)]
 pub enum Side {
     /// The server, which reads what its peers send.

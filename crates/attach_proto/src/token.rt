@@ -10,7 +10,7 @@ use std::marker::Model;
 /// How many digits a token has.
 pub const TOKEN_LEN: usize = 64;
 
-/// The 64 digits, `0` to `9` and `a` to `f`, by which a peer shows whose it is.
+/// The 64 digits, `0` to `9` and `a` to `f`, that prove for which user a peer acts.
 #[derive(Drop)]
 pub struct Token {
     digits: [u8; TOKEN_LEN],
@@ -53,7 +53,7 @@ fn is_token(bytes: &[u8]) -> bool
     bytes.len() == TOKEN_LEN && are_digits(bytes)
 }
 
-// Each byte is looked at, wherever the first difference stands, so that the time doesn't tell it.
+// All bytes are compared, so that the time doesn't depend on where the first difference is.
 fn are_same(ours: &[u8; TOKEN_LEN], theirs: &[u8; TOKEN_LEN]) -> bool
     ensures { IsTrue result ↔ (ours.now ≡ theirs.now) }
 {

@@ -1,10 +1,9 @@
-//! Why a peer goes.
+//! Why the server lets a peer go.
 
 ghost use Rattle.std.specs.Prelude.{◌≡◌};
-ghost use Rattle.attach_proto.specs.Spelling.{reason};
-ghost use Rattle.attach_proto.specs.Reading.{why_at};
+ghost use Rattle.attach_proto.specs.Fields.{reason, why_of};
 
-/// Why a peer goes, in a GONE.
+/// Why the server lets a peer go.
 #[derive(Clone, Copy, Debug, PartialEq, Eq)]
 pub enum Why {
     Detached,
@@ -14,7 +13,7 @@ pub enum Why {
     SingleUser,
     Killed,
     Quit,
-    /// Too many bytes wait for it.
+    /// Too many bytes wait for the peer.
     TooFarBehind,
     Fault,
     TrailFull,
@@ -37,9 +36,9 @@ impl Why {
         }
     }
 
-    /// The one with this number, if there is one.
+    /// The reason with this number, if there is one.
     pub fn of_number(number: u8) -> Option<Why>
-        ensures { result ≡ why_at number }
+        ensures { result ≡ why_of number }
     {
         match number {
             0 => Some(Why::Detached),

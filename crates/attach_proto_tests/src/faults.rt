@@ -3,10 +3,10 @@
 use attach_proto::{ProtoFault, Reader, Side, WriteFault};
 use std::alloc::{AllocError, Global};
 
-/// Who reads some bytes, the bytes, how many messages stand before their fault, and the fault.
+/// The side that reads some bytes, the bytes, how many messages come before their fault, and the fault.
 type Row = (Side, &'static [u8], usize, ProtoFault);
 
-// A digit in upper case is none of a token.
+// A token has no digit in upper case.
 const UPPER_CASE: &[u8] =
     b"\x41\x00\x47\x00\x18\x00\x500123456789abcdef0123456789Abcdef0123456789abcdef0123456789abcdefbob";
 
@@ -39,8 +39,8 @@ static FAULTS: [Row; 12] = [
     (Side::Peer, b"\x73\x00\x01\xFF", 0, ProtoFault::BadPayload),
 ];
 
-/// Whether the last byte of a row, the bytes before which come in two pieces, shows the fault, which
-/// is answered to what comes then too.
+/// Whether the last byte of a row shows the fault, and later bytes get the same answer. The bytes before
+/// the last one come in two pieces.
 fn is_faulty(alloc: Global, row: &Row, cut: usize) -> bool {
     let (side, bytes, count, fault) = *row;
     let (before, last) = bytes.split_at(bytes.len().saturating_sub(1));
@@ -54,7 +54,7 @@ fn is_faulty(alloc: Global, row: &Row, cut: usize) -> bool {
         && messages.len() == count
 }
 
-/// The same at each place.
+/// Whether a row's last byte shows its fault, wherever the bytes before it are cut in two.
 fn is_faulty_at_each_cut(alloc: Global, row: &Row) -> bool {
     for cut in 0..row.1.len() {
         if !is_faulty(alloc, row, cut) {

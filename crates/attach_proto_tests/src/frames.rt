@@ -3,7 +3,7 @@
 use attach_proto::{Message, Reader, Side, write_message};
 use std::alloc::Global;
 
-/// Who reads a frame, the frame, and the list of its message.
+/// The side that reads a frame, the frame, and the list of its message.
 type Row = (Side, &'static [u8], &'static str);
 
 /// The last two are a `kill` without a window, and an empty line on the last window.
@@ -87,8 +87,8 @@ fn are_written(alloc: Global, messages: &[Message], frame: &[u8]) -> bool {
     out.as_slice() == frame
 }
 
-/// Whether a frame that comes in two pieces is read as its message, which is written as the frame.
-/// The first piece is a beginning of it, and gives no message and no fault.
+/// Whether a frame that comes in two pieces is read as its message, and the message is written as the
+/// frame. The first piece is only a beginning, and gives no message and no fault.
 fn is_so(alloc: Global, row: &Row, cut: usize) -> bool {
     let (side, frame, message) = *row;
     let (first, second) = frame.split_at(cut.min(frame.len()));
@@ -101,7 +101,7 @@ fn is_so(alloc: Global, row: &Row, cut: usize) -> bool {
         && are_written(alloc, &messages, frame)
 }
 
-/// The same at each place, from the frame as a whole on.
+/// Whether a frame is read and written so, wherever it is cut in two, and in one piece.
 fn is_so_at_each_cut(alloc: Global, row: &Row) -> bool {
     for cut in 0..row.1.len() {
         if !is_so(alloc, row, cut) {

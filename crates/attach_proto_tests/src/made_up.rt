@@ -1,18 +1,18 @@
-//! However made-up bytes are cut, they give the same messages and the same fault.
+//! Made-up bytes give the same messages and the same fault, wherever they are cut.
 
 ghost use Rattle.std.specs.Prelude.{◌<◌};
 
 use attach_proto::{ProtoFault, Reader, Side, write_message};
 use std::alloc::{AllocError, Global};
 
-/// Numbers in a made-up order (Knuth, The Art of Computer Programming, volume 2, 3.3.4).
+/// Pseudorandom numbers (Knuth, The Art of Computer Programming, volume 2, 3.3.4).
 #[derive(Drop)]
 struct Dice {
     state: u64,
 }
 
 impl Dice {
-    /// The next number below this one.
+    /// The next number, from 0 to `count` - 1.
     fn below(&mut self, count: u64) -> u64
         requires { 0 < count }
         ensures { result < count }
@@ -25,7 +25,7 @@ impl Dice {
     }
 }
 
-/// Frames and beginnings of frames, of which lists are made.
+/// Frames and beginnings of frames, of which lists of bytes are made.
 static PIECES: [&[u8]; 7] = [
     b"\x44\x00\x00",
     b"\x52\x00\x04\x00\x18\x00\x50",
@@ -48,7 +48,7 @@ fn made_up(alloc: Global, dice: &mut Dice) -> Result<Vec<u8>, AllocError> {
     Ok(bytes)
 }
 
-/// Reads pieces, and appends the frames of the messages that they give; what is answered last.
+/// Reads pieces, and appends the frames of the messages that they give. Returns the last answer.
 fn read(alloc: Global, pieces: &[&[u8]], frames: &mut Vec<u8>) -> Result<(), ProtoFault> {
     let mut reader = Reader::new(alloc, Side::Server);
     let mut messages = Vec::new(alloc);
@@ -84,7 +84,7 @@ struct Counts {
     faulty: u32,
 }
 
-/// Whether a made-up list gives the frames that it begins with, also in two cuts.
+/// Whether a made-up list gives the frames that it begins with, also if it is cut twice.
 fn is_so(alloc: Global, dice: &mut Dice, counts: &mut Counts) -> bool {
     let Ok(bytes) = made_up(alloc, dice) else {
         return false;
@@ -100,7 +100,7 @@ fn is_so(alloc: Global, dice: &mut Dice, counts: &mut Counts) -> bool {
         && is_cut_alike(alloc, &bytes, second_cut, &frames, last)
 }
 
-/// Whether 10,000 lists are so, many of them with messages and many with a fault.
+/// Whether 10,000 made-up lists give their frames, many of them with messages and many with a fault.
 fn are_so(alloc: Global) -> bool {
     let mut dice = Dice { state: 2026 };
     let mut counts = Counts { read: 0, faulty: 0 };

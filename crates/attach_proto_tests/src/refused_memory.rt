@@ -1,6 +1,6 @@
-//! Growths that are refused: a refused call has read or written nothing, and does it when it is asked
-//! again. Run as it stands the test here meets no refusal; `tools/refusals` runs it once for each of
-//! its allocations, which is refused then.
+//! Refused memory: a refused call has read or written nothing, and succeeds when it is repeated. By
+//! itself the test here meets no refusal; `tools/refusals` runs it once for each of its allocations,
+//! and refuses that one.
 
 use attach_proto::{Message, Reader, Side, write_message};
 use std::alloc::Global;
@@ -21,14 +21,14 @@ static PIECES: [&[u8]; 9] = [
 const FRAMES: &[u8] =
     b"\x4B\x00\x02ab\x44\x00\x00\x4F\x00\x01x\x4B\x00\x02ab\x44\x00\x00\x4F\x00\x01x\x4B\x00\x02ab\x44\x00\x00\x4F\x00\x01x";
 
-/// Feeds a piece, once more where memory is refused; whether the refusal gave nothing.
+/// Feeds a piece, and repeats it if memory is refused. Whether the refusal gave nothing.
 fn feed_twice(reader: &mut Reader, piece: &[u8], messages: &mut Vec<Message>) -> bool {
     let before = messages.len();
     reader.feed(piece, messages).is_ok()
         || (messages.len() == before && reader.feed(piece, messages).is_ok())
 }
 
-/// Writes a message, once more where memory is refused; whether the refusal wrote nothing.
+/// Writes a message, and repeats it if memory is refused. Whether the refusal wrote nothing.
 fn write_twice(alloc: Global, message: &Message, out: &mut Vec<u8>) -> bool {
     let before = out.len();
     write_message(alloc, message, out).is_ok()

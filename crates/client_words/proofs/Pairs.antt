@@ -24,7 +24,8 @@ stage-more byte (x ∷ []) y = go (x == byte) refl
     go : (b : Bool) → x == byte ≡ b → stage byte (x ∷ y ∷ []) ≡ next byte (stage byte (x ∷ [])) y
     go true h = rw h refl
     go false h = rw h refl
-stage-more byte (x ∷ z ∷ rest) y = go (x == byte) (z == byte) refl refl (stage-more byte rest y) (stage-more byte (z ∷ rest) y)
+stage-more byte (x ∷ z ∷ rest) y = go (x == byte) (z == byte) refl refl (stage-more byte rest y)
+    (stage-more byte (z ∷ rest) y)
   where
     go : (b d : Bool) → x == byte ≡ b → z == byte ≡ d
         → stage byte (rest ++ y ∷ []) ≡ next byte (stage byte rest) y
@@ -34,7 +35,8 @@ stage-more byte (x ∷ z ∷ rest) y = go (x == byte) (z == byte) refl refl (sta
     go true false h k e f = rw (h, k) refl
     go false d h k e f = rw h f
 
-pub sent-more : (byte : ℕ) (xs : List ℕ) (y : ℕ) → sent byte (xs ++ y ∷ []) ≡ sent byte xs ++ more byte (stage byte xs) y
+pub sent-more : (byte : ℕ) (xs : List ℕ) (y : ℕ)
+    → sent byte (xs ++ y ∷ []) ≡ sent byte xs ++ more byte (stage byte xs) y
 unfolding sent stage
 sent-more byte [] y = refl
 sent-more byte (x ∷ []) y = go (x == byte) (y == byte) refl refl
@@ -45,7 +47,8 @@ sent-more byte (x ∷ []) y = go (x == byte) (y == byte) refl refl
     go true false h k = rw (h, k) refl
     go false true h k = rw (h, k) refl
     go false false h k = rw (h, k) refl
-sent-more byte (x ∷ z ∷ rest) y = go (x == byte) (z == byte) refl refl (sent-more byte rest y) (sent-more byte (z ∷ rest) y)
+sent-more byte (x ∷ z ∷ rest) y = go (x == byte) (z == byte) refl refl (sent-more byte rest y)
+    (sent-more byte (z ∷ rest) y)
   where
     go : (b d : Bool) → x == byte ≡ b → z == byte ≡ d
         → sent byte (rest ++ y ∷ []) ≡ sent byte rest ++ more byte (stage byte rest) y
@@ -61,13 +64,15 @@ pub reads-nothing : (byte : ℕ) → HasRead (record { byte = byte; stage = Read
 unfolding stage
 reads-nothing byte = record { stage = refl }
 
-pub reads-more : (reader : LeaveReader) (before : List ℕ) (y : ℕ) (after : Stage) → HasRead reader before → next reader.byte reader.stage y ≡ after
+pub reads-more : (reader : LeaveReader) (before : List ℕ) (y : ℕ) (after : Stage) → HasRead reader before
+    → next reader.byte reader.stage y ≡ after
     → HasRead (record { byte = reader.byte; stage = after }) (before ++ y ∷ [])
 reads-more reader before y after s e = record {
   stage = sym (stage-more reader.byte before y ∙ ap (λ (st : Stage). next reader.byte st y) (sym s.stage) ∙ e);
 }
 
-pub sends-more : (reader : LeaveReader) (before : List ℕ) (y : ℕ) (put : List ℕ) → HasRead reader before → more reader.byte reader.stage y ≡ put
+pub sends-more : (reader : LeaveReader) (before : List ℕ) (y : ℕ) (put : List ℕ) → HasRead reader before
+    → more reader.byte reader.stage y ≡ put
     → sent reader.byte (before ++ y ∷ []) ≡ sent reader.byte before ++ put
 sends-more reader before y put s e =
     sent-more reader.byte before y ∙ ap (λ (st : Stage). sent reader.byte before ++ more reader.byte st y) (sym s.stage)
@@ -103,7 +108,8 @@ more-lone byte st y e h = rw (e, h) refl
 pub more-left : (byte : ℕ) (st : Stage) (y : ℕ) → st ≡ Left → more byte st y ≡ []
 more-left byte st y e = rw e refl
 
-pub reads-same : (reader : LeaveReader) (before : List ℕ) (y : ℕ) → HasRead reader before → next reader.byte reader.stage y ≡ reader.stage
+pub reads-same : (reader : LeaveReader) (before : List ℕ) (y : ℕ) → HasRead reader before
+    → next reader.byte reader.stage y ≡ reader.stage
     → HasRead reader (before ++ y ∷ [])
 reads-same reader before y s e = record {
   stage = sym (stage-more reader.byte before y ∙ ap (λ (st : Stage). next reader.byte st y) (sym s.stage) ∙ e);

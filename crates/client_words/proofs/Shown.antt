@@ -1,11 +1,13 @@
 -- How text is made visible, byte by byte.
-use Rattle.std.proofs.Common.{◌≡◌, ℕ, ◌<◌, ◌/◌, ◌%◌, nat_lt, ◌&&◌, Bool, true, false, List, [], ◌∷◌, ◌++◌, refl, sym, ap, ◌∙◌, if◌then◌else◌, append-nil, arith}
+use Rattle.std.proofs.Common.{◌≡◌, ℕ, ◌<◌, ◌/◌, ◌%◌, nat_lt, ◌&&◌, Bool, true, false, List, [], ◌∷◌, ◌++◌, refl, sym}
+use Rattle.std.proofs.Common.{ap, ◌∙◌, if◌then◌else◌, append-nil, arith}
 use Rattle.std.specs.List.{list_any}
 use Rattle.std.proofs.lemmas.List.Folds.{list_any-append}
 use Rattle.std.proofs.lemmas.Bool.Decides.{nat_tests}
-use Rattle.client_words.specs.Visible.{is_control, is_lead, is_second, digit, escaped, shown, visible, has_c1, put_now, holds_after}
+use Rattle.client_words.specs.Visible.{is_control, is_lead, is_second, digit, escaped, shown, visible, has_c1, put_now}
+use Rattle.client_words.specs.Visible.{holds_after}
 
--- what is written of bytes before which one may be held back
+-- what is written of bytes, if one before them may be held back
 abbrev pub from : Bool → List ℕ → List ℕ
 from holds rest = if holds then visible (0xC2 ∷ rest) else visible rest
 
@@ -30,7 +32,8 @@ plain x rest = go (is_lead x) refl
     go true h = let same : x ≡ 0xC2 = grind (arith, nat_tests) in ap (λ n. visible (n ∷ rest)) same
     go false h = one x rest h
 
-pub from-more : (holds : Bool) (x : ℕ) (rest : List ℕ) → from holds (x ∷ rest) ≡ put_now holds x ++ from (holds_after holds x) rest
+pub from-more : (holds : Bool) (x : ℕ) (rest : List ℕ)
+    → from holds (x ∷ rest) ≡ put_now holds x ++ from (holds_after holds x) rest
 from-more false x rest = plain x rest
 from-more true x rest = go (is_second x) refl
   where
@@ -65,7 +68,8 @@ shown-plain x = go (is_control x) refl
     go true h = rw h (escaped-plain x (grind (arith, nat_tests)))
     go false h = rw h (rw h refl)
 
-both-plain : (xs ys : List ℕ) → list_any is_control xs ≡ false → list_any is_control ys ≡ false → list_any is_control (xs ++ ys) ≡ false
+both-plain : (xs ys : List ℕ) → list_any is_control xs ≡ false → list_any is_control ys ≡ false
+    → list_any is_control (xs ++ ys) ≡ false
 both-plain xs ys h k = list_any-append is_control xs ys ∙ rw (h, k) refl
 
 pub all-plain : (text : List ℕ) → list_any is_control (visible text) ≡ false
@@ -79,7 +83,7 @@ all-plain (x ∷ y ∷ rest) = go (is_lead x && is_second y) refl (all-plain res
     go true h e f = rw h (both-plain (escaped y) (visible rest) (escaped-plain y (grind (arith, nat_tests))) e)
     go false h e f = rw h (both-plain (shown x) (visible (y ∷ rest)) (shown-plain x) f)
 
--- whether some bytes begin with the second one of a character of C1
+-- whether some bytes begin with the second byte of a character of C1
 abbrev begins : List ℕ → Bool
 begins [] = false
 begins (x ∷ xs) = is_second x
@@ -123,7 +127,8 @@ begins-visible y (z ∷ rest) h = go (is_lead y && is_second z) refl
     go true e = rw e refl
     go false e = rw e (begins-shown y (visible (z ∷ rest)) h)
 
-shown-quiet : (x : ℕ) (xs : List ℕ) → (is_lead x && begins xs) ≡ false → has_c1 xs ≡ false → has_c1 (shown x ++ xs) ≡ false
+shown-quiet : (x : ℕ) (xs : List ℕ) → (is_lead x && begins xs) ≡ false → has_c1 xs ≡ false
+    → has_c1 (shown x ++ xs) ≡ false
 shown-quiet x xs h e = go (is_control x) refl
   where
     go : (b : Bool) → is_control x ≡ b → has_c1 (shown x ++ xs) ≡ false

@@ -1,5 +1,6 @@
 -- The sizes that lines say.
-use Rattle.std.proofs.Common.{◌≡◌, ℕ, zero, suc, ◌+◌, ◌<◌, ◌≤◌, Bool, true, false, ◌||◌, List, [], ◌∷◌, ◌++◌, length, take, drop, Option, Some, None, refl, sym, ap, ◌∙◌, append-nil, take_all, arith}
+use Rattle.std.proofs.Common.{◌≡◌, ℕ, zero, suc, ◌+◌, ◌<◌, ◌≤◌, Bool, true, false, ◌||◌, List, [], ◌∷◌, ◌++◌, length}
+use Rattle.std.proofs.Common.{take, drop, Option, Some, None, refl, sym, ap, ◌∙◌, append-nil, take_all, arith}
 use Rattle.std.specs.Prelude.{nat_lt, is_none}
 use Rattle.std.specs.Bool.{then_some, if◌then◌else◌}
 use Rattle.std.specs.Option.{option_or}
@@ -42,7 +43,8 @@ none_where line h =
     let none : length line ≤ position_or_len is_blank line = grind (arith, nat_tests) in
     no_blank line none
 
-pub some_where : (line : List ℕ) (at : ℕ) → position is_blank line ≡ Some at → size_of line ≡ size_by (number_of (take at line)) (number_of (drop (at + 1) line))
+pub some_where : (line : List ℕ) (at : ℕ) → position is_blank line ≡ Some at
+    → size_of line ≡ size_by (number_of (take at line)) (number_of (drop (at + 1) line))
 unfolding size_of
 some_where line at h =
     let e : position_or_len is_blank line ≡ at = grind (arith, nat_tests) in
@@ -59,7 +61,8 @@ long_none line h = go (nat_lt 4 (position_or_len is_blank line)) refl
         let long : 4 < length (take (position_or_len is_blank line) line) = grind (arith, nat_tests, common_steps) in
         ap (λ o. size_by o (number_of (after_first is_blank line))) (long_number (before_first is_blank line) long)
     go false near =
-        let long : 4 < length (drop (position_or_len is_blank line + 1) line) = grind (arith, nat_tests, common_steps) in
+        let long : 4 < length (drop (position_or_len is_blank line + 1) line) = grind (arith, nat_tests, common_steps)
+        in
         ap (size_by (number_of (before_first is_blank line))) (long_number (after_first is_blank line) long)
         ∙ by_none (number_of (before_first is_blank line))
 
@@ -78,7 +81,8 @@ kept line = go (nat_lt 64 (length line)) refl
 
 -- ---- one byte more of a line
 
-pub kept-room : (n : ℕ) (line : List ℕ) (byte : ℕ) → length (take n line) < n → take n (line ++ byte ∷ []) ≡ take n line ++ byte ∷ []
+pub kept-room : (n : ℕ) (line : List ℕ) (byte : ℕ) → length (take n line) < n
+    → take n (line ++ byte ∷ []) ≡ take n line ++ byte ∷ []
 kept-room zero line byte h = absurd (omega arith)
 kept-room (suc n) [] byte h = ap (λ (l : List ℕ). byte ∷ l) (take_all n [] (omega arith))
 kept-room (suc n) (x ∷ line) byte h = ap (λ (l : List ℕ). x ∷ l) (kept-room n line byte (omega arith))
@@ -94,12 +98,16 @@ last_or-more : {A : Type 0} (o : Option A) (xs : List A) (x : A) → last_or o (
 last_or-more o [] x = refl
 last_or-more o (y ∷ xs) x = last_or-more (Some y) xs x
 
-sized : (sizes : List Size) (size : Option Size) (line : List ℕ) → size_of line ≡ size → last_or None (sizes ++ filter_map size_of (line ∷ [])) ≡ option_or size (last_or None sizes)
+sized : (sizes : List Size) (size : Option Size) (line : List ℕ) → size_of line ≡ size
+    → last_or None (sizes ++ filter_map size_of (line ∷ [])) ≡ option_or size (last_or None sizes)
 sized sizes None line e = rw e (simp append-nil)
 sized sizes (Some size) line e = rw e (last_or-more None sizes size)
 
-pub last-more : (lines : List (List ℕ)) (line : List ℕ) → last_size (lines ++ line ∷ []) ≡ option_or (size_of line) (last_size lines)
-last-more lines line = ap (last_or None) (filter_map-append size_of lines (line ∷ [])) ∙ sized (filter_map size_of lines) (size_of line) line refl
+pub last-more : (lines : List (List ℕ)) (line : List ℕ)
+    → last_size (lines ++ line ∷ []) ≡ option_or (size_of line) (last_size lines)
+last-more lines line = ap (last_or None) (filter_map-append size_of lines (line ∷ []))
+    ∙ sized (filter_map size_of lines) (size_of line) line refl
 
-pub other-more : (lines : List (List ℕ)) (line : List ℕ) → has_other (lines ++ line ∷ []) ≡ (has_other lines || is_none (size_of line))
+pub other-more : (lines : List (List ℕ)) (line : List ℕ)
+    → has_other (lines ++ line ∷ []) ≡ (has_other lines || is_none (size_of line))
 other-more lines line = list_any-append (λ l. is_none (size_of l)) lines (line ∷ []) ∙ grind (arith, nat_tests)

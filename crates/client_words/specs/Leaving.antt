@@ -11,7 +11,7 @@ sent byte (x ∷ y ∷ rest) =
     if x == byte then (if y == byte then byte ∷ sent byte rest else [])
     else x ∷ sent byte (y ∷ rest)
 
--- whether a lone byte left; or else, whether the input ends in one that the next byte decides
+-- whether a lone byte left; if not, whether the input ends in one that the next byte decides about
 unfoldable pub stage : ℕ → List ℕ → Stage
 stage byte [] = Reading
 stage byte (x ∷ []) = if x == byte then Waiting else Reading

@@ -29,7 +29,7 @@ size_by (Some rows) (Some columns) =
     if is_size rows columns then Some (record { rows = rows; columns = columns }) else None
 size_by _ _ = None
 
--- the numbers before the first blank and behind it
+-- the numbers before and after the first blank
 unfoldable pub size_of : List ℕ → Option Size
 size_of line =
     size_by (number_of (before_first is_blank line)) (number_of (after_first is_blank line))
@@ -53,16 +53,16 @@ last_of (part ∷ next ∷ parts) = last_of (next ∷ parts)
 unfoldable pub ended : List ℕ → List (List ℕ)
 ended bytes = all_but_last (slice_split is_feed bytes)
 
--- what stands behind the last line feed
+-- the bytes after the last line feed
 unfoldable pub unended : List ℕ → List ℕ
 unended bytes = last_of (slice_split is_feed bytes)
 
 -- ---- what lines say
 
--- the last size among those that lines say
+-- the last size that lines say
 abbrev pub last_size : List (List ℕ) → Option Size
 last_size lines = last_or None (filter_map size_of lines)
 
--- whether one of them says none
+-- whether a line says no size
 abbrev pub has_other : List (List ℕ) → Bool
 has_other lines = list_any (λ line. is_none (size_of line)) lines

@@ -36,8 +36,8 @@ has_c1 [] = false
 has_c1 (x ∷ []) = false
 has_c1 (x ∷ y ∷ rest) = is_lead x && is_second y || has_c1 (y ∷ rest)
 
--- byte by byte, where the byte that may begin one of C1 is held back: what is written behind the next one, and
--- whether that is held back
+-- byte by byte, with a byte that may begin one of C1 held back: what is written after the next byte, and
+-- whether that byte is held back
 abbrev pub put_now : Bool → ℕ → List ℕ
 put_now holds x =
     if holds && is_second x then escaped x

@@ -1,4 +1,4 @@
-//! What can be wrong for a peer, and what to say then.
+//! What can go wrong for a peer, and how to say it.
 
 use crate::words::Words;
 use attach_proto::{Why, WriteFault};
@@ -6,13 +6,13 @@ use std::alloc::{AllocError, AllocFailed};
 use std::io::ErrorKind;
 use std::{fmt, io};
 
-/// Why `mux` ended otherwise than well.
+/// Why `mux` failed.
 #[derive(Clone, Copy)]
 pub enum Fault {
-    /// No frame holds the words.
+    /// No frame is long enough for the arguments.
     TooLong,
     NoToken,
-    /// Others may write the token's file.
+    /// Other users can write the token's file.
     Writable,
     NoServer,
     NoServerOfOurs,
@@ -67,7 +67,7 @@ impl Part {
     }
 }
 
-// What the system says of an error, without the number where it has a plain name.
+// The system's text for an error. The commonest two have no error number.
 fn write_error<W: fmt::Write>(error: io::Error, f: &mut fmt::Formatter<W>) -> fmt::Result {
     match error.kind() {
         ErrorKind::NotFound => f.write_str("no such file"),
@@ -76,7 +76,7 @@ fn write_error<W: fmt::Write>(error: io::Error, f: &mut fmt::Formatter<W>) -> fm
     }
 }
 
-/// What is said of a peer that the server let go.
+/// Why the server let a peer go.
 pub fn gone(why: Why) -> &'static str {
     match why {
         Why::Detached => "detached",
@@ -91,7 +91,7 @@ pub fn gone(why: Why) -> &'static str {
 }
 
 impl Fault {
-    /// The status to exit with: 2 where the words are at fault.
+    /// The exit status: 2 if the arguments are at fault.
     pub fn status(self) -> u8 {
         match self {
             Fault::TooLong => 2,
@@ -100,7 +100,7 @@ impl Fault {
     }
 }
 
-/// A fault of a peer with these words, as it is told.
+/// A fault of a peer with these arguments, as a message.
 #[derive(Clone, Copy)]
 pub struct Told<'a> {
     pub fault: Fault,
@@ -108,7 +108,7 @@ pub struct Told<'a> {
 }
 
 impl Told<'_> {
-    // What is said of the server at the socket.
+    // A fault of the server at the socket.
     fn server<W: fmt::Write>(&self, f: &mut fmt::Formatter<W>) -> fmt::Result {
         let socket = self.words.socket;
         match self.fault {
@@ -134,7 +134,7 @@ impl Told<'_> {
         }
     }
 
-    // What is said of the token's file.
+    // A fault of the token's file.
     fn token<W: fmt::Write>(&self, f: &mut fmt::Formatter<W>) -> fmt::Result {
         let token = self.words.token;
         match self.fault {

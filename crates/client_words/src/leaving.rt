@@ -8,13 +8,13 @@ ghost use Rattle.client_words.specs.declared.leaving.Stage.TheVariants.{Left};
 
 use std::alloc::AllocError;
 
-/// How far some input has come.
+/// Where input stands.
 #[derive(Clone, Copy)]
 pub enum Stage {
     Reading,
-    /// It ends in a lone byte that leaves, unless it comes once more.
+    /// The last byte is the one that leaves; typed once more it is a byte of the input.
     Waiting,
-    /// The user left: nothing that follows counts.
+    /// The user left. What follows is ignored.
     Left,
 }
 
@@ -43,7 +43,7 @@ impl LeaveReader {
         self.stage
     }
 
-    /// Takes a byte. The answer is the byte that is sent now, if one is.
+    /// Takes a byte. Returns the byte to be sent now, if there is one.
     fn take(&mut self, byte: u8) -> Option<u8>
         ensures sent { (before : List ℕ) → HasRead self.old before
             → sent self.old.byte (before ++ byte ∷ [])
@@ -70,8 +70,8 @@ impl LeaveReader {
         }
     }
 
-    /// Takes bytes, and puts those that are sent behind `out`: whatever was taken out of it before,
-    /// all together is what is sent of all the input. After an `Err` no byte is taken.
+    /// Takes bytes, and appends those to be sent to `out`. What all calls append together is what is to
+    /// be sent of the whole input. After an `Err` no byte was taken.
     pub fn feed(&mut self, bytes: &[u8], out: &mut Vec<u8>) -> Result<(), AllocError>
         ensures sent { (before gone : List ℕ) → HasRead self.old before
             → gone ++ out.old.items ≡ sent self.old.byte before
@@ -91,7 +91,7 @@ impl LeaveReader {
         Ok(())
     }
 
-    /// The byte that waits came alone: the user leaves.
+    /// Says that the byte that waits came alone: the user leaves.
     pub fn leave(&mut self)
         ensures { self.new.stage ≡ Left }
     {

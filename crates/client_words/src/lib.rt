@@ -1,5 +1,5 @@
-//! What the words of `mux` ask, what it says of faults and refusals, lines that say the size of a
-//! terminal, input in which a byte leaves, and text made visible.
+//! The arguments of `mux`, its messages for faults and refusals, lines that say the size of a terminal,
+//! input in which a byte leaves, and text made visible.
 #![tactic(auto)]
 
 mod fault;

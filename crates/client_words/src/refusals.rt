@@ -1,11 +1,11 @@
-//! What the refusals mean that are a number, or a size.
+//! What refusals mean that are a number or a bad size.
 
 use crate::words::{Way, Words};
 use program_words::explain as explain_number;
 use std::io;
 use std::io::Write;
 
-// The sizes that a way takes, as they stand behind a refusal.
+// The sizes that a peer can have, as they follow a refusal.
 fn bounds(way: Way) -> &'static [u8] {
     match way {
         Way::Attach => b" (4 to 200 lines by 20 to 300 columns)",

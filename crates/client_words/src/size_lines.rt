@@ -19,7 +19,7 @@ fn first_blank(line: &[u8]) -> Option<usize>
     line.iter().position(|byte| *byte == b' ')
 }
 
-/// Whether a word has no byte but decimal digits.
+/// Whether all bytes of a word are decimal digits.
 fn has_digits(word: &[u8]) -> bool
     ensures { result ≡ list_all is_ascii_digit word.now }
 {
@@ -47,7 +47,7 @@ fn read_number(word: &[u8]) -> Option<u16>
     digits.parse().ok()
 }
 
-/// Whether a client's terminal may have so many lines and columns.
+/// Whether a client's terminal may have these lines and columns.
 fn is_size(rows: u16, columns: u16) -> bool
     ensures { result ≡ is_size rows columns }
 {
@@ -62,8 +62,8 @@ pub struct Size {
 }
 
 impl Size {
-    /// The size that a line says, without its line feed. None where it isn't two numbers of one to
-    /// four digits with a blank between them, or no client's terminal has the size.
+    /// The size that a line without its line feed says. None if the line isn't two numbers of one to
+    /// four digits with a blank between them, or if no client's terminal may have the size.
     pub fn read(line: &[u8]) -> Option<Size>
         ensures { result ≡ size_of line.now }
     {
@@ -74,13 +74,13 @@ impl Size {
     }
 }
 
-// No size has a line as long as this.
+// A line this long says no size.
 const TOO_LONG: usize = 64;
 
-/// Reads lines as they come, in whatever pieces.
+/// Reads lines that come in pieces.
 #[derive(Drop)]
 pub struct SizeLines {
-    // What came of a line, TOO_LONG bytes at most.
+    // The beginning of the line that hasn't ended: at most TOO_LONG bytes.
     line: Vec<u8>,
     has_dropped: bool,
 }
@@ -96,7 +96,7 @@ impl SizeLines {
         }
     }
 
-    /// Was there a line that says no size?
+    /// Whether a line said no size.
     pub fn has_dropped(&self) -> bool
         ensures { (bytes : List ℕ) → StandsFor self.now bytes
             → result ≡ has_other (ended bytes) }
@@ -104,7 +104,7 @@ impl SizeLines {
         self.has_dropped
     }
 
-    /// Takes a byte. The size that the line says which it ends.
+    /// Takes a byte. If it ends a line, returns the size that the line says, if it says one.
     fn take(&mut self, byte: u8) -> Option<Size>
         requires room { 64 ≤ vec_capacity self.old.line }
         ensures size { result ≡ (if is_feed byte then size_of self.old.line.items else None) }
@@ -124,8 +124,8 @@ impl SizeLines {
         size
     }
 
-    /// Takes bytes. The answer is the last size among the lines that end in them. After an `Err` no
-    /// byte is taken; there is none once one call was `Ok`.
+    /// Takes bytes. Returns the last size that the lines that end in them say. After an `Err` no byte
+    /// was taken; once a call was `Ok`, no later call is an `Err`.
     pub fn feed(&mut self, bytes: &[u8]) -> Result<Option<Size>, AllocError>
         ensures size { (before : List ℕ) → StandsFor self.old before
             → IfOk result (λ size. size ≡ last_size (ended (unended before ++ bytes.now))) }

@@ -1,4 +1,4 @@
-//! Text of another program for a terminal: control characters are written as `\xNN`.
+//! Text of another program for a terminal, with control characters written as `\xNN`.
 
 ghost use Rattle.std.specs.Prelude.{◌≡◌, ◌++◌, ◌<◌, ℕ, List, IfOk, OnOk, if◌then◌else◌, false, [], ◌∷◌};
 ghost use Rattle.std.specs.List.{list_any};
@@ -6,7 +6,7 @@ ghost use Rattle.client_words.specs.Visible.{is_control, is_lead, is_second, dig
 
 use std::alloc::AllocError;
 
-// The byte that begins a control character of C1.
+// The first byte of each control character of C1 in UTF-8.
 const LEAD: u8 = 0xC2;
 
 fn digit(n: u8) -> u8
@@ -45,7 +45,7 @@ fn put_shown(byte: u8, out: &mut Vec<u8>) -> Result<(), AllocError>
     Ok(())
 }
 
-/// Puts a byte down, before which a `LEAD` may be held back. The answer is whether one is now.
+/// Appends a byte, before which a `LEAD` may be held back. Returns whether one is held back now.
 fn put(holds: bool, byte: u8, out: &mut Vec<u8>) -> Result<bool, AllocError>
     ensures shown { OnOk result (out.new.items ≡ out.old.items ++ put_now holds byte) }
     ensures holds { IfOk result (λ now. now ≡ holds_after holds byte) }
@@ -64,7 +64,7 @@ fn put(holds: bool, byte: u8, out: &mut Vec<u8>) -> Result<bool, AllocError>
     Ok(false)
 }
 
-/// Puts a text down, with its control characters as `\xNN`.
+/// Appends a text, with its control characters as `\xNN`.
 pub fn put_visible(text: &[u8], out: &mut Vec<u8>) -> Result<(), AllocError>
     ensures { OnOk result (out.new.items ≡ out.old.items ++ visible text.now) }
 {
@@ -78,7 +78,7 @@ pub fn put_visible(text: &[u8], out: &mut Vec<u8>) -> Result<(), AllocError>
     Ok(())
 }
 
-/// No control character is in what is put down.
+/// A law: what `put_visible` appends has no control character.
 pub fn nothing_controls()
     ensures single { (text : List ℕ) → list_any is_control (visible text) ≡ false }
     ensures double { (text : List ℕ) → has_c1 (visible text) ≡ false }

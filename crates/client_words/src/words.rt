@@ -1,4 +1,4 @@
-//! The words of the command line, and the first message that they make.
+//! The arguments of `mux`, and the first message that they make.
 
 use attach_proto::{Bytes, Message, Text, Token, WriteFault, write_message};
 use clap::ArgMatches;
@@ -12,7 +12,7 @@ pub enum Way {
     Attach,
     Window,
     Command,
-    /// Nobody, who asks whether the server answers.
+    /// No peer: `mux` only asks whether the server answers.
     Ping,
 }
 
@@ -39,7 +39,7 @@ impl Way {
     }
 }
 
-/// What the words say. What a way doesn't take is 0, empty or none.
+/// The values of the arguments. One that a way doesn't take is 0, empty or none.
 #[derive(Clone, Copy)]
 pub struct Words<'a> {
     pub way: Way,
@@ -52,9 +52,9 @@ pub struct Words<'a> {
     pub columns: u16,
     /// The path of the sizes' file.
     pub sizes: Option<&'a str>,
-    /// Whether a good end is told, too.
+    /// Whether a good end is reported, too.
     pub why: bool,
-    /// The byte of the input that leaves.
+    /// The byte of the input by which the user leaves.
     pub leave: Option<u8>,
     /// How many seconds an answer may take; 0 is without limit.
     pub wait: u16,
@@ -73,7 +73,7 @@ fn number(matches: &ArgMatches, name: &str) -> u16 {
 }
 
 impl<'a> Words<'a> {
-    // Nothing is missing that its way needs: such words give no matches.
+    // Whatever the way needs is there: without it there would be no matches.
     fn of_way(way: Way, matches: &ArgMatches<'a>) -> Words<'a> {
         Words {
             way,
@@ -93,7 +93,7 @@ impl<'a> Words<'a> {
         }
     }
 
-    /// None where no way is named.
+    /// None if no way is named.
     fn of(matches: &ArgMatches<'a>) -> Option<Words<'a>> {
         let (name, matches) = matches.subcommand()?;
         Some(Words::of_way(Way::of(name), matches))
@@ -128,7 +128,7 @@ impl<'a> Words<'a> {
         }
     }
 
-    // The first message with this token. Nobody sends none.
+    // The first message, with this token. None for a ping.
     fn first(&self, alloc: Global, token: Token) -> Result<Option<Message>, AllocError> {
         let name = Text::of(alloc, self.user)?;
         Ok(Some(match self.way {
@@ -139,8 +139,8 @@ impl<'a> Words<'a> {
         }))
     }
 
-    /// The frame of a first message with this token, empty where there is none: unspellable where no
-    /// frame holds the words.
+    /// The frame of the first message, with this token. Empty if there is no such message; `Unspellable`
+    /// if no frame is long enough for the arguments.
     pub fn first_frame(&self, alloc: Global, token: Token) -> Result<Vec<u8>, WriteFault> {
         match self.first(alloc, token) {
             Ok(Some(message)) => frame_of(alloc, &message),
@@ -157,7 +157,8 @@ pub fn frame_of(alloc: Global, message: &Message) -> Result<Vec<u8>, WriteFault>
     Ok(frame)
 }
 
-/// What the words say, the program's name first; where they aren't understood, the status to exit with.
+/// The values of the arguments, which begin with the program's name. If they are invalid, writes why and
+/// returns the exit status.
 pub fn words_of<'a, O: Write, E: Write>(
     alloc: Global,
     words: &'a [String],

@@ -31,7 +31,7 @@ pub spelled-escape : (text : List ℕ) (byte : ℕ) (rest : List ℕ) (high : �
 unfolding spelled
 spelled-escape text byte rest high behind low last e h f g = rw (e, h, f, g) refl
 
--- what a text spells behind bytes that were already read
+-- what a text spells after bytes that were already read
 abbrev pub behind : List ℕ → Option (List ℕ) → Option (List ℕ)
 behind out bytes = option_map (λ more. out ++ more) bytes
 

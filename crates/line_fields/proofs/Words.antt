@@ -1,4 +1,4 @@
--- Fields that are put together, with one byte behind each, are cut apart again.
+-- Fields that are put together, with one byte after each, are cut apart again.
 use Rattle.std.proofs.Common.{◌≡◌, ℕ, suc, ◌+◌, ◌<◌, ◌≤◌, List, [], ◌∷◌, ◌++◌, length, ap, refl, ◌∙◌, arith, append-nil}
 use Rattle.std.proofs.Common.{length-append, take, drop}
 use Rattle.std.specs.Prelude.{Bool, true, false, cond, not, ◌==◌, ◌&&◌, nat_lt, Option, Some, None}

@@ -62,7 +62,7 @@ kind_of (act.Default m) = kind.Default
 
 -- ---- acts
 
--- what stands behind the kind
+-- what follows the kind
 abbrev pub act_rest : Act → List ℕ
 act_rest (act.Known u) = name_of u
 act_rest (act.Gone u) = name_of u

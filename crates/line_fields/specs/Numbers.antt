@@ -16,7 +16,7 @@ number_below limit word =
     if is_number word && nat_lt (digits_value 10 word) limit then Some (digits_value 10 word)
     else None
 
--- a number that a separator ends, and what stands behind it
+-- a number that a separator ends, and the bytes after the separator
 abbrev pub number_at : ℕ → ℕ → List ℕ → Option (ℕ × List ℕ)
 number_at limit separator bytes = do
   parts ← cut separator bytes

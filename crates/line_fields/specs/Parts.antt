@@ -32,7 +32,7 @@ colon = code ":"
 abbrev pub comma : ℕ
 comma = code ","
 
--- a word and the separator behind it, and then more
+-- a word, the separator after it, and then more
 abbrev pub field : ℕ → List ℕ → List ℕ → List ℕ
 field separator word rest = word ++ separator ∷ rest
 
@@ -102,7 +102,7 @@ abbrev pub object_text : Object → List ℕ
 object_text (object.Window w) = decimal w
 object_text (object.Command c) = name_text c
 
--- the command of this name, which isn't an alias
+-- the command of this name; aliases aren't names here
 unfoldable pub command_in : List ℕ → Option CommandName
 command_in word = find (λ c. bytes_eq (name_text c) word) ALL
 

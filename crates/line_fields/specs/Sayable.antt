@@ -1,4 +1,4 @@
--- What words of acts and verdicts can say: users by their names, serials of their size.
+-- What words of acts and verdicts can say: users by their names, serials that fit their type.
 use Rattle.std.specs.Prelude.{◌≡◌, ◌<◌, ◌^◌, ℕ, Option, Some, None}
 use Rattle.acl.specs.declared.act.Act.{Act}
 use Rattle.acl.specs.declared.act.Act.TheVariants as act
@@ -9,7 +9,7 @@ use Rattle.acl.specs.Names.{name_of, named_by}
 use Rattle.session_model.specs.declared.verdict.Verdict.{Verdict}
 use Rattle.session_model.specs.declared.verdict.Verdict.TheVariants as verdict
 
--- a user whom his name names
+-- a user whose name names them
 abbrev pub IsNamed : UserId → Type 0
 IsNamed user = named_by (name_of user) ≡ Some user
 

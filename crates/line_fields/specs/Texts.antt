@@ -12,7 +12,7 @@ abbrev pub coded : ℕ → List ℕ
 coded byte =
     0x5C ∷ digit_glyph false (byte / 16) ∷ digit_glyph false (byte % 16) ∷ []
 
--- whether a byte stands for itself: from the first plain one to 7E, but the backslash
+-- whether a byte stands for itself: from the first plain byte to 7E, except the backslash
 abbrev pub is_plain : ℕ → ℕ → Bool
 is_plain first byte = nat_le first byte && nat_le byte 0x7E && not (byte == 0x5C)
 
@@ -43,7 +43,7 @@ unfoldable mutual
   spelled (byte ∷ rest) =
       if byte == 0x5C then spelled_escaped rest else put_before (Some byte) (spelled rest)
 
-  -- behind a backslash
+  -- after a backslash
   pub spelled_escaped : List ℕ → Option (List ℕ)
   spelled_escaped (high ∷ low ∷ rest) = put_before (byte_of high low) (spelled rest)
   spelled_escaped _ = None

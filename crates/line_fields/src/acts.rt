@@ -206,7 +206,7 @@ fn push_mode_act(
     push_mode(mode, out)
 }
 
-/// Appends what stands behind an act's kind.
+/// Appends what follows an act's kind.
 fn push_rest(act: &Act, out: &mut Vec<u8>) -> Result<(), AllocError>
     ensures { OnOk result (out.new.items ≡ out.old.items ++ act_rest act.now) }
 {
@@ -327,7 +327,7 @@ fn read_mode_act(rest: &[u8]) -> Option<Act>
     Some(Act::Mode { by, window, mode })
 }
 
-/// What stands behind an act's kind.
+/// Reads what follows an act's kind.
 fn read_rest(kind: ActKind, rest: &[u8]) -> Option<Act>
     ensures { result ≡ rest_in kind rest.now }
 {

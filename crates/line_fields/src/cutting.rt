@@ -12,7 +12,7 @@ fn place_of(bytes: &[u8], separator: u8) -> Option<usize>
     bytes.iter().position(|byte| *byte == separator)
 }
 
-/// The bytes before the first separator, and those behind it.
+/// The bytes before the first separator, and those after it.
 #[tactic(auto, unfolding(crate::specs::Cutting::cut))]
 pub fn cut(bytes: &[u8], separator: u8) -> Option<(&[u8], &[u8])>
     ensures { option_map (λ parts. (parts.0.now, parts.1.now)) result
@@ -22,7 +22,7 @@ pub fn cut(bytes: &[u8], separator: u8) -> Option<(&[u8], &[u8])>
     Some((&bytes[..at], &bytes[at + 1..]))
 }
 
-/// The first word, and what stands behind the separator that ends it, if one does.
+/// The first word, and the bytes after the separator that ends it, if one does.
 pub fn next_word(bytes: &[u8], separator: u8) -> (&[u8], Option<&[u8]>)
     ensures { words separator bytes.now
         ≡ result.0.now ∷ words_behind separator (option_copied result.1) }

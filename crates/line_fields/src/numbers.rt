@@ -8,7 +8,7 @@ ghost use Rattle.line_fields.specs.Numbers.{is_number, number_below, number_at};
 use crate::cutting::cut;
 use std::str;
 
-/// Whether a word has no byte but decimal digits.
+/// Whether all bytes of a word are decimal digits.
 fn has_digits(word: &[u8]) -> bool
     ensures { result ≡ list_all is_ascii_digit word.now }
 {
@@ -62,7 +62,7 @@ pub fn read_u8(word: &[u8]) -> Option<u8>
     digits_of(word)?.parse().ok()
 }
 
-/// A number of 64 bits that a separator ends, and what stands behind it.
+/// A number of 64 bits that a separator ends, and the bytes after the separator.
 pub fn u64_at(bytes: &[u8], separator: u8) -> Option<(u64, &[u8])>
     ensures { option_map (λ p. (p.0, p.1.now)) result
         ≡ number_at (2 ^ 64) separator bytes.now }
@@ -71,7 +71,7 @@ pub fn u64_at(bytes: &[u8], separator: u8) -> Option<(u64, &[u8])>
     Some((read_u64(word)?, rest))
 }
 
-/// One of 32 bits.
+/// A number of 32 bits that a separator ends, and the bytes after the separator.
 pub fn u32_at(bytes: &[u8], separator: u8) -> Option<(u32, &[u8])>
     ensures { option_map (λ p. (p.0, p.1.now)) result
         ≡ number_at (2 ^ 32) separator bytes.now }
@@ -80,7 +80,7 @@ pub fn u32_at(bytes: &[u8], separator: u8) -> Option<(u32, &[u8])>
     Some((read_u32(word)?, rest))
 }
 
-/// One of 16 bits.
+/// A number of 16 bits that a separator ends, and the bytes after the separator.
 pub fn u16_at(bytes: &[u8], separator: u8) -> Option<(u16, &[u8])>
     ensures { option_map (λ p. (p.0, p.1.now)) result
         ≡ number_at (2 ^ 16) separator bytes.now }
@@ -89,7 +89,7 @@ pub fn u16_at(bytes: &[u8], separator: u8) -> Option<(u16, &[u8])>
     Some((read_u16(word)?, rest))
 }
 
-/// One of 8 bits.
+/// A number of 8 bits that a separator ends, and the bytes after the separator.
 pub fn u8_at(bytes: &[u8], separator: u8) -> Option<(u8, &[u8])>
     ensures { option_map (λ p. (p.0, p.1.now)) result
         ≡ number_at (2 ^ 8) separator bytes.now }

@@ -15,7 +15,7 @@ use command_lang::name_text;
 use session_model::push_decimal;
 use std::alloc::AllocError;
 
-/// A user's name that a separator ends, and what stands behind it.
+/// A user whose name a separator ends, and the bytes after the separator.
 pub fn user_at(bytes: &[u8], separator: u8) -> Option<(UserId, &[u8])>
     ensures { option_map (λ p. (p.0, p.1.now)) result ≡ user_at separator bytes.now }
 {
@@ -50,7 +50,7 @@ pub fn read_user(word: &[u8]) -> Option<Option<UserId>>
     Some(Some(UserId::of(word)?))
 }
 
-/// The byte of what is given or taken.
+/// `+` for a bit that is given, `-` for one that is taken.
 fn sign(value: bool) -> u8
     ensures { result ≡ sign value }
 {
@@ -75,7 +75,7 @@ pub fn push_change(bit: Bit, value: bool, out: &mut Vec<u8>) -> Result<(), Alloc
     out.extend_from_slice(&[sign(value), mark(bit)])
 }
 
-/// Whether a byte says that something is given, or taken.
+/// Whether a byte says that a bit is given (`+`) or taken (`-`).
 fn value_of(byte: u8) -> Option<bool>
     ensures { result ≡ value_of byte }
 {
@@ -139,7 +139,7 @@ pub fn push_command(command: CommandName, out: &mut Vec<u8>) -> Result<(), Alloc
     out.extend_from_slice(name_text(command).as_bytes())
 }
 
-/// The command of this name, which isn't an alias.
+/// The command of this name. Aliases aren't names here.
 pub fn read_command(word: &[u8]) -> Option<CommandName>
     ensures { result ≡ command_in word.now }
 {

@@ -34,7 +34,7 @@ fn push_coded(byte: u8, out: &mut Vec<u8>) -> Result<(), AllocError>
     out.extend_from_slice(&[b'\\', digit(byte / 16), digit(byte % 16)])
 }
 
-/// Appends a byte that stands for itself, or its code.
+/// Appends a byte as itself or as its code.
 fn push_byte(first: u8, byte: u8, out: &mut Vec<u8>) -> Result<(), AllocError>
     ensures { OnOk result (out.new.items ≡ out.old.items ++ escape first byte) }
 {
@@ -45,7 +45,7 @@ fn push_byte(first: u8, byte: u8, out: &mut Vec<u8>) -> Result<(), AllocError>
     }
 }
 
-/// Appends a text: the bytes from `first` to 7E stand for themselves, but the backslash.
+/// Appends a text. The bytes from `first` to 7E, except the backslash, stand for themselves.
 pub fn push_escaped(first: u8, bytes: &[u8], out: &mut Vec<u8>) -> Result<(), AllocError>
     ensures { OnOk result (out.new.items ≡ out.old.items ++ escaped first bytes.now) }
 {
@@ -64,7 +64,7 @@ fn read_byte(high: u8, low: u8) -> Option<u8>
     Some((high * 16 + low) as u8)
 }
 
-/// The first byte that an escaped text spells, which isn't empty, and the text behind it.
+/// The first byte that an escaped text spells, and the text after it. The text isn't empty.
 fn cut_byte(escaped: &[u8]) -> Option<(u8, &[u8])>
     ensures none { result ≡ None → 0 < length escaped.now → spelled escaped.now ≡ None }
     ensures some { IfSome result
@@ -80,8 +80,7 @@ fn cut_byte(escaped: &[u8]) -> Option<(u8, &[u8])>
     Some((read_byte(*high, *low)?, rest))
 }
 
-/// Puts the bytes that an escaped text spells in place of what was there. False where it spells
-/// none.
+/// Replaces the contents of `out` by the bytes that an escaped text spells. False if it spells none.
 pub fn unescape(escaped: &[u8], out: &mut Vec<u8>) -> Result<bool, AllocError>
     ensures { IfOk result
         (λ is_text. spelled escaped.now ≡ (if is_text then Some out.new.items else None)) }

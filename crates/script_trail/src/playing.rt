@@ -1,4 +1,4 @@
-//! Plays a script, and writes its trail where the words name a file for it.
+//! Plays a script, and writes its trail if the arguments name a file for it.
 
 ghost use Rattle.std.specs.Prelude.{◌≡◌};
 
@@ -39,7 +39,7 @@ impl<'a> From<SetupUnread<'a>> for Fault<'a> {
     }
 }
 
-/// What a script is played with, and the new file for its trail.
+/// The arguments and the setup of a script, and the new file for its trail.
 #[derive(Drop)]
 struct Recording<'a> {
     alloc: Global,
@@ -48,7 +48,7 @@ struct Recording<'a> {
     file: File,
 }
 
-/// Reads the setup, and makes the file for the trail, which its owner alone reads and writes.
+/// Reads the setup, and makes the file for the trail, which only its owner can read and write.
 fn begin<'a, H: Files<File = File> + AllocGlobal>(
     rt: &H,
     words: &'a [String],
@@ -73,7 +73,7 @@ fn begin<'a, H: Files<File = File> + AllocGlobal>(
 }
 
 impl Recording<'_> {
-    /// Plays the script on the reader, and writes its trail.
+    /// Plays the script of the reader, and writes its trail. Returns the exit status.
     fn play<R: Read + Drop, W: Write, E: Write>(
         self,
         reader: R,
@@ -101,7 +101,7 @@ impl Recording<'_> {
     }
 }
 
-/// Writes why not all was done, and gives the status to exit with.
+/// Writes what went wrong, and returns the exit status.
 fn report<E: Write>(fault: &Fault, errors: &mut E) -> u8
     ensures { result ≡ 1 }
 {
@@ -109,8 +109,8 @@ fn report<E: Write>(fault: &Fault, errors: &mut E) -> u8
     1
 }
 
-/// Plays the script on the reader as `simulate` does; then, if the words name a file behind
-/// `--trail`, writes the trail of its session to that new file. Gives the status to exit with.
+/// Plays the script of the reader as `simulate` does. If the arguments name a file after `--trail`,
+/// writes the trail of the session to that file, which must be new. Returns the exit status.
 pub fn simulate_with_trail<H, R, W, E>(
     rt: &H,
     words: &[String],

@@ -6,9 +6,9 @@ use session_lines::read_event;
 use setup_lines::read_setup;
 use std::alloc::{AllocError, Global};
 
-/// The trail's file of a session that begins so and takes the events of a script, one a line, up to
-/// the first line that is no event. A script has no clock: all times are 0. None if a line of the
-/// setup is refused.
+/// The contents of the trail's file, for a session that begins so and takes the events of a script, one
+/// a line, up to the first line that is no event. A script has no clock: all times are 0. None if a
+/// line of the setup is refused.
 fn trail_of(
     alloc: Global,
     beginning: &Beginning,
@@ -38,8 +38,8 @@ fn trail_of(
     Ok(Some(recorder.end()?))
 }
 
-/// The trail's file of the session that these words, this setup and this script make; none if they
-/// make no session.
+/// The contents of the trail's file, for the session of these arguments, this setup and this script.
+/// None if they make no session.
 pub fn recorded(
     alloc: Global,
     words: &[String],

@@ -7,13 +7,13 @@ use std::alloc::{AllocError, Global};
 use trail_audit::{Cause, Ended, Header, print_end, print_header};
 use trail_lines::print_line;
 
-/// What writes the file.
+/// The version in the file's first line.
 const VERSION: &[u8] = b"0.1.0";
 
 /// The time of all entries.
 const NO_TIME: u64 = 0;
 
-/// A session, and the lines of its trail so far.
+/// A session, and the lines of its trail up to now.
 #[derive(Drop)]
 pub struct Recorder {
     alloc: Global,
@@ -50,7 +50,7 @@ impl Recorder {
         })
     }
 
-    /// One step, whose entry is written, if it has one.
+    /// Takes one step, and writes its entry, if it has one.
     pub fn step(&mut self, event: Event) -> Result<Reply, AllocError> {
         let kept = KeptEvent::of(self.alloc, event)?;
         let spare = Box::new(self.alloc, Refusal::NoMemory)?;
@@ -68,8 +68,8 @@ impl Recorder {
         Ok(reply)
     }
 
-    /// An event, in as many steps as it needs: each has the keys that the one before didn't read,
-    /// and one that reads none is the last.
+    /// Takes an event in as many steps as it needs. Each step has the keys that the step before didn't
+    /// read, and a step that reads none is the last.
     pub fn take(&mut self, event: Event) -> Result<(), AllocError> {
         let Event::Keys { client, bytes } = event else {
             let _reply = self.step(event)?;
@@ -90,7 +90,7 @@ impl Recorder {
         Ok(())
     }
 
-    /// The file's lines, with the last one.
+    /// The lines of the file, with its last line.
     pub fn end(self) -> Result<Vec<u8>, AllocError> {
         let Recorder {
             mut text,

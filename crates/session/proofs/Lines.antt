@@ -6,7 +6,7 @@ use Rattle.std.proofs.lemmas.Bool.Decides.{nat_tests}
 use Rattle.std.specs.Io.BufRead.{take_through, drop_through, first_piece, strip_last}
 use Rattle.session.specs.Lines.{with_byte, lines_of}
 
--- what stands before the first line feed
+-- the bytes before the first line feed
 abbrev piece : List ℕ → List ℕ
 piece [] = []
 piece (x ∷ xs) = if x == 0x0A then [] else x ∷ piece xs

@@ -70,7 +70,7 @@ event_ran h old new event no_effects effects no_replies replies left a b text ba
 
 -- ---- lines
 
--- the bytes behind a new buffer
+-- the bytes after a new buffer
 pub read_ahead : {R A : Type 0} → (remaining : R → Option (List ℕ)) (r : BufReader R A) (reader : R) (script : List ℕ)
     → reader_inner r ≡ reader → reader_buffer r ≡ [] → reader_capacity r ≡ 8192 → remaining reader ≡ Some script
     → reader_remaining remaining r ≡ Some script
@@ -176,7 +176,7 @@ pub if_known : (o : Option (List ℕ)) (P : List ℕ → Type 0) → ((script : 
 if_known None P each = tt
 if_known (Some script) P each = each script refl
 
--- what is played over a session that began with these lines is played behind them
+-- what is played over a session that began with these lines is played after them
 pub plays_behind : (groups : Edition) (name : UserId) (lines commands : List Line) (shows : Bool)
     (read : Option (List ℕ)) (s : Session) (a b : Option (List ℕ))
     → lines ≡ commands → Behind (λ h. StandsFor h s) (begun groups name) name lines

@@ -98,7 +98,7 @@ one_played h line event s a b some is runs = record {
 pub bad_line : (line : List ℕ) → 0 < length line → event_of line ≡ None → IsBad line
 bad_line line some is = ap (λ ls. map event_of ls) (filled_one line some) ∙ ap (λ e. e ∷ []) is
 
--- lines behind others
+-- lines after others
 plays_on : (h : Trace) (xs ys : List (List ℕ)) (before behind : List Entry) → Plays h xs before
     → Plays (with_steps h before) ys behind → Plays h (xs ++ ys) (before ++ behind)
 plays_on h xs ys before behind p q = record {

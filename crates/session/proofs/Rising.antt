@@ -65,7 +65,7 @@ pub none_first : (cs : List Client) → below 0 cs ≡ []
 none_first [] = refl
 none_first (c ∷ cs) = if_false (nat_lt c.serial 0) _ _ (not_below c.serial 0 (omega arith)) ∙ none_first cs
 
--- where no serial is left from one on
+-- if no serial is left from one on
 all_below : (from : ℕ) (cs : List Client) → least_from from (client_serials cs) ≡ None → below from cs ≡ cs
 all_below from [] none = refl
 all_below from (c ∷ cs) none = on (nat_le from c.serial) refl none (all_below from cs) where
@@ -75,7 +75,7 @@ all_below from (c ∷ cs) none = on (nat_le from c.serial) refl none (all_below 
   on false is none others = if_true (nat_lt c.serial from) _ _ (is_below c.serial from (from_false from c.serial is))
       ∙ ap (λ xs. c ∷ xs) (others none)
 
--- and where all were given
+-- and if all were given
 given_below : (from next : ℕ) (cs : List Client) → next ≤ from → Rises (client_serials cs) next → below from cs ≡ cs
 given_below from next [] le rises = refl
 given_below from next (c ∷ cs) le rises =

@@ -7,7 +7,7 @@ pub with_steps-append : (h : Trace) (xs ys : List Entry) → with_steps h (xs ++
 with_steps-append h [] ys = refl
 with_steps-append h (x ∷ xs) ys = with_steps-append (with_step h x) xs ys
 
--- events that come behind are left
+-- events that come after are left
 pub serves_before : (events : List EventValue) (steps : List Entry) (left more : List EventValue)
     → Serves events steps left → Serves (events ++ more) steps (left ++ more)
 serves_before events [] left more s = ap (λ es. es ++ more) s

@@ -18,13 +18,13 @@ use Rattle.session.specs.Lines.{lines_of}
 
 -- ---- what is read
 
--- lines with something in them
+-- the lines that aren't empty
 abbrev pub filled : List (List ℕ) → List (List ℕ)
 filled [] = []
 filled ([] ∷ lines) = filled lines
 filled ((byte ∷ bytes) ∷ lines) = (byte ∷ bytes) ∷ filled lines
 
--- each line is an event, but the empty ones, which are skipped
+-- each line that isn't empty is an event
 abbrev pub AreEventsOf : List (List ℕ) → List EventValue → Type 0
 AreEventsOf lines events = map event_of (filled lines) ≡ map Some events
 
@@ -41,7 +41,7 @@ IsBad line = map event_of (filled (line ∷ [])) ≡ None ∷ []
 
 -- ---- what is printed
 
--- a step's effects, and behind the last step of an event its reply
+-- a step's effects, and after the last step of an event its reply
 abbrev pub step_lines : Entry → List ℕ
 step_lines e =
     flat_map effect_line e.effects
@@ -64,7 +64,7 @@ views_if shows t = if shows then views t else []
 
 -- ---- a whole script
 
--- all lines were events: their steps were printed, and behind them what each client is to see
+-- all lines were events: their steps were printed, and after them what each client is to see
 pub record PlaysAll (start : Trace) (shows : Bool) (script : List ℕ)
     (before after : Option (List ℕ)) : Type 0 where
   pub steps : List Entry
@@ -86,7 +86,7 @@ pub record PlaysUntil (number : ℕ) (h : Trace) (script : List ℕ)
   pub plays : Plays h past steps
   pub prints : Appends before after (printed steps)
 
--- a fact where a line wasn't understood
+-- if a line wasn't understood, a fact of its number
 abbrev pub IfNotUnderstood : Fault → (ℕ → Type 0) → Type 0
 IfNotUnderstood (NotUnderstood number) P = P number
 IfNotUnderstood _ P = Unit {0}

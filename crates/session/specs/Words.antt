@@ -16,7 +16,7 @@ use Rattle.session_setup.specs.Setup.{Behind}
 
 -- ---- muxsim [--edition N] [--setup FILE] [--show] [--trail FILE] OWNER
 
--- a number of 1 or 2, and 2 where none is given
+-- the number 1 or 2; 2 if none is given
 abbrev pub edition : Rule
 edition = record (new_rule (codes "edition")) {
   long = Some (codes "edition");
@@ -52,7 +52,7 @@ abbrev pub edition_text : Edition → Text
 edition_text First = codes "1"
 edition_text Second = codes "2"
 
--- the words are understood, and name this owner and this edition, with `--show` or without it
+-- the arguments are valid, and name this owner and this edition, with `--show` or without it
 pub record Asks (words : List Text) (groups : Edition) (name : UserId) (shows : Bool) : Type 0 where
   pub understood : takes muxsim words ≡ true
   pub edition_is : one_of (codes "edition") (matches_of muxsim words) ≡ Some (edition_text groups)
@@ -60,11 +60,11 @@ pub record Asks (words : List Text) (groups : Edition) (name : UserId) (shows : 
       option_and_then named_by (first_of (codes "owner") (matches_of muxsim words)) ≡ Some name
   pub shows_is : one_of (codes "show") (matches_of muxsim words) ≡ Some (flag_text shows)
 
--- what the setup's file may have: nothing where the words name none
+-- what the setup may be: empty if the arguments name no file
 abbrev pub MayHave : List Text → List ℕ → Type 0
 MayHave words setup = first_of (codes "setup") (matches_of muxsim words) ≡ None → setup ≡ []
 
--- behind the commands of this setup the whole script was played
+-- after the commands of this setup the whole script was played
 pub record PlaysBehind (groups : Edition) (name : UserId) (shows : Bool) (setup : List ℕ)
     (script before after : Option (List ℕ)) : Type 0 where
   pub commands : first_fault (commands_in setup) ≡ None

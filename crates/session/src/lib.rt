@@ -1,5 +1,5 @@
 //! The session of a multiuser terminal multiplexer, and the simulator, which plays scripts of events
-//! over one.
+//! over a session.
 #![tactic(auto)]
 
 mod fault;

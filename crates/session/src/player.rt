@@ -1,5 +1,5 @@
-//! Plays scripts: one event a line, whose effects and answer are printed before the next line is
-//! read.
+//! Plays scripts of one event a line. The effects and the answer of a line are printed before the next
+//! line is read.
 
 ghost use Rattle.std.specs.Prelude.{◌≡◌, ◌++◌, ◌∷◌, [], List, Some};
 ghost use Rattle.std.specs.Prelude.{IfOk, IfErr, OnOk};
@@ -21,8 +21,8 @@ use std::alloc::{AllocError, Global};
 use std::io;
 use std::io::{BufRead, BufReader, Read, Write};
 
-/// Plays the script on the reader over a session, and writes what its effects and answers print,
-/// and after the last one, if `shows`, what each client is to see.
+/// Plays the script of the reader over a session, and writes what its effects and answers print. If
+/// `shows`, it then writes what each client is to see.
 pub fn play<R: Read + Drop, W: Write>(
     alloc: Global,
     mut session: Session,
@@ -30,11 +30,12 @@ pub fn play<R: Read + Drop, W: Write>(
     reader: R,
     writer: &mut W,
 ) -> Result<(), Fault>
-    // The lines were the events of a run of the session, each step of which keeps the promise, and
-    // what was written is what that run prints.
+    // The lines were the events of a run of the session. Each step of the run keeps the promise, and
+    // what the run prints was written.
     ensures whole { OnOk result (OfScript (R.remaining reader) session
         (λ h script. PlaysAll h shows script (W.contents writer.old) (W.contents writer.new))) }
-    // So were the lines before the first one that isn't understood, whose number the fault names.
+    // The lines before the first one that isn't understood were such a run, and the fault has the
+    // number of that line.
     ensures until { IfErr result (λ fault. IfNotUnderstood fault
         (λ number. OfScript (R.remaining reader) session (λ h script. PlaysUntil number h script
         (W.contents writer.old) (W.contents writer.new)))) }
@@ -70,7 +71,7 @@ fn play_lines<R: Read + Drop, W: Write>(
     Ok(())
 }
 
-/// Plays the line of a number.
+/// Plays one line. `number` counts from 1.
 fn play_line<W: Write>(
     alloc: Global,
     session: &mut Session,
@@ -138,7 +139,7 @@ fn text_of(
     Ok(text)
 }
 
-/// Writes a text, past each buffer.
+/// Writes a text, and flushes it.
 fn put<W: Write>(text: &str, writer: &mut W) -> io::Result<()>
     ensures { OnOk result (Appends (W.contents writer.old) (W.contents writer.new) text.now) }
 {

@@ -1,4 +1,4 @@
-//! The file of a setup that the words name.
+//! The setup's file, which the arguments name.
 
 ghost use Rattle.std.specs.Prelude.{◌≡◌, true, [], None, IfOk, map, codes, option_map};
 ghost use Rattle.std.specs.String.{string_bytes};
@@ -13,14 +13,14 @@ use thiserror::Error;
 /// Why a setup isn't read.
 #[derive(Debug, Drop, Error)]
 pub enum SetupUnread<'a> {
-    /// The file of this path can't be read, or there was no memory for it.
+    /// The file of this path can't be read, or memory ran out for it.
     #[error("setup {0}: {1}")]
     File(&'a str, io::Error),
     #[error("out of memory")]
     NoMemory,
 }
 
-/// What a file has, if there is one; else nothing.
+/// The contents of a file, if a path is given; else no bytes.
 fn read_of<'a, H: Files + AllocGlobal>(
     rt: &H,
     path: Option<&'a str>,
@@ -36,7 +36,7 @@ fn read_of<'a, H: Files + AllocGlobal>(
     }
 }
 
-/// What the file has that the words name after `--setup`; nothing where they name none.
+/// The contents of the file that the arguments name after `--setup`. No bytes if they name none.
 pub fn setup_of<'a, H: Files + AllocGlobal>(
     rt: &H,
     words: &'a [String],

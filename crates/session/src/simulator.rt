@@ -24,16 +24,16 @@ use std::str;
 /// What the simulator is asked for.
 #[derive(Clone, Copy, Debug)]
 pub struct Asked<'a> {
-    /// The program's name, and the words after it.
+    /// The program's name and its arguments.
     pub words: &'a [String],
-    /// What the file has that they name after `--setup`; nothing where they name none.
+    /// The contents of the file that they name after `--setup`. Empty if they name none.
     pub setup: &'a [u8],
 }
 
-/// Plays the script on the reader, one event a line, and writes its effects and answers. First the
-/// owner gives the commands of the file that the words name after `--setup`. Gives the status to
-/// exit with: 0; 1 for a line that isn't understood, a setup that isn't read or whose line is
-/// refused, or another fault; 2 where the words aren't understood or the owner is no name.
+/// Plays the script of the reader, one event a line, and writes its effects and answers. First the
+/// owner gives the commands of the file that the arguments name after `--setup`. Returns the exit
+/// status: 0; 1 for a line that is no event, a setup that can't be read or has a refused line, or
+/// another fault; 2 for invalid arguments, or if the owner isn't a valid name.
 pub fn simulate<H, R, W, E>(
     rt: &H,
     words: &[String],
@@ -46,8 +46,8 @@ where
     R: Read + Drop,
     W: Write,
     E: Write,
-    // Words that are understood have the whole script played after what the setup's file has,
-    // unless the status tells of a fault.
+    // If the arguments are valid, the whole script was played after the commands of the setup, or the
+    // status is that of a fault.
     ensures { (groups : Groups) (name : Owner) (shows : Bool)
         → Asks (map string_bytes words.entry.now) groups name shows
         → (setup : List ℕ) × MayHave (map string_bytes words.entry.now) setup
@@ -66,7 +66,7 @@ where
     }
 }
 
-/// Plays a script as `simulate` does, after the commands of a setup that has been read.
+/// Plays a script after the commands of a setup that has been read. Returns the exit status.
 pub fn simulate_behind<R: Read + Drop, W: Write, E: Write>(
     alloc: Global,
     asked: Asked,
@@ -74,7 +74,7 @@ pub fn simulate_behind<R: Read + Drop, W: Write, E: Write>(
     writer: &mut W,
     errors: &mut E,
 ) -> u8
-    // Words that are understood have the whole script played, unless the status tells of a fault.
+    // If the arguments are valid, the whole script was played, or the status is that of a fault.
     ensures { (groups : Groups) (name : Owner) (shows : Bool)
         → Asks (map string_bytes asked.entry.words.now) groups name shows
         → Simulates groups name shows asked.entry.setup.now (R.remaining reader) result
@@ -117,7 +117,7 @@ fn line_of<'a>(setup: &[SetupLine<'a>], number: usize) -> &'a str {
     }
 }
 
-/// Writes why a session doesn't begin, and gives the status to exit with.
+/// Writes why a session doesn't begin, and returns the exit status.
 fn report_unbegun<E: Write>(file: &str, setup: &[SetupLine], fault: &Unbegun, errors: &mut E) -> u8
     ensures { result ≡ 1 }
 {
@@ -133,7 +133,7 @@ fn report_unbegun<E: Write>(file: &str, setup: &[SetupLine], fault: &Unbegun, er
     1
 }
 
-/// Writes why a setup isn't read, and gives the status to exit with.
+/// Writes why a setup can't be read, and returns the exit status.
 fn report_unread<E: Write>(fault: &SetupUnread, errors: &mut E) -> u8
     ensures { result ≡ 1 }
 {
@@ -141,7 +141,7 @@ fn report_unread<E: Write>(fault: &SetupUnread, errors: &mut E) -> u8
     1
 }
 
-/// Writes why a file is no setup, and gives the status to exit with.
+/// Writes why a file is no setup, and returns the exit status.
 fn report_setup<E: Write>(file: &str, fault: &SetupFault, errors: &mut E) -> u8
     ensures { result ≡ 1 }
 {
@@ -149,7 +149,7 @@ fn report_setup<E: Write>(file: &str, fault: &SetupFault, errors: &mut E) -> u8
     1
 }
 
-/// Writes why a script ended early, and gives the status to exit with.
+/// Writes why a script ended early, and returns the exit status.
 fn report<E: Write>(fault: &Fault, errors: &mut E) -> u8
     ensures { result ≡ 1 }
 {
@@ -157,8 +157,8 @@ fn report<E: Write>(fault: &Fault, errors: &mut E) -> u8
     1
 }
 
-/// Writes why the words give nothing: the help, with status 0, a mistake, with status 2, or want of
-/// memory, with status 1.
+/// Writes the help, and returns 0; or writes what is wrong with the arguments, and returns 2, or 1 if
+/// memory ran out.
 fn tell<W: Write, E: Write>(error: &Error, writer: &mut W, errors: &mut E) -> u8
     ensures { kind_of error.now ≡ ErrorKind.OutOfMemory → result ≡ 1 }
 {

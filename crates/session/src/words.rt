@@ -1,4 +1,4 @@
-//! The words of the simulator's command line.
+//! The arguments of the simulator.
 
 ghost use Rattle.std.specs.Prelude.{◌≡◌, true, false, Some, IfOk, IfErr, map, codes};
 ghost use Rattle.std.specs.Prelude.{option_and_then, option_map};
@@ -16,7 +16,7 @@ use session_setup::Beginning;
 use setup_lines::SetupLine;
 use std::alloc::{AllocError, Global};
 
-/// The word for the edition of groups.
+/// `--edition`: the edition of groups.
 fn edition_word(alloc: Global) -> Arg<'static>
     ensures rule { rule_of result ≡ edition }
     ensures local { result.global ≡ false }
@@ -29,7 +29,7 @@ fn edition_word(alloc: Global) -> Arg<'static>
         .help("1: a user is in one group at most; 2: in up to eight")
 }
 
-/// The word for the file of a setup.
+/// `--setup`: the file of a setup.
 fn setup_word(alloc: Global) -> Arg<'static>
     ensures rule { rule_of result ≡ setup }
     ensures local { result.global ≡ false }
@@ -40,7 +40,7 @@ fn setup_word(alloc: Global) -> Arg<'static>
         .help("A file of the owner's first commands, one a line")
 }
 
-/// The word for views at the end.
+/// `--show`: views at the end.
 fn show_word(alloc: Global) -> Arg<'static>
     ensures rule { rule_of result ≡ show }
     ensures local { result.global ≡ false }
@@ -51,7 +51,7 @@ fn show_word(alloc: Global) -> Arg<'static>
         .help("Prints what each client is to see after the last event")
 }
 
-/// The word for the file of the trail.
+/// `--trail`: the file of the trail.
 fn trail_word(alloc: Global) -> Arg<'static>
     ensures rule { rule_of result ≡ trail }
     ensures local { result.global ≡ false }
@@ -62,7 +62,7 @@ fn trail_word(alloc: Global) -> Arg<'static>
         .help("A new file for the session's trail, which mux-trail reads")
 }
 
-/// The word for the owner.
+/// The owner's name.
 fn owner_word(alloc: Global) -> Arg<'static>
     ensures rule { rule_of result ≡ owner }
     ensures local { result.global ≡ false }
@@ -73,7 +73,7 @@ fn owner_word(alloc: Global) -> Arg<'static>
         .help("The name of the session's owner")
 }
 
-/// The words `muxsim [--edition N] [--setup FILE] [--show] [--trail FILE] OWNER`, the program's name
+/// Reads `muxsim [--edition N] [--setup FILE] [--show] [--trail FILE] OWNER`, with the program's name
 /// first.
 pub fn read_words<'a>(alloc: Global, words: &'a [String]) -> Result<ArgMatches<'a>, Error>
     ensures ok { IfOk result
@@ -91,7 +91,7 @@ pub fn read_words<'a>(alloc: Global, words: &'a [String]) -> Result<ArgMatches<'
         .try_get_matches_from(words)
 }
 
-/// The edition that the words name.
+/// The edition that the arguments name.
 pub fn edition_of(matches: &ArgMatches) -> Edition
     ensures { (groups : Groups) → one_text (found_of matches.now) (codes "edition")
         ≡ Some (edition_text groups) → result ≡ groups }
@@ -102,7 +102,7 @@ pub fn edition_of(matches: &ArgMatches) -> Edition
     }
 }
 
-/// The owner that the words name.
+/// The owner that the arguments name.
 pub fn owner_of(matches: &ArgMatches) -> Option<UserId>
     ensures { result
         ≡ option_and_then named_by (first_of (codes "owner") (rows_of (found_of matches.now))) }
@@ -113,8 +113,8 @@ pub fn owner_of(matches: &ArgMatches) -> Option<UserId>
     }
 }
 
-/// How the session of the words begins, with this setup: none where they aren't understood, or the
-/// owner is no name.
+/// How the session of these arguments begins with this setup. None if the arguments are invalid, or if
+/// the owner isn't a valid name.
 pub fn beginning_of<'a>(
     alloc: Global,
     words: &[String],
@@ -135,8 +135,8 @@ pub fn beginning_of<'a>(
     }
 }
 
-/// The file that the words name after `--setup` or `--trail`, whose name is given: none where they
-/// aren't understood.
+/// The file that the arguments name after `--setup` or `--trail`, whichever `name` says. None if the
+/// arguments are invalid.
 pub fn path_of<'a>(
     alloc: Global,
     words: &'a [String],

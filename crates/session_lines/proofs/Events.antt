@@ -1,4 +1,4 @@
--- What fields give, as far as they are understood.
+-- What fields say, if they are understood.
 use Rattle.std.proofs.Common.{◌≡◌, List, ℕ, ◌∷◌, ap, refl, sym, ◌∙◌}
 use Rattle.std.specs.Prelude.{Option, Some, None, option_map}
 use Rattle.std.specs.Option.{option_zip}
@@ -24,7 +24,7 @@ abbrev pub with_five : {A B C D E : Type 0} → (A × (B × (C × (D × E))) →
     → Option A → Option B → Option C → Option D → Option E → Option EventValue
 with_five event a b c d e = option_map event (option_zip a (option_zip b (option_zip c (option_zip d e))))
 
--- where the last is left
+-- when the last field is left
 pub three-last : {A B C : Type 0} (event : A × (B × C) → EventValue) (a : A) (b : B) (c : Option C)
     → with_three event (Some a) (Some b) c ≡ option_map (λ c. event (a, (b, c))) c
 three-last event a b None = refl
@@ -36,7 +36,7 @@ pub five-last : {A B C D E : Type 0} (event : A × (B × (C × (D × E))) → Ev
 five-last event a b c d None = refl
 five-last event a b c d (Some e) = refl
 
--- ---- a field that isn't understood, behind others
+-- ---- a field that isn't understood, after others
 
 pub zip-none : {A B : Type 0} (first : Option A) → option_zip {U = B} first None ≡ None
 zip-none None = refl

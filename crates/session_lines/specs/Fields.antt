@@ -9,8 +9,7 @@ use Rattle.line_fields.specs.Cutting.{cut}
 use Rattle.line_fields.specs.Numbers.{number_below}
 use Rattle.line_fields.specs.Texts.{spelled}
 
--- so many fields, each ended by one blank, and the rest of the line behind them; fewer where there
--- are fewer blanks
+-- at most this many fields, each ended by one blank, and then the rest of the line
 unfoldable pub fields : ℕ → List ℕ → List (List ℕ)
 fields zero line = line ∷ []
 fields (suc more) line = elim (cut 0x20 line) [
@@ -24,8 +23,8 @@ fields (suc more) line = elim (cut 0x20 line) [
 abbrev pub number_of : List ℕ → Option ℕ
 number_of word = if nat_le (length word) 4 then number_below (2 ^ 16) word else None
 
--- the number of a command's window, or `-` for none; no window has a number above 39, and each one
--- above 255 is 255
+-- the number of a command's window, or `-` for none; no window has a number above 39, and each number
+-- above 255 is read as 255
 abbrev pub window_of : List ℕ → Option (Option ℕ)
 window_of word =
     if bytes_eq word (codes "-") then Some None
@@ -49,10 +48,10 @@ if_utf8 None = None
 abbrev pub title_of : List ℕ → Option (List ℕ)
 title_of escaped = if_utf8 (text_of escaped)
 
--- ---- the fields of a line, which is understood where all its fields are
+-- ---- the fields of a line, which is understood if all its fields are
 
--- a user's name, a number, the window of a command, a text or a title; the last two may have
--- blanks, so they stand last
+-- a user's name, a number, the window of a command, a text or a title; a text or a title may have
+-- blanks, so it ends its line
 pub data Field : Type 0 where
   User : Field
   Number : Field
@@ -75,7 +74,7 @@ value_of Window word = window_of word
 value_of Text word = text_of word
 value_of Title word = title_of word
 
--- what several say
+-- what several fields say
 abbrev pub Values : List Field → Type 0
 Values [] = Unit {0}
 Values (f ∷ []) = Value f

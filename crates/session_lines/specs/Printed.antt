@@ -21,7 +21,7 @@ use Rattle.session_model.specs.Trace.{EventValue, Attach, Open, Reply}
 
 -- ---- texts
 
--- in plain bytes: 20 to 7E stand for themselves, but the backslash
+-- in plain bytes: 20 to 7E, except the backslash, stand for themselves
 abbrev pub escaped : List ℕ → List ℕ
 escaped bytes = texts.escaped 0x20 bytes
 
@@ -81,7 +81,7 @@ marks_text marks.Bare = []
 marks_text (marks.One mark) = encode_utf8 mark
 marks_text (marks.Two first second) = encode_utf8 first ++ encode_utf8 second
 
--- a cell's character with its marks; nothing of a right half
+-- a cell's character with its marks; nothing for the right half of a wide character
 abbrev pub cell_text : Cell → List ℕ
 cell_text cell =
     if is_right cell.shape then [] else encode_utf8 cell.character ++ marks_text cell.marks

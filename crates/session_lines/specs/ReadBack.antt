@@ -49,7 +49,7 @@ line_of r v = separated (codes " ") (word_in r ∷ all_printed (fields_in r) v)
 abbrev pub event_line : EventValue → List ℕ
 event_line event = let p = parts_of event in line_of (row_of p.0) p.1
 
--- a user whom his name names
+-- a user whose name names them
 abbrev pub IsNamed : UserId → Type 0
 IsNamed user = named_by (name_of user) ≡ Some user
 

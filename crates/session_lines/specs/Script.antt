@@ -22,7 +22,7 @@ use Rattle.session_lines.specs.Fields.{fields, Value, Values, values_in}
 
 -- ---- the table of events
 
--- what makes an event of what so many fields say
+-- what makes an event of the values of fields
 abbrev pub Maker : List Field → Type 0
 Maker [] = EventValue
 Maker (f ∷ fs) = Value f → Maker fs
@@ -32,7 +32,7 @@ made_by [] event v = event
 made_by (f ∷ []) make v = make v
 made_by (f ∷ g ∷ fs) make v = made_by (g ∷ fs) (make v.0) v.1
 
--- the word that a line begins with, the fields behind it, and the event that they make
+-- the word that a line begins with, the fields after it, and the event that they make
 pub data Row : Type 0 where
   row : (word : List ℕ) (fields : List Field) (make : Maker fields) → Row
 
@@ -101,6 +101,6 @@ abbrev pub event_by : List (List ℕ) → Option EventValue
 event_by (word ∷ rest ∷ []) = event_of_kind (kind_of word) rest
 event_by _ = None
 
--- the event of a line, without the line's end; none where it isn't understood
+-- the event of a line without its line feed; none if the line isn't understood
 abbrev pub event_of : List ℕ → Option EventValue
 event_of line = event_by (fields 1 line)

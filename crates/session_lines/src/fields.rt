@@ -37,8 +37,8 @@ pub fn read_serial(word: &[u8]) -> Option<u32>
     read_number(word).map(u32::from)
 }
 
-/// The number of a command's window, or `-` for none. A number above 255 is 255, which no window
-/// has either.
+/// The number of a command's window, or `-` for none. A number above 255 is read as 255, which is no
+/// window's either.
 pub fn read_window(word: &[u8]) -> Option<Option<u8>>
     ensures { result ≡ window_of word.now }
 {

@@ -131,7 +131,7 @@ fn push_done(event: &Event, done: &Done, out: &mut String) -> Result<(), AllocEr
     }
 }
 
-/// Appends the line of what a command lists, if it does.
+/// Appends the line of what a command lists, if it lists something.
 fn push_listed(text: &Option<Bytes>, out: &mut String) -> Result<(), AllocError>
     ensures { OnOk result (string_bytes out.new ≡ string_bytes out.old ++ text_line text.now) }
 {
@@ -155,14 +155,14 @@ fn push_text(bytes: &[u8], out: &mut String) -> Result<(), AllocError>
     out.push('\n')
 }
 
-/// Whether a byte stands for itself: 20 to 7E do, but the backslash doesn't.
+/// Whether a byte stands for itself: 20 to 7E do, except the backslash.
 fn is_plain(byte: u8) -> bool
     ensures { result ≡ is_plain 0x20 byte }
 {
     (0x20..0x7F).contains(&byte) && byte != b'\\'
 }
 
-/// Appends a byte that stands for itself, or a backslash and two hexadecimal digits.
+/// Appends a byte as itself, or as a backslash and two hexadecimal digits.
 fn push_byte(byte: u8, out: &mut String) -> Result<(), AllocError>
     ensures { OnOk result (string_bytes out.new ≡ string_bytes out.old ++ escape 0x20 byte) }
 {
@@ -195,7 +195,7 @@ fn push_row(row: &[Cell], out: &mut String) -> Result<(), AllocError>
     out.push_str("|\n")
 }
 
-/// Appends a cell's character with its marks; nothing of a right half.
+/// Appends a cell's character with its marks. The right half of a wide character adds nothing.
 fn push_cell(cell: &Cell, out: &mut String) -> Result<(), AllocError>
     ensures { OnOk result (string_bytes out.new ≡ string_bytes out.old ++ cell_text cell.now) }
 {

@@ -13,8 +13,7 @@ use acl::UserId;
 use session_model::Event;
 use std::alloc::AllocError;
 
-/// The event that a line stands for, its text being put into `text`; none where the line isn't
-/// understood.
+/// The event of a line; none if the line isn't understood. The event's text is put into `text`.
 pub fn read_event<'a>(line: &[u8], text: &'a mut Vec<u8>) -> Result<Option<Event<'a>>, AllocError>
     ensures { IfOk result (λ event. option_map happening event ≡ event_of line.now) }
 {
@@ -27,7 +26,7 @@ pub fn read_event<'a>(line: &[u8], text: &'a mut Vec<u8>) -> Result<Option<Event
     read_fields(kind, rest, text)
 }
 
-/// The event of a kind whose fields stand after its word.
+/// The event of a kind whose fields follow its word.
 fn read_fields<'a>(
     kind: Kind,
     rest: &[u8],
@@ -242,7 +241,7 @@ fn read_draw(rest: &[u8]) -> Option<Event<'static>>
     })
 }
 
-/// Laws of what is printed: a text is read as the same bytes, and an event's line as the event.
+/// Laws of what is printed: a text is read as the same bytes, and an event's line as that event.
 pub fn reads_printed()
     ensures texts { ReadsTexts }
     ensures events { ReadsEvents }

@@ -45,7 +45,7 @@ one_refused h old new owner line event noted before after reply refusal said is 
     let e : Entry = entry_of event reply noted made.0 in
     record { refusal = refusal; text = text; step = e; event = is; reply = err; keeps = keeps h e new made.2 }
 
--- what was made of a refusal says it
+-- the error that is made of a refusal has its text
 pub refused_by : (fault : Unbegun) (number : ℕ) (text : List ℕ) (P : List ℕ → Type 0)
     → IfRefused fault (λ line said. (line ≡ number) × (said ≡ text)) → P text
     → IfRefused fault (λ line said. (line ≡ number) × P said)
@@ -57,7 +57,7 @@ pub stopped_by : (fault : Unbegun) (number : ℕ) (P Q : ℕ → List ℕ → Ty
 stopped_by (Refused line said) number P Q is so = so line said.items is
 stopped_by NoMemory number P Q is so = tt
 
--- ---- steps behind others
+-- ---- steps after others
 
 with_steps-append : (h : Trace) (xs ys : List Entry) → with_steps h (xs ++ ys) ≡ with_steps (with_steps h xs) ys
 with_steps-append h [] ys = refl

@@ -10,7 +10,7 @@ use Rattle.session_setup.specs.declared.Beginning.{Beginning}
 use Rattle.session_setup.specs.declared.Unbegun.{Unbegun}
 use Rattle.session_setup.specs.declared.Unbegun.TheVariants.{Refused, NoMemory}
 
--- a line is a Command of the owner, who names no window
+-- a line is a Command of the owner, with no window
 abbrev pub command_of : UserId → Line → EventValue
 command_of owner line = Command owner None line.bytes
 
@@ -27,7 +27,7 @@ pub record SetsUp (h : Trace) (owner : UserId) (lines : List Line) (steps : List
     pub done : AreDone owner lines steps
     pub run : AllSteps Keeps h steps
 
--- a fact of the trace behind the setup
+-- a fact of the trace after the setup
 abbrev pub Behind : (Trace → Type 0) → Trace → UserId → List Line → Type 0
 Behind P h owner lines = (steps : List Entry) × SetsUp h owner lines steps × P (with_steps h steps)
 
@@ -50,11 +50,11 @@ pub record StopsAt (number : ℕ) (said : List ℕ) (h : Trace) (owner : UserId)
   pub number_is : number ≡ line.number
   pub refuses : Behind (λ now. Refuses now owner line said) h owner past
 
--- a fact where a line was refused: of its number and the refusal's text
+-- if a line was refused, a fact of its number and of the refusal's text
 abbrev pub IfRefused : Unbegun → (ℕ → List ℕ → Type 0) → Type 0
 IfRefused (Refused number said) P = P number said.items
 IfRefused NoMemory P = Unit {0}
 
--- a fact of the trace behind a session's beginning
+-- a fact of the trace after a session's beginning
 abbrev pub Begins : Beginning → (Trace → Type 0) → Type 0
 Begins b P = Behind P (begun b.edition b.owner) b.owner (map line_of b.setup.now)

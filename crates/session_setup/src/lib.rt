@@ -19,7 +19,7 @@ use std::alloc::Global;
 pub struct Beginning<'a> {
     pub edition: Edition,
     pub owner: UserId,
-    /// What the owner commands before anything else.
+    /// The commands that the owner gives before anything else.
     pub setup: &'a [SetupLine<'a>],
 }
 
@@ -41,14 +41,14 @@ fn new_session(alloc: Global, edition: Edition, owner: UserId) -> Result<Session
     }
 }
 
-/// Whether a step was refused for want of memory.
+/// Whether a step was refused because memory ran out.
 fn wants_memory(reply: &Reply) -> bool
     ensures { result ≡ wants_memory reply.now }
 {
     matches!(reply, Err(Refusal::NoMemory))
 }
 
-/// That the line of this number was refused.
+/// Says that the line of this number was refused.
 fn refused(alloc: Global, number: usize, refusal: &Refusal) -> Unbegun
     ensures { IfRefused result (λ line said. (line ≡ number) × (said ≡ text_of refusal.now)) }
 {
@@ -59,8 +59,8 @@ fn refused(alloc: Global, number: usize, refusal: &Refusal) -> Unbegun
     }
 }
 
-/// Gives a session a line as a Command of its owner. There is no client or window to which it could
-/// do something.
+/// Gives a session a line as a Command of its owner. There is no client and no window that it could
+/// act on.
 fn give(
     alloc: Global,
     session: &mut Session,
@@ -109,7 +109,7 @@ fn set_up(
 }
 
 impl Beginning<'_> {
-    /// A session that began so.
+    /// A session that has taken the commands of the setup.
     pub fn session(&self, alloc: Global) -> Result<Session, Unbegun>
         ensures ok { IfOk result (λ session. Begins self.now (λ h. StandsFor h session)) }
         // The first line that is refused is named, with the refusal's text.

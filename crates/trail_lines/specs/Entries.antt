@@ -20,7 +20,7 @@ use Rattle.trail_lines.specs.Replies.{reply_text, reply_in}
 
 -- ---- printing
 
--- a verdict behind a question mark, an act behind an exclamation mark
+-- a verdict after a question mark, an act after an exclamation mark
 abbrev pub checked_text : Verdict → List ℕ
 checked_text v = codes " ?" ++ verdict_text v
 
@@ -57,12 +57,12 @@ abbrev pub noting : Noted → Note → Noted
 noting before (note.Checked v) = (before.0 ++ v ∷ [], before.1)
 noting before (note.Done a) = (before.0, before.1 ++ a ∷ [])
 
--- those of the words, behind others
+-- those that the words say, after others
 unfoldable pub notes_of : List (List ℕ) → Noted → Option Noted
 notes_of [] before = Some before
 notes_of (word ∷ words) before = note_in word >>= λ n. notes_of words (noting before n)
 
--- a reply, and what stands behind it
+-- a reply, and the verdicts and acts after it
 abbrev pub tail_of : List (List ℕ) → Option (Ending × Noted)
 tail_of [] = None
 tail_of (word ∷ words) = do
@@ -90,7 +90,7 @@ said_in line = do
     },
   )
 
--- what is printed so
+-- the entry that is printed so
 abbrev pub if_spelled : List ℕ → Said → Option Said
 if_spelled line x = if bytes_eq (line_of x) line then Some x else None
 

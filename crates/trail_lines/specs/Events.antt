@@ -42,7 +42,7 @@ window_in word =
 
 -- ---- events
 
--- an event's fields, and what stands behind them
+-- an event's fields, and the bytes after them
 abbrev pub event_then : Kept → List ℕ → List ℕ
 event_then (kept.Attach user rows columns) rest =
     field blank (codes "attach") (field blank (name_of user) (field blank (decimal rows)
@@ -86,7 +86,7 @@ command_at bytes = do
   line ← text_in text.0
   Some (kept.Command user.0 window line, text.1)
 
--- lines, columns, and how many lines are kept
+-- lines, columns, and how many lines the scrollback keeps
 abbrev pub shape_at : List ℕ → Option ((ℕ × ℕ × ℕ) × List ℕ)
 shape_at bytes = do
   rows ← half_at bytes

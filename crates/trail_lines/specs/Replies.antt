@@ -39,14 +39,14 @@ abbrev pub leaders_text : List UserId → List ℕ
 leaders_text [] = nobody
 leaders_text (leader ∷ leaders) = separated (codes ",") (map name_of (leader ∷ leaders))
 
--- one more, of whom no user has nine, and none twice
+-- one leader more: a user has at most eight, and none twice
 abbrev pub few : List UserId → Option (List UserId)
 few leaders = if nat_le (length leaders) 8 then Some leaders else None
 
 abbrev pub with_leader : List UserId → UserId → Option (List UserId)
 with_leader leaders user = few (leaders_with Second (Some user) leaders)
 
--- those of the words, behind others
+-- those that the words say, after others
 unfoldable pub leaders_of : List (List ℕ) → List UserId → Option (List UserId)
 leaders_of [] before = Some before
 leaders_of (word ∷ words) before =

@@ -1,4 +1,4 @@
--- What a line can say: numbers of their sizes, leaders once each.
+-- What a line can say: numbers that fit their types, leaders once each.
 use Rattle.std.specs.Prelude.{◌≡◌, ◌<◌, ◌^◌, ℕ, true, false, List, [], ◌∷◌, ◌++◌, length, Option}
 use Rattle.std.specs.Prelude.{Some, None, Ok, Err}
 use Rattle.std.specs.List.{AllByRecursion}
@@ -69,6 +69,6 @@ IsSayable x = (x.0 < 2 ^ 64) × (x.1 < 2 ^ 64) × IsEntry x.2
 abbrev pub ReadsPrinted : Type 0
 ReadsPrinted = (x : Said) → IsSayable x → read_line (line_of x) ≡ Some x
 
--- what is read is spelled so: each entry has one line
+-- a line that is read is the one that its entry prints: each entry has one line
 abbrev pub IsSpelledSo : Type 0
 IsSpelledSo = (line : List ℕ) (x : Said) → read_line line ≡ Some x → line ≡ line_of x

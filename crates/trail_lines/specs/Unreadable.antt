@@ -1,4 +1,4 @@
--- What a call answers that reads and takes memory.
+-- What a call answers that reads and needs memory.
 use Rattle.std.specs.Prelude.{◌≡◌, Option, Some, None, Ok, Err, Result}
 use Rattle.trail_lines.specs.declared.unread.Unread.{Unread}
 use Rattle.trail_lines.specs.declared.unread.Unread.TheVariants as unread

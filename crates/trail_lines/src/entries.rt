@@ -29,7 +29,7 @@ pub struct Line {
     pub entry: Filed,
 }
 
-/// What stands behind a reply: a check, or an act.
+/// What follows a reply: a check, or an act.
 #[derive(Clone, Copy)]
 pub enum Note {
     Checked(Verdict),
@@ -43,7 +43,7 @@ pub struct Notes {
     acts: Vec<Act>,
 }
 
-/// Appends verdicts, each behind a blank and a question mark.
+/// Appends verdicts, each after a blank and a question mark.
 fn push_verdicts(verdicts: &[Verdict], out: &mut Vec<u8>) -> Result<(), AllocError>
     ensures { OnOk result (out.new.items ≡ out.old.items ++ flat_map checked_text verdicts.now) }
 {
@@ -54,7 +54,7 @@ fn push_verdicts(verdicts: &[Verdict], out: &mut Vec<u8>) -> Result<(), AllocErr
     Ok(())
 }
 
-/// Appends acts, each behind a blank and an exclamation mark.
+/// Appends acts, each after a blank and an exclamation mark.
 fn push_acts(acts: &[Act], out: &mut Vec<u8>) -> Result<(), AllocError>
     ensures { OnOk result (out.new.items ≡ out.old.items ++ flat_map done_text acts.now) }
 {
@@ -65,7 +65,7 @@ fn push_acts(acts: &[Act], out: &mut Vec<u8>) -> Result<(), AllocError>
     Ok(())
 }
 
-/// Appends what stands behind an event: the reply, what was checked, and what was done.
+/// Appends what follows an event: the reply, what was checked, and what was done.
 fn push_tail(entry: &Filed, out: &mut Vec<u8>) -> Result<(), AllocError>
     ensures { OnOk result (out.new.items ≡ out.old.items ++ tail_text entry.now) }
 {
@@ -107,7 +107,7 @@ fn read_note(word: &[u8]) -> Option<Note>
 }
 
 impl Notes {
-    /// None so far.
+    /// No verdict and no act.
     fn new(alloc: Global) -> Notes
         ensures { noted result ≡ ([], []) }
     {
@@ -117,7 +117,7 @@ impl Notes {
         }
     }
 
-    /// One more.
+    /// Adds a verdict or an act.
     fn add(&mut self, note: Note) -> Result<(), AllocError>
         ensures { OnOk result (noted self.new ≡ noting (noted self.old) note) }
     {
@@ -128,7 +128,7 @@ impl Notes {
         Ok(())
     }
 
-    /// Those of the words that stand behind a reply.
+    /// The verdicts and acts that the words after a reply say.
     fn read(alloc: Global, words: Option<&[u8]>) -> Result<Notes, Unread>
         ensures { Gives noted result
             (notes_of (words_behind blank (option_copied words.entry)) ([], [])) }
@@ -164,7 +164,7 @@ fn keep(alloc: Global, ending: Ending) -> Result<KeptReply, AllocError>
     Ok(KeptReply::of(&reply, spare))
 }
 
-/// A reply, and what stands behind it.
+/// A reply, and the verdicts and acts after it.
 fn read_tail(alloc: Global, bytes: &[u8]) -> Result<(Ending, Notes), Unread>
     ensures { Gives (λ p. (p.0, noted p.1)) result (tail_in bytes.now) }
 {
@@ -174,7 +174,7 @@ fn read_tail(alloc: Global, bytes: &[u8]) -> Result<(Ending, Notes), Unread>
     Ok((reply, notes))
 }
 
-/// What a line says, in whatever spelling.
+/// What a line says, even if it is printed otherwise.
 #[tactic(auto, unfolding(crate::specs::Entries::said_in))]
 fn said_in(alloc: Global, line: &[u8]) -> Result<Line, Unread>
     ensures { Gives said result (said_in line.now) }
@@ -189,7 +189,7 @@ fn said_in(alloc: Global, line: &[u8]) -> Result<Line, Unread>
     Ok(Line { place, ms, entry })
 }
 
-/// What a line says, which has no line feed: Malformed where nothing is printed so.
+/// What a line without its line feed says. Malformed if no entry is printed so.
 #[tactic(auto, unfolding(crate::specs::Entries::read_line))]
 pub fn read_line(alloc: Global, line: &[u8]) -> Result<Line, Unread>
     ensures { Gives said result (read_line line.now) }

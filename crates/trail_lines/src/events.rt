@@ -248,7 +248,7 @@ fn title_of(bytes: &[u8]) -> Option<&str>
     str::from_utf8(bytes).ok()
 }
 
-/// The size of a window, and how many lines are kept of it.
+/// The size of a window, and how many lines its scrollback keeps.
 fn shape_at(bytes: &[u8]) -> Option<((u16, u16, u16), &[u8])>
     ensures { option_map (λ p. (p.0, p.1.now)) result ≡ shape_at bytes.now }
 {
@@ -299,7 +299,7 @@ fn closed_at(alloc: Global, bytes: &[u8]) -> Result<(KeptEvent, &[u8]), Unread>
     Ok((keep(alloc, Event::Closed { window })?, rest))
 }
 
-/// The event of a word whose fields stand behind it.
+/// The event of a kind whose fields follow its word.
 fn event_by<'a>(alloc: Global, word: &[u8], rest: &'a [u8]) -> Result<(KeptEvent, &'a [u8]), Unread>
     ensures { Gives (λ p. (p.0, p.1.now)) result (event_by word.now rest.now) }
 {
@@ -320,7 +320,7 @@ fn event_by<'a>(alloc: Global, word: &[u8], rest: &'a [u8]) -> Result<(KeptEvent
     }
 }
 
-/// An event, and what stands behind its fields.
+/// An event, and the bytes after its fields.
 #[tactic(auto, unfolding(crate::specs::Events::event_at))]
 pub fn event_at(alloc: Global, bytes: &[u8]) -> Result<(KeptEvent, &[u8]), Unread>
     ensures { Gives (λ p. (p.0, p.1.now)) result (event_at bytes.now) }

@@ -11,8 +11,8 @@ ghost use Rattle.trail_lines.specs.Sayable.{IsSpelledSo, ReadsPrinted};
 pub use entries::{Line, print_line, read_line};
 pub use unread::Unread;
 
-/// Laws of lines: what was printed is read, for every entry that can be said; and a line that is
-/// read is spelled as its entry is printed, so that each entry has one line.
+/// Laws of lines: every entry that a line can say is read back as it was printed; and a line that is
+/// read is the one that its entry prints, so that each entry has one line.
 pub fn lines_are_read()
     ensures again { ReadsPrinted }
     ensures spelled { IsSpelledSo }

@@ -30,7 +30,7 @@ fn push_number(number: u64, out: &mut Vec<u8>) -> Result<(), AllocError>
     out.extend_from_slice(b":")
 }
 
-/// Appends names, each behind a comma.
+/// Appends names, each after a comma.
 fn push_others(others: &[UserId], out: &mut Vec<u8>) -> Result<(), AllocError>
     ensures { OnOk result (out.new.items
         ≡ out.old.items ++ behind (codes ",") (map name_of others.now)) }
@@ -55,7 +55,7 @@ fn push_leaders(leaders: &[UserId], out: &mut Vec<u8>) -> Result<(), AllocError>
     }
 }
 
-/// The leaders, and one more.
+/// The leaders with one more. None if there are eight, or if the user is one of them.
 fn with_leader(leaders: Leaders, user: UserId) -> Option<Leaders>
     ensures { result ≡ with_leader leaders user }
 {
@@ -112,7 +112,7 @@ fn denied_of(object: Object, word: &[u8]) -> Option<Denied>
     }
 }
 
-/// What a bit was missing on, and what stands behind it.
+/// What a bit was missing on, and the bytes after it.
 fn denied_at(bytes: &[u8]) -> Option<(Denied, &[u8])>
     ensures { option_map (λ p. (p.0, p.1.now)) result ≡ denied_at bytes.now }
 {
@@ -304,7 +304,7 @@ fn read_plain(word: &[u8]) -> Option<Refusal>
     }
 }
 
-/// A refusal whose cause stands behind its first word.
+/// A refusal whose cause follows its first word.
 fn read_caused(word: &[u8], rest: &[u8]) -> Option<Refusal>
     ensures { result ≡ caused_in word.now rest.now }
 {

@@ -9,7 +9,7 @@ use thiserror::Error;
 /// Why a line isn't read.
 #[derive(Clone, Copy, Debug, Error)]
 pub enum Unread {
-    /// Nothing is printed so.
+    /// No entry is printed so.
     #[error("no line of a trail is spelled so")]
     Malformed,
     #[error("out of memory")]

@@ -1,4 +1,5 @@
-use Rattle.std.proofs.Common.{◌≡◌, ◌+◌, ◌++◌, ◌∷◌, [], ℕ, List, drop, get_or, true, false, ap, ap₂, sym, ◌∙◌, append-nil, append_assoc, arith}
+use Rattle.std.proofs.Common.{◌≡◌, ◌+◌, ◌++◌, ◌∷◌, [], ℕ, List, drop, get_or, true, false, ap, ap₂, sym, ◌∙◌}
+use Rattle.std.proofs.Common.{append-nil, append_assoc, arith}
 use Rattle.std.proofs.lemmas.Grind.{common_steps}
 use Rattle.client_words.specs.Visible.{put_now, holds_after}
 use Rattle.client_words.proofs.Shown.{from, from-more, from-end}
@@ -27,5 +28,6 @@ returns-in_ok-push c =
 pub returns-else-holds : goal.returns-else-holds
 returns-else-holds c =
     let end : drop c.loop-byte.byte-index c.args.text.now ≡ [] = grind (arith, common_steps) in
-    sym (ap (λ (l : List ℕ). c.loop-byte.out.items ++ l) (ap₂ from c.if-holds.false end ∙ from-end false) ∙ append-nil c.loop-byte.out.items)
+    sym (ap (λ (l : List ℕ). c.loop-byte.out.items ++ l) (ap₂ from c.if-holds.false end ∙ from-end false)
+    ∙ append-nil c.loop-byte.out.items)
     ∙ c.loop-byte.invariant

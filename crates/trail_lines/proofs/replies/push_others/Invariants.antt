@@ -5,4 +5,5 @@ use Rattle.session_model.specs.Texts.{behind}
 use Rattle.trail_lines.proofs.replies.push_others.Given as goal
 
 abbrev pub invariant-loop-leader : goal.invariant-loop-leader
-invariant-loop-leader l = l.out.items ≡ l.fn.out.items ++ behind (codes ",") (map name_of (take l.leader-index l.others))
+invariant-loop-leader l = l.out.items ≡ l.fn.out.items ++ behind (codes ",")
+    (map name_of (take l.leader-index l.others))

@@ -6,7 +6,8 @@ use Rattle.trail_lines.specs.Replies.{leaders_of}
 use Rattle.trail_lines.proofs.replies.read_names.Given as goal
 
 abbrev pub invariant-names : goal.invariant-names
-invariant-names l = leaders_of (words_behind comma (option_copied l.rest)) l.leaders ≡ leaders_of (words comma l.fn.word) []
+invariant-names l = leaders_of (words_behind comma (option_copied l.rest)) l.leaders ≡ leaders_of
+    (words comma l.fn.word) []
 
 abbrev pub decreases-names : goal.decreases-names
 decreases-names l = length (words_behind comma (option_copied l.rest))

@@ -9,5 +9,6 @@ returns-in-Some-clause-reads c = λ ne. (
   [],
   sym (append-nil c.args.out.now.items),
   λ messages stream h.
-      reader_stays c.args.self.now c.args.piece.now c.in-Some.fault messages stream (sym (ap (λ (r : Reading). r.fault) c.self.view_is) ∙ c.in-Some.is) h,
+      reader_stays c.args.self.now c.args.piece.now c.in-Some.fault messages stream
+      (sym (ap (λ (r : Reading). r.fault) c.self.view_is) ∙ c.in-Some.is) h,
 )

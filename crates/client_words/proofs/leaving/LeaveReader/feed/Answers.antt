@@ -1,4 +1,5 @@
-use Rattle.std.proofs.Common.{◌≡◌, ◌+◌, ◌≤◌, ◌++◌, ◌∷◌, [], ℕ, List, length, take, get_or, vec_capacity, ap, sym, subst, ◌∙◌, append_assoc, arith}
+use Rattle.std.proofs.Common.{◌≡◌, ◌+◌, ◌≤◌, ◌++◌, ◌∷◌, [], ℕ, List, length, take, get_or, vec_capacity, ap, sym, subst}
+use Rattle.std.proofs.Common.{◌∙◌, append_assoc, arith}
 use Rattle.std.specs.Option.{option_to_list}
 use Rattle.std.proofs.lemmas.List.{take_more}
 use Rattle.std.proofs.lemmas.Grind.{common_steps}
@@ -23,11 +24,17 @@ loop-byte-preserved c =
           ap (λ (l : List ℕ). gone ++ l) put
           ∙ sym (append_assoc gone c.loop-byte.out.items (option_to_list c.take.result))
           ∙ ap (λ (l : List ℕ). l ++ option_to_list c.take.result) (c.loop-byte.invariant.all_sent before gone s e)
-          ∙ sym (subst (λ (b : ℕ). sent b ((before ++ take i bytes) ++ byte ∷ []) ≡ sent b (before ++ take i bytes) ++ option_to_list c.take.result)
-          c.loop-byte.invariant.byte (c.take.ensures.sent (before ++ take i bytes) (c.loop-byte.invariant.stands before s)))
-          ∙ ap (sent own) (append_assoc before (take i bytes) (byte ∷ []) ∙ ap (λ (l : List ℕ). before ++ l) (sym more));
+          ∙ sym
+          (subst
+          (λ (b : ℕ). sent b ((before ++ take i bytes) ++ byte ∷ []) ≡ sent b (before ++ take i bytes) ++
+          option_to_list c.take.result)
+          c.loop-byte.invariant.byte
+          (c.take.ensures.sent (before ++ take i bytes) (c.loop-byte.invariant.stands before s)))
+          ∙ ap (sent own)
+          (append_assoc before (take i bytes) (byte ∷ []) ∙ ap (λ (l : List ℕ). before ++ l) (sym more));
       stands = λ before s.
-          subst (λ (l : List ℕ). HasRead c.take.new.self l) (append_assoc before (take i bytes) (byte ∷ []) ∙ ap (λ (l : List ℕ). before ++ l) (sym more))
+          subst (λ (l : List ℕ). HasRead c.take.new.self l)
+          (append_assoc before (take i bytes) (byte ∷ []) ∙ ap (λ (l : List ℕ). before ++ l) (sym more))
           (c.take.ensures.stands (before ++ take i bytes) (c.loop-byte.invariant.stands before s));
       byte = c.take.ensures.byte ∙ c.loop-byte.invariant.byte;
       room = room;

@@ -1,7 +1,8 @@
 use Rattle.std.proofs.Common.{◌≡◌, ◌==◌, ◌∷◌, [], true, false, arith, sym, ◌∙◌}
 use Rattle.std.proofs.lemmas.Bool.Decides.{nat_tests}
 use Rattle.client_words.specs.declared.leaving.Stage.TheVariants.{Reading, Waiting, Left}
-use Rattle.client_words.proofs.Pairs.{reads-more, reads-same, sends-more, next-yes, next-no, next-pair, next-lone, next-left, more-yes, more-no, more-pair, more-lone, more-left}
+use Rattle.client_words.proofs.Pairs.{reads-more, reads-same, sends-more, next-yes, next-no, next-pair, next-lone}
+use Rattle.client_words.proofs.Pairs.{next-left, more-yes, more-no, more-pair, more-lone, more-left}
 use Rattle.client_words.proofs.leaving.LeaveReader.take.Goals as goal
 
 pub returns-in-Reading-clause-sent : goal.returns-in-Reading-clause-sent
@@ -27,7 +28,8 @@ returns-in-Reading-2-clause-stands c = λ before s.
 pub returns-in-Waiting-clause-sent : goal.returns-in-Waiting-clause-sent
 returns-in-Waiting-clause-sent c = λ before s.
     let h : c.args.byte == c.args.self.now.byte ≡ true = grind (arith, nat_tests) in
-    sends-more c.args.self.now before c.args.byte (c.args.byte ∷ []) s (more-pair _ _ _ c.in-Waiting.is h (grind (arith, nat_tests)))
+    sends-more c.args.self.now before c.args.byte (c.args.byte ∷ []) s
+    (more-pair _ _ _ c.in-Waiting.is h (grind (arith, nat_tests)))
 
 pub returns-in-Waiting-clause-stands : goal.returns-in-Waiting-clause-stands
 returns-in-Waiting-clause-stands c = λ before s.

@@ -13,7 +13,8 @@ pub returns-in_err-rows : goal.returns-in_err-rows
 returns-in_err-rows c =
     let says = some_where c.args.line.now c.in_ok-at.at (sym c.in_ok-at.ensures.place) in
     c.from_residual-in_err-rows.ensures
-    ∙ sym (says ∙ ap (λ o. size_by o (number_of (drop (c.in_ok-at.at + 1) c.args.line.now))) (sym c.in_err-rows.ensures))
+    ∙ sym
+    (says ∙ ap (λ o. size_by o (number_of (drop (c.in_ok-at.at + 1) c.args.line.now))) (sym c.in_err-rows.ensures))
 
 pub returns-in_err-columns : goal.returns-in_err-columns
 returns-in_err-columns c =
@@ -21,7 +22,10 @@ returns-in_err-columns c =
     let rest = drop (c.in_ok-at.at + 1) c.args.line.now in
     let all : take (length c.args.line.now - (c.in_ok-at.at + 1)) rest ≡ rest = grind (arith, common_steps) in
     c.from_residual-in_err-columns.ensures
-    ∙ sym (says ∙ ap (size_by (number_of (take c.in_ok-at.at c.args.line.now))) (sym (c.in_err-columns.ensures ∙ ap number_of all))
+    ∙ sym
+    (says
+    ∙ ap (size_by (number_of (take c.in_ok-at.at c.args.line.now)))
+    (sym (c.in_err-columns.ensures ∙ ap number_of all))
     ∙ by_none (number_of (take c.in_ok-at.at c.args.line.now)))
 
 pub returns : goal.returns

@@ -22,5 +22,6 @@ pub returns-clause-stands : goal.returns-clause-stands
 returns-clause-stands c = λ bytes s.
     let feed : is_feed c.args.byte ≡ true = grind (arith, nat_tests) in
     let none : c.is_none.result ≡ is_none c.read-size.result = grind (arith, nat_tests) in
-    let dropped = ap (λ b. c.args.self.now.has_dropped || b) (none ∙ ap is_none (c.read-size.ensures ∙ ap size_of c.as_slice.ensures.value)) in
+    let dropped = ap (λ b. c.args.self.now.has_dropped || b)
+    (none ∙ ap is_none (c.read-size.ensures ∙ ap size_of c.as_slice.ensures.value)) in
     stands-feed c.args.self.now _ bytes c.args.byte feed c.clear.ensures.items dropped s

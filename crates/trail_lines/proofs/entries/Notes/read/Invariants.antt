@@ -6,7 +6,8 @@ use Rattle.trail_lines.specs.Entries.{notes_of, noted}
 use Rattle.trail_lines.proofs.entries.Notes.read.Given as goal
 
 abbrev pub invariant-notes : goal.invariant-notes
-invariant-notes l = notes_of (words_behind blank (option_copied l.rest)) (noted l.notes) ≡ notes_of (words_behind blank (option_copied l.fn.words)) ([], [])
+invariant-notes l = notes_of (words_behind blank (option_copied l.rest)) (noted l.notes) ≡ notes_of
+    (words_behind blank (option_copied l.fn.words)) ([], [])
 
 abbrev pub decreases-notes : goal.decreases-notes
 decreases-notes l = length (words_behind blank (option_copied l.rest))
