@@ -197,14 +197,29 @@ impl Emulator {
     }
 
     /// Reads graphic characters, at most as many as are printed at once, and returns their number of
-    /// bytes, or 0 if the bytes begin with none.
+    /// bytes, or 0 if the bytes begin with none. A combining mark is read alone: mostly characters
+    /// 20 to 7E follow it, which are quicker by themselves.
     fn read_characters(&mut self, bytes: &[u8]) -> usize
+        requires some { 0 < length bytes.now }
         requires idle { IsBetween self.old }
         requires coding { self.old.decoding.coding ≡ Utf8 }
         ensures { TakesWhole self.old bytes.now result self.new }
     {
-        let mut characters = [' '; CHARACTERS];
-        let (count, read) = first_characters(bytes, &mut characters);
+        if bytes[0] == 0xCC || bytes[0] == 0xCD {
+            self.read_into(bytes, &mut [' '; 1])
+        } else {
+            self.read_into(bytes, &mut [' '; CHARACTERS])
+        }
+    }
+
+    /// Reads graphic characters, at most as many as `characters` has room for, and returns their
+    /// number of bytes, or 0 if the bytes begin with none.
+    fn read_into(&mut self, bytes: &[u8], characters: &mut [char]) -> usize
+        requires idle { IsBetween self.old }
+        requires coding { self.old.decoding.coding ≡ Utf8 }
+        ensures { TakesWhole self.old bytes.now result self.new }
+    {
+        let (count, read) = first_characters(bytes, characters);
         self.screen.print_characters(&characters[..count]);
         read
     }

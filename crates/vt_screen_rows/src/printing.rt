@@ -225,9 +225,10 @@ impl Display {
 pub fn is_letter(character: char) -> bool
     ensures { result ≡ is_letter character }
 {
-    if character < '\u{300}' {
-        (' ' <= character && character < '\u{7F}')
-            || ('\u{A0}' <= character && character != SOFT_HYPHEN)
+    if character < '\u{7F}' {
+        ' ' <= character
+    } else if character < '\u{300}' {
+        '\u{A0}' <= character && character != SOFT_HYPHEN
     } else {
         ('\u{370}' <= character && character < '\u{483}')
             || ('\u{48A}' <= character && character < '\u{590}')

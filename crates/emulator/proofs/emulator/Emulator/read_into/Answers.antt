@@ -3,7 +3,7 @@ use Rattle.control_parser.specs.declared.func.Func.TheVariants.{Print}
 use Rattle.vt_screen.specs.Effects.{effects}
 use Rattle.emulator.specs.Standing.{Parts}
 use Rattle.emulator.proofs.LetterRuns.{have-read, characters_graphic}
-use Rattle.emulator.proofs.emulator.Emulator.read_characters.Goals as goal
+use Rattle.emulator.proofs.emulator.Emulator.read_into.Goals as goal
 
 pub returns : goal.returns
 returns c = record {
