@@ -1,4 +1,4 @@
--- One row of a table changes.
+-- If rows change as their model's rows do, the table still stands for the model's.
 use Rattle.std.proofs.Common.{◌≡◌, ℕ, List, Some, None, sym, subst, ◌∙◌, ap, Option, MutBor, Bool, filter, map}
 use Rattle.std.proofs.Common.{◌≤◌, ◌++◌, length, take, drop, append-nil}
 use Rattle.std.proofs.lemmas.List.{take_all, drop_all}
@@ -21,7 +21,7 @@ model_serial m = m.serial
 abbrev pub serial_of : Client → ℕ
 serial_of c = c.serial
 
--- the row is there
+-- the row that changes is there
 pub changed : (f : model.Client → model.Client) (old new : List Client) (serial : ℕ) (c d : Client)
     → row_of serial_of old serial ≡ Some c → new ≡ with_row serial_of old serial d
     → ((m : model.Client) → ClientStands m c → ClientStands (f m) d) → Changes f serial old new
@@ -55,7 +55,7 @@ none_at : {A : Type 0} (r : Option (MutBor A)) (o : Option A) → r ≡ None →
 none_at None o is same = sym same
 none_at (Some x) o is same = absurd (cc (is))
 
--- no row is there
+-- the row that would change isn't there
 pub no_row : (f : model.Client → model.Client) (old inside new : List Client) (serial : ℕ)
     (r : Option (MutBor Client)) → inside ≡ old
     → option_copied_mut r ≡ row_of serial_of inside serial → r ≡ None → Changes f serial old new

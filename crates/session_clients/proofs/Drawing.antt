@@ -1,4 +1,4 @@
--- Views that are drawn.
+-- A frame that a client's terminal reads draws its view, and no frame is needed if the view is shown.
 use Rattle.std.proofs.Common.{◌≡◌, ℕ, List, [], ◌++◌, length, Option, Some, None, refl, ap, sym, ◌∙◌, subst, MutBor}
 use Rattle.std.specs.Option.{OnSome, IfNone, option_copied_mut}
 use Rattle.std.proofs.lemmas.List.{append-nil}
@@ -12,7 +12,6 @@ use Rattle.terminal_model.proofs.Readings.{reads-append}
 use Rattle.view.specs.View.{HasSize}
 use Rattle.view.specs.Drawable.{IsDrawable}
 use Rattle.redraw.specs.Shadow.{Knowledge}
-use Rattle.redraw.specs.Frames as frames
 use Rattle.redraw.specs.Frames.{Redraws, CanBeShown, DrawsFrame}
 use Rattle.session_model.specs.Framed.{IsFrame}
 use Rattle.session_model.specs.Tables as model
@@ -193,13 +192,6 @@ pub found_shows : (clients : List Client) (serial : ℕ) (c : Client) (v : View)
 found_shows clients serial c v stands size known grid rows m are at =
     shows_already m c v
     (subst (λ o. BothOrNone ClientStands o (Some c)) at (stands rows are)) size known grid
-
-pub found_nobody : (P : model.Client → Type 0) (clients : List Client) (serial : ℕ)
-    → ((rows : List model.Client) → AreClients rows clients
-    → BothOrNone ClientStands (row_of model_serial rows serial) None)
-    → Finds serial clients P
-found_nobody P clients serial stands rows m are at =
-    absurd (subst (λ o. BothOrNone ClientStands o None) at (stands rows are))
 
 pub nobody_drawn : (old inside new : List Client) (serial : ℕ) (r : Option (MutBor Client)) (v : View)
     (bytes : List ℕ) → inside ≡ old → option_copied_mut r ≡ row_of serial_of inside serial → r ≡ None

@@ -1,4 +1,4 @@
--- Readers and messages that are exchanged.
+-- A reader and a message that are exchanged twice leave the row as it was.
 use Rattle.std.proofs.Common.{◌≡◌, ℕ, List, ◌++◌, Some, sym, subst, ◌∙◌, ap}
 use Rattle.keys.specs.Kept.{Keeping, StandsFor}
 use Rattle.session_model.specs.declared.message.Message.{Message}

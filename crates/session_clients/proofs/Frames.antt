@@ -1,4 +1,4 @@
--- A frame of a shadow is one behind all that was delivered.
+-- A frame that begins with what a shadow knows is a frame after all that was delivered.
 use Rattle.std.proofs.Common.{◌≡◌, ℕ, ◌+◌, List, [], ◌∷◌, ◌++◌, Option, Some, None, refl, ap, sym, subst, ◌∙◌}
 use Rattle.std.specs.Prelude.{MatchOption}
 use Rattle.std.specs.List.{AllByRecursion}
@@ -37,7 +37,7 @@ module _ (shown page new : Page) (same : (line column : ℕ) → seen_at shown l
   draws_on : (acts : List Act) → Draws page new acts → Draws shown new acts
   draws_on acts d = record { discreet = d.discreet; spare = all_spare acts d.spare }
 
--- ---- the first frame, and one behind others
+-- ---- the first frame, and a later one
 
 first_frame : (rows columns : ℕ) (v : View) (bytes : List ℕ) → Redraws rows columns None v bytes
     → IsFrame rows columns [] v bytes

@@ -1,4 +1,4 @@
--- Rows that still stand for those of the model once both have changed alike.
+-- A row that stands for the model's still does once both have changed alike, and has room for its page.
 use Rattle.std.proofs.Common.{◌≡◌, ℕ, ◌<◌, ◌≤◌, ◌-◌, Bool, true, false, refl, sym, subst, ◌∙◌, ap, Option, Some, None}
 use Rattle.std.proofs.Common.{[], map, arith}
 use Rattle.std.specs.Prelude.{◌&&◌, nat_lt, nat_le}
@@ -44,7 +44,7 @@ keeps_heard message m c d is st =
       screen = st.screen;
     })
 
--- the page of both is so now
+-- both have the same new page
 pub keeps_moved : (l k : Arrangement) (m : model.Client) (c d : Client) → k ≡ l
     → has_room l.shape m.rows m.columns ≡ true → d ≡ moved_to k c → ClientStands m c
     → ClientStands (with_layout l m) d
@@ -73,14 +73,7 @@ keeps_moved l k m c d same room is st =
       screen = st.screen;
     })
 
--- by the same change of their arrangements
-pub keeps_arranged : (F : Arrangement → Arrangement) (m : model.Client) (c d : Client)
-    → has_room (F m.layout).shape m.rows m.columns ≡ true → d ≡ moved_to (F c.layout) c
-    → ClientStands m c → ClientStands (with_layout (F m.layout) m) d
-keeps_arranged F m c d room is st =
-    keeps_moved (F m.layout) (F c.layout) m c d (ap F st.layout_is) room is st
-
--- room on the page of one is room on the other's
+-- if a change leaves room on the row's page, it leaves room on the model's
 pub room_alike : (F : Arrangement → Arrangement) (m : model.Client) (c : Client) → ClientStands m c
     → has_room (F c.layout).shape c.shadow.rows c.shadow.columns ≡ true
     → has_room (F m.layout).shape m.rows m.columns ≡ true
@@ -91,7 +84,7 @@ room_alike F m c st room =
     ∙ ap (λ k. has_room (F m.layout).shape m.rows k) st.columns_are))
     ∙ room
 
--- with a region less there still is room
+-- with one region less there still is room
 pub still_roomy : (m : model.Client) (c : Client) → ClientStands m c
     → ((rows columns : ℕ) → has_room c.layout.shape rows columns ≡ true
     → has_room (remove_focused c.layout).shape rows columns ≡ true)
@@ -103,7 +96,7 @@ still_roomy m c st room =
     → has_room (remove_focused l).shape m.rows m.columns ≡ true)
     st.layout_is (room m.rows m.columns) st.room
 
--- why a split is refused
+-- a split is refused on both for the same reason
 pub fault_alike : (way : Way) (m : model.Client) (c : Client) → ClientStands m c
     → split_fault way c.layout c.shadow.rows c.shadow.columns
     ≡ split_fault way m.layout m.rows m.columns

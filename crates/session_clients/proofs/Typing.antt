@@ -1,4 +1,4 @@
--- Keys that are read one by one, up to the first one that completes a command or a line.
+-- Keys read one by one, up to the first that completes a command or a line, are the model's items.
 use Rattle.std.proofs.Common.{◌≡◌, ℕ, zero, suc, ◌+◌, ◌<◌, ◌≤◌, Bool, true, false, List, [], ◌∷◌, ◌++◌, Option, Some}
 use Rattle.std.proofs.Common.{None, length, take, drop, get_or, refl, ap, sym, subst, ◌∙◌, arith, append_assoc}
 use Rattle.std.proofs.Common.{append-nil, length-append}
@@ -15,7 +15,7 @@ use Rattle.keys.specs.Kept.{Keeping, StandsFor, item_list}
 use Rattle.session_model.specs.Keying.{items_behind, is_command, completes, typed_byte, typed_bytes, command_item}
 use Rattle.session_clients.specs.Reading.{HasRead}
 
--- the first of these keys were read, and none of them completed a command or a line
+-- the first `i` of these keys were read, and none of them completed a command or a line
 pub record ReadsOn (past keys : List ℕ) (i : ℕ) (typed : List ℕ) (reader : Keeping) : Type 0 where
   pub stands : StandsFor reader (past ++ take i keys)
   pub longer : length (items past).0 ≤ length (items (past ++ take i keys)).0
@@ -114,7 +114,7 @@ module _ (past keys : List ℕ) where
             ap (completes past keys) zero_is ∙ ap (list_any is_command) none_behind;
       }
 
--- ---- one key more
+-- ---- one more key
 
 module _ (past keys : List ℕ) (i key : ℕ) (reader next : Keeping) (typed made : List ℕ)
     (item : Option KeyItem) (byte : Option ℕ) (inside : i < length keys)

@@ -14,19 +14,19 @@ pub record ShowsAlready (m : model.Client) (v : View) : Type 0 where
   pub needless : NeedsNoDraw m.drawn v
   pub shows : ShowsFromAny (m.delivered ++ []) m.rows m.columns v
 
--- what is known of the terminal of a client, if that is there, is what was known before a frame
+-- if the client is there: what is known of its terminal is what a frame begins with
 abbrev pub LeadsFrom : ℕ → List Client → Knowledge → Type 0
 LeadsFrom serial clients before =
     (c : Client) → row_of (λ (d : Client). d.serial) clients serial ≡ Some c → c.shadow ≡ before
 
--- a view has the size of the terminal of a client, if that is there
+-- if the client is there: its terminal has the view's size
 abbrev pub FitsIn : ℕ → List Client → View → Type 0
 FitsIn serial clients v =
     (c : Client) → row_of (λ (d : Client). d.serial) clients serial ≡ Some c
     → HasSize c.shadow.rows c.shadow.columns v
 
--- A draw is needed, and these bytes are a frame of the view. All that was delivered shows the view
--- with it, whichever terminal of the client's size reads it; and the row knows that.
+-- A draw is needed, and these bytes are a frame of the view. Every terminal of the client's size that
+-- reads all that was delivered, and then the frame, shows the view; and the row knows that.
 pub record Draw (serial : ℕ) (v : View) (bytes : List ℕ) (rows : List model.Client)
     (m : model.Client) (new : List Client) : Type 0 where
   pub needed : NeedsDraw m.drawn v

@@ -5,7 +5,7 @@ use Rattle.session_model.specs.declared.message.Message.{Message}
 use Rattle.session_model.specs.Tables.{row_of, with_row}
 use Rattle.session_clients.specs.declared.client.Client.{Client}
 
--- they stand in the row, and those that stood there were handed back
+-- the row has them now, and those that it had were handed back
 pub record Exchanged (serial : ℕ) (c : Client) (old : List Client) (keys : Keeping)
     (message : Message) (new : List Client) (keys_then : Keeping) (message_then : Message) : Type 0
   where
@@ -15,13 +15,13 @@ pub record Exchanged (serial : ℕ) (c : Client) (old : List Client) (keys : Kee
     pub keys_are : keys_then ≡ c.keys
     pub message_is : message_then ≡ c.message
 
--- a reader has read these keys behind those that the client's own has read
+-- a reader has read what the client's own reader has read, and then these keys
 abbrev pub HasReadMore : ℕ → List Client → Keeping → List ℕ → Type 0
 HasReadMore serial clients reader bytes =
     (c : Client) → row_of (λ (d : Client). d.serial) clients serial ≡ Some c
     → (past : List ℕ) → StandsFor c.keys past → StandsFor reader (past ++ bytes)
 
--- where a row had others before, it has them again, and all is as it was
+-- if these are what the row had before, it has them again, and all is as it was
 abbrev pub PutsBack : ℕ → List Client → Keeping → Message → List Client → Type 0
 PutsBack serial old keys message new =
     (before : List Client) (c : Client) (k : Keeping) (w : Message)

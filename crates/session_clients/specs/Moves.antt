@@ -1,5 +1,5 @@
 -- Clients whose pages change.
-use Rattle.std.specs.Prelude.{ℕ, List, Option, None, slice_get, map, if◌then◌else◌}
+use Rattle.std.specs.Prelude.{ℕ, List, Option, None, Result, Ok, Err, slice_get, map, if◌then◌else◌}
 use Rattle.std.specs.Option.{option_and_then}
 use Rattle.regions.specs.declared.shown.Shown.{Shown}
 use Rattle.regions.specs.Layouts.{Arrangement, emptied, kept_alone}
@@ -14,7 +14,7 @@ use Rattle.session_clients.specs.declared.client.Client.{Client}
 abbrev pub in_focus : Client → Option ℕ
 in_focus c = option_and_then (λ (s : Shown). s.window) (slice_get c.layout.shown c.layout.focus)
 
--- it is noted
+-- the window in focus is noted
 abbrev pub seen : Client → Client
 seen c =
     record c {
@@ -22,27 +22,32 @@ seen c =
       former = former_after (in_focus c) c.last c.former;
     }
 
--- the page is so now
+-- the client has this page now, and the window in focus is noted
 abbrev pub moved_to : Arrangement → Client → Client
 moved_to l c = let d : Client = record c { layout = l } in seen d
+
+-- A change of the page was tried: the window in focus is noted, unless the change was refused.
+abbrev pub tried : {E : Type 0} → Result (Unit {0}) E → Arrangement → Client → Client
+tried (Ok done) l c = moved_to l c
+tried (Err fault) l c = record c { layout = l }
 
 -- regions that showed this window are empty
 abbrev pub without : ℕ → Client → Client
 without serial c =
     record c { layout = record c.layout { shown = map (emptied serial) c.layout.shown } }
 
--- its terminal has this size and may show anything; where a region would be too small the focused
--- one stays alone
+-- its terminal has this size and may show anything; if a region would be too small, the focused one
+-- stays alone
 abbrev pub fitted : ℕ → ℕ → Client → Client
 fitted rows columns c = record c {
   layout = if has_room c.layout.shape rows columns then c.layout else kept_alone c.layout;
   shadow = record { rows = rows; columns = columns; known = None };
 }
 
--- what is said to a client
+-- the effect that tells a client a text
 abbrev pub said : List ℕ → Client → Effect
 said text c = Say c.serial text
 
--- a client that is told a text
+-- a client whose status line shows a text
 abbrev pub heard : List ℕ → Client → Client
 heard text c = record c { message = Text text }

@@ -4,7 +4,7 @@ use Rattle.keys.specs.Kept.{Keeping, StandsFor, item_list}
 use Rattle.session_model.specs.Keying.{items_behind, taken, typed_bytes, command_item}
 use Rattle.session_clients.specs.declared.reading.Reading.{Reading}
 
--- Behind the keys of the past: as many as a step takes, what they type, and the command or the line
+-- After the keys of the past: how many keys a step takes, what they type, and the command or the line
 -- among them; the reader has read them all.
 pub record HasRead (past keys : List ℕ) (reading : Reading) (reader : Keeping) : Type 0 where
   pub taken_is : reading.taken ≡ taken past keys

@@ -1,9 +1,5 @@
 -- What a client's row stands for.
-use Rattle.std.specs.Prelude.{◌≡◌, ℕ, Bool, true, List, [], ◌∷◌, ◌++◌, Option, Some, None, filter}
-use Rattle.std.specs.Prelude.{◌<◌, Result, Ok, Err, map, length, unwrap_or}
-use Rattle.regions.specs.declared.shown.Shown.{Shown}
-use Rattle.regions.specs.declared.fault.RegionFault.{RegionFault}
-use Rattle.regions.specs.declared.fault.RegionFault.TheVariants.{LastRegion, NoMemory}
+use Rattle.std.specs.Prelude.{◌≡◌, ℕ, Bool, true, List, [], ◌∷◌, ◌++◌, Option, Some, None, filter, map}
 use Rattle.terminal_model.specs.Reading.{Terminal, reads}
 use Rattle.terminal_model.specs.Shows.{View, IsOfSize}
 use Rattle.terminal_model.specs.Drawing.{Agrees}
@@ -51,7 +47,7 @@ pub record ClientStands (m : model.Client) (c : Client) : Type 0 where
 abbrev pub AreClients : List model.Client → List Client → Type 0
 AreClients rows clients = Matched ClientStands rows clients
 
--- a table's row of a serial changes, and no other
+-- the row with this serial changes, and no other
 abbrev pub Changes : (model.Client → model.Client) → ℕ → List Client → List Client → Type 0
 Changes f serial old new =
     (rows : List model.Client) (m : model.Client) → AreClients rows old
@@ -63,7 +59,7 @@ abbrev pub Keeps : (model.Client → Bool) → List Client → List Client → T
 Keeps stays old new =
     (rows : List model.Client) → AreClients rows old → AreClients (filter stays rows) new
 
--- a row comes behind the others
+-- a row is added after the others
 pub record Attaches (m : model.Client) (old new : List Client) : Type 0 where
   pub made : Client
   pub stands : ClientStands m made
@@ -75,18 +71,8 @@ abbrev pub ChangesAll : (model.Client → model.Client) → List Client → List
 ChangesAll f old new =
     (rows : List model.Client) → AreClients rows old → AreClients (map f rows) new
 
--- a fact of the row of a serial
+-- a fact of the row with this serial
 abbrev pub Finds : ℕ → List Client → (model.Client → Type 0) → Type 0
 Finds serial old P =
     (rows : List model.Client) (m : model.Client) → AreClients rows old
     → row_of (λ (c : model.Client). c.serial) rows serial ≡ Some m → P m
-
--- done where there is no fault, else refused for it; memory may be wanting
-abbrev pub IsFaultOf : Result (Unit {0}) RegionFault → Option RegionFault → Type 0
-IsFaultOf (Ok done) fault = fault ≡ None
-IsFaultOf (Err f) fault = f ≡ unwrap_or fault NoMemory
-
--- the last region stays
-abbrev pub IsRemoval : Result (Unit {0}) RegionFault → List Shown → Type 0
-IsRemoval (Ok done) shown = 1 < length shown
-IsRemoval (Err f) shown = (f ≡ LastRegion) × (1 < length shown → ⊥)

@@ -1,16 +1,12 @@
 //! A client.
 
-ghost use Rattle.std.specs.Prelude.{ℕ, ◌≡◌, true, IfOk, OnOk, OnErr};
-ghost use Rattle.std.specs.Prelude.{slice_set, slice_get, unwrap_or};
-ghost use Rattle.regions.specs.Layouts.{empty, split_focused, remove_focused, next_focus};
-ghost use Rattle.regions.specs.Layouts.{kept_alone, split_fault};
-ghost use Rattle.regions.specs.Pages.{has_room};
+ghost use Rattle.std.specs.Prelude.{◌≡◌, true, IfOk};
 ghost use Rattle.session_model.specs.Comings.{is_client_size};
 
 use acl::UserId;
 use keys::KeyReader;
 use redraw::Shadow;
-use regions::{Layout, RegionFault, Shown, Way};
+use regions::{Layout, Shown};
 use serial_rows::Serial;
 use session_model::Message;
 use std::alloc::{AllocError, Global};
@@ -21,7 +17,7 @@ use std::mem;
 pub struct Client {
     pub serial: u32,
     pub user: UserId,
-    /// What its keys left open.
+    /// Reads its keys, and holds what the last ones left unfinished.
     pub keys: KeyReader,
     /// Its regions, and what they show.
     pub layout: Layout,
@@ -44,8 +40,8 @@ impl Serial for Client {
 
 impl Client {
     ghost use Rattle.session_model.specs.Comings.{attached};
-    ghost use Rattle.session_clients.specs.Moves.{seen, moved_to, without, fitted};
-    ghost use Rattle.session_clients.specs.Stands.{ClientStands, IsFaultOf, IsRemoval};
+    ghost use Rattle.session_clients.specs.Moves.{seen, without, fitted};
+    ghost use Rattle.session_clients.specs.Stands.{ClientStands};
 
     /// A new client, whose one region shows this window.
     pub(crate) fn new(
@@ -72,15 +68,15 @@ impl Client {
         })
     }
 
-    /// Says this from now on.
+    /// Puts this on its status line.
     pub(crate) fn hear(&mut self, message: Message)
         ensures { self.new ≡ record self.old { message = message } }
     {
         self.message = message;
     }
 
-    /// Notes the window in focus.
-    fn see(&mut self)
+    /// Notes the window in focus, once the page has changed.
+    pub(crate) fn see(&mut self)
         ensures { self.new ≡ seen self.old }
     {
         let focused = self.layout.focused();
@@ -93,86 +89,14 @@ impl Client {
         }
     }
 
-    /// Its focused region shows this.
-    pub(crate) fn show(&mut self, shown: Shown)
-        ensures { self.new ≡ moved_to (record self.old.layout {
-          shown = slice_set self.old.layout.shown self.old.layout.focus shown;
-        }) self.old }
-    {
-        self.layout.set_shown(shown);
-        self.see();
-    }
-
-    /// Its focused region is scrolled back so far.
-    pub(crate) fn scroll_back(&mut self, back: u16)
-        ensures { self.new ≡ moved_to (record self.old.layout {
-          shown = slice_set self.old.layout.shown self.old.layout.focus
-              (record (unwrap_or (slice_get self.old.layout.shown self.old.layout.focus) empty) {
-                back = back;
-              });
-        }) self.old }
-    {
-        let focused = self.layout.focused();
-        self.show(Shown { back, ..focused });
-    }
-
-    /// Splits its focused region.
-    pub(crate) fn split(&mut self, alloc: Global, way: Way) -> Result<(), RegionFault>
-        ensures ok { OnOk result
-            (self.new ≡ moved_to (split_focused way self.old.layout) self.old) }
-        ensures room { OnOk result (has_room (split_focused way self.old.layout).shape
-            self.old.shadow.rows self.old.shadow.columns ≡ true) }
-        ensures err { OnErr result (self.new ≡ self.old) }
-        ensures fault { IsFaultOf result (split_fault way self.old.layout self.old.shadow.rows
-            self.old.shadow.columns) }
-    {
-        let rows = self.shadow.rows();
-        let columns = self.shadow.columns();
-        self.layout.split(alloc, way, rows, columns)?;
-        self.see();
-        Ok(())
-    }
-
-    /// Gives the focus to its next region.
-    pub(crate) fn focus_next(&mut self)
-        ensures { self.new ≡ moved_to (record self.old.layout {
-          focus = next_focus self.old.layout;
-        }) self.old }
-    {
-        self.layout.focus_next();
-        self.see();
-    }
-
-    /// Closes its focused region.
-    pub(crate) fn remove_region(&mut self) -> Result<(), RegionFault>
-        ensures ok { OnOk result (self.new ≡ moved_to (remove_focused self.old.layout) self.old) }
-        ensures room { OnOk result ((rows columns : ℕ)
-            → has_room self.old.layout.shape rows columns ≡ true
-            → has_room (remove_focused self.old.layout).shape rows columns ≡ true) }
-        ensures err { OnErr result (self.new ≡ self.old) }
-        ensures fault { IsRemoval result self.old.layout.shown }
-    {
-        self.layout.remove()?;
-        self.see();
-        Ok(())
-    }
-
-    /// Keeps its focused region alone.
-    pub(crate) fn only(&mut self)
-        ensures { self.new ≡ moved_to (kept_alone self.old.layout) self.old }
-    {
-        self.layout.only();
-        self.see();
-    }
-
-    /// Empties its regions that show a window.
+    /// Empties its regions that show this window.
     pub(crate) fn close_window(&mut self, serial: u32)
         ensures { self.new ≡ without serial self.old }
     {
         self.layout.close_window(serial);
     }
 
-    /// Its terminal has another size now, and may show anything.
+    /// Notes that its terminal has this size now, and may show anything.
     pub(crate) fn resize(&mut self, rows: u16, columns: u16)
         ensures { self.new ≡ fitted rows columns self.old }
     {
@@ -180,7 +104,7 @@ impl Client {
         self.shadow = Shadow::unknown(rows, columns);
     }
 
-    /// Takes a reader and a message, and hands back those that it had.
+    /// Takes a reader and a message in place of its own, and hands back its own.
     pub(crate) fn exchange(&mut self, keys: &mut KeyReader, message: &mut Message)
         ensures row { self.new ≡ record self.old { keys = keys.old; message = message.old } }
         ensures keys { keys.new ≡ self.old.keys }

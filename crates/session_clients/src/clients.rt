@@ -1,16 +1,16 @@
 //! The clients of a session.
 
 ghost use Rattle.std.specs.Prelude.{◌≡◌, ◌==◌, ◌<◌, ◌+◌, [], ℕ, List, Option};
-ghost use Rattle.std.specs.Prelude.{true, false, not, Some, length, map, replicate, ◌↔◌};
+ghost use Rattle.std.specs.Prelude.{true, false, not, Some, None, Ok, length, map, replicate, ◌↔◌};
 ghost use Rattle.std.specs.Prelude.{OnOk, OnErr, IfOk, IfNone, IfSome, option_copied};
-ghost use Rattle.regions.specs.Layouts.{split_focused, remove_focused, next_focus, kept_alone};
-ghost use Rattle.regions.specs.Layouts.{split_fault};
+ghost use Rattle.std.specs.Fn.{FnOnceReturnsAtMut};
+ghost use Rattle.regions.specs.Layouts.{Arrangement};
 ghost use Rattle.session_model.specs.declared.message.Message.{Message as What};
 ghost use Rattle.session_model.specs.declared.message.Message.TheVariants as what;
 ghost use Rattle.session_model.specs.declared.event.Effect.TheVariants as effect;
 ghost use Rattle.session_model.specs.Tables as model;
-ghost use Rattle.session_model.specs.Tables.{row_of, with_layout};
-ghost use Rattle.session_model.specs.Deeds.{hearing, showing, shown_in_focus, is_of};
+ghost use Rattle.session_model.specs.Tables.{row_of, with_row};
+ghost use Rattle.session_model.specs.Deeds.{hearing, is_of};
 ghost use Rattle.session_model.specs.Deeds.{without_window};
 ghost use Rattle.session_model.specs.Comings.{resized, is_client_size};
 ghost use Rattle.session_model.specs.Answering.{reading};
@@ -21,17 +21,17 @@ use crate::client::Client;
 use acl::UserId;
 use keys::KeyReader;
 use redraw::{Frame, Shadow, SharedView};
-use regions::{RegionFault, Shown, Way};
+use regions::{Layout, RegionFault};
 use serial_rows::Rows;
 use session_model::{Bytes, Effect, Message};
 use std::alloc::{AllocError, Global};
 use std::marker::Model;
 use view::View;
 
-/// The attached clients, by rising serials.
+/// The attached clients, in the order of their serials.
 pub struct Clients {
     rows: Rows<Client>,
-    /// A view that isn't needed any more, kept for its memory. It's no part of the value.
+    /// A view that isn't needed any more, kept for its memory. It is no part of the value.
     spare: Option<View>,
 }
 
@@ -60,7 +60,8 @@ impl Clients {
     ghost use Rattle.session_clients.specs.Exchanges.{Exchanged, HasReadMore, PutsBack};
     ghost use Rattle.session_clients.specs.Draws.{Draws, FitsIn, LeadsFrom, ShowsAlready};
     ghost use Rattle.session_clients.specs.Stands.{Attaches, Keeps, Changes, ChangesAll, Finds};
-    ghost use Rattle.session_clients.specs.Stands.{AreClients, ClientStands, IsFaultOf, IsRemoval};
+    ghost use Rattle.session_clients.specs.Stands.{AreClients, ClientStands};
+    ghost use Rattle.session_clients.specs.Moves.{moved_to, tried};
     ghost use Rattle.serial_rows.specs.Matched.{BothOrNone};
 
     /// No client.
@@ -73,6 +74,7 @@ impl Clients {
         }
     }
 
+    /// How many clients are attached.
     pub fn len(&self) -> usize
         ensures { result ≡ length self.now }
     {
@@ -86,7 +88,7 @@ impl Clients {
         self.rows.as_slice()
     }
 
-    /// The client of a serial.
+    /// The client with this serial, if it is attached.
     pub fn get(&self, serial: u32) -> Option<&Client>
         ensures row { option_copied result ≡ row_of (λ (c : Client). c.serial) self.now serial }
         ensures stands { (rows : List model.Client) → AreClients rows self.now → BothOrNone
@@ -115,21 +117,21 @@ impl Clients {
         self.rows.push(client)
     }
 
-    /// Removes the client of a serial.
+    /// Removes the client with this serial.
     pub fn remove(&mut self, serial: u32)
         ensures { Keeps (λ c. not (c.serial == serial)) self.old self.new }
     {
         self.rows.remove(serial);
     }
 
-    /// Removes a user's clients.
+    /// Removes this user's clients.
     pub fn remove_of(&mut self, user: UserId)
         ensures { Keeps (λ c. not (is_of user c)) self.old self.new }
     {
         self.rows.retain(|client| !(client.user == user));
     }
 
-    /// Removes all clients but a user's.
+    /// Removes all clients but this user's.
     pub fn keep_of(&mut self, user: UserId)
         ensures { Keeps (λ c. not (not (is_of user c))) self.old self.new }
     {
@@ -143,7 +145,7 @@ impl Clients {
         self.rows.retain(|_client| false);
     }
 
-    /// A client's status line says this.
+    /// Puts this on a client's status line.
     pub fn hear(&mut self, serial: u32, message: Message)
         ensures { Changes (hearing message) serial self.old self.new }
     {
@@ -153,76 +155,45 @@ impl Clients {
         client.hear(message);
     }
 
-    /// A client's focused region shows this.
-    pub fn show(&mut self, serial: u32, shown: Shown)
-        ensures { Changes (λ m. with_layout (showing m shown) m) serial self.old self.new }
+    /// Changes a client's page, and notes the window that is in focus then.
+    pub fn on_page<F: FnOnce(&mut Layout)>(&mut self, serial: u32, change: F)
+        requires { F.IsAlwaysCallable change }
+        ensures there { (c : Client) → row_of (λ (d : Client). d.serial) self.old serial ≡ Some c
+            → (l : Arrangement) × FnOnceReturnsAtMut F.FnOnce change c.layout tt l
+            × (self.new ≡ with_row (λ (d : Client). d.serial) self.old serial (moved_to l c)) }
+        ensures none { row_of (λ (d : Client). d.serial) self.old serial ≡ None
+            → self.new ≡ self.old }
     {
         let Some(client) = self.rows.get_mut(serial) else {
             return;
         };
-        client.show(shown);
+        change(&mut client.layout);
+        client.see();
     }
 
-    /// A client's focused region is scrolled back so far.
-    pub fn scroll_back(&mut self, serial: u32, back: u16)
-        ensures { Changes (λ m. with_layout
-            (showing m (record (shown_in_focus m) { back = back })) m) serial self.old self.new }
-    {
-        let Some(client) = self.rows.get_mut(serial) else {
-            return;
-        };
-        client.scroll_back(back);
-    }
-
-    /// Splits a client's focused region. The new region is the second half and is empty.
-    pub fn split(&mut self, alloc: Global, serial: u32, way: Way) -> Result<(), RegionFault>
-        ensures ok { OnOk result (Changes (λ m. with_layout (split_focused way m.layout) m) serial
-            self.old self.new) }
-        ensures err { OnErr result (self.new ≡ self.old) }
-        ensures fault { Finds serial self.old (λ m. IsFaultOf result
-            (split_fault way m.layout m.rows m.columns)) }
+    /// Changes a client's page by a change that may be refused. Notes the window that is in focus
+    /// then, unless it was refused.
+    pub fn try_on_page<F: FnOnce(&mut Layout) -> Result<(), RegionFault>>(
+        &mut self,
+        serial: u32,
+        change: F,
+    ) -> Result<(), RegionFault>
+        requires { F.IsAlwaysCallable change }
+        ensures there { (c : Client) → row_of (λ (d : Client). d.serial) self.old serial ≡ Some c
+            → (l : Arrangement) × FnOnceReturnsAtMut F.FnOnce change c.layout result l
+            × (self.new ≡ with_row (λ (d : Client). d.serial) self.old serial (tried result l c)) }
+        ensures none { row_of (λ (d : Client). d.serial) self.old serial ≡ None
+            → (self.new ≡ self.old) × (result ≡ Ok tt) }
     {
         let Some(client) = self.rows.get_mut(serial) else {
             return Ok(());
         };
-        client.split(alloc, way)
+        change(&mut client.layout)?;
+        client.see();
+        Ok(())
     }
 
-    /// Closes a client's focused region, unless it is the last.
-    pub fn remove_region(&mut self, serial: u32) -> Result<(), RegionFault>
-        ensures ok { OnOk result (Changes (λ m. with_layout (remove_focused m.layout) m) serial
-            self.old self.new) }
-        ensures err { OnErr result (self.new ≡ self.old) }
-        ensures fault { Finds serial self.old (λ m. IsRemoval result m.layout.shown) }
-    {
-        let Some(client) = self.rows.get_mut(serial) else {
-            return Ok(());
-        };
-        client.remove_region()
-    }
-
-    /// Gives the focus to a client's next region.
-    pub fn focus_next(&mut self, serial: u32)
-        ensures { Changes (λ m. with_layout (record m.layout { focus = next_focus m.layout }) m)
-            serial self.old self.new }
-    {
-        let Some(client) = self.rows.get_mut(serial) else {
-            return;
-        };
-        client.focus_next();
-    }
-
-    /// Keeps a client's focused region alone.
-    pub fn only(&mut self, serial: u32)
-        ensures { Changes (λ m. with_layout (kept_alone m.layout) m) serial self.old self.new }
-    {
-        let Some(client) = self.rows.get_mut(serial) else {
-            return;
-        };
-        client.only();
-    }
-
-    /// A client's terminal has another size now, and may show anything.
+    /// Notes that a client's terminal has this size now, and may show anything.
     pub fn resize(&mut self, serial: u32, rows: u16, columns: u16)
         requires { is_client_size rows columns ≡ true }
         ensures { Changes (resized rows columns) serial self.old self.new }
@@ -233,8 +204,8 @@ impl Clients {
         client.resize(rows, columns);
     }
 
-    /// Puts a reader and a message into a client's row, and hands back those that stood there: done
-    /// twice, it changes nothing.
+    /// Puts a reader and a message in place of a client's own, and hands back the client's own. Done
+    /// twice, this changes nothing.
     pub fn exchange(&mut self, serial: u32, keys: &mut KeyReader, message: &mut Message)
         ensures read { (bytes : List ℕ) → message.old ≡ what.Silence
             → HasReadMore serial self.old keys.old bytes
@@ -249,14 +220,14 @@ impl Clients {
         client.exchange(keys, message);
     }
 
-    /// A view whose memory another one may take, if there is one.
+    /// Hands out the view that was kept for its memory, if there is one.
     pub fn take_spare(&mut self) -> Option<View>
         ensures { self.new ≡ self.old }
     {
         self.spare.take()
     }
 
-    /// Keeps a view that isn't needed any more, if there is one, for its memory.
+    /// Keeps a view that isn't needed any more for its memory, if one is given.
     pub fn keep_spare(&mut self, view: Option<View>)
         ensures { self.new ≡ self.old }
     {
@@ -265,8 +236,8 @@ impl Clients {
         }
     }
 
-    /// The frame that leads a client's terminal to a view: none where it is known to show the view,
-    /// or has another size.
+    /// The frame that makes a client's terminal show a view. There is none if the terminal is known
+    /// to show the view already, or has another size.
     pub fn frame(
         &self,
         alloc: Global,
@@ -287,8 +258,8 @@ impl Clients {
         Frame::to(alloc, &client.shadow, view)
     }
 
-    /// A client's terminal reads a frame: where it is one of which the same was known as before the
-    /// frame, the view is drawn.
+    /// Notes that a client's terminal reads a frame. The frame's view is drawn there, if what was
+    /// known of the terminal is what the frame begins with.
     pub fn follow(&mut self, serial: u32, frame: &Frame) -> Result<(), AllocError>
         ensures drawn { OnOk result (IsDrawable frame.now.view
             → LeadsFrom serial self.old frame.now.before
@@ -301,7 +272,7 @@ impl Clients {
         client.shadow.follow(frame)
     }
 
-    /// What is said to each client.
+    /// The effects that tell each client a text.
     pub fn says(&self, alloc: Global, text: &[u8]) -> Result<Vec<Effect>, AllocError>
         ensures { IfOk result (λ made. (rows : List model.Client) → AreClients rows self.now
             → made.items ≡ map (λ (m : model.Client). effect.Say m.serial text.now) rows) }
@@ -313,7 +284,7 @@ impl Clients {
         Ok(made)
     }
 
-    /// Empties the regions of all clients that show a window.
+    /// Empties the regions that show this window, on every client's page.
     pub fn close_window(&mut self, serial: u32)
         ensures { ChangesAll (without_window serial) self.old self.new }
     {
@@ -322,7 +293,8 @@ impl Clients {
         }
     }
 
-    /// Gives each client a message; these were made before.
+    /// Puts one of these messages on each client's status line. They are made beforehand, so that
+    /// memory can't be wanting here.
     pub fn hear_all(&mut self, messages: &mut Vec<Message>)
         requires { length messages.old.items ≡ length self.old }
         ensures { (text : List ℕ)
@@ -335,14 +307,14 @@ impl Clients {
     }
 }
 
-/// Whether a view has a terminal's size.
+/// Whether a view has the size of a terminal.
 fn has_size_of(shadow: &Shadow, view: &View) -> bool
     ensures { (result ≡ true) ↔ HasSize shadow.now.rows shadow.now.columns view.now }
 {
     view.rows() == usize::from(shadow.rows()) && view.columns() == usize::from(shadow.columns())
 }
 
-/// The last of some messages, which are all the same.
+/// Takes the last of some messages, all of which are equal.
 fn next_message(messages: &mut Vec<Message>) -> Message
     requires { 0 < length messages.old.items }
     ensures len { length messages.new.items + 1 ≡ length messages.old.items }
@@ -352,7 +324,7 @@ fn next_message(messages: &mut Vec<Message>) -> Message
     messages.pop().unwrap()
 }
 
-/// As many messages of a text.
+/// Makes a number of equal messages of a text.
 pub fn messages_of(alloc: Global, text: &[u8], count: usize) -> Result<Vec<Message>, AllocError>
     ensures { IfOk result (λ made. made.items ≡ replicate count (what.Text text.now)) }
 {

@@ -17,11 +17,11 @@ pub struct Reading {
     pub taken: usize,
     /// What they type.
     pub typed: Bytes,
-    /// The bound command or the line that the last of them completes; the line lies in the reader.
+    /// The bound command or the line that the last of them completes. The reader holds the line.
     pub order: Option<KeyItem>,
 }
 
-/// The byte that is typed, if one is.
+/// The byte that a key types, if it types one.
 fn typed_byte(item: Option<KeyItem>) -> Option<u8>
     ensures { (line : List ℕ) → option_to_list result ≡ typed_bytes (item_list item line) }
 {
@@ -31,14 +31,14 @@ fn typed_byte(item: Option<KeyItem>) -> Option<u8>
     }
 }
 
-/// Whether it is a command or a line.
+/// Whether a key completes a command or a line.
 fn is_order(item: Option<KeyItem>) -> bool
     ensures { (line : List ℕ) → result ≡ list_any is_command (item_list item line) }
 {
     matches!(item, Some(KeyItem::Bound(_)) | Some(KeyItem::Line))
 }
 
-/// Reads keys up to the first one that completes a command or a line. At an `Err` the reader has
+/// Reads keys up to the first one that completes a command or a line. After an `Err` the reader has
 /// read some of them.
 pub fn read_keys(alloc: Global, reader: &mut KeyReader, keys: &[u8]) -> Result<Reading, AllocError>
     ensures { IfOk result (λ reading. (past : List ℕ) → StandsFor reader.old past

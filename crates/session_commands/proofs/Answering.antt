@@ -1,4 +1,5 @@
--- What a row answers, once what it looks for was found, or wasn't.
+-- A deed that found its client and what it looks for answers as the command's row says; one that didn't is
+-- refused so.
 use Rattle.std.proofs.Common.{◌≡◌, ℕ, Bool, true, false, Option, Some, None, Ok, Err, refl, ap, sym, ◌∙◌, inl, inr}
 use Rattle.std.proofs.Common.{is_some}
 use Rattle.std.specs.Prelude.{◌⊎◌, unwrap_or, IfSome}

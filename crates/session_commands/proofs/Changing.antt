@@ -1,4 +1,4 @@
--- Commands that change a window's row.
+-- A command that changes the row of its window, or refuses to, answers as the command's row says.
 use Rattle.std.proofs.Common.{◌≡◌, ℕ, Bool, true, false, List, Some, None, Ok, Err}
 use Rattle.std.proofs.Common.{refl, ap, sym, subst, ◌∙◌, append-nil, ◌⊎◌, inl, inr, not}
 use Rattle.std.specs.Prelude.{Result, if◌then◌else◌}
@@ -90,7 +90,7 @@ module _ (t : Tables) (s : State) (k : Caller) (w : ℕ) (c : Command) (change :
 
 -- ---- what each of them changes
 
--- where a test decides
+-- a change that a test decides
 module _ (t : Tables) (f : WindowsFault) (n : Window) where
   unless_by : (b : Bool)
       → refused_if b (refusal_of f) (changing (with_window t n))

@@ -1,4 +1,4 @@
--- Deeds on the tables that a state stands for.
+-- What a row is on the caller's window, and what `stuff` types there.
 use Rattle.std.proofs.Common.{◌≡◌, ℕ, List, [], ◌∷◌, length, true, false, Some, Ok}
 use Rattle.std.proofs.Common.{ap, ◌∙◌, is_ok}
 use Rattle.std.specs.Prelude.{Result, if◌then◌else◌, ◌==◌}

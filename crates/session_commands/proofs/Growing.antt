@@ -1,4 +1,4 @@
--- A list that grows by an item.
+-- A list that grew by an item has the text of one more item.
 use Rattle.std.proofs.Common.{◌≡◌, ℕ, Bool, true, false, List, [], ◌∷◌, ◌++◌, refl, ap, sym, ◌∙◌}
 use Rattle.std.proofs.Common.{append_assoc, subst, length, ◌<◌, ◌+◌, ◌≤◌, get_or, map, take}
 use Rattle.std.specs.Prelude.{codes}
@@ -14,7 +14,7 @@ has_more (i ∷ items) item = refl
 pub list_none : IsList [] true []
 list_none = record { text_is = refl; first_is = refl }
 
--- behind the separator
+-- one more item, after the separator
 pub list_more : (items : List (List ℕ)) (is_first : Bool) (item text between new : List ℕ)
     → IsList items is_first text → between ≡ text ++ separator is_first → new ≡ between ++ item
     → IsList (items ++ item ∷ []) false new

@@ -6,6 +6,7 @@ pub mod Answering
 pub mod Sizes
 pub mod Members
 pub mod Paging
+pub mod Arranging
 pub mod Shown
 pub mod Numbers
 pub mod Growing

@@ -1,4 +1,4 @@
--- What the list of clients says.
+-- The list of clients that is made is the definitions' list.
 use Rattle.std.proofs.Common.{◌≡◌, ℕ, List, Option, Some, None}
 use Rattle.std.proofs.Common.{refl, ap, ◌∙◌, map}
 use Rattle.std.specs.Prelude.{codes, slice_get}

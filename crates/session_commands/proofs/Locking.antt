@@ -1,4 +1,4 @@
--- Acts that change locks alone.
+-- After an act that changes locks alone, the state stands for the tables with that act.
 use Rattle.std.proofs.Common.{◌≡◌, ◌∷◌, true, false, refl}
 use Rattle.acl.specs.declared.act.Act.{Act}
 use Rattle.acl.specs.declared.act.LockMode.{LockMode}

@@ -1,4 +1,4 @@
--- Windows that were looked for are windows of the table.
+-- A window that a command finds is one of the table's windows, at its own serial.
 use Rattle.std.proofs.Common.{◌≡◌, ℕ, Bool, true, false, List, [], ◌∷◌, Option, Some, None, refl, ap, sym, subst, ◌∙◌}
 use Rattle.std.proofs.Common.{is_some, filter}
 use Rattle.std.specs.Prelude.{if◌then◌else◌, ◌==◌, find, nat_lt, IfSome}

@@ -1,4 +1,4 @@
--- Windows by rising numbers, and their items.
+-- The items of windows that are found number by number make the definitions' list; Numbers proves their order.
 use Rattle.std.proofs.Common.{◌≡◌, ℕ, zero, suc, ◌+◌, Bool, true, false, List, [], ◌∷◌, ◌++◌}
 use Rattle.std.proofs.Common.{Option, Some, None, option_to_list, refl, ap, sym, ◌∙◌, subst, map}
 use Rattle.std.proofs.Common.{append_assoc, append-nil, add-zero, add-one, arith, is_some}

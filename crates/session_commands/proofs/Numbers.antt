@@ -1,4 +1,4 @@
--- Windows by rising numbers, found number by number.
+-- Windows found number by number are the windows by rising numbers, so that Numbered can list them.
 use Rattle.std.specs.Prelude.{◌≡◌, ℕ, zero, suc, ◌+◌, ◌<◌, ◌≤◌, ◌==◌, Bool, true, false, List, []}
 use Rattle.std.specs.Prelude.{◌∷◌, ◌++◌, Option, Some, None, option_to_list, nat_lt}
 use Rattle.std.specs.Prelude.{if◌then◌else◌}

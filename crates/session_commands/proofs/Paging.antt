@@ -1,4 +1,4 @@
--- A client's page changes, and its user enters the window in focus.
+-- A deed that changes a client's page, and may let its user enter the window in focus, was done.
 use Rattle.std.proofs.Common.{◌≡◌, ◌∙◌, ℕ, List, Option, Some, None, ap, sym, subst, append-nil}
 use Rattle.std.specs.Option.{option_and_then}
 use Rattle.regions.specs.Layouts.{Arrangement}
@@ -37,7 +37,7 @@ giver_there t k client s st gives =
       },
     )
 
--- what a client's row stands for, where that was found
+-- what a client's row stands for, if both were found
 pub row_stands : (m : model.Client) (c : Client) (o : Option model.Client) (p : Option Client)
     → BothOrNone ClientStands o p → o ≡ Some m → p ≡ Some c → ClientStands m c
 row_stands m c o None both at is = absurd (cc (is))
@@ -46,12 +46,12 @@ row_stands m c (Some x) (Some y) both at is =
     subst (λ z. ClientStands m z) (let e : y ≡ c = cc (is) in e)
     (subst (λ z. ClientStands z y) (let e : x ≡ m = cc (at) in e) both)
 
--- it is found
+-- a client's row that stands for one that is there is found
 pub row_there : (m : model.Client) (o : Option model.Client) (p : Option Client) → BothOrNone ClientStands o p
     → o ≡ Some m → p ≡ None → ⊥
 row_there m o p both at is = let none = none_back ClientStands o p both is in absurd (cc (at, none))
 
--- the page of a row is arranged so now
+-- the page of a row is arranged by F now
 pub arranged : (t : Tables) (s : State) (new : List Client) (serial : ℕ) (m : model.Client)
     (F : model.Client → Arrangement) → Stands t s → client_at t serial ≡ Some m
     → Changes (λ m. with_layout (F m) m) serial s.clients new
@@ -67,7 +67,7 @@ arranged t s new serial m F st at changes = record {
   next_client_is = st.next_client_is;
 }
 
--- it stands there
+-- the client is there with this page
 pub arranged_at : (t : Tables) (serial : ℕ) (m : model.Client) (l : Arrangement) → client_at t serial ≡ Some m
     → client_at (with_client t (with_layout l m)) serial ≡ Some (with_layout l m)
 arranged_at t serial m l at =
@@ -77,7 +77,7 @@ arranged_at t serial m l at =
     (sym e)
     (with_same model_serial t.clients serial m (with_layout l m) at e)
 
--- where nothing is made beside
+-- a deed that changes the page alone
 pub done_quietly : (t : Tables) (s : State) (clients : List Client) (serial : ℕ) (m : model.Client)
     (F : model.Client → Arrangement) (made : StepOutput) → Stands t s → client_at t serial ≡ Some m
     → Changes (λ m. with_layout (F m) m) serial s.clients clients
@@ -92,7 +92,7 @@ still_open : (t : Tables) (m : model.Client) (o : Option ℕ) → IsOpenThere t 
 still_open t m None is = tt
 still_open t m (Some w) is = is
 
--- where its user enters the window in focus
+-- a deed after which the client's user enters the window in focus
 pub done_entering : (t : Tables) (s : State) (clients : List Client) (serial : ℕ) (m : model.Client)
     (F : model.Client → Arrangement) (new : State) (before after : StepOutput) → Stands t s
     → client_at t serial ≡ Some m

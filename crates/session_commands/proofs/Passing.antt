@@ -1,4 +1,5 @@
--- What the checks of a command say, where they have passed.
+-- If a command's checks have passed, its window is there, and its user may write there if the command needs
+-- that.
 use Rattle.std.proofs.Common.{◌≡◌, ℕ, Bool, true, false, List, [], ◌∷◌, ◌++◌, Option, Some, None}
 use Rattle.std.proofs.Common.{refl, ap, sym, subst, ◌∙◌}
 use Rattle.std.specs.Prelude.{if◌then◌else◌}
@@ -108,7 +109,7 @@ acted_on t k c s at needed is =
       },
     )
 
--- and where it needs w on it, its user has that
+-- if the command needs w on it, its user has that
 pub may_write : (t : Tables) (k : Caller) (c : Command) (s : ℕ) (w : Window) → IsOn t k s w
     → (needs c).window ≡ true → (needs c).write ≡ true
     → first_fault t (checks t (caller_in t k) c) ≡ None

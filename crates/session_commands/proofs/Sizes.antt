@@ -1,4 +1,4 @@
--- The rectangle of a focused region, and the size that a window gets there.
+-- The rectangle of the focused region is the definitions', and gives `fit` a window's size or its refusal.
 use Rattle.std.proofs.Common.{◌≡◌, ℕ, zero, suc, ◌-◌, ◌<◌, ◌≤◌, Bool, true, false, List, [], ◌∷◌, ◌++◌, Option, Some}
 use Rattle.std.proofs.Common.{None, Ok, Err, refl, ap, sym, ◌∙◌, subst, arith, inl, inr, append-nil}
 use Rattle.std.specs.Prelude.{◌&&◌, ◌⊎◌, nat_lt, nat_le, slice_get}
@@ -35,7 +35,7 @@ use Rattle.session_state.specs.Doing.{Answers, caller_in}
 use Rattle.session_commands.proofs.Answering.{given_some, refused, not_refused, on_giver}
 use Rattle.session_commands.proofs.Paging.{Gives}
 
--- a rectangle of at most so many rows and columns
+-- a rectangle of at most this many rows and columns
 pub record IsWithin (rows columns : ℕ) (r : Rect) : Type 0 where
   pub rows_fit : r.rows ≤ rows
   pub columns_fit : r.columns ≤ columns

@@ -1,4 +1,4 @@
--- Users who enter windows.
+-- How a user enters a window.
 use Rattle.std.specs.Prelude.{ℕ, ◌≡◌, ◌+◌, ◌++◌, true, [], ◌∷◌, Option, Some, None}
 use Rattle.acl.specs.declared.user_id.UserId.{UserId}
 use Rattle.acl.specs.declared.act.Act.{Act}
@@ -15,13 +15,13 @@ use Rattle.session_state.specs.Doing.{HasRoom, HasDone}
 abbrev pub with_act : Tables → Act → Tables
 with_act t a = record t { acts = a ∷ t.acts }
 
--- whichever tables the state stood for, where the window is open: it stands for them with the act
+-- if the window is open: the state stands for the tables that it stood for, with the act
 abbrev pub Enters : UserId → ℕ → State → State → Type 0
 Enters user window old new =
     (t : Tables) → Stands t old → is_open t.acts window ≡ true
     → Stands (with_act t (act.Entered user window)) new
 
--- one act stands behind the others, in the room that there was
+-- one act comes after the others, in the room that there was
 pub record HasOneActMore (a : Act) (before after : StepOutput) : Type 0 where
   pub acts : after.acts.items ≡ before.acts.items ++ a ∷ []
   pub effects : after.effects.items ≡ before.effects.items

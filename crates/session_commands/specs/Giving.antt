@@ -1,4 +1,4 @@
--- Who gives a command, and for which window.
+-- The client that gives a command, and the window that the command is for.
 use Rattle.std.specs.Prelude.{ℕ, ◌≡◌, Option, Some, None, Result, Ok, Err}
 use Rattle.std.specs.Option.{option_map}
 use Rattle.regions.specs.declared.rect.Rect.{Rect}
@@ -27,7 +27,7 @@ HasNumber k s found =
     (t : Tables) → Stands t s
     → option_map (λ (w : model.Window). w.number) (caller_in t k).window ≡ found
 
--- its serial
+-- the serial of the window, if that is open
 abbrev pub FindsWindow : Caller → State → Option ℕ → Type 0
 FindsWindow k s found =
     (t : Tables) → Stands t s
@@ -45,7 +45,7 @@ IsBox m (Err e) = e ≡ NoMemory
 abbrev pub IsFocusedBox : Client → Result Rect Refusal → Type 0
 IsFocusedBox c found = (m : model.Client) → ClientStands m c → IsBox m found
 
--- how a fault of a layout refuses a command
+-- the refusal of a command, by a fault of a layout
 abbrev pub refusal_of : RegionFault → Refusal
 refusal_of fault.NoMemory = NoMemory
 refusal_of f = Regions f

@@ -1,4 +1,4 @@
--- Items of lists, by what they show, and lists that grow by an item.
+-- Items of lists, and lists that grow by an item.
 use Rattle.std.specs.Prelude.{◌≡◌, ℕ, Bool, true, false, List, [], ◌∷◌, ◌++◌, Option, Some, None}
 use Rattle.std.specs.Prelude.{if◌then◌else◌, codes, decimal}
 use Rattle.std.specs.Option.{option_map}
@@ -12,7 +12,7 @@ use Rattle.session_model.specs.Rights.{may_in}
 use Rattle.session_model.specs.Texts.{behind, separated, window_item, number_text, focus_text}
 use Rattle.session_model.specs.Texts.{client_item}
 
--- a window's number, whether it is in focus, and its title where it may be read
+-- a window's number, whether it is in focus, and its title, if it may be read
 abbrev pub window_line : ℕ → Bool → Bool → List ℕ → List ℕ
 window_line number is_in_focus is_readable title =
     decimal number
@@ -68,7 +68,7 @@ behind_more sep (i ∷ items) item =
     ∙ ap (λ (x : List ℕ). sep ++ x) (sym (append_assoc i (behind sep items) (sep ++ item)))
     ∙ sym (append_assoc sep (i ++ behind sep items) (sep ++ item))
 
--- one more item, behind the separator unless it is the first
+-- one more item, after the separator unless it is the first
 pub separated_more : (items : List (List ℕ)) (item : List ℕ)
     → separated (codes "  ") (items ++ item ∷ [])
     ≡ separated (codes "  ") items ++ (separator (has_none items) ++ item)

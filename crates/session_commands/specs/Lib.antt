@@ -3,4 +3,5 @@ pub mod Giving
 pub mod Items
 pub mod Orders
 pub mod Growing
+pub mod Scrolling
 pub mod Listing

@@ -1,4 +1,4 @@
--- What lists say of a state, whichever tables it stands for.
+-- Lists of a state, for all tables that it stands for.
 use Rattle.std.specs.Prelude.{ℕ, ◌≡◌, ◌++◌, true, List, Option}
 use Rattle.std.specs.Option.{option_map, option_and_then, is_some}
 use Rattle.acl.specs.declared.user_id.UserId.{UserId}
@@ -14,12 +14,12 @@ use Rattle.session_state.specs.declared.state.State.{State}
 use Rattle.session_state.specs.Stands.{Stands}
 use Rattle.session_model.specs.Sound.{AreFit}
 
--- the windows, as a user may read them
+-- the list of the windows, as a user may read it
 abbrev pub SaysWindows : State → UserId → Option ℕ → List ℕ → Type 0
 SaysWindows s user focus text =
     (t : Tables) → Stands t s → AreFit t → text ≡ windows_text t user focus
 
--- the clients
+-- the list of the clients
 abbrev pub SaysClients : State → List ℕ → Type 0
 SaysClients s text = (t : Tables) → Stands t s → AreFit t → text ≡ clients_text t
 

@@ -3,7 +3,7 @@ use Rattle.std.specs.Prelude.{ℕ, zero, suc, ◌+◌, List, [], ◌++◌, optio
 use Rattle.session_model.specs.Tables.{Window}
 use Rattle.session_model.specs.Naming.{with_number}
 
--- the windows of so many numbers, from one on
+-- the windows with the numbers from `from` to `from + count - 1`
 abbrev pub numbered : List Window → ℕ → ℕ → List Window
 numbered windows from zero = []
 numbered windows from (suc count) =

@@ -1,4 +1,4 @@
-//! Users who enter windows.
+//! How a user enters a window.
 
 ghost use Rattle.acl.specs.declared.act.Act.TheVariants as act;
 ghost use Rattle.session_state.specs.Doing.{HasRoom, HasRoomToAct, HasRoomToLeave};
@@ -7,8 +7,8 @@ ghost use Rattle.session_commands.specs.Entering.{Enters, EntersFocus, HasOneAct
 use acl::{Act, Bit, Object, UserId};
 use session_state::{State, StepOutput};
 
-/// A user enters an open window. A lock that is free in mode auto is his then, if he may write
-/// there.
+/// A user enters an open window. If they may write there and its lock is free in mode auto, they take
+/// the lock.
 pub fn enter(state: &mut State, user: UserId, window: u32, made: &mut StepOutput)
     requires { HasRoom 1 made.old }
     ensures stands { Enters user window state.old state.new }
@@ -22,7 +22,7 @@ pub fn enter(state: &mut State, user: UserId, window: u32, made: &mut StepOutput
     state.locks.entered(user, window, may_write);
 }
 
-/// A client's user enters the window in focus, if there is one, which is open.
+/// A client's user enters the window in focus, if there is one. That window is open.
 pub(crate) fn enter_focused(state: &mut State, client: u32, made: &mut StepOutput)
     requires { HasRoomToAct made.old }
     ensures done { EntersFocus client state.old state.new made.old made.new }

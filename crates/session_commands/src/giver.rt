@@ -1,4 +1,4 @@
-//! Who gives a command, and for which window.
+//! The client that gives a command, and the window that the command is for.
 
 ghost use Rattle.std.specs.Prelude.{◌≡◌, IfOk, IfErr};
 ghost use Rattle.session_model.specs.declared.refusal.Refusal.TheVariants.{NoWindow};
@@ -9,7 +9,7 @@ use regions::RegionFault;
 use session_model::Refusal;
 use session_state::{Caller, State};
 
-/// The client that gives a command, by its serial, if it is attached.
+/// The serial of the client that gives a command. It is attached.
 pub fn client_of(state: &State, caller: Caller) -> Result<u32, Refusal>
     ensures ok { IfOk result (λ client. GivesBy client state.now caller) }
     ensures err { IfErr result (λ refusal. (refusal ≡ NoWindow) × NobodyGives caller state.now) }
@@ -23,7 +23,7 @@ pub fn client_of(state: &State, caller: Caller) -> Result<u32, Refusal>
     }
 }
 
-/// The number of the window that a command would act on, if it is open.
+/// The number of the window that a command would act on, if that window is open.
 pub(crate) fn number_of(state: &State, caller: Caller) -> Option<u8>
     ensures { HasNumber caller state.now result }
 {
@@ -31,7 +31,7 @@ pub(crate) fn number_of(state: &State, caller: Caller) -> Option<u8>
     Some(window.number)
 }
 
-/// The serial of the window that a command acts on, if it is open.
+/// The serial of the window that a command acts on, if that window is open.
 pub(crate) fn window_of(state: &State, caller: Caller) -> Option<u32>
     ensures { FindsWindow caller state.now result }
 {
@@ -39,7 +39,7 @@ pub(crate) fn window_of(state: &State, caller: Caller) -> Option<u32>
     Some(window.serial)
 }
 
-/// How a fault of a layout refuses a command.
+/// The refusal of a command, by a fault of a layout.
 pub(crate) fn refusal_of(fault: RegionFault) -> Refusal
     ensures { result ≡ refusal_of fault }
 {

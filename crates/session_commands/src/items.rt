@@ -7,7 +7,7 @@ use acl::UserId;
 use session_model::push_decimal;
 use std::alloc::AllocError;
 
-/// Appends what stands before an item of a list: two blanks, but nothing before the first one.
+/// Appends the separator before an item of a list: two blanks, but nothing before the first item.
 pub fn push_separator(is_first: bool, out: &mut Vec<u8>) -> Result<(), AllocError>
     ensures ok { OnOk result (out.new.items ≡ out.old.items ++ separator is_first) }
     ensures err { OnErr result (out.new.items ≡ out.old.items) }
@@ -41,8 +41,8 @@ fn push_window_parts(
     push_bytes(if is_readable { title } else { b"?" }, out)
 }
 
-/// Appends a window's item: its number, `*` where it is the one in focus, a blank and its title, or
-/// `?` for a title that isn't readable.
+/// Appends a window's item: its number, `*` if it is in focus, a blank and its title, or `?` if the
+/// title isn't readable.
 pub fn push_window(
     number: u8,
     is_in_focus: bool,
@@ -59,7 +59,7 @@ pub fn push_window(
     out.extend_from_slice(&made)
 }
 
-/// Appends a number, or `-` where there is none.
+/// Appends a number, or `-` if there is none.
 fn push_number(number: Option<u8>, out: &mut Vec<u8>) -> Result<(), AllocError>
     ensures { OnOk result (out.new.items ≡ out.old.items ++ number_or_dash number) }
 {

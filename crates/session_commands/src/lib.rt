@@ -1,5 +1,5 @@
-//! What commands do to windows, to their locks and to the page of the client that gives them; what
-//! they list, and what `wall` says.
+//! What commands do to windows, to locks and to the page of the client that gives them, what they
+//! list, and what `wall` says.
 #![tactic(auto)]
 
 mod entering;

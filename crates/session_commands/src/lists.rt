@@ -1,5 +1,5 @@
-//! Commands that only list. They change and make nothing, so that their rows hold with whatever a
-//! step has made before.
+//! Commands that only list. They change and make nothing, so what they answer doesn't depend on what
+//! a step has made before.
 
 ghost use Rattle.std.specs.Prelude.{◌≡◌};
 ghost use Rattle.command_lang.specs.command.Command.TheVariants as command;
@@ -22,7 +22,7 @@ fn focus_of(state: &State, caller: Caller) -> Option<u32>
     state.windows.get(serial).map(|window| window.serial)
 }
 
-/// `windows`: lists the windows as the caller may read them.
+/// `windows`: lists the windows. A title that the caller may not read is `?`.
 pub fn windows(state: &State, caller: Caller) -> Result<Option<Bytes>, Refusal>
     ensures { (made : StepOutput) → Does caller command.Windows state.now result state.now made made }
 {

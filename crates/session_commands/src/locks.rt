@@ -8,8 +8,8 @@ use acl::{Act, LockMode};
 use session_model::{Bytes, Refusal};
 use session_state::{Caller, State, StepOutput};
 
-/// `writelock`: sets the mode of the caller's window. The lock is then the caller's, or in mode off
-/// nobody's.
+/// `writelock`: sets the lock mode of the caller's window. Then the caller holds the lock, or nobody in
+/// mode off.
 pub fn writelock(
     state: &mut State,
     caller: Caller,
@@ -28,7 +28,7 @@ pub fn writelock(
     Ok(None)
 }
 
-/// `defwritelock`: sets the mode of windows that are opened later.
+/// `defwritelock`: sets the lock mode of windows that are opened later.
 pub fn defwritelock(
     state: &mut State,
     mode: LockMode,

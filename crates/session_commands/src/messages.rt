@@ -11,7 +11,7 @@ use session_model::{Bytes, Refusal};
 use session_state::{Caller, State, StepOutput};
 use std::alloc::{AllocError, Global};
 
-/// What a user says to all: `USER: TEXT`.
+/// The message of a user to all: `USER: TEXT`.
 fn said_by(alloc: Global, user: UserId, text: &[u8]) -> Result<Vec<u8>, AllocError>
     ensures { IfOk result (λ said. said.items ≡ name_of user ++ (codes ": " ++ text.now)) }
 {
@@ -22,7 +22,7 @@ fn said_by(alloc: Global, user: UserId, text: &[u8]) -> Result<Vec<u8>, AllocErr
     Ok(said)
 }
 
-/// `wall`: every client is told what the caller says.
+/// `wall`: tells every client the caller's message.
 pub fn wall(
     state: &mut State,
     caller: Caller,

@@ -1,5 +1,5 @@
-//! The page of the client that gives a command: which window its focused region shows, how it is
-//! split, which region has the focus, and how far that is scrolled back.
+//! Commands on the page of the client that gives them: which window the focused region shows, how the
+//! page is split, which region has the focus, and how far that is scrolled back.
 
 ghost use Rattle.std.specs.Prelude.{◌≡◌, ◌≢◌, IfErr};
 ghost use Rattle.command_lang.specs.command.Command.TheVariants as command;
@@ -9,15 +9,16 @@ ghost use Rattle.session_state.specs.Doing.{Does, DoesBy, GivesBy, IsSilent};
 ghost use Rattle.session_state.specs.Doing.{HasRoomToAct, HasRoomToLeave};
 ghost use Rattle.session_commands.specs.Giving.{IsFormer};
 ghost use Rattle.session_commands.specs.Entering.{Selects};
+ghost use Rattle.session_commands.specs.Scrolling.{scrolled};
 
 use crate::entering::enter_focused;
 use crate::giver::{number_of, refusal_of};
-use regions::{RegionFault, Shown, Way};
+use regions::{Layout, RegionFault, Shown, Way};
 use session_clients::Client;
 use session_model::{Bytes, Refusal, WindowsFault};
 use session_state::{Caller, State, StepOutput};
 
-/// A client's focused region shows an open window, and its user enters it.
+/// Shows an open window in a client's focused region. The client's user enters it.
 fn show(state: &mut State, client: u32, window: u32, made: &mut StepOutput)
     requires { HasRoomToAct made.old }
     ensures done { Selects client window state.old state.new made.old made.new }
@@ -27,11 +28,11 @@ fn show(state: &mut State, client: u32, window: u32, made: &mut StepOutput)
         window: Some(window),
         back: 0,
     };
-    state.clients.show(client, shown);
+    state.clients.on_page(client, |page| page.set_shown(shown));
     enter_focused(state, client, made);
 }
 
-/// `select`: shows the window that a word names, and its user enters it.
+/// `select`: shows the window that a word names. The user enters it.
 pub fn select(
     state: &mut State,
     client: u32,
@@ -52,7 +53,8 @@ pub fn select(
     Ok(None)
 }
 
-/// `next`: shows the window of the next higher number, cyclically.
+/// `next`: shows the window with the next higher number, and after the highest the lowest. The user
+/// enters it.
 pub fn next(
     state: &mut State,
     caller: Caller,
@@ -74,7 +76,8 @@ pub fn next(
     Ok(None)
 }
 
-/// `prev`: shows the window of the next lower number, cyclically.
+/// `prev`: shows the window with the next lower number, and after the lowest the highest. The user
+/// enters it.
 pub fn prev(
     state: &mut State,
     caller: Caller,
@@ -96,7 +99,8 @@ pub fn prev(
     Ok(None)
 }
 
-/// The window that a client's focused regions showed before: from an empty region the last one.
+/// The window that a client's focused regions showed before this one. If the focused region is empty,
+/// it is the last one that they showed.
 fn former_of(client: &Client) -> Option<u32>
     ensures { IsFormer client.now result }
 {
@@ -107,7 +111,7 @@ fn former_of(client: &Client) -> Option<u32>
     }
 }
 
-/// `other`: shows the window that was shown before, while it is open.
+/// `other`: shows the window that was shown before, if it is still open. The user enters it.
 pub fn other(
     state: &mut State,
     client: u32,
@@ -132,14 +136,14 @@ pub fn other(
     Ok(None)
 }
 
-/// Where the second half of a split goes.
+/// The side of the second half of a split.
 fn way_of(is_vertical: bool) -> Way
     ensures { result ≡ way_of is_vertical }
 {
     if is_vertical { Way::Right } else { Way::Below }
 }
 
-/// `split`: splits the focused region, whose second half is empty.
+/// `split`: splits the focused region in two halves. The second one is empty.
 pub fn split(
     state: &mut State,
     client: u32,
@@ -151,14 +155,23 @@ pub fn split(
         made.old made.new }
     ensures silent { IsSilent result state.old state.new made.old made.new }
 {
+    let Some(row) = state.clients.get(client) else {
+        return Err(Refusal::NoWindow);
+    };
+    let rows = row.shadow.rows();
+    let columns = row.shadow.columns();
+    let alloc = state.alloc;
     let way = way_of(is_vertical);
-    match state.clients.split(state.alloc, client, way) {
+    match state
+        .clients
+        .try_on_page(client, |page| page.split(alloc, way, rows, columns))
+    {
         Ok(()) => Ok(None),
         Err(fault) => Err(refusal_of(fault)),
     }
 }
 
-/// `focus`: gives the focus to the next region, and the user enters the window there.
+/// `focus`: gives the focus to the next region. The user enters the window there.
 pub fn focus(
     state: &mut State,
     client: u32,
@@ -169,13 +182,13 @@ pub fn focus(
     ensures silent { IsSilent result state.old state.new made.old made.new }
     ensures memory { IfErr result (λ refusal. refusal ≢ NoMemory) }
 {
-    state.clients.focus_next(client);
+    state.clients.on_page(client, |page| page.focus_next());
     enter_focused(state, client, made);
     Ok(None)
 }
 
-/// `remove`: closes the focused region, unless it is the last, and the user enters the window that
-/// is in focus then.
+/// `remove`: closes the focused region, unless it is the last one. The user enters the window that is
+/// in focus then.
 pub fn remove(
     state: &mut State,
     client: u32,
@@ -192,25 +205,33 @@ pub fn remove(
     if row.layout.shown().len() == 1 {
         return Err(Refusal::Regions(RegionFault::LastRegion));
     }
-    if let Err(_) = state.clients.remove_region(client) {
+    if let Err(_) = state.clients.try_on_page(client, |page| page.remove()) {
         return Err(Refusal::Regions(RegionFault::LastRegion));
     }
     enter_focused(state, client, made);
     Ok(None)
 }
 
-/// `only`: keeps the focused region alone.
+/// `only`: closes all regions but the focused one.
 pub fn only(state: &mut State, client: u32, made: &mut StepOutput) -> Result<Option<Bytes>, Refusal>
     requires { HasRoomToAct made.old }
     ensures answer { DoesBy client command.Only state.old result state.new made.old made.new }
     ensures silent { IsSilent result state.old state.new made.old made.new }
     ensures memory { IfErr result (λ refusal. refusal ≢ NoMemory) }
 {
-    state.clients.only(client);
+    state.clients.on_page(client, |page| page.only());
     Ok(None)
 }
 
-/// `scrollview`: the focused region is scrolled back so many lines.
+/// Scrolls a page's focused region back by this many lines.
+fn scroll_back(page: &mut Layout, back: u16)
+    ensures { page.new ≡ scrolled back page.old }
+{
+    let focused = page.focused();
+    page.set_shown(Shown { back, ..focused });
+}
+
+/// `scrollview`: scrolls the focused region back by a number of lines.
 pub fn scrollview(
     state: &mut State,
     client: u32,
@@ -223,6 +244,8 @@ pub fn scrollview(
     ensures silent { IsSilent result state.old state.new made.old made.new }
     ensures memory { IfErr result (λ refusal. refusal ≢ NoMemory) }
 {
-    state.clients.scroll_back(client, back);
+    state
+        .clients
+        .on_page(client, |page| scroll_back(page, back));
     Ok(None)
 }

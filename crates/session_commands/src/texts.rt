@@ -1,4 +1,4 @@
-//! What lists say of a session's state.
+//! The lists of windows and of clients.
 
 ghost use Rattle.std.specs.Prelude.{◌≡◌, IfOk, OnOk};
 ghost use Rattle.session_clients.specs.declared.client.Client.{Client};
@@ -16,7 +16,7 @@ use windows::{Window, Windows};
 /// The numbers of windows are below this.
 const NUMBERS: u16 = 40;
 
-/// Appends a window's item, as a user may read it.
+/// Appends a window's item, as this user may read it.
 fn push_item(
     state: &State,
     user: UserId,
@@ -39,8 +39,8 @@ fn push_item(
     )
 }
 
-/// The windows by rising numbers, as a user may read them: number, `*` at the window of this
-/// serial, title, or `?` for a title that he may not read.
+/// The list of the windows by their numbers, as a user may read it: number, `*` at the window with the
+/// serial `focus`, and title, or `?` if the user may not read the title.
 pub fn windows_text(state: &State, user: UserId, focus: Option<u32>) -> Result<Bytes, AllocError>
     ensures { IfOk result (SaysWindows state.now user focus) }
 {
@@ -66,7 +66,8 @@ fn number_shown(windows: &Windows, client: &Client) -> Option<u8>
     }
 }
 
-/// The clients by rising serials: serial, user, and the number of the window in focus, or `-`.
+/// The list of the clients by their serials: serial, user, and the number of the window in focus, or
+/// `-`.
 pub fn clients_text(state: &State) -> Result<Bytes, AllocError>
     ensures { IfOk result (SaysClients state.now) }
 {

@@ -1,4 +1,4 @@
-//! A window's title, its number, its size, and what is written to it.
+//! Commands on a window: its title, its number, its size, and what is written or typed to it.
 
 ghost use Rattle.std.specs.Prelude.{◌≡◌, ◌<◌, IfOk};
 ghost use Rattle.command_lang.specs.command.Command.TheVariants as command;
@@ -46,7 +46,7 @@ pub fn number(
     Ok(None)
 }
 
-/// `clear`: erases the page of a window, and goes home there.
+/// `clear`: erases a window's page, and moves its cursor home.
 pub fn clear(
     state: &mut State,
     window: u32,
@@ -60,7 +60,7 @@ pub fn clear(
     Ok(None)
 }
 
-/// `reset`: gives the terminal of a window all starting values.
+/// `reset`: gives a window's terminal the state that it began with.
 pub fn reset(
     state: &mut State,
     window: u32,
@@ -74,7 +74,7 @@ pub fn reset(
     Ok(None)
 }
 
-/// A coding of a command, as a window's bytes are read by it.
+/// The coding of a window's bytes, by the one that a command names.
 fn coding_of(coding: Coding) -> charsets::Coding
     ensures { result ≡ coding_of coding }
 {
@@ -84,7 +84,7 @@ fn coding_of(coding: Coding) -> charsets::Coding
     }
 }
 
-/// `encoding`: the bytes of a window are read in this coding from here on.
+/// `encoding`: a window's bytes are read in this coding from now on.
 pub fn encoding(
     state: &mut State,
     window: u32,
@@ -100,7 +100,7 @@ pub fn encoding(
     Ok(None)
 }
 
-/// `stuff`: these bytes are typed into a window.
+/// `stuff`: types bytes into a window.
 pub fn stuff(
     state: &mut State,
     window: u32,
@@ -133,7 +133,7 @@ fn focused_box(alloc: Global, client: &Client) -> Result<Rect, Refusal>
     }
 }
 
-/// `fit`: gives a window the size of the focused region, beside its caption.
+/// `fit`: gives a window the size of the focused region without its caption.
 pub fn fit(
     state: &mut State,
     caller: Caller,

@@ -1,14 +1,14 @@
-//! Commands that are given.
+//! How a command is checked and carried out.
 
 ghost use Rattle.std.specs.Prelude.{◌≡◌, true, Some, None, IfOk, IfErr};
 ghost use Rattle.std.specs.Option.{is_some};
 ghost use Rattle.session_state.specs.Doing.{Does, GivesBy, HasRoomToAct, IsAsBefore, IsSilent};
 ghost use Rattle.session_state.specs.Doing.{IsWhole};
 ghost use Rattle.session_model.specs.declared.refusal.Refusal.TheVariants.{NoWindow};
-ghost use Rattle.session_input.specs.Acting.{acts_on_client};
+ghost use Rattle.command_lang.specs.Needs.{needs};
 ghost use Rattle.session_input.specs.Ruled.{Rules};
 
-use command_lang::Command;
+use command_lang::{Command, needs_of};
 use session_access::{
     acladd, aclchg, acldel, aclgrp, aclgrp_of, aclumask, detach, kill, multiuser, quit,
 };
@@ -20,7 +20,7 @@ use session_commands::{
 use session_model::{Bytes, Refusal};
 use session_state::{Caller, State, Step, StepOutput};
 
-/// The window of a caller's command, by its serial.
+/// The serial of the window of a caller's command.
 fn window_of(caller: Caller) -> Result<u32, Refusal>
     ensures ok { IfOk result (λ window. caller.window ≡ Some window) }
     ensures err { IfErr result (λ refusal. (refusal ≡ NoWindow) × (caller.window ≡ None)) }
@@ -31,27 +31,7 @@ fn window_of(caller: Caller) -> Result<u32, Refusal>
     }
 }
 
-/// Whether a command acts on the client that gives it.
-fn is_of_client(command: &Command) -> bool
-    ensures { result ≡ acts_on_client command.now }
-{
-    matches!(
-        command,
-        Command::Detach
-            | Command::Select(_)
-            | Command::Next
-            | Command::Prev
-            | Command::Other
-            | Command::Split { .. }
-            | Command::Focus
-            | Command::Remove
-            | Command::Only
-            | Command::Fit
-            | Command::Scrollview(_)
-    )
-}
-
-/// What a command that acts on the client that gives it does.
+/// Carries out a command that needs a client, for the client that gives it.
 fn act_on_client(
     state: &mut State,
     caller: Caller,
@@ -61,7 +41,7 @@ fn act_on_client(
 ) -> Result<Option<Bytes>, Refusal>
     requires room { HasRoomToAct made.old }
     requires gives { GivesBy client state.old caller }
-    requires client { acts_on_client command.now ≡ true }
+    requires client { (needs command.now).client ≡ true }
     ensures answer { Does caller command.now state.old result state.new made.old made.new }
     ensures silent { IsSilent result state.old state.new made.old made.new }
 {
@@ -81,8 +61,7 @@ fn act_on_client(
     }
 }
 
-/// What a command does once its checks have passed: the deed of its row, for the client that gives
-/// it or the window that it acts on.
+/// Carries out a command whose checks have passed, for the client that gives it or for its window.
 #[tactic(auto, using(crate::proofs::Acting::silent_lists))]
 fn act(
     state: &mut State,
@@ -96,7 +75,8 @@ fn act(
         → IsAsBefore state.old state.new made.old made.new) }
     ensures whole { IsWhole result state.old state.new made.old made.new }
 {
-    if is_of_client(command) {
+    let needs = needs_of(command);
+    if needs.client {
         let client = client_of(state, caller)?;
         return act_on_client(state, caller, client, command, made);
     }
@@ -130,8 +110,8 @@ fn act(
     }
 }
 
-/// A command that is given: its checks are made, and then it does what its row says. A command that
-/// lists changes nothing; nor does a refusal, but for what was checked.
+/// Makes the checks of a command, and then carries it out. A command that lists changes nothing. A
+/// refusal changes nothing but the notes of what was checked.
 pub fn order(
     state: &mut State,
     caller: Caller,

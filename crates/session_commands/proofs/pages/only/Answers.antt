@@ -1,8 +1,10 @@
-use Rattle.std.proofs.Common.{refl}
+use Rattle.std.proofs.Common.{refl, rules}
 use Rattle.regions.specs.Layouts.{kept_alone}
 use Rattle.session_model.specs.Tables as model
 use Rattle.session_model.specs.Deeds.{arranges}
+use Rattle.session_clients.proofs.Keeping.{room_for_one}
 use Rattle.session_commands.proofs.Answering.{done_on}
+use Rattle.session_commands.proofs.Arranging.{arranged_by}
 use Rattle.session_commands.proofs.Paging.{giver_there, done_quietly}
 use Rattle.session_commands.proofs.pages.only.Goals as goal
 
@@ -11,5 +13,8 @@ returns-clause-answer c = λ k gives t st fit free.
     let by = giver_there t k c.args.client c.args.state.now st gives in
     done_on t k c.args.client by.0 by.1 _ (arranges t by.0 (kept_alone by.0.layout)) _ c.args.made.now c.args.made.now
     refl refl
-    (done_quietly t c.args.state.now c.only.new.self c.args.client by.0 (λ (d : model.Client). kept_alone d.layout)
-    c.args.made.now st by.1.at c.only.ensures)
+    (done_quietly t c.args.state.now c.on_page.new.self c.args.client by.0 (λ (d : model.Client). kept_alone d.layout)
+    c.args.made.now st by.1.at
+    (arranged_by kept_alone c.args.state.now.clients c.on_page.new.self c.args.client
+    (λ x is. let page = c.on_page.ensures.there x is in (page.0, search rules, page.2))
+    (λ m x s. room_for_one m.rows m.columns s.sized)))

@@ -1,9 +1,11 @@
-use Rattle.std.proofs.Common.{ℕ, Some, sym, subst}
+use Rattle.std.proofs.Common.{ℕ, Some, sym, subst, rules}
 use Rattle.regions.specs.declared.shown.Shown.{Shown}
+use Rattle.regions.specs.Layouts.{put_in_focus}
 use Rattle.session_model.specs.Tables as model
 use Rattle.session_model.specs.Deeds.{enters, showing}
 use Rattle.session_state.specs.Doing.{HasDone}
 use Rattle.session_commands.specs.Entering.{IsOpenThere}
+use Rattle.session_commands.proofs.Arranging.{arranged_by}
 use Rattle.session_commands.proofs.Paging.{done_entering}
 use Rattle.session_commands.proofs.Shown.{at_set}
 use Rattle.session_commands.proofs.pages.show.Goals as goal
@@ -14,6 +16,9 @@ returns-clause-done c = λ t m w st at serial there.
     subst
     (λ (n : ℕ). HasDone t (enters t m (showing m (record { window = Some n; back = 0 }))) c.enter_focused.new.state
     c.args.made.now c.enter_focused.new.made) (sym serial)
-    (done_entering t c.args.state.now c.show.new.self c.args.client m (λ (d : model.Client). showing d shown)
-    c.enter_focused.new.state c.args.made.now c.enter_focused.new.made st at c.show.ensures
+    (done_entering t c.args.state.now c.on_page.new.self c.args.client m (λ (d : model.Client). showing d shown)
+    c.enter_focused.new.state c.args.made.now c.enter_focused.new.made st at
+    (arranged_by (put_in_focus shown) c.args.state.now.clients c.on_page.new.self c.args.client
+    (λ x is. let page = c.on_page.ensures.there x is in (page.0, search rules, page.2))
+    (λ k x s. s.room))
     c.enter_focused.ensures.done (at_set (IsOpenThere t) m.layout.shown m.layout.focus shown tt there))

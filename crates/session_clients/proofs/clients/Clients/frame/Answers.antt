@@ -1,6 +1,6 @@
 use Rattle.std.proofs.Common.{sym}
 use Rattle.serial_rows.proofs.Serials.{if_ok}
-use Rattle.session_clients.proofs.Drawing.{found_shows, found_nobody, none_then}
+use Rattle.session_clients.proofs.Drawing.{found_shows, none_then}
 use Rattle.session_clients.proofs.clients.Clients.frame.Goals as goal
 
 pub returns-clause-needless : goal.returns-clause-needless
