@@ -1,2 +1,3 @@
 pub mod Circles
 pub mod ShutOut
+mod Texts

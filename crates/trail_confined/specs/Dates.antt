@@ -64,9 +64,11 @@ fraction_text ms =
     else if ms % 10 == 0 then 0x2E ∷ digit (ms / 100) ∷ digit (ms / 10) ∷ []
     else 0x2E ∷ digit (ms / 100) ∷ digit (ms / 10) ∷ digit ms ∷ []
 
+abbrev pub end_text : ℕ → List ℕ
+end_text ms = fraction_text ms ++ codes "Z"
+
 abbrev pub time_text : ℕ → List ℕ
-time_text ms =
-    date_text (ms / 86400000) ++ (codes "T" ++ (clock_text ms ++ (fraction_text ms ++ codes "Z")))
+time_text ms = date_text (ms / 86400000) ++ (codes "T" ++ (clock_text ms ++ end_text ms))
 
 abbrev pub day_text : ℕ → List ℕ
 day_text ms = if nat_lt ms 253402300800000 then date_text (ms / 86400000) else decimal ms

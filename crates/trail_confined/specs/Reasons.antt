@@ -39,9 +39,11 @@ decider_text d = found_text d.user d.found
 abbrev pub yes_text : Bool → List ℕ
 yes_text has_bit = if has_bit then codes "yes\n" else codes "no\n"
 
+abbrev pub is_owner_text : UserId → List ℕ
+is_owner_text user = name_of user ++ codes ": the owner\n"
+
 abbrev pub owner_text : UserId → UserId → List ℕ
-owner_text owner user =
-    if same_user user owner then name_of user ++ codes ": the owner\n" else []
+owner_text owner user = if same_user user owner then is_owner_text user else []
 
 -- whether a user has a bit, and what decides it; None if the object isn't there
 abbrev pub answer_text : UserId → UserId → Option Bool → List Decider → List ℕ

@@ -27,7 +27,7 @@ use Rattle.trail_rights.specs.Settling.{settler_in}
 use Rattle.trail_confined.specs.declared.premises.Premise.{Premise}
 use Rattle.trail_confined.specs.declared.premises.Premise.TheVariants as premise
 use Rattle.trail_confined.specs.Confining.{circle, concerns}
-use Rattle.trail_confined.specs.Reasons.{found_text}
+use Rattle.trail_confined.specs.Reasons.{found_text, is_owner_text}
 
 -- ---- bits
 
@@ -89,7 +89,7 @@ givers_text deciders c users =
     flat_map (giver_text deciders c (not (any_gives deciders c users))) users
 
 abbrev pub owner_text : UserId → List ℕ
-owner_text owner = codes "  " ++ (name_of owner ++ codes ": the owner\n")
+owner_text owner = codes "  " ++ is_owner_text owner
 
 abbrev pub power_text : Edition → UserId → History → List Decider → UserId → CommandName → List ℕ
 power_text edition owner h deciders user c =

@@ -2,7 +2,7 @@
 
 ghost use Rattle.std.specs.Prelude.{◌≡◌, ◌++◌, ◌<◌, ◌≤◌, ◌/◌, OnOk};
 ghost use Rattle.trail_confined.specs.Dates.{carry, clock_text, date_text, day_of_era, day_of_month, day_text};
-ghost use Rattle.trail_confined.specs.Dates.{day_of_year, digit, era_of, fraction_text, month_index};
+ghost use Rattle.trail_confined.specs.Dates.{day_of_year, digit, end_text, era_of, fraction_text, month_index};
 ghost use Rattle.trail_confined.specs.Dates.{month_of, time_text, two, when_text, year_of};
 ghost use Rattle.trail_confined.specs.Dates.{year_of_era};
 
@@ -141,6 +141,14 @@ fn push_fraction(ms: u64, out: &mut Vec<u8>) -> Result<(), AllocError>
     out.extend_from_slice(&[b'.', digit(ms / 100), digit(ms / 10), digit(ms)])
 }
 
+/// Appends the thousandths of a second, and the sign of UTC.
+fn push_end(ms: u64, out: &mut Vec<u8>) -> Result<(), AllocError>
+    ensures { OnOk result (out.new.items ≡ out.old.items ++ end_text ms) }
+{
+    push_fraction(ms, out)?;
+    out.extend_from_slice(b"Z")
+}
+
 /// Appends a time.
 fn push_time(ms: u64, out: &mut Vec<u8>) -> Result<(), AllocError>
     requires { ms / 86400000 < 2932897 }
@@ -149,8 +157,7 @@ fn push_time(ms: u64, out: &mut Vec<u8>) -> Result<(), AllocError>
     push_date(ms / DAY, out)?;
     out.extend_from_slice(b"T")?;
     push_clock(ms, out)?;
-    push_fraction(ms, out)?;
-    out.extend_from_slice(b"Z")
+    push_end(ms, out)
 }
 
 /// Appends words and a time in milliseconds since 1970, or nothing if its year has more than four

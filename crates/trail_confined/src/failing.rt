@@ -15,7 +15,7 @@ ghost use Rattle.trail_confined.specs.Telling.{setting_text, settled_by, yes_tex
 
 use crate::confined::is_confined;
 use crate::premises::{CHANGERS, Premise, push_circle};
-use crate::why::push_found;
+use crate::why::{push_found, push_is_owner};
 use acl::{Act, Bit, CommandName, Object, UserId};
 use command_lang::name_text;
 use hub_check::Replay;
@@ -228,8 +228,7 @@ fn push_owner(owner: UserId, out: &mut Vec<u8>) -> Result<(), AllocError>
     ensures { OnOk result (out.new.items ≡ out.old.items ++ owner_text owner) }
 {
     out.extend_from_slice(b"  ")?;
-    out.extend_from_slice(owner.as_bytes())?;
-    out.extend_from_slice(b": the owner\n")
+    push_is_owner(owner, out)
 }
 
 /// Appends by which acts a user has x on a command: the user's own, and their leaders'.

@@ -7,7 +7,7 @@ ghost use Rattle.acl.specs.declared.user_id.UserId.{UserId};
 ghost use Rattle.acl.specs.History.{History};
 ghost use Rattle.hub_check.specs.Following.{StandsAfter};
 ghost use Rattle.trail_confined.specs.Reasons.{answer_of, answer_text, cause_text, decider_text};
-ghost use Rattle.trail_confined.specs.Reasons.{found_text, giver_text, is_there, mark_text, owner_text};
+ghost use Rattle.trail_confined.specs.Reasons.{found_text, giver_text, is_owner_text, is_there, mark_text, owner_text};
 ghost use Rattle.trail_confined.specs.Reasons.{reasons_text, yes_text};
 ghost use Rattle.trail_rights.specs.Windows.{windows_of};
 
@@ -140,13 +140,20 @@ fn push_yes(has_bit: bool, out: &mut Vec<u8>) -> Result<(), AllocError>
     }
 }
 
+/// Appends that a user is the owner.
+pub fn push_is_owner(user: UserId, out: &mut Vec<u8>) -> Result<(), AllocError>
+    ensures { OnOk result (out.new.items ≡ out.old.items ++ is_owner_text user) }
+{
+    out.extend_from_slice(user.as_bytes())?;
+    out.extend_from_slice(b": the owner\n")
+}
+
 /// Appends that a user is the owner, if they are.
 fn push_owner(owner: UserId, user: UserId, out: &mut Vec<u8>) -> Result<(), AllocError>
     ensures { OnOk result (out.new.items ≡ out.old.items ++ owner_text owner user) }
 {
     if user == owner {
-        out.extend_from_slice(user.as_bytes())?;
-        out.extend_from_slice(b": the owner\n")
+        push_is_owner(user, out)
     } else {
         Ok(())
     }

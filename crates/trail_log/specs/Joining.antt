@@ -80,9 +80,10 @@ goes_on l next =
 
 -- the number of bytes of both lines, if both have one, below 4 GiB each
 abbrev pub sum_of : Option ℕ → Option ℕ → Option ℕ
+sum_of None more = None
+sum_of (Some count) None = None
 sum_of (Some count) (Some more) =
     if nat_lt count 4294967296 && nat_lt more 4294967296 then Some (count + more) else None
-sum_of _ _ = None
 
 -- the number of bytes of both lines, if they are joined
 abbrev pub joined : LogLine → LogLine → Option ℕ

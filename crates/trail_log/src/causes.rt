@@ -3,8 +3,7 @@
 ghost use Rattle.std.specs.Prelude.{◌≡◌, ◌++◌, OnOk, codes};
 ghost use Rattle.std.specs.List.{flat_map};
 ghost use Rattle.session_model.specs.Texts.{leader_text, letter, missing_text};
-ghost use Rattle.trail_log.specs.Causes.{cause_text, check_cause, entry_cause, lock_cause};
-ghost use Rattle.trail_log.specs.Causes.{refused_verb};
+ghost use Rattle.trail_log.specs.Causes.{cause_text, check_cause, entry_cause, lock_cause, refused_verb};
 
 use acl::{Bit, Leaders, UserId};
 use session_model::{EntryDenied, Refusal, Verdict};

@@ -1,8 +1,8 @@
 //! The checks of an entry: which of them are before those of a command, and what they name.
 
 ghost use Rattle.std.specs.Prelude.{◌≡◌};
-ghost use Rattle.trail_log.specs.Checks.{asks_title, before_command, command_by, command_text};
-ghost use Rattle.trail_log.specs.Checks.{is_title, window_in, window_of};
+ghost use Rattle.trail_log.specs.Checks.{asks_title, before_command, command_by, command_text, is_title, window_in};
+ghost use Rattle.trail_log.specs.Checks.{window_of};
 
 use acl::{CommandName, Object};
 use command_lang::name_text;

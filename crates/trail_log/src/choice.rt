@@ -3,9 +3,8 @@
 ghost use Rattle.std.specs.Prelude.{◌≡◌, ◌||◌, option_map};
 ghost use Rattle.hub_record.specs.Stored.{kept_lent};
 ghost use Rattle.trail_lines.specs.Entries.{said};
-ghost use Rattle.trail_log.specs.Choosing.{acts_on, checks, closes, giver, has_title, is_chosen};
-ghost use Rattle.trail_log.specs.Choosing.{is_of_wanted, is_of_window, is_user, is_wanted, opens};
-ghost use Rattle.trail_log.specs.Choosing.{window_of_act};
+ghost use Rattle.trail_log.specs.Choosing.{acts_on, checks, closes, giver, has_title, is_chosen, is_of_wanted};
+ghost use Rattle.trail_log.specs.Choosing.{is_of_window, is_user, is_wanted, opens, window_of_act};
 
 use crate::checks::window_of;
 use crate::names::Names;

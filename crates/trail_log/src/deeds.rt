@@ -4,8 +4,8 @@ ghost use Rattle.std.specs.Prelude.{◌≡◌, ◌++◌, OnOk, codes, decimal};
 ghost use Rattle.hub_check.specs.Clients.{user_in};
 ghost use Rattle.hub_record.specs.Stored.{kept_lent};
 ghost use Rattle.trail_log.specs.Causes.{cause_text};
-ghost use Rattle.trail_log.specs.Lines.{attach_text, client_text, closed_text, command_line};
-ghost use Rattle.trail_log.specs.Lines.{deed_text, detach_text, ended_text, open_text};
+ghost use Rattle.trail_log.specs.Lines.{attach_text, client_text, closed_text, command_line, deed_text, detach_text};
+ghost use Rattle.trail_log.specs.Lines.{ended_text, open_text};
 
 use crate::causes::{push_cause, refused_verb};
 use crate::checks::window_in;

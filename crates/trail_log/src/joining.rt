@@ -2,9 +2,8 @@
 
 ghost use Rattle.std.specs.Prelude.{◌≡◌, ◌++◌, IfOk, OnOk, option_map};
 ghost use Rattle.trail_lines.specs.Entries.{said};
-ghost use Rattle.trail_log.specs.Joining.{goes_on, grown, held_ms, held_text, held_with, joined};
-ghost use Rattle.trail_log.specs.Joining.{ms_before, next_held, next_ms, next_text, sum_in, sum_of};
-ghost use Rattle.trail_log.specs.Joining.{text_before};
+ghost use Rattle.trail_log.specs.Joining.{goes_on, grown, held_ms, held_text, held_with, joined, ms_before};
+ghost use Rattle.trail_log.specs.Joining.{next_held, next_ms, next_text, sum_in, sum_of, text_before};
 
 use crate::choice::Choice;
 use crate::log_line::{LogLine, line_of, push_line};
@@ -33,10 +32,15 @@ fn goes_on(line: &LogLine, next: &LogLine) -> bool
 fn sum_of(count: Option<u64>, more: Option<u64>) -> Option<u64>
     ensures { result ≡ sum_of count more }
 {
-    match (count, more) {
-        (Some(count), Some(more)) if count < MANY && more < MANY => Some(count + more),
-        _ => None,
+    let count = count?;
+    let more = more?;
+    if count >= MANY {
+        return None;
     }
+    if more >= MANY {
+        return None;
+    }
+    Some(count + more)
 }
 
 /// The number of bytes of both lines, if they are joined.

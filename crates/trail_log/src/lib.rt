@@ -1,5 +1,4 @@
-//! The log of a trail for people: a line an entry, and one line for bytes that a user types one after
-//! another; of all entries, or of a user, a window or a time.
+//! The log of a trail for people: a line an entry, but one line for bytes that a user types in a row.
 #![tactic(auto)]
 
 mod causes;

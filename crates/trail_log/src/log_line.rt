@@ -3,8 +3,8 @@
 ghost use Rattle.std.specs.Prelude.{◌≡◌, ◌++◌, ◌∷◌, [], IfOk, OnOk};
 ghost use Rattle.hub_record.specs.Stored.{kept_lent};
 ghost use Rattle.trail_lines.specs.Entries.{said};
-ghost use Rattle.trail_log.specs.Joining.{bytes_text, deed_line, line_of, line_text, plain_text};
-ghost use Rattle.trail_log.specs.Joining.{typed_head, typed_in, typed_line};
+ghost use Rattle.trail_log.specs.Joining.{bytes_text, deed_line, line_of, line_text, plain_text, typed_head};
+ghost use Rattle.trail_log.specs.Joining.{typed_in, typed_line};
 
 use crate::checks::window_in;
 use crate::deeds::{push_client, push_deed};
@@ -39,8 +39,11 @@ fn typed_in(event: KeptRef<'_>, verdicts: &[Verdict], ending: Ending) -> Option<
     let Ok(finished) = ending else {
         return None;
     };
-    match (event, from_command(verdicts)) {
-        (KeptRef::Keys { client }, []) => Some((client, finished.taken)),
+    match event {
+        KeptRef::Keys { client } => match from_command(verdicts) {
+            [] => Some((client, finished.taken)),
+            [_, ..] => None,
+        },
         _ => None,
     }
 }

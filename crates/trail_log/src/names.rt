@@ -4,9 +4,8 @@ ghost use Rattle.std.specs.Prelude.{◌≡◌, IfOk, OnOk, Some};
 ghost use Rattle.hub_check.specs.Clients.{user_in};
 ghost use Rattle.hub_record.specs.Stored.{kept_lent};
 ghost use Rattle.trail_lines.specs.Entries.{said};
-ghost use Rattle.trail_log.specs.Naming.{change_by, follow, follow_all, line_by, names_with};
-ghost use Rattle.trail_log.specs.Naming.{nobody, retitled, some_title, title_said, typed_change};
-ghost use Rattle.trail_log.specs.Naming.{with_change};
+ghost use Rattle.trail_log.specs.Naming.{change_by, follow, follow_all, line_by, names_with, nobody, retitled};
+ghost use Rattle.trail_log.specs.Naming.{some_title, title_said, typed_change, with_change};
 
 use crate::checks::{asks_title, window_in};
 use crate::titles::{Titled, follow_titles, forget, set_title};

@@ -1,8 +1,8 @@
 //! What a log tells of keys: bytes that were typed, and then a command.
 
 ghost use Rattle.std.specs.Prelude.{◌≡◌, ◌++◌, OnOk};
-ghost use Rattle.trail_log.specs.Lines.{asked_by, asked_text, count_text, keys_text, pressed_text};
-ghost use Rattle.trail_log.specs.Lines.{typed_by, typed_rest, typed_text, typed_verb};
+ghost use Rattle.trail_log.specs.Lines.{asked_by, asked_text, count_text, keys_text, pressed_text, typed_by};
+ghost use Rattle.trail_log.specs.Lines.{typed_rest, typed_text, typed_verb};
 
 use crate::causes::{push_cause, push_check};
 use crate::checks::{before_command, command_text, window_in};
