@@ -52,7 +52,7 @@ impl Part {
             Part::Input => f.write_str("can't read standard input: "),
             Part::Output => f.write_str("can't write to standard output: "),
             Part::Stream => write!(f, "lost the server at {}: ", words.socket),
-            Part::Other => Ok(()),
+            Part::Other => write!(f, "{}: ", words.place()),
         }
     }
 
@@ -85,8 +85,8 @@ pub fn gone(why: Why) -> &'static str {
         Why::Killed => "the window was killed",
         Why::Quit => "the session has ended",
         Why::TooFarBehind => "too far behind: the server's output wasn't read in time",
-        Why::Fault => "the server found a fault or ran out of memory: see its log",
-        Why::TrailFull => "the session's trail is full: start another session",
+        Why::Fault => "the server found a fault or ran out of memory",
+        Why::TrailFull => "the session's trail is full",
     }
 }
 
@@ -134,6 +134,16 @@ impl Told<'_> {
         }
     }
 
+    // Why the server let the peer go, which peer it was, and what to do.
+    fn gone<W: fmt::Write>(&self, why: Why, f: &mut fmt::Formatter<W>) -> fmt::Result {
+        write!(f, "{}: {}", gone(why), self.words.place())?;
+        f.write_str(match why {
+            Why::Fault => ": see the server's log",
+            Why::TrailFull => ": start another session",
+            _ => "",
+        })
+    }
+
     // A fault of the token's file.
     fn token<W: fmt::Write>(&self, f: &mut fmt::Formatter<W>) -> fmt::Result {
         let token = self.words.token;
@@ -141,7 +151,7 @@ impl Told<'_> {
             Fault::Writable => write!(f, "others may write the token's file: chmod go-w {token}"),
             _ => write!(
                 f,
-                "no token in {token}: it must have 64 digits of 0 to 9, a to f, and no more"
+                "no token in {token}: the file must have 64 digits of 0 to 9 and a to f, and nothing else"
             ),
         }
     }
@@ -150,15 +160,17 @@ impl Told<'_> {
 impl fmt::Display for Told<'_> {
     fn fmt<W: fmt::Write>(&self, f: &mut fmt::Formatter<W>) -> fmt::Result {
         match self.fault {
-            Fault::TooLong => f.write_str(
-                "the arguments are too long: a name has up to 255 bytes, a command some 8,000",
+            Fault::TooLong => write!(
+                f,
+                "the arguments are too long: {}: a name has at most 255 bytes, a command about 8,000",
+                self.words.place()
             ),
             Fault::Writable | Fault::NoToken => self.token(f),
             Fault::NoServer | Fault::NoServerOfOurs | Fault::NoAnswer | Fault::Ended => {
                 self.server(f)
             }
-            Fault::Gone(why) => f.write_str(gone(why)),
-            Fault::NoMemory => f.write_str("out of memory"),
+            Fault::Gone(why) => self.gone(why, f),
+            Fault::NoMemory => write!(f, "out of memory: {}", self.words.place()),
             Fault::Refused(part, error) => {
                 part.write(self.words, f)?;
                 write_error(error, f)?;

@@ -1,4 +1,4 @@
-//! What refusals mean that are a number or a bad size.
+//! What refusals mean that are a number or a bad size, and what was refused.
 
 use crate::words::{Way, Words};
 use program_words::explain as explain_number;
@@ -15,10 +15,23 @@ fn bounds(way: Way) -> &'static [u8] {
     }
 }
 
-/// Writes what a refusal means, in parentheses behind its text; nothing where the text says it.
+// Whether a terminal shows each byte of a command line as itself.
+fn is_plain(line: &str) -> bool {
+    line.as_bytes()
+        .iter()
+        .all(|byte| 0x20 <= *byte && *byte <= 0x7E)
+}
+
+/// Writes what follows a refusal's text: in parentheses what it means, if it is a number or a bad
+/// size, and then what was refused, which is the command line, or the user at the socket.
 pub fn explain<E: Write>(said: &str, words: &Words<'_>, errors: &mut E) -> io::Result<()> {
     if said == "bad size" {
-        return errors.write_all(bounds(words.way));
+        errors.write_all(bounds(words.way))?;
+    } else {
+        explain_number(said, words.line, errors)?;
     }
-    explain_number(said, words.line, errors)
+    if words.way.is_command() && is_plain(words.line) {
+        return write!(errors, ": {}", words.line);
+    }
+    write!(errors, ": {}", words.place())
 }

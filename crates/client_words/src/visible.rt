@@ -2,7 +2,8 @@
 
 ghost use Rattle.std.specs.Prelude.{◌≡◌, ◌++◌, ◌<◌, ℕ, List, IfOk, OnOk, if◌then◌else◌, false, [], ◌∷◌};
 ghost use Rattle.std.specs.List.{list_any};
-ghost use Rattle.client_words.specs.Visible.{is_control, is_lead, is_second, digit, escaped, shown, visible, has_c1, put_now, holds_after};
+ghost use Rattle.client_words.specs.Visible.{is_control, is_lead, is_second, digit, escaped, shown};
+ghost use Rattle.client_words.specs.Visible.{visible, has_c1, put_now, holds_after};
 
 use std::alloc::AllocError;
 

@@ -4,6 +4,7 @@ use attach_proto::{Bytes, Message, Text, Token, WriteFault, write_message};
 use clap::ArgMatches;
 use program_words::{of_client, tell};
 use std::alloc::{AllocError, Global};
+use std::fmt;
 use std::io::Write;
 
 /// What a peer is to the server.
@@ -128,6 +129,14 @@ impl<'a> Words<'a> {
         }
     }
 
+    /// The user and the socket.
+    pub fn place(&self) -> Place<'a> {
+        Place {
+            user: self.user,
+            socket: self.socket,
+        }
+    }
+
     // The first message, with this token. None for a ping.
     fn first(&self, alloc: Global, token: Token) -> Result<Option<Message>, AllocError> {
         let name = Text::of(alloc, self.user)?;
@@ -147,6 +156,23 @@ impl<'a> Words<'a> {
             Ok(None) => Ok(Vec::new(alloc)),
             Err(error) => Err(WriteFault::from(error)),
         }
+    }
+}
+
+/// Where a peer is, as messages name it: `USER at SOCKET`, or the socket alone for a ping.
+#[derive(Clone, Copy)]
+pub struct Place<'a> {
+    user: &'a str,
+    socket: &'a str,
+}
+
+impl fmt::Display for Place<'_> {
+    fn fmt<W: fmt::Write>(&self, f: &mut fmt::Formatter<W>) -> fmt::Result {
+        let Place { user, socket } = *self;
+        if user.is_empty() {
+            return f.write_str(socket);
+        }
+        write!(f, "{user} at {socket}")
     }
 }
 

@@ -11,7 +11,9 @@ use Rattle.clap.specs.declared.builder.ArgAction.TheVariants.{SetTrue}
 use Rattle.clap.specs.declared.builder.value_parser.ValueParser.TheVariants.{Signed}
 use Rattle.session_model.specs.Trace.{begun}
 use Rattle.setup_lines.specs.Lines.{commands_in, first_fault}
+use Rattle.setup_lines.specs.declared.SetupLine.{SetupLine}
 use Rattle.session.specs.Played.{PlaysAll}
+use Rattle.session_setup.specs.declared.Beginning.{Beginning}
 use Rattle.session_setup.specs.Setup.{Behind}
 
 -- ---- muxsim [--edition N] [--setup FILE] [--show] [--trail FILE] OWNER
@@ -59,6 +61,11 @@ pub record Asks (words : List Text) (groups : Edition) (name : UserId) (shows : 
   pub owner_is :
       option_and_then named_by (first_of (codes "owner") (matches_of muxsim words)) ≡ Some name
   pub shows_is : one_of (codes "show") (matches_of muxsim words) ≡ Some (flag_text shows)
+
+-- a session begins with this edition, this owner and this setup
+abbrev pub IsBeginning : Edition → UserId → List SetupLine → Option Beginning → Type 0
+IsBeginning groups name lines None = ⊥
+IsBeginning groups name lines (Some b) = (b.edition ≡ groups) × (b.owner ≡ name) × (b.setup.now ≡ lines)
 
 -- what the setup may be: empty if the arguments name no file
 abbrev pub MayHave : List Text → List ℕ → Type 0

@@ -12,10 +12,10 @@ use thiserror::Error;
 #[derive(Debug, Drop, Error)]
 pub enum Fault {
     /// The line of this number, counted from 1, is no event.
-    #[error("line {0}: not understood")]
+    #[error("not an event: line {0} of the script: see muxsim(1)")]
     NotUnderstood(u64),
     /// A read or a write failed, or memory ran out for it.
-    #[error("{0}")]
+    #[error("can't play the script: {0}")]
     Io(io::Error),
     /// There was no memory.
     #[error("out of memory")]

@@ -11,8 +11,8 @@ use crate::fault::Fault;
 use crate::player::play;
 use crate::setup::{SetupUnread, setup_of};
 use crate::words::{edition_of, owner_of, read_words};
-use clap::Error;
 use clap::error::ErrorKind;
+use clap::{ArgMatches, Error};
 use program_words::RefusedLine;
 use session_setup::{Beginning, Unbegun};
 use setup_lines::{SetupFault, SetupLine, read_setup};
@@ -85,7 +85,7 @@ pub fn simulate_behind<R: Read + Drop, W: Write, E: Write>(
         Err(error) => return tell(&error, writer, errors),
     };
     let Some(owner) = owner_of(&matches) else {
-        let _ = writeln!(errors, "muxsim: the owner is no name");
+        report_owner(&matches, errors);
         return 2;
     };
     let file = matches.get_str("setup").unwrap_or("");
@@ -107,6 +107,15 @@ pub fn simulate_behind<R: Read + Drop, W: Write, E: Write>(
         Ok(()) => 0,
         Err(fault) => report(&fault, errors),
     }
+}
+
+/// Writes that the owner isn't a valid name.
+fn report_owner<E: Write>(matches: &ArgMatches, errors: &mut E) {
+    let owner = matches.get_str("owner").unwrap_or("");
+    let _ = writeln!(
+        errors,
+        "muxsim: invalid owner: {owner}: a name has 1 to 20 of a-z, 0-9 and _, and begins with a letter"
+    );
 }
 
 /// The text of the line of a setup that has this number.

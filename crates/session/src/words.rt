@@ -1,13 +1,15 @@
 //! The arguments of the simulator.
 
-ghost use Rattle.std.specs.Prelude.{◌≡◌, true, false, Some, IfOk, IfErr, map, codes};
+ghost use Rattle.std.specs.Prelude.{◌≡◌, Bool, true, false, Some, IfOk, IfErr, map, codes};
 ghost use Rattle.std.specs.Prelude.{option_and_then, option_map};
 ghost use Rattle.std.specs.String.{string_bytes};
 ghost use Rattle.acl.specs.declared.edition.Edition.{Edition as Groups};
+ghost use Rattle.acl.specs.declared.user_id.UserId.{UserId as Owner};
 ghost use Rattle.acl.specs.Names.{named_by};
 ghost use Rattle.clap.specs.Words.{found_of, kind_of, rows_of, matches_of, takes, first_of};
 ghost use Rattle.clap.specs.Words.{one_text, rule_of};
 ghost use Rattle.session.specs.Words.{muxsim, edition, setup, show, trail, owner, edition_text};
+ghost use Rattle.session.specs.Words.{Asks, IsBeginning};
 
 use acl::{Edition, UserId};
 use clap::error::ErrorKind;
@@ -119,7 +121,11 @@ pub fn beginning_of<'a>(
     alloc: Global,
     words: &[String],
     setup: &'a [SetupLine<'a>],
-) -> Result<Option<Beginning<'a>>, AllocError> {
+) -> Result<Option<Beginning<'a>>, AllocError>
+    ensures { (groups : Groups) (name : Owner) (shows : Bool)
+        → Asks (map string_bytes words.now) groups name shows
+        → IfOk result (IsBeginning groups name setup.now) }
+{
     let matches = match read_words(alloc, words) {
         Ok(matches) => matches,
         Err(error) if error.kind() == ErrorKind::OutOfMemory => return Err(AllocError),
