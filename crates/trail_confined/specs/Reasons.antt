@@ -62,6 +62,9 @@ reasons_text edition owner h q deciders =
 
 -- ---- as the code has it
 
+abbrev pub is_listed : List ℕ → ℕ → Bool
+is_listed windows w = list_any (λ x. x == w) windows
+
 abbrev pub is_there : List ℕ → Object → Bool
-is_there windows (Window w) = list_any (λ x. x == w) windows
+is_there windows (Window w) = is_listed windows w
 is_there windows (Command c) = true

@@ -7,8 +7,8 @@ ghost use Rattle.acl.specs.declared.user_id.UserId.{UserId};
 ghost use Rattle.acl.specs.History.{History};
 ghost use Rattle.hub_check.specs.Following.{StandsAfter};
 ghost use Rattle.trail_confined.specs.Reasons.{answer_of, answer_text, cause_text, decider_text};
-ghost use Rattle.trail_confined.specs.Reasons.{found_text, giver_text, is_owner_text, is_there, mark_text, owner_text};
-ghost use Rattle.trail_confined.specs.Reasons.{reasons_text, yes_text};
+ghost use Rattle.trail_confined.specs.Reasons.{found_text, giver_text, is_listed, is_owner_text, is_there};
+ghost use Rattle.trail_confined.specs.Reasons.{mark_text, owner_text, reasons_text, yes_text};
 ghost use Rattle.trail_rights.specs.Windows.{windows_of};
 
 use crate::dates::push_when;
@@ -68,12 +68,24 @@ fn command_of(name: &[u8]) -> Option<CommandName> {
     None
 }
 
+/// Whether a window is in a list.
+fn is_listed(windows: &[u32], window: u32) -> bool
+    ensures { result ≡ is_listed windows.now window }
+{
+    for other in windows {
+        if *other == window {
+            return true;
+        }
+    }
+    false
+}
+
 /// Whether an object is there: a command, or one of the windows that are open.
 fn is_there(windows: &[u32], object: Object) -> bool
     ensures { result ≡ is_there windows.now object }
 {
     match object {
-        Object::Window(window) => windows.iter().any(|other| *other == window),
+        Object::Window(window) => is_listed(windows, window),
         Object::Command(_) => true,
     }
 }

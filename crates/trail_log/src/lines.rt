@@ -39,7 +39,7 @@ fn push_why(ended: &Ended, out: &mut Vec<u8>) -> Result<(), AllocError>
     ensures { OnOk result (out.new.items ≡ out.old.items ++ end_text ended.now) }
 {
     out.extend_from_slice(b" the session ended: ")?;
-    push_text(ended.cause.word(), out)
+    out.extend_from_slice(ended.cause.word())
 }
 
 /// Appends the line of a trail's end: when it ended, and why.

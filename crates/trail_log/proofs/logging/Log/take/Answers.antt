@@ -7,8 +7,8 @@ use Rattle.trail_log.specs.Naming.{names_with, nobody}
 use Rattle.trail_log.proofs.Logged.{entries_more, names_more}
 use Rattle.trail_log.proofs.logging.Log.take.Goals as goal
 
-pub returns : goal.returns
-returns c = λ edition owner xs w.
+pub returns-clause-tells : goal.returns-clause-tells
+returns-clause-tells c = λ edition owner xs w.
     let t = c.in_ok-said.ensures.tells edition owner (entries_in xs) w.read in
     let next = said c.in_ok-said.said in
     let choice = c.args.choice.now in
