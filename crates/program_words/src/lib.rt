@@ -1,4 +1,4 @@
-//! The words of the programs: those that they are given, those that they take, and what refusals mean.
+//! The programs' arguments, with their help, and what the numbers of refusals mean.
 #![tactic(auto)]
 
 mod arguments;

@@ -1,4 +1,4 @@
-//! The words of `mux`.
+//! The arguments of `mux`.
 
 use crate::table::{Kind, MOST, Need, Program, VERSION, Way, Word, matches_of};
 use clap::{ArgMatches, Error};
@@ -12,7 +12,7 @@ const EXAMPLE: &str = "Example, beside that of muxd:
     --rows 24 --cols 80; stty sane
   mux command --socket socket --user ann --token ann.token quit";
 
-/// Who asks: each way but ping has these.
+/// The user who asks. Each way but ping has it.
 const USER: Word = Word {
     name: "user",
     kind: Kind::Text {
@@ -22,17 +22,17 @@ const USER: Word = Word {
     help: "The user's name",
 };
 
-/// The user's token.
+/// The file with the user's token. Each way but ping has it.
 const TOKEN: Word = Word {
     name: "token",
     kind: Kind::Text {
         value: "PATH",
         need: Need::Needed,
     },
-    help: "A file of the user's token: 64 digits",
+    help: "The file with the user's token: 64 digits",
 };
 
-/// How long a way waits that has one answer.
+/// How long a way with one answer waits for it.
 const WAIT: Word = Word {
     name: "wait",
     kind: Kind::Number {
@@ -41,7 +41,7 @@ const WAIT: Word = Word {
         most: MOST,
         need: Need::Default("30"),
     },
-    help: "How long to wait for the answer; 0: without limit",
+    help: "How long to wait for the answer; 0 waits without limit",
 };
 
 static MUX: Program = Program {
@@ -90,12 +90,12 @@ static MUX: Program = Program {
                         value: "PATH",
                         need: Need::Free,
                     },
-                    help: "A FIFO: each line ROWS COLS there is the terminal's new size",
+                    help: "A FIFO to read the terminal's new sizes from, as lines ROWS COLS",
                 },
                 Word {
                     name: "why",
                     kind: Kind::Flag,
-                    help: "Says on standard error why it ends, even if that is no fault",
+                    help: "Says on standard error why it ends, even without a fault",
                 },
                 Word {
                     name: "leave",
@@ -105,7 +105,7 @@ static MUX: Program = Program {
                         most: 255,
                         need: Need::Free,
                     },
-                    help: "This byte (28 is C-\\) leaves at once, whatever the server does; typed twice it is sent once",
+                    help: "A byte (28 is C-\\) that leaves at once, even if the server hangs; type it twice to send it",
                 },
             ],
         },
@@ -151,7 +151,7 @@ static MUX: Program = Program {
                         most: MOST,
                         need: Need::Default("100"),
                     },
-                    help: "How many lines are kept above the page, up to 2000",
+                    help: "How many lines to keep above the page, at most 2000",
                 },
                 Word {
                     name: "sizes",
@@ -159,7 +159,7 @@ static MUX: Program = Program {
                         value: "PATH",
                         need: Need::Free,
                     },
-                    help: "A file: the window's sizes are written there, as lines ROWS COLS",
+                    help: "A file to write the window's new sizes to, as lines ROWS COLS",
                 },
             ],
         },
@@ -178,12 +178,12 @@ static MUX: Program = Program {
                         most: 254,
                         need: Need::Free,
                     },
-                    help: "The number of the window that the command is for",
+                    help: "The number of the window that the command acts on",
                 },
                 Word {
                     name: "line",
                     kind: Kind::Bare { value: "LINE" },
-                    help: "The command and its words, as one word",
+                    help: "The command with its words, as one argument",
                 },
             ],
         },
@@ -195,7 +195,7 @@ static MUX: Program = Program {
     ],
 };
 
-/// The words of `mux`, the program's name first.
+/// The arguments of `mux` as they were understood; the first of `words` is the program's name.
 pub fn of_client<'a>(alloc: Global, words: &'a [String]) -> Result<ArgMatches<'a>, Error> {
     matches_of(alloc, &MUX, words)
 }

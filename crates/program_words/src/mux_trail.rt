@@ -1,4 +1,4 @@
-//! The words of `mux-trail`.
+//! The arguments of `mux-trail`.
 
 use crate::table::{Kind, Need, Program, VERSION, Way, Word, matches_of};
 use clap::{ArgMatches, Error};
@@ -11,71 +11,71 @@ const OWNER: Word = Word {
         value: "NAME",
         need: Need::Free,
     },
-    help: "The session's owner, where the file's first line isn't to be believed",
+    help: "The session's owner, if you don't trust the file's first line",
 };
 
-/// The place of an entry.
+/// The place of the last entry that counts.
 const AT: Word = Word {
     name: "at",
     kind: Kind::Text {
         value: "PLACE",
         need: Need::Free,
     },
-    help: "The last entry that counts; else all do",
+    help: "The place of the last entry that counts; without it all count",
 };
 
-/// Users who may be confined on windows to come.
+/// The users whose confinement is looked at.
 const CONFINED: Word = Word {
     name: "confined",
     kind: Kind::Text {
         value: "USERS",
         need: Need::Free,
     },
-    help: "Whether these users get no bit on windows to come, and what says otherwise",
+    help: "Says whether these users get no bit on later windows, and which acts say otherwise",
 };
 
-/// The file of a way.
+/// The trail's file.
 const FILE: Word = Word {
     name: "file",
     kind: Kind::Bare { value: "FILE" },
     help: "A file with the trail of a session",
 };
 
-/// Waits at the file's end.
+/// Waits for more at the file's end.
 const FOLLOW: Word = Word {
     name: "follow",
     kind: Kind::Flag,
     help: "Waits for more until the trail ends",
 };
 
-/// A user whose entries are told.
+/// The user whose entries are printed.
 const USER: Word = Word {
     name: "user",
     kind: Kind::Text {
         value: "NAME",
         need: Need::Free,
     },
-    help: "What this user did",
+    help: "Only what this user did",
 };
 
-/// A window of which entries are told.
+/// The window whose entries are printed.
 const WINDOW: Word = Word {
     name: "window",
     kind: Kind::Text {
         value: "TITLE|SERIAL",
         need: Need::Free,
     },
-    help: "What was done to this window",
+    help: "Only what was done to this window",
 };
 
-/// The time from which on entries are told.
+/// The time of the first entry that is printed.
 const SINCE: Word = Word {
     name: "since",
     kind: Kind::Text {
         value: "TIME",
         need: Need::Free,
     },
-    help: "What was done from this time on, as 2025-11-24T16:00:02Z",
+    help: "Only what was done at this time or later, such as 2025-11-24T16:00:02Z",
 };
 
 static MUX_TRAIL: Program = Program {
@@ -102,7 +102,7 @@ static MUX_TRAIL: Program = Program {
                 Word {
                     name: "json",
                     kind: Kind::Flag,
-                    help: "Prints each entry as an object of JSON",
+                    help: "Prints each entry as a JSON object",
                 },
                 FOLLOW,
                 FILE,
@@ -140,7 +140,7 @@ static MUX_TRAIL: Program = Program {
     ],
 };
 
-/// The words of `mux-trail`, the program's name first.
+/// The arguments of `mux-trail` as they were understood; the first of `words` is the program's name.
 pub fn of_trail<'a>(alloc: Global, words: &'a [String]) -> Result<ArgMatches<'a>, Error> {
     matches_of(alloc, &MUX_TRAIL, words)
 }

@@ -1,4 +1,4 @@
-//! The words of `muxd`.
+//! The arguments of `muxd`.
 
 use crate::table::{Kind, Need, Program, VERSION, Word, matches_of};
 use clap::{ArgMatches, Error};
@@ -32,7 +32,7 @@ static MUXD: Program = Program {
                 value: "PATH",
                 need: Need::Needed,
             },
-            help: "A file of lines: a name, a blank and 64 digits of 0 to 9, a to f; the first is the owner",
+            help: "The users' file: lines of a name, a blank and 64 digits (0 to 9, a to f); the first is the owner",
         },
         Word {
             name: "setup",
@@ -40,7 +40,7 @@ static MUXD: Program = Program {
                 value: "PATH",
                 need: Need::Free,
             },
-            help: "A file of the owner's first commands, one a line",
+            help: "A file with the owner's first commands, one per line",
         },
         Word {
             name: "loops",
@@ -83,13 +83,13 @@ static MUXD: Program = Program {
         Word {
             name: "log",
             kind: Kind::Flag,
-            help: "Tells on standard error who comes and goes",
+            help: "Logs to standard error who comes and goes",
         },
     ],
     ways: &[],
 };
 
-/// The words of `muxd`, the program's name first.
+/// The arguments of `muxd` as they were understood; the first of `words` is the program's name.
 pub fn of_server<'a>(alloc: Global, words: &'a [String]) -> Result<ArgMatches<'a>, Error> {
     matches_of(alloc, &MUXD, words)
 }

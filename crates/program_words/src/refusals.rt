@@ -1,9 +1,9 @@
-//! What the refusals of commands mean that are a number.
+//! What the numbers of refusals mean.
 
 use std::io::Write;
 use std::{fmt, io};
 
-// The acl faults, the faults of windows and of regions, and those of a line.
+// Every number that a refusal may have: of rights, of windows, of regions, and of a line.
 fn words_of(kind: &str, number: u8) -> Option<&'static str> {
     Some(match (kind, number) {
         ("acl", 1) => "unknown user",
@@ -11,14 +11,17 @@ fn words_of(kind: &str, number: u8) -> Option<&'static str> {
         ("acl", 3) => "64 users are known",
         ("acl", 4) => "no name",
         ("acl", 5) => "no such leader",
+        ("acl", 6) => "out of memory",
         ("acl", 7) => "eight leaders",
         ("windows", 1) => "no place for a window",
         ("windows", 2) => "no such window",
         ("windows", 3) => "the number is taken",
         ("windows", 4) => "no title: 1 to 40 characters of width 1 or 2",
+        ("windows", 5) => "out of memory",
         ("regions", 1) => "too small",
         ("regions", 2) => "there are 16",
         ("regions", 3) => "the last region",
+        ("regions", 4) => "out of memory",
         ("line", 1) => "unknown command",
         ("line", 2) => "a word is missing",
         ("line", 3) => "a word too many",
@@ -26,12 +29,13 @@ fn words_of(kind: &str, number: u8) -> Option<&'static str> {
         ("line", 5) => "no bits",
         ("line", 6) => "an open quote",
         ("line", 7) => "above 1,024 bytes",
+        ("line", 8) => "out of memory",
         ("line", 9) => "no such word",
         _ => return None,
     })
 }
 
-// The word of a command line that begins at this byte.
+// The word of a command line that begins at this byte; None if no word begins there.
 fn word_at(line: &str, place: usize) -> Option<&str> {
     let rest = line.get(place..)?;
     match rest.split_once(' ') {
@@ -42,7 +46,7 @@ fn word_at(line: &str, place: usize) -> Option<&str> {
     }
 }
 
-// What a refusal means that is a number, and the word at fault.
+// What the number of a refusal means, and the word at fault; None if the refusal has no number.
 fn explained<'a>(said: &str, line: &'a str) -> Option<(&'static str, Option<&'a str>)> {
     let (kind, rest) = said.split_once(": ")?;
     let (number, place) = match rest.split_once(" at ") {
@@ -53,8 +57,8 @@ fn explained<'a>(said: &str, line: &'a str) -> Option<(&'static str, Option<&'a 
     Some((why, place.and_then(|place| word_at(line, place))))
 }
 
-/// Writes what the refusal of a command line means, in parentheses after its text; nothing where
-/// the text says it.
+/// Writes what the number of a refusal means, in parentheses, for a caller that has written its text;
+/// nothing if the text says it.
 pub fn explain<E: Write>(said: &str, line: &str, errors: &mut E) -> io::Result<()> {
     match explained(said, line) {
         None => Ok(()),
@@ -63,7 +67,7 @@ pub fn explain<E: Write>(said: &str, line: &str, errors: &mut E) -> io::Result<(
     }
 }
 
-/// A command line that was refused: which one of its file, and why.
+/// A command line of a file that was refused, and why.
 #[derive(Clone, Copy)]
 pub struct RefusedLine<'line, 'said> {
     /// Counted from 1.

@@ -1,4 +1,4 @@
-//! Words as rows of a table.
+//! A program's arguments as rows of a table.
 
 use clap::builder::ValueParser;
 use clap::error::ErrorKind;
@@ -12,7 +12,7 @@ pub const VERSION: &str = "0.1.0";
 /// The largest number of 16 bits.
 pub const MOST: i64 = 65_535;
 
-/// A word of a command line.
+/// An argument of a command line.
 #[derive(Clone, Copy)]
 pub struct Word {
     pub name: &'static str,
@@ -20,7 +20,7 @@ pub struct Word {
     pub help: &'static str,
 }
 
-/// A way of a program, named by its first word.
+/// A way to use a program, named by its first argument.
 #[derive(Clone, Copy)]
 pub struct Way {
     pub name: &'static str,
@@ -28,26 +28,26 @@ pub struct Way {
     pub words: &'static [Word],
 }
 
-/// A program: what its help says, and the words that it takes.
+/// A program: what its help says, and the arguments that it takes.
 #[derive(Clone, Copy)]
 pub struct Program {
     pub name: &'static str,
     pub version: Option<&'static str>,
     pub about: &'static str,
-    /// Stands at the end of the help.
+    /// The end of the help.
     pub example: Option<&'static str>,
-    /// The words that it takes, or that all of its ways share.
+    /// The arguments that it takes, or that all of its ways take.
     pub words: &'static [Word],
-    /// None for a program that has one way.
+    /// Empty for a program that has only one way.
     pub ways: &'static [Way],
 }
 
-/// How a word is given; `value` stands for its value in help.
+/// How an argument is given; `value` is the name of its value in the help.
 #[derive(Clone, Copy)]
 pub enum Kind {
     /// `--name`
     Flag,
-    /// `VALUE`, which must be there.
+    /// `VALUE`, which is required.
     Bare {
         value: &'static str,
     },
@@ -65,16 +65,16 @@ pub enum Kind {
     },
 }
 
-/// Whether a word must be there.
+/// Whether an argument is required.
 #[derive(Clone, Copy)]
 pub enum Need {
     Needed,
     Free,
-    /// Where it isn't, this is its value.
+    /// It isn't required, and this is its value if it isn't given.
     Default(&'static str),
 }
 
-/// The argument, with what its need says.
+/// The argument, required or with a default as its need says.
 fn needing(arg: Arg<'static>, need: Need) -> Arg<'static> {
     match need {
         Need::Needed => arg.required(true),
@@ -83,7 +83,7 @@ fn needing(arg: Arg<'static>, need: Need) -> Arg<'static> {
     }
 }
 
-/// A row's argument.
+/// The argument that a row describes.
 fn arg_of(alloc: Global, word: Word) -> Arg<'static> {
     let Word { name, kind, help } = word;
     let arg = Arg::new(alloc, name).help(help);
@@ -104,7 +104,7 @@ fn arg_of(alloc: Global, word: Word) -> Arg<'static> {
     }
 }
 
-/// The command, with the words of a table.
+/// The command, with the arguments of a table.
 fn with_words<'a>(
     alloc: Global,
     command: Command<'a>,
@@ -117,13 +117,13 @@ fn with_words<'a>(
     Ok(command)
 }
 
-/// A way's own command: the words that all ways share, and after them its own.
+/// The command of a way, with the arguments that all ways take, and after them its own.
 fn way_of<'a>(alloc: Global, shared: &[Word], way: &Way) -> Result<Command<'a>, AllocError> {
     let command = Command::new(alloc, way.name).about(way.about);
     with_words(alloc, with_words(alloc, command, shared)?, way.words)
 }
 
-/// The command, with a way.
+/// The command, with one more way.
 fn with_way<'a>(
     alloc: Global,
     command: Command<'a>,
@@ -133,7 +133,7 @@ fn with_way<'a>(
     command.subcommand(way_of(alloc, shared, way)?)
 }
 
-/// The command, with the ways of a table, which share some words.
+/// The command, with the ways of a table, which share some arguments.
 fn with_ways<'a>(
     alloc: Global,
     command: Command<'a>,
@@ -163,7 +163,7 @@ fn command_of<'a>(alloc: Global, program: &Program) -> Result<Command<'a>, Alloc
     }
 }
 
-/// What a program's words say, its name first.
+/// A program's arguments as they were understood; the first of `words` is the program's name.
 pub fn matches_of<'a>(
     alloc: Global,
     program: &Program,
@@ -172,8 +172,8 @@ pub fn matches_of<'a>(
     command_of(alloc, program)?.try_get_matches_from(words)
 }
 
-/// Writes why the words give nothing: the help, with status 0, a mistake, with status 2, or want of
-/// memory, with status 1.
+/// Writes why the arguments give no matches, and gives the status to exit with: 0 for the help, 2 for a
+/// mistake, 1 if memory was refused.
 pub fn tell<O: Write, E: Write>(error: &Error, output: &mut O, errors: &mut E) -> u8 {
     if error.use_stderr() {
         let _ = write!(errors, "{error}");

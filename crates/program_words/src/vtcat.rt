@@ -1,4 +1,4 @@
-//! The words of `vtcat`.
+//! The arguments of `vtcat`.
 
 use crate::table::{Kind, MOST, Need, Program, Word, matches_of};
 use clap::{ArgMatches, Error};
@@ -7,7 +7,7 @@ use std::alloc::Global;
 static VTCAT: Program = Program {
     name: "vtcat",
     version: None,
-    about: "Shows the page that a VT220 has when it has read standard input",
+    about: "Shows the page of a VT220 that has read standard input",
     example: None,
     words: &[
         Word {
@@ -38,13 +38,13 @@ static VTCAT: Program = Program {
                 most: MOST,
                 need: Need::Default("0"),
             },
-            help: "How many lines that scroll off the page are kept",
+            help: "How many of the lines that scroll off the page to keep",
         },
     ],
     ways: &[],
 };
 
-/// The words of `vtcat`, the program's name first.
+/// The arguments of `vtcat` as they were understood; the first of `words` is the program's name.
 pub fn of_cat<'a>(alloc: Global, words: &'a [String]) -> Result<ArgMatches<'a>, Error> {
     matches_of(alloc, &VTCAT, words)
 }

@@ -1,4 +1,4 @@
-//! The loops of a server, each in a thread of the session's.
+//! The loops of a server, each in a thread of its own.
 
 use server_loop::{End, Gate};
 use server_session::{
@@ -12,7 +12,7 @@ use std::rt::{HostRuntime, Stderr};
 use std::sync::Wait;
 use std::time::Clock;
 
-// What the last line of the trail's file says of the end; none where a fault leaves it without one.
+// The cause that the last line of the trail's file names; None if a fault leaves the file without one.
 fn cause_of(end: End) -> Option<Cause> {
     match end {
         End::Quit => Some(Cause::Quit),
@@ -27,11 +27,11 @@ pub struct Server<'a, G> {
     pub common: Common<G>,
     pub files: HostRuntime,
     pub place: &'a Place<'a>,
-    /// What each user has spent and holds.
+    /// What each user may still try, and how many clients and windows they have.
     pub accounts: Accounts,
-    /// What the owner commands before anybody connects.
+    /// The owner's commands that are given before anybody connects.
     pub setup: Setup<'a>,
-    /// Is told who comes and goes.
+    /// Where lines are written about who comes and goes.
     pub log: Stderr,
     /// Where the session's trail is written, if it is.
     pub journal: Option<Journal<'a>>,
@@ -71,7 +71,7 @@ where
         self.common.shared.log.leave(rt);
     }
 
-    // Once the loops have ended nobody can connect, and another server may take the place.
+    // After the loops have ended nobody can connect, so another server may take the place.
     fn stand_by(&self, rt: &R) {
         let mut errors = self.log;
         self.common.shared.log.write_all(rt, &mut errors);

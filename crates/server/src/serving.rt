@@ -21,14 +21,14 @@ use std::sync::{Arc, Wait};
 use std::thread::Threads;
 use std::time::Clock;
 
-// The users' file is read by the concrete runtime: of a generic one, a bound with associated types
-// (`Files`) isn't known in other threads.
-/// What a server stands on beside its handles.
+// The concrete runtime reads the users' file, since a bound with associated types (`Files`) of a generic
+// one isn't known in other threads.
+/// What a server uses besides its handles.
 #[derive(Drop)]
 pub struct Host<G> {
-    /// Where the users' file is read, and on whose standard error is told who comes and goes.
+    /// Reads the users' file; its standard error has the log.
     pub runtime: HostRuntime,
-    /// Is told of each call that a loop submits.
+    /// Is called before each call that a loop submits.
     pub gate: G,
 }
 
@@ -38,7 +38,7 @@ impl<G> Host<G> {
     }
 }
 
-/// What the words of `muxd` ask for.
+/// What the arguments of `muxd` ask for.
 #[derive(Clone, Copy)]
 struct Asked<'a> {
     socket: &'a str,
@@ -51,7 +51,7 @@ struct Asked<'a> {
 }
 
 impl<'a> Asked<'a> {
-    // Nothing is missing that must be there: such words give no matches.
+    // (Arguments that must be there are: without them there are no matches.)
     fn of(matches: &ArgMatches<'a>) -> Asked<'a> {
         Asked {
             socket: matches.get_str("socket").unwrap_or(""),
@@ -68,7 +68,7 @@ impl<'a> Asked<'a> {
     }
 }
 
-// What the words ask for; where they aren't understood, the status to exit with.
+// What the arguments ask for, or the status to exit with if they are invalid.
 fn asked_of<'a, O: Write, E: Write>(
     alloc: Global,
     words: &'a [String],
@@ -81,15 +81,15 @@ fn asked_of<'a, O: Write, E: Write>(
     }
 }
 
-// What is wrong with the trail's file, if there is one.
+// The fault of the trail's file, if there is one.
 fn trail_fault(rt: &impl Wait, alloc: Global, journal: Option<&Journal>) -> Option<ServeFault> {
     let journal = journal?;
     let fault = journal.fault(rt)?;
     Some(ServeFault::of_trail(alloc, journal.path(), fault))
 }
 
-// What a server's end says of how it went, whether each answer stands in the trail, and what is
-// wrong with the trail's file.
+// What the server answers, from how it ended, whether every answer stands in the trail, and the fault
+// of the trail's file.
 fn outcome(end: Option<End>, agrees: bool, file: Option<ServeFault>) -> Result<(), ServeFault> {
     match (end, file) {
         (Some(End::Fault) | None, _) => Err(ServeFault::Loop),
@@ -100,7 +100,7 @@ fn outcome(end: Option<End>, agrees: bool, file: Option<ServeFault>) -> Result<(
     }
 }
 
-// Serves a new session on a listener, until it ends.
+// Serves a new session until it ends.
 fn serve_on<R, G, O>(
     rt: &R,
     start: Start<LoopStart>,
@@ -127,13 +127,13 @@ where
             outcome(server.common.shared.over.get().copied(), agrees, fault)
         }
         Err(LoopsFault::NoMemory) => Err(ServeFault::NoMemory),
-        Err(LoopsFault::Untold(error)) => Err(ServeFault::Other(error)),
+        Err(LoopsFault::Untold(error)) => Err(ServeFault::Untold(error)),
         Err(LoopsFault::Setup(fault)) => Err(server.setup.wrong(alloc, fault)),
         Err(LoopsFault::Refused(number, said)) => Err(server.setup.refused(alloc, number, &said)),
     }
 }
 
-// The new file for the trail, if one is named.
+// A new file for the trail, if the arguments name one.
 fn journal<'a>(
     files: HostRuntime,
     alloc: Global,
@@ -149,7 +149,7 @@ fn journal<'a>(
     }
 }
 
-// What the loops share. The thread that looks at who may connect is started.
+// What the loops share. It starts the thread that looks at the users' file.
 fn shared<R: Clock + AllocGlobal + Threads + Wait + Copy + Send + 'static>(
     rt: &R,
     asked: &Asked,
@@ -166,7 +166,7 @@ fn shared<R: Clock + AllocGlobal + Threads + Wait + Copy + Send + 'static>(
     Ok(shared)
 }
 
-// Serves these users on a listener, behind what the owner commands at first.
+// Serves these users on a listener, after the commands of the setup.
 fn begin<R, G, O>(
     rt: &R,
     asked: &Asked,
@@ -247,8 +247,8 @@ where
     served
 }
 
-/// `muxd`: serves a session until `quit`. The first word is the program's name. The answer is the
-/// status to exit with: 0; 1 for a fault; 2 where the words aren't understood.
+/// `muxd`: serves a session until `quit`. The first argument is the program's name. The answer is the
+/// status to exit with: 0, 1 for a fault, or 2 for invalid arguments.
 pub fn serve<R, O>(rt: &R, runtime: HostRuntime, words: &[String], output: &mut O) -> u8
 where
     R: Clock
@@ -267,7 +267,8 @@ where
     serve_through(rt, Host::new(runtime, Open), words, output, &mut errors)
 }
 
-/// The same, where a gate is told of each call that a loop submits.
+/// `muxd` with a gate that each call of a loop passes, and with its errors written to `errors`. The
+/// answer is the status to exit with, as for `serve`.
 pub fn serve_through<R, G, O, E>(
     rt: &R,
     host: Host<G>,

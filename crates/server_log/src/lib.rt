@@ -1,4 +1,4 @@
-//! Lines on their way to standard error, which several threads put down and one writes.
+//! Lines on their way to standard error: several threads put them down, and one thread writes them.
 #![tactic(auto)]
 
 use jiff::Timestamp;
@@ -8,10 +8,10 @@ use std::io::Write;
 use std::sync::{Condvar, Mutex, Wait};
 use std::time::{Clock, Duration};
 
-// So many bytes wait at most for who reads standard error.
+// The most bytes that wait for the reader of standard error.
 const MOST: usize = 65_536;
 
-// Where nothing comes, it is looked at after so many seconds.
+// How many seconds the writer sleeps at most if nothing comes.
 const LOOK: u64 = 3_600;
 
 // Lines that weren't written yet.
@@ -24,7 +24,7 @@ struct Waiting {
 }
 
 /// Lines on their way to standard error. Loops put them down and one thread writes them, so that no
-/// loop waits for who reads them.
+/// loop waits for a slow reader.
 #[derive(Drop)]
 pub struct Log {
     alloc: Global,
@@ -33,7 +33,7 @@ pub struct Log {
 }
 
 impl Log {
-    /// Nothing yet, while so many loops run.
+    /// No line yet, for this number of loops.
     pub fn new(alloc: Global, loops: usize) -> Log {
         Log {
             alloc,
@@ -46,7 +46,7 @@ impl Log {
         }
     }
 
-    /// Puts a line down, with the time. One for which there is no room is counted.
+    /// Puts a line down, with the time. A line for which there is no room is dropped and counted.
     pub fn put<R: Clock + Wait, T: Display>(&self, rt: &R, what: &T) {
         let mut line = Vec::new(self.alloc);
         let is_made = match time(rt) {
@@ -62,7 +62,7 @@ impl Log {
         self.news.notify_one();
     }
 
-    /// A loop has ended.
+    /// A loop has ended, and puts nothing more down.
     pub fn leave(&self, rt: &impl Wait) {
         let mut waiting = self.waiting.lock(rt);
         waiting.loops = waiting.loops.saturating_sub(1);
@@ -70,7 +70,7 @@ impl Log {
         self.news.notify_one();
     }
 
-    // Takes what waits, and whether all loops have ended.
+    // Takes the bytes that wait and the count of dropped lines, and tells whether all loops have ended.
     fn take(&self, rt: &impl Wait) -> (Vec<u8>, u64, bool) {
         let mut waiting = self.waiting.lock(rt);
         let none = Vec::new(self.alloc);
@@ -79,15 +79,18 @@ impl Log {
         (text, left_out, waiting.loops == 0)
     }
 
-    /// Writes the lines as they come, until all loops have ended. One that can't be written is left
-    /// out.
+    /// Writes the lines as they come, until all loops have ended. A line that can't be written is
+    /// dropped.
     pub fn write_all<R: Clock + Wait, E: Write>(&self, rt: &R, errors: &mut E) {
         for _ in rt.forever() {
             let seen = self.news.notifications();
             let (text, left_out, is_over) = self.take(rt);
             let _ = errors.write_all(&text);
             if left_out > 0 {
-                let _ = writeln!(errors, "muxd: {left_out} lines are left out here");
+                let _ = writeln!(
+                    errors,
+                    "muxd: {left_out} lines were left out here: standard error was read too slowly"
+                );
             }
             if is_over {
                 return;

@@ -1,47 +1,110 @@
-//! What can be wrong, and what to do then.
+//! What can be wrong, and what to do about it.
 
 use server_trail::JournalFault;
 use server_users::UsersFault;
 use std::alloc::{AllocError, AllocFailed, Global};
-use std::io;
+use std::fmt::{Display, Formatter};
+use std::io::ErrorKind;
+use std::{fmt, io};
 use thiserror::Error;
+
+/// An error of the system. Its text has no number if the error has a plain name.
+#[derive(Debug, Drop)]
+pub struct SystemError(pub io::Error);
+
+impl Display for SystemError {
+    fn fmt<W: fmt::Write>(&self, f: &mut Formatter<W>) -> fmt::Result {
+        let SystemError(error) = self;
+        match error.kind() {
+            ErrorKind::NotFound => f.write_str("no such file"),
+            ErrorKind::PermissionDenied => f.write_str("permission denied"),
+            _ => write!(f, "{error}"),
+        }
+    }
+}
+
+/// Why a server can't listen on its socket.
+#[derive(Debug, Drop, Error)]
+pub enum SocketFault {
+    #[error("a server listens there: end it with the command quit, or set another --socket")]
+    Taken,
+    #[error("a file that is no socket is there: set another --socket")]
+    NoSocket,
+    /// What stands at this path, beside the socket.
+    #[error("{0} is no plain file: remove it, or set another --socket")]
+    NoLock(String),
+    #[error("can't make it: {0} (see the modes of its folder)")]
+    NotMade(SystemError),
+    #[error("out of memory")]
+    NoMemory,
+}
+
+impl From<io::Error> for SocketFault {
+    fn from(error: io::Error) -> SocketFault {
+        SocketFault::NotMade(SystemError(error))
+    }
+}
 
 /// Why `muxd` doesn't serve, or ended.
 #[derive(Debug, Drop, Error)]
 pub enum ServeFault {
-    #[error("the users' file isn't read: {0}: --users names it")]
-    NoFile(io::Error),
+    /// The users' file at this path.
+    #[error("can't read users' file {0}: {1} (set --users)")]
+    NoFile(String, SystemError),
+    /// The users' file at this path.
     #[error("others may write the users' file: chmod go-w {0}")]
     Writable(String),
-    #[error("the users' file, {0}")]
-    Users(UsersFault),
+    /// The users' file at this path.
+    #[error("users' file {0}, {1}")]
+    Users(String, UsersFault),
     #[error("setup {0}")]
     Setup(String),
-    #[error("a server listens there: end it with the command quit, or name another socket")]
-    Taken,
-    #[error("the socket's path is a file, and no socket: name another")]
-    NoSocket,
-    #[error("{0} is no plain file: remove it, or name another socket")]
-    NoLock(String),
-    #[error("the socket isn't made: {0}")]
-    Socket(io::Error),
+    /// The socket at this path.
+    #[error("socket {0}: {1}")]
+    Socket(String, SocketFault),
     #[error("out of memory")]
     NoMemory,
-    #[error("{0}")]
+    #[error("can't write to standard output: {0}")]
+    Untold(io::Error),
+    #[error("the system refused a loop: {0}")]
     Other(io::Error),
     #[error("the session's trail is full: start another session")]
     TrailFull,
-    #[error("a loop failed")]
+    #[error("a loop failed: the session has ended")]
     Loop,
-    #[error("the trail differs from what was answered")]
+    #[error("the trail differs from what was answered: this is a fault of muxd")]
     Trail,
-    /// Of the trail's file at this path.
+    /// The trail's file at this path.
     #[error("trail {0}: {1}")]
     Journal(String, JournalFault),
 }
 
 impl ServeFault {
-    /// What is wrong with the trail's file at this path.
+    /// The users' file at this path can't be read.
+    pub(crate) fn of_no_file(alloc: Global, path: &str, error: io::Error) -> ServeFault {
+        match String::from_str(alloc, path) {
+            Ok(path) => ServeFault::NoFile(path, SystemError(error)),
+            Err(_) => ServeFault::NoMemory,
+        }
+    }
+
+    /// The users' file at this path has a fault.
+    pub(crate) fn of_users(alloc: Global, path: &str, fault: UsersFault) -> ServeFault {
+        match String::from_str(alloc, path) {
+            Ok(path) if fault != UsersFault::NoMemory => ServeFault::Users(path, fault),
+            _ => ServeFault::NoMemory,
+        }
+    }
+
+    /// The server can't listen on the socket at this path.
+    pub(crate) fn of_socket(alloc: Global, path: &str, fault: SocketFault) -> ServeFault {
+        match String::from_str(alloc, path) {
+            Ok(path) => ServeFault::Socket(path, fault),
+            Err(_) => ServeFault::NoMemory,
+        }
+    }
+
+    /// The trail's file at this path has a fault.
     pub fn of_trail(alloc: Global, path: &str, fault: JournalFault) -> ServeFault {
         match String::from_str(alloc, path) {
             Ok(path) => ServeFault::Journal(path, fault),
@@ -52,13 +115,10 @@ impl ServeFault {
 
 impl From<io::Error> for ServeFault {
     fn from(error: io::Error) -> ServeFault {
-        ServeFault::Other(error)
-    }
-}
-
-impl From<UsersFault> for ServeFault {
-    fn from(fault: UsersFault) -> ServeFault {
-        ServeFault::Users(fault)
+        match error.kind() {
+            ErrorKind::OutOfMemory => ServeFault::NoMemory,
+            _ => ServeFault::Other(error),
+        }
     }
 }
 

@@ -1,5 +1,5 @@
-//! What a server has of the system: the files of its users and of its setup, its socket, and the
-//! connections that a loop waits for.
+//! What a server takes from the system: its users' file, its setup, its socket, and the connections
+//! that a loop waits for.
 #![tactic(auto)]
 
 mod fault;

@@ -1,20 +1,20 @@
-//! The file of the owner's first commands, and what is told of it.
+//! The file of the owner's first commands, and its faults.
 
-use crate::fault::ServeFault;
+use crate::fault::{ServeFault, SystemError};
 use program_words::RefusedLine;
 use setup_lines::{SetupFault, SetupLine, read_setup};
 use std::alloc::Global;
 use std::fs::Files;
 use std::{fs, str};
 
-/// A setup: where its file is, and what it has.
+/// A setup: the path of its file, and the file's bytes.
 #[derive(Drop)]
 pub struct Setup<'a> {
     path: &'a str,
     pub file: Vec<u8>,
 }
 
-// The text of the line of this number.
+// The text of the line of this number; empty if there is none.
 fn text_of<'a>(lines: &[SetupLine<'a>], number: usize) -> &'a str {
     match lines.iter().find(|line| line.number == number) {
         Some(line) => line.text,
@@ -23,7 +23,7 @@ fn text_of<'a>(lines: &[SetupLine<'a>], number: usize) -> &'a str {
 }
 
 impl<'a> Setup<'a> {
-    /// The setup of a file; one without lines where none is named.
+    /// Reads the setup at a path. Without a path it has no lines.
     pub fn read<R: Files + AllocGlobal>(
         rt: &R,
         path: Option<&'a str>,
@@ -37,11 +37,14 @@ impl<'a> Setup<'a> {
         };
         match fs::read(rt, path) {
             Ok(file) => Ok(Setup { path, file }),
-            Err(error) => Err(ServeFault::Setup(format!(in alloc; "{path}: {error}")?)),
+            Err(error) => {
+                let error = SystemError(error);
+                Err(ServeFault::Setup(format!(in alloc; "{path}: {error} (set --setup)")?))
+            }
         }
     }
 
-    /// That a line can be no command.
+    /// The fault of a file with a line that can be no command.
     pub fn wrong(&self, alloc: Global, fault: SetupFault) -> ServeFault {
         let path = self.path;
         match format!(in alloc; "{path}: {fault}") {
@@ -50,7 +53,7 @@ impl<'a> Setup<'a> {
         }
     }
 
-    /// That the line of this number was refused, with this text.
+    /// The fault of a file whose line of this number the session refused with this text.
     pub fn refused(&self, alloc: Global, number: usize, said: &[u8]) -> ServeFault {
         let path = self.path;
         let Ok(lines) = read_setup(alloc, &self.file) else {

@@ -1,6 +1,6 @@
 //! The socket that a server listens on.
 
-use crate::fault::ServeFault;
+use crate::fault::{ServeFault, SocketFault};
 use mio::net::{UnixListener, UnixStream};
 use std::alloc::Global;
 use std::fs::{File, Files, OpenOptions, TryLockError};
@@ -10,33 +10,33 @@ use std::os::unix::fs::{FileTypeExt, MetadataExt, OpenOptionsExt};
 use std::sync::{Mutex, Wait};
 use std::{fs, io};
 
-/// The path of a server's socket, which the server alone makes, replaces and removes that holds
-/// the lock beside it.
+/// The path of a server's socket. Only the server that holds the lock beside it makes, replaces and
+/// removes the socket.
 #[derive(Drop)]
 pub struct Place<'a> {
     path: &'a str,
-    // None once it was left.
+    // None after the place was left.
     lock: Mutex<Option<File>>,
 }
 
 // Whether there is a socket. Another file is a fault.
-fn is_there<R: Files>(rt: &R, path: &str) -> Result<bool, ServeFault> {
+fn is_there<R: Files>(rt: &R, path: &str) -> Result<bool, SocketFault> {
     match fs::symlink_metadata(rt, path) {
         Ok(found) if found.file_type().is_socket() => Ok(true),
-        Ok(_) => Err(ServeFault::NoSocket),
+        Ok(_) => Err(SocketFault::NoSocket),
         Err(error) if error.kind() == ErrorKind::NotFound => Ok(false),
-        Err(error) => Err(ServeFault::Socket(error)),
+        Err(error) => Err(SocketFault::from(error)),
     }
 }
 
-// Whether somebody listens, be it that nobody is let in for now.
-fn is_served<R: Net>(rt: &R, path: &str) -> Result<bool, ServeFault> {
+// Whether a server listens, even if it lets nobody in at the moment.
+fn is_served<R: Net>(rt: &R, path: &str) -> Result<bool, SocketFault> {
     match UnixStream::connect(rt, path) {
         Ok(_) => Ok(true),
         Err(error) => match error.kind() {
             ErrorKind::WouldBlock => Ok(true),
             ErrorKind::ConnectionRefused => Ok(false),
-            _ => Err(ServeFault::Socket(error)),
+            _ => Err(SocketFault::from(error)),
         },
     }
 }
@@ -49,26 +49,23 @@ fn is_its_file<R: Files>(rt: &R, file: &File, name: &str) -> io::Result<bool> {
     Ok(is_same && named.file_type().is_file())
 }
 
-// Opens a lock's file that is there, unless it is a link, or no file that could be made here. What is
-// opened in the meantime isn't written to.
-fn open_there<R: Files<File = File>>(rt: &R, name: String) -> Result<File, ServeFault> {
-    let found = fs::symlink_metadata(rt, name.as_str()).map_err(ServeFault::Socket)?;
+// Opens the lock's file that is there, unless it is a link or another kind of file. Whatever takes its
+// place before it is opened isn't written to.
+fn open_there<R: Files<File = File>>(rt: &R, name: String) -> Result<File, SocketFault> {
+    let found = fs::symlink_metadata(rt, name.as_str())?;
     if !found.file_type().is_file() {
-        return Err(ServeFault::NoLock(name));
+        return Err(SocketFault::NoLock(name));
     }
-    let file = OpenOptions::new()
-        .write(true)
-        .open(rt, name.as_str())
-        .map_err(ServeFault::Socket)?;
+    let file = OpenOptions::new().write(true).open(rt, name.as_str())?;
     match is_its_file(rt, &file, name.as_str()) {
         Ok(true) => Ok(file),
-        Ok(false) => Err(ServeFault::NoLock(name)),
-        Err(error) => Err(ServeFault::Socket(error)),
+        Ok(false) => Err(SocketFault::NoLock(name)),
+        Err(error) => Err(SocketFault::from(error)),
     }
 }
 
 // Makes the lock's file, through no link, or opens the one that is there.
-fn open_lock<R: Files<File = File>>(rt: &R, name: String) -> Result<File, ServeFault> {
+fn open_lock<R: Files<File = File>>(rt: &R, name: String) -> Result<File, SocketFault> {
     let made = OpenOptions::new()
         .write(true)
         .create_new(true)
@@ -77,42 +74,58 @@ fn open_lock<R: Files<File = File>>(rt: &R, name: String) -> Result<File, ServeF
     match made {
         Ok(file) => Ok(file),
         Err(error) if error.kind() == ErrorKind::AlreadyExists => open_there(rt, name),
-        Err(error) => Err(ServeFault::Socket(error)),
+        Err(error) => Err(SocketFault::from(error)),
     }
 }
 
-fn lock<R: Files<File = File>>(rt: &R, alloc: Global, path: &str) -> Result<File, ServeFault> {
-    let file = open_lock(rt, format!(in alloc; "{path}.lock")?)?;
+fn lock<R: Files<File = File>>(rt: &R, alloc: Global, path: &str) -> Result<File, SocketFault> {
+    let Ok(name) = format!(in alloc; "{path}.lock") else {
+        return Err(SocketFault::NoMemory);
+    };
+    let file = open_lock(rt, name)?;
     match file.try_lock() {
         Ok(()) => Ok(file),
-        Err(TryLockError::WouldBlock) => Err(ServeFault::Taken),
-        Err(TryLockError::Error(error)) => Err(ServeFault::Socket(error)),
+        Err(TryLockError::WouldBlock) => Err(SocketFault::Taken),
+        Err(TryLockError::Error(error)) => Err(SocketFault::from(error)),
     }
+}
+
+// Takes the lock beside the path, and makes a new socket there. One that nobody listens on is removed.
+fn listen<R: Net + Files<File = File>>(
+    rt: &R,
+    alloc: Global,
+    path: &str,
+) -> Result<(File, UnixListener), SocketFault> {
+    is_there(rt, path)?;
+    let lock = lock(rt, alloc, path)?;
+    if is_there(rt, path)? {
+        if is_served(rt, path)? {
+            return Err(SocketFault::Taken);
+        }
+        fs::remove_file(rt, path)?;
+    }
+    Ok((lock, UnixListener::bind(rt, path)?))
 }
 
 impl Place<'_> {
-    /// Listens on a new socket at the path, for as long as the place is held. One that nobody
-    /// listens on goes.
+    /// Listens on a new socket at the path, as long as the place is held. A socket there that nobody
+    /// listens on is removed.
     pub fn listen<'a, R: Net + Files<File = File>>(
         rt: &R,
         alloc: Global,
         path: &'a str,
     ) -> Result<(Place<'a>, UnixListener), ServeFault> {
-        is_there(rt, path)?;
-        let lock = lock(rt, alloc, path)?;
-        if is_there(rt, path)? {
-            if is_served(rt, path)? {
-                return Err(ServeFault::Taken);
+        match listen(rt, alloc, path) {
+            Ok((lock, listener)) => {
+                let lock = Mutex::new(Some(lock));
+                Ok((Place { path, lock }, listener))
             }
-            fs::remove_file(rt, path).map_err(ServeFault::Socket)?;
+            Err(fault) => Err(ServeFault::of_socket(alloc, path, fault)),
         }
-        let listener = UnixListener::bind(rt, path).map_err(ServeFault::Socket)?;
-        let lock = Mutex::new(Some(lock));
-        Ok((Place { path, lock }, listener))
     }
 
-    /// Removes the socket, once, and then lets the lock go: another server may listen there. That it
-    /// can't be removed is no fault of the session.
+    /// Removes the socket, once, and then releases the lock, so that another server may listen there.
+    /// A socket that can't be removed is no fault of the session.
     pub fn leave<F: Files>(&self, rt: &impl Wait, files: &F) {
         let lock = self.lock.lock(rt).take();
         if lock.is_some() {

@@ -8,12 +8,12 @@ use std::fs::Metadata;
 use std::os::unix::fs::MetadataExt;
 use std::rt::HostRuntime;
 
-// Modes of a file: those of its group and of all others.
+// The modes that let a file's group or others read or write it.
 const OTHERS_READ: u32 = 0o044;
 
 const OTHERS_WRITE: u32 = 0o022;
 
-/// What tells that a file isn't the one that was read.
+/// What tells a file from the one that was read.
 #[derive(Clone, Copy, Debug, PartialEq, Eq)]
 pub struct Stamp {
     file: (u64, u64),
@@ -54,29 +54,42 @@ impl<'p> UsersFile<'p> {
         UsersFile { files, alloc, path }
     }
 
-    /// Reads the users of a file, which others mustn't write.
+    /// Reads the users. A file that others may write is refused.
     pub fn read(&self) -> Result<(Users, Stamp), ServeFault> {
-        let found = fs::metadata(&self.files, self.path).map_err(ServeFault::NoFile)?;
+        let found = match fs::metadata(&self.files, self.path) {
+            Ok(found) => found,
+            Err(error) => return Err(ServeFault::of_no_file(self.alloc, self.path, error)),
+        };
         let stamp = Stamp::of(&found);
         if stamp.mode & OTHERS_WRITE != 0 {
             return Err(ServeFault::Writable(String::from_str(self.alloc, self.path)?));
         }
-        let file = fs::read(&(self.files, self.alloc), self.path).map_err(ServeFault::NoFile)?;
-        Ok((Users::read(self.alloc, &file)?, stamp))
+        Ok((self.read_users()?, stamp))
+    }
+
+    fn read_users(&self) -> Result<Users, ServeFault> {
+        let file = match fs::read(&(self.files, self.alloc), self.path) {
+            Ok(file) => file,
+            Err(error) => return Err(ServeFault::of_no_file(self.alloc, self.path, error)),
+        };
+        match Users::read(self.alloc, &file) {
+            Ok(users) => Ok(users),
+            Err(fault) => Err(ServeFault::of_users(self.alloc, self.path, fault)),
+        }
     }
 }
 
-/// How a users' file was found last.
+/// What the last look at a users' file found.
 #[derive(Clone, Copy, Debug)]
 pub struct Seen {
-    // As it was when it was read; None where there was none, or where it is to be read again.
+    // The file as it was when it was read. None if there was none, or if it must be read again.
     stamp: Option<Stamp>,
-    // Where reading it failed, how it was then, which was told.
+    // The file as it was when it couldn't be read, if that has been told.
     failed: Option<Option<Stamp>>,
 }
 
 impl Seen {
-    /// It was read.
+    /// The file was read when it had this stamp.
     pub fn read(stamp: Stamp) -> Seen {
         Seen {
             stamp: Some(stamp),
@@ -84,12 +97,12 @@ impl Seen {
         }
     }
 
-    // The file was found so, and read, or it wasn't for this fault. Whether that is news. What can't
-    // be read is told once, and read again at the next look.
+    // Takes what a look found: the file's stamp, and the fault for which it wasn't read. The answer is
+    // whether that is news. A file that can't be read is told once, and read again at the next look.
     fn is_news(&mut self, found: Option<Stamp>, fault: Option<&ServeFault>) -> bool {
         match fault {
             Some(ServeFault::NoMemory) => true,
-            Some(ServeFault::NoFile(_)) => {
+            Some(ServeFault::NoFile(_, _)) => {
                 let was_told = self.failed == Some(found);
                 self.stamp = None;
                 self.failed = Some(found);
@@ -105,8 +118,8 @@ impl Seen {
 }
 
 impl UsersFile<'_> {
-    /// The users, or why they can't be had, unless all is as it was seen last, or that was told
-    /// before.
+    /// The users, or why they can't be read. None if the file is as it was at the last look, or if
+    /// the fault has been told.
     pub fn look(&self, seen: &mut Seen) -> Option<Result<Users, ServeFault>> {
         let found = fs::metadata(&self.files, self.path).ok();
         let found = found.map(|found| Stamp::of(&found));

@@ -12,10 +12,10 @@ use std::sync::{Condvar, Mutex, Wait};
 use std::time::{Clock, Duration};
 use std::{fmt, thread};
 
-// Without memory the file is looked at again after so many milliseconds.
+// If there is no memory, the file is looked at again after this number of milliseconds.
 const PAUSE: u64 = 20;
 
-// What is told of a file that was read.
+// What a look found.
 #[derive(Drop)]
 enum Told {
     Anew,
@@ -23,12 +23,21 @@ enum Told {
     Faulty(ServeFault),
 }
 
-impl Display for Told {
+// What is told of the users' file at a path.
+#[derive(Clone, Copy)]
+struct News<'a> {
+    path: &'a str,
+    told: &'a Told,
+}
+
+impl Display for News<'_> {
     fn fmt<W: fmt::Write>(&self, f: &mut Formatter<W>) -> fmt::Result {
-        match self {
-            Told::Anew => f.write_str("the users' file is read anew"),
-            Told::OtherOwner => f.write_str(
-                "the users' file has another owner: who may connect stays as it was",
+        let News { path, told } = *self;
+        match told {
+            Told::Anew => write!(f, "users' file {path} was read again"),
+            Told::OtherOwner => write!(
+                f,
+                "users' file {path} has another owner: who may connect stays as it was"
             ),
             Told::Faulty(fault) => write!(f, "{fault}: who may connect stays as it was"),
         }
@@ -38,11 +47,11 @@ impl Display for Told {
 // The looks at the file, counted from 1.
 #[derive(Drop)]
 struct Looks {
-    // The last one that somebody waits for.
+    // The last look that somebody waits for.
     wanted: u64,
     begun: u64,
     done: u64,
-    // How many sound files there were behind the first, and the users of the last of them.
+    // How many sound files were read after the first one, and the users of the last of them.
     count: u64,
     users: Option<Users>,
     told: Option<Told>,
@@ -50,7 +59,8 @@ struct Looks {
 }
 
 impl Looks {
-    // The users of a sound file with this owner count; otherwise they stay. Either is told.
+    // Takes the users of a sound file of this owner; after any other file they stay as they were.
+    // Either is told.
     fn take(&mut self, owner: UserId, found: Result<Users, ServeFault>) {
         match found {
             Ok(users) if users.owner() == owner => {
@@ -69,12 +79,12 @@ impl Looks {
 pub struct Known {
     /// The last look that is done.
     pub look: u64,
-    /// The users, where they aren't those that the loop has.
+    /// The users, if the loop has others.
     pub users: Option<Users>,
 }
 
-/// The users' file, which a thread of its own looks at when somebody connects: no loop waits for the
-/// file's disk.
+/// The users' file. When somebody connects, a separate thread looks at it, so that no loop waits for
+/// the file's disk.
 #[derive(Drop)]
 pub struct Watched {
     files: HostRuntime,
@@ -86,7 +96,7 @@ pub struct Watched {
 }
 
 impl Watched {
-    /// A file that was read once, with its owner, who is the session's.
+    /// A file that was read once. Its owner is the session's.
     pub fn new(file: UsersFile, owner: UserId) -> Result<Watched, AllocError> {
         Ok(Watched {
             files: file.files,
@@ -106,7 +116,7 @@ impl Watched {
         })
     }
 
-    /// Asks for a look that begins from now on: its number.
+    /// Asks for a look that begins after this call, and gives its number.
     pub fn ask(&self, rt: &impl Wait) -> u64 {
         let mut looks = self.looks.lock(rt);
         let look = looks.begun.saturating_add(1);
@@ -122,7 +132,7 @@ impl Watched {
         self.asked.notify_one();
     }
 
-    // Waits until a look is asked for, and begins it. Whether there is one.
+    // Waits until a look is asked for, and begins it. The answer is false once nobody waits any more.
     fn begin(&self, rt: &impl Wait) -> bool {
         let looks = self.looks.lock(rt);
         let mut looks = self
@@ -132,7 +142,7 @@ impl Watched {
         !looks.is_over
     }
 
-    // A look is done, and found this, if anything is new.
+    // Ends a look, which found this if anything is new.
     fn end(&self, rt: &impl Wait, found: Option<Result<Users, ServeFault>>) {
         let mut looks = self.looks.lock(rt);
         looks.done = looks.begun;
@@ -141,7 +151,7 @@ impl Watched {
         }
     }
 
-    // Looks at the file, again and again where memory is refused.
+    // Looks at the file, again and again as long as memory is refused.
     fn found<R: Clock + Wait>(&self, rt: &R, seen: &mut Seen) -> Option<Result<Users, ServeFault>> {
         let file = UsersFile::new(self.files, self.alloc, self.path.as_str());
         for _ in rt.forever() {
@@ -154,7 +164,8 @@ impl Watched {
         unreachable!()
     }
 
-    /// Looks at the file once that is asked for. Whether it was.
+    /// Looks at the file as soon as somebody asks for it. The answer is false once nobody waits any
+    /// more.
     pub fn look<R: Clock + Wait>(&self, rt: &R, seen: &mut Seen) -> bool {
         if !self.begin(rt) {
             return false;
@@ -164,12 +175,13 @@ impl Watched {
         true
     }
 
-    /// What is known now, for a loop that has the users of this count. Without memory it learns
-    /// nothing.
+    /// What is known now, for a loop that has the users of this count; None if there is no memory for
+    /// a copy of the users.
     pub fn newest<R: Clock + Wait>(&self, rt: &R, log: &Log, count: &mut u64) -> Option<Known> {
         let mut looks = self.looks.lock(rt);
         if let Some(told) = looks.told.take() {
-            log.put(rt, &told);
+            let path = self.path.as_str();
+            log.put(rt, &News { path, told: &told });
         }
         let users = if looks.count == *count {
             None

@@ -5,8 +5,8 @@ use mio::{Interest, Registry, Token};
 use std::io;
 use std::io::{ErrorKind, Read, Write};
 
-/// A connection whose loop is woken when there is something to read, and only while a write would
-/// wait also when it takes bytes again.
+/// A connection whose loop is woken when there is something to read. While bytes wait to be written,
+/// the loop is also woken when the connection takes bytes again.
 #[derive(Drop)]
 pub struct Wired<'a> {
     stream: UnixStream,

@@ -1,4 +1,4 @@
--- What is written behind what stood there, and what a reader has left.
+-- The bytes that are written after those that were there, and the bytes that a reader has left.
 use Rattle.std.proofs.Common.{◌≡◌, ℕ, ◌+◌, ◌<◌, List, [], ◌∷◌, ◌++◌, length, take, drop, Option}
 use Rattle.std.proofs.Common.{Some, None, refl, sym, ◌∙◌, ap, subst, arith, append_assoc}
 use Rattle.std.specs.Prelude.{slice_get, Bool, true, Result, Ok, Err, IfOk}
@@ -17,7 +17,7 @@ use Rattle.server_trail.specs.Files.{Cuts, AreLines, Reads, ReadsLines, IsLastOf
 
 -- ---- writing
 
--- and more behind it
+-- and more after it
 pub both : (old mid new : Option (List ℕ)) (a b c : List ℕ) → Appends old mid a
     → Appends mid new b → a ++ b ≡ c → Appends old new c
 both None mid new a b c p q e = tt
@@ -38,7 +38,7 @@ cut None new line c = tt
 cut (Some bytes) None line c = absurd c
 cut (Some bytes) (Some rest) line c = c.1
 
--- and none, where nothing was left
+-- and none if nothing was left
 pub over : (old new : Option (List ℕ)) (line : List ℕ) → OfKnown old new (ComesAs came.Nothing line)
     → Reads old (λ bytes. bytes ≡ [])
 over None new line c = tt
@@ -70,7 +70,7 @@ line_more entries place e line (Some bytes) (Some rest) (Some more) at a c is =
     subst (λ es. AreLines 0 es bytes more) (sym front) (one_more 0 place (take place entries) e bytes
     rest more is.0 long a (c ∙ ap (λ l. l ++ 0x0A ∷ more) is.1))
 
--- a whole file: a first line, the lines of entries, a last line, and nothing behind it
+-- a whole file: a first line, the lines of entries, a last line, and nothing after it
 pub trail_read : (header : Header) (entries : List Entry) (old one two three : Option (List ℕ)) (first last : List ℕ)
     → Cuts old first one → first ≡ header_text header → ReadsLines entries one two → Cuts two last three
     → IsLastOf last (length entries) → Reads three (λ bytes. bytes ≡ []) → Reads old (IsTrailOf header entries)

@@ -124,7 +124,7 @@ is_none : (o : Option (Vec ℕ Global)) → is_some o ≡ false → o ≡ None
 is_none None h = refl
 is_none (Some v) h = cc
 
--- how many bytes are held behind a removal, and behind one line more
+-- how many bytes are held after a removal, and after one more line
 abbrev bytes_in : List (ℕ × Vec ℕ Global) → ℕ
 bytes_in es = sum_by (λ (v : Vec ℕ Global). vec_len v) (values_of es)
 

@@ -1,4 +1,4 @@
--- A trail's file: what was written of it, and what it is when it is read back.
+-- A trail's file: the bytes that were written, and the trail that it has when it is read back.
 use Rattle.std.specs.Prelude.{◌≡◌, ℕ, ◌+◌, Bool, true, List, [], ◌∷◌, ◌++◌, length, take, Option}
 use Rattle.std.specs.Prelude.{Some, None}
 use Rattle.std.specs.Io.KnownBytes.{Appends}
@@ -19,8 +19,8 @@ pub record Begins (header : Header) (owner : UserId) (version : List ℕ) : Type
   pub owner_is : header.owner ≡ owner
   pub version_is : header.version ≡ version
 
--- the first n bytes were written behind what stood there, once each; all of them, where that is
--- answered
+-- the first n bytes were written once each, after those that were there; all of them, if that is the
+-- answer
 pub record HasWritten (old new : Option (List ℕ)) (bytes : List ℕ) (is_all : Bool) : Type 0 where
   pub count : ℕ
   pub front : Appends old new (take count bytes)
@@ -32,7 +32,7 @@ end_line entries ms cause =
 
 -- ---- reading
 
--- of what a reader had left, a line was read, with its line feed
+-- a line was read, with its line feed, of the bytes that a reader had left
 abbrev pub Cuts : Option (List ℕ) → List ℕ → Option (List ℕ) → Type 0
 Cuts None line new = Unit {0}
 Cuts (Some bytes) line None = ⊥
@@ -62,7 +62,7 @@ pub record IsTrailOf (header : Header) (entries : List Entry) (bytes : List ℕ)
   pub are_lines : AreLines 0 entries lines (last ++ 0x0A ∷ [])
   pub is_last : IsLastOf last (length entries)
 
--- so are the bytes that a reader had left, where they are known
+-- P holds of the bytes that a reader had left, if they are known
 abbrev pub Reads : Option (List ℕ) → (List ℕ → Type 0) → Type 0
 Reads None P = Unit {0}
 Reads (Some bytes) P = P bytes

@@ -34,8 +34,8 @@ early_line m place =
 abbrev pub early_bytes : Merge → ℕ
 early_bytes m = sum_by (λ (v : Vec ℕ Global). vec_len v) (tree.values m.early)
 
--- a line was put for each place below `next`; these lines, in their order, are what was taken and
--- what is ready; each later line that was put is kept
+-- a line was put for each place below `next`; these lines, in their order, are the text that was taken
+-- and the text that is ready; each later line that was put is kept
 pub record IsInOrder (put : List Placed) (taken : List ℕ) (m : Merge) : Type 0 where
   pub whole : (place : ℕ) → place < m.next → IsSome (line_for put place)
   pub text : taken ++ m.ready.items ≡ text_below put m.next
@@ -48,7 +48,7 @@ pub record IsMerging (put : List Placed) (taken : List ℕ) (m : Merge) : Type 0
   pub in_order : IsInOrder put taken m
   pub room : vec_len m.ready + m.held ≤ vec_capacity m.ready
 
--- of what was put and what was taken: the text goes as far as no place lacks
+-- the text has every line up to the first place for which none was put
 pub record HasMerged (put : List Placed) (taken : List ℕ) (m : Merge) : Type 0 where
   pub in_order : IsInOrder put taken m
   pub lacks : line_for put m.next ≡ None

@@ -15,7 +15,7 @@ use trail_audit::{Header, print_header};
 
 /// A file to which a trail is written.
 pub trait TrailFile: Write {
-    /// Brings to the disk what was written.
+    /// Brings everything that was written to the disk.
     fn sync(&mut self) -> io::Result<()>
         ensures bytes { Keeps (Self.contents self.old) (Self.contents self.new) };
 }
@@ -31,8 +31,8 @@ pub fn time<R: Clock>(rt: &R) -> Option<u64> {
     u64::try_from(rt.since_1970().ok()?.as_millis()).ok()
 }
 
-/// What the first line of a new trail says: edition 2, and the time of day. `version` is the
-/// writer's, a word.
+/// The first line of a new trail: edition 2, this owner, the time of day, and the writer's version,
+/// which is one word.
 pub fn header_of<R: Clock>(
     rt: &R,
     alloc: Global,
@@ -49,6 +49,7 @@ pub fn header_of<R: Clock>(
     })
 }
 
+// The first line, with its line feed.
 fn first_line(alloc: Global, header: &Header) -> Result<Vec<u8>, AllocError>
     ensures { IfOk result (λ line. line.items ≡ header_text header.now ++ 0x0A ∷ []) }
 {

@@ -1,4 +1,4 @@
-//! The file to which a server writes the trail of its session.
+//! The file to which a server writes its session's trail.
 
 ghost use Rattle.std.specs.Io.{WritesAtMost};
 
@@ -21,32 +21,32 @@ use std::{fs, io};
 use thiserror::Error;
 use trail_audit::{Cause, Header};
 
-// What writes the file.
+// The version that the file's first line names.
 const VERSION: &[u8] = b"0.1.0";
 
 /// What is wrong with a trail's file.
 #[derive(Debug, Drop, Error)]
 pub enum JournalFault {
-    #[error("{0}")]
+    #[error("can't make it: {0}: set another --trail")]
     NotMade(io::Error),
-    /// It was refused so, until too much waited.
-    #[error("{0}: the session ended there")]
+    /// The disk refused it, until too many bytes waited.
+    #[error("can't write it: {0}: the session ended for that")]
     Refused(io::Error),
-    #[error("its disk is too slow: the session ended there")]
+    #[error("its disk is too slow: the session ended for that")]
     TooSlow,
-    #[error("out of memory: the session ended there")]
+    #[error("out of memory: the session ended for that")]
     Memory,
     #[error("it isn't written to its end: {0}")]
     Cut(io::Error),
     #[error("it isn't written to its end")]
     Unended,
-    #[error("it isn't read back: {0}")]
+    #[error("can't read it back: {0}")]
     NotRead(io::Error),
-    #[error("it isn't the session's trail")]
+    #[error("it differs from the session's trail")]
     Differs,
 }
 
-// The file, and why it took nothing at last, if so.
+// The file, and the error of its last write, if that failed.
 #[derive(Drop)]
 struct Disk {
     file: File,
@@ -54,7 +54,7 @@ struct Disk {
 }
 
 impl Disk {
-    // One write, whose error is kept.
+    // Writes once, and keeps the error.
     fn write_some(&mut self, buf: &[u8]) -> io::Result<usize>
         ensures { WritesAtMost result buf.now }
     {
@@ -88,7 +88,7 @@ impl TrailFile for Disk {
     }
 }
 
-// What is wrong with a file whose end was written or not, where it had to stop for this.
+// The fault of a file, from why it had to stop, whether its last line was written, and the last error.
 fn fault_of(
     stopped: Option<Stopped>,
     is_ended: bool,
@@ -110,13 +110,13 @@ pub struct Journal<'a> {
     files: HostRuntime,
     alloc: Global,
     path: &'a str,
-    // The time that its first line says.
+    // The time that the file's first line has.
     ms: u64,
     file: Mutex<Disk>,
     fault: Mutex<Option<JournalFault>>,
 }
 
-// A new file, which its owner alone reads and writes.
+// Makes a new file, which only its owner may read and write.
 fn create(files: &HostRuntime, path: &str) -> io::Result<Disk> {
     let file = OpenOptions::new()
         .write(true)
@@ -127,7 +127,7 @@ fn create(files: &HostRuntime, path: &str) -> io::Result<Disk> {
 }
 
 impl<'a> Journal<'a> {
-    /// A new file, with its first line, for the trail of a session of this owner.
+    /// Makes a new file, with its first line, for the trail of a session of this owner.
     pub fn create(
         files: HostRuntime,
         alloc: Global,
@@ -153,22 +153,22 @@ impl<'a> Journal<'a> {
         })
     }
 
-    /// Where the file is.
+    /// The file's path.
     pub fn path(&self) -> &'a str {
         self.path
     }
 
-    /// Takes the file away: no session began.
+    /// Removes the file, if no session began.
     pub fn remove(&self) {
         let _ = fs::remove_file(&self.files, self.path);
     }
 
-    /// Writes the lines of entries as they come, until all loops have left.
+    /// Writes the lines of entries as they come, until all loops have ended.
     pub fn write<R: Clock + Wait>(&self, rt: &R, recorder: &Recorder) -> Written {
         recorder.write_all(rt, &mut *self.file.lock(rt))
     }
 
-    /// Writes the last line. Where no cause is known the file stays without one.
+    /// Writes the last line. If no cause is known, the file has none.
     pub fn end<R: Clock + Wait>(
         &self,
         rt: &R,
@@ -189,7 +189,7 @@ impl<'a> Journal<'a> {
         *self.fault.lock(rt) = fault_of(stopped, is_ended, error);
     }
 
-    // Whether the file, read back, is the trail of a session of this edition and owner.
+    // Reads the file back. The answer is whether it is the trail of a session of this edition and owner.
     fn is_whole(&self, edition: Edition, owner: UserId, entries: &Roll) -> io::Result<bool> {
         let header = Header {
             edition,
@@ -215,7 +215,7 @@ impl<'a> Journal<'a> {
         }
     }
 
-    /// What is wrong with the file, said once.
+    /// The fault of the file, if it has one. The next call gives none.
     pub fn fault(&self, rt: &impl Wait) -> Option<JournalFault> {
         self.fault.lock(rt).take()
     }

@@ -1,4 +1,4 @@
-//! A session's trail on its way to a file, and such a file compared with the trail.
+//! Writes a session's trail to a file, and compares the file with the trail.
 #![tactic(auto)]
 
 mod file;

@@ -11,18 +11,18 @@ use std::collections::BTreeMap;
 /// their places, from 0 on.
 #[derive(Drop)]
 pub struct Merge {
-    // The lines of the places below it were made ready.
+    // The lines of the places below this one have been made ready.
     next: usize,
-    // What is ready and wasn't taken.
+    // The bytes that are ready and haven't been taken.
     ready: Vec<u8>,
     // The lines of later places.
     early: BTreeMap<usize, Vec<u8>>,
-    // How many bytes those have.
+    // How many bytes the early lines have.
     held: usize,
 }
 
 impl Merge {
-    /// No line so far.
+    /// No line has been put down yet.
     pub fn new(alloc: Global) -> Merge
         ensures { HasMerged [] [] result }
     {
@@ -34,7 +34,7 @@ impl Merge {
         }
     }
 
-    // Makes the early lines ready whose turn has come. There is room for them.
+    // Makes ready each early line whose turn has come. There is room for them.
     fn advance(&mut self)
         ensures { (put : List Placed) (taken : List ℕ) → IsMerging put taken self.old
             → HasMerged put taken self.new }
@@ -46,8 +46,8 @@ impl Merge {
         }
     }
 
-    /// Puts a line down, with its line feed. A second line for a place is dropped. After an `Err`
-    /// nothing has changed; the place `usize::MAX` is refused so too.
+    /// Puts a line down, with its line feed. A second line for a place is dropped. `Err` if memory is
+    /// refused or the place is `usize::MAX`; then nothing has changed.
     pub fn put(&mut self, place: usize, line: Vec<u8>) -> Result<(), AllocError>
         ensures ok { (put : List Placed) (taken : List ℕ) → HasMerged put taken self.old
             → OnOk result (HasMerged (put ++ (place, line.items) ∷ []) taken self.new) }
@@ -70,7 +70,7 @@ impl Merge {
         Ok(())
     }
 
-    /// The text that is ready, which leaves. It takes no memory.
+    /// Takes the text that is ready. It needs no memory.
     pub fn take(&mut self) -> Vec<u8>
         ensures all { self.new.ready.items ≡ [] }
         ensures text { result.items ≡ self.old.ready.items }
@@ -88,8 +88,8 @@ impl Merge {
         self.ready.len()
     }
 
-    /// How many bytes wait, `usize::MAX` at most: those that are ready, and the lines that came
-    /// early.
+    /// How many bytes wait, at most `usize::MAX`: the bytes that are ready, and those of the early
+    /// lines.
     pub fn waiting(&self) -> usize
         ensures { (put : List Placed) (taken : List ℕ) → HasMerged put taken self.now
             → result ≡ min (vec_len self.now.ready + early_bytes self.now) (2 ^ 64 - 1) }
@@ -97,7 +97,7 @@ impl Merge {
         self.ready.len().saturating_add(self.held)
     }
 
-    /// How many lines were made ready in all: those of the places below it.
+    /// How many lines have been made ready in all: the lines of the places below this number.
     pub fn next(&self) -> usize
         ensures { result ≡ self.now.next }
     {

@@ -1,4 +1,4 @@
-//! A file that is read back.
+//! A trail's file that is read back.
 
 ghost use Rattle.std.specs.Prelude.{◌≡◌, ◌∷◌, ◌++◌, [], ℕ, List, Some, true, IfOk, take};
 ghost use Rattle.trail_lines.specs.Entries.{line_of};
@@ -12,8 +12,7 @@ use std::io::{self, BufRead};
 use trail_audit::{Came, Header, next_line, print_header, read_end};
 use trail_lines::{Unread, print_line};
 
-// Reads a line, which takes the place of what `line` had, without its line feed. Whether there was
-// a whole one.
+// Reads the next line into `line`, without its line feed. The answer is whether there was a whole line.
 fn has_line<R: BufRead>(reader: &mut R, line: &mut Vec<u8>) -> io::Result<bool>
     ensures { IfOk result (λ is. is ≡ true
         → Cuts (R.remaining reader.old) line.new.items (R.remaining reader.new)) }
@@ -24,7 +23,7 @@ fn has_line<R: BufRead>(reader: &mut R, line: &mut Vec<u8>) -> io::Result<bool>
     }
 }
 
-// Whether nothing is left.
+// Whether nothing is left to read.
 fn is_over<R: BufRead>(reader: &mut R, line: &mut Vec<u8>) -> io::Result<bool>
     ensures { IfOk result (λ is. is ≡ true → Reads (R.remaining reader.old) (λ bytes. bytes ≡ [])) }
 {
@@ -34,7 +33,7 @@ fn is_over<R: BufRead>(reader: &mut R, line: &mut Vec<u8>) -> io::Result<bool>
     }
 }
 
-// Whether the line is that of the entry at this place, with some time.
+// Whether the line is the one of the entry at this place, with any time.
 fn is_line_of(alloc: Global, line: &[u8], place: u64, entry: &Filed) -> Result<bool, AllocError>
     ensures { IfOk result (λ is. is ≡ true
         → (ms : ℕ) × (line.now ≡ line_of (place, ms, entry.now))) }
@@ -50,7 +49,7 @@ fn is_line_of(alloc: Global, line: &[u8], place: u64, entry: &Filed) -> Result<b
     Ok(printed.as_slice() == line)
 }
 
-// Whether the line is this first one.
+// Whether the line is the first line that this header makes.
 fn is_first(alloc: Global, line: &[u8], header: &Header) -> Result<bool, AllocError>
     ensures { IfOk result (λ is. is ≡ true → line.now ≡ header_text header.now) }
 {
@@ -59,7 +58,7 @@ fn is_first(alloc: Global, line: &[u8], header: &Header) -> Result<bool, AllocEr
     Ok(printed.as_slice() == line)
 }
 
-// Whether the line is a last one that counts so many entries.
+// Whether the line is a last line that counts this number of entries.
 fn is_last(alloc: Global, line: &[u8], count: u64) -> Result<bool, AllocError>
     ensures { IfOk result (λ is. is ≡ true → IsLastOf line.now count) }
 {
@@ -70,7 +69,7 @@ fn is_last(alloc: Global, line: &[u8], count: u64) -> Result<bool, AllocError>
     }
 }
 
-// Whether the next lines are those of the entries.
+// Whether the next lines are the lines of the entries.
 fn are_lines<R: BufRead>(reader: &mut R, line: &mut Vec<u8>, entries: &Roll) -> io::Result<bool>
     ensures { IfOk result (λ is. is ≡ true → ReadsLines entries.now.entries
         (R.remaining reader.old) (R.remaining reader.new)) }
@@ -85,8 +84,8 @@ fn are_lines<R: BufRead>(reader: &mut R, line: &mut Vec<u8>, entries: &Roll) -> 
     Ok(true)
 }
 
-/// Whether a file is this trail's: this first line, a line for each of the entries in its place, a
-/// last line that counts them, and nothing behind it. `Err` where it can't be read, or memory is
+/// Whether a file has exactly this trail: the header's first line, a line for each entry in its place, a
+/// last line that counts them, and nothing after it. `Err` if the file can't be read or memory is
 /// refused.
 pub fn is_trail<R: BufRead>(
     alloc: Global,

@@ -1,4 +1,4 @@
-//! Lines on their way to a trail's file, which several threads put down and one writes.
+//! Lines on their way to a trail's file: several threads put them down, and one thread writes them.
 
 ghost use Rattle.std.specs.Prelude.{◌≡◌, ◌++◌, ◌∷◌, [], IfOk};
 ghost use Rattle.trail_lines.specs.Entries.{line_of};
@@ -13,17 +13,17 @@ use std::sync::{Condvar, Mutex, OnceLock, Wait};
 use std::time::Clock;
 use trail_lines::print_line;
 
-// A line is taken while at most so many bytes wait.
+// A line is taken as long as at most this number of bytes wait.
 const MOST: usize = 16_777_216;
 
-/// The writer doesn't wait for more where so many bytes are ready.
+/// With this number of bytes ready, the writer waits for no more.
 pub const BLOCK: usize = 65_536;
 
 /// What the loops and the writer share.
 #[derive(Drop)]
 pub struct Waiting {
     pub merge: Merge,
-    /// How many loops haven't left.
+    /// How many loops haven't ended.
     pub loops: usize,
 }
 
@@ -51,8 +51,8 @@ fn line_of(alloc: Global, place: usize, ms: u64, entry: &Filed) -> Result<Vec<u8
 }
 
 impl Waiting {
-    // Puts a line down. Whether the writer is to be woken: the first bytes are ready, or as many
-    // as it waits for. What the writer has taken doesn't wait, however long the disk takes over it.
+    // Puts a line down. The answer is whether the writer must be woken: the first bytes are ready, or as
+    // many as it waits for. Bytes that the writer has taken don't wait, however long the disk takes.
     fn put(&mut self, place: usize, line: Vec<u8>) -> Result<bool, Stopped> {
         if self.merge.waiting() > MOST {
             return Err(Stopped::Disk);
@@ -67,7 +67,7 @@ impl Waiting {
 }
 
 impl Recorder {
-    /// No line yet. So many loops will leave.
+    /// No line yet, for this number of loops.
     pub fn new(alloc: Global, loops: usize) -> Recorder {
         Recorder {
             alloc,
@@ -81,15 +81,15 @@ impl Recorder {
         }
     }
 
-    /// The time of lines from now on. It stays where the clock fails.
+    /// Takes the time of day, which lines have from now on. If the clock fails, the time stays.
     pub fn set_time<R: Clock>(&self, rt: &R) {
         if let Some(ms) = time(rt) {
             self.ms.store(ms, Ordering::SeqCst);
         }
     }
 
-    /// Puts the line of an entry down, which stands at this place in the trail; None where memory
-    /// was refused for its copy. Once the file has stopped, nothing is put down.
+    /// Puts down the line of an entry, which stands at this place in the trail; None if memory was
+    /// refused for a copy of the entry. Once the file has stopped, nothing is put down.
     pub fn put(&self, rt: &impl Wait, place: usize, entry: Option<&Filed>) {
         if self.stopped().is_some() {
             return;
@@ -124,12 +124,12 @@ impl Recorder {
         }
     }
 
-    /// Why the file can't go on; None while it can.
+    /// Why the file can't go on; None as long as it can.
     pub fn stopped(&self) -> Option<Stopped> {
         self.stopped.get().copied()
     }
 
-    /// A loop has ended: it puts nothing more down.
+    /// A loop has ended, and puts nothing more down.
     pub fn leave(&self, rt: &impl Wait) {
         let mut waiting = self.waiting.lock(rt);
         waiting.loops = waiting.loops.saturating_sub(1);

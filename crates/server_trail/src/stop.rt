@@ -12,7 +12,7 @@ pub enum Stopped {
 }
 
 impl Stopped {
-    /// As the file's last line says it.
+    /// The cause that the file's last line names.
     pub fn cause(self) -> Cause {
         match self {
             Stopped::Disk => Cause::Disk,

@@ -1,4 +1,4 @@
-//! The thread that writes.
+//! The thread that writes a trail's file.
 
 ghost use Rattle.std.specs.Prelude.{◌≡◌, ◌≤◌, ◌+◌, ◌++◌, ◌∷◌, [], ℕ, List, true, false, length, take};
 ghost use Rattle.std.specs.Prelude.{◌==◌, ◌&&◌, ◌||◌, IfOk, is_some, vec_len};
@@ -19,16 +19,16 @@ use std::thread;
 use std::time::{Clock, Duration};
 use trail_audit::{Cause, Ended, print_end};
 
-// The writer lets so many milliseconds pass where few bytes are ready.
+// How many milliseconds the writer waits for more if few bytes are ready.
 const PAUSE: u64 = 100;
 
-// Where nothing comes, it is looked at after so many seconds.
+// How many seconds the writer sleeps at most if nothing comes.
 const LOOK: u64 = 3_600;
 
-// What the disk refuses is tried again so often once all loops have left, each second.
+// How often a refused write is tried again after all loops have ended, once a second.
 const LAST_TRIES: u32 = 5;
 
-/// What was written of a trail whose loops have left.
+/// How much was written of a trail whose loops have ended.
 #[derive(Debug, Drop)]
 pub struct Written {
     entries: u64,
@@ -36,14 +36,14 @@ pub struct Written {
 }
 
 impl Written {
-    /// How many lines of entries were to be written.
+    /// How many lines of entries there were to write.
     pub fn entries(&self) -> u64
         ensures { result ≡ self.now.entries }
     {
         self.entries
     }
 
-    /// Whether all lines were written that were put down, up to the one at which the file stopped.
+    /// Whether every line that was put down was written, up to the one at which the file stopped.
     pub fn is_whole(&self) -> bool
         ensures { result ≡ self.now.is_whole }
     {
@@ -51,8 +51,8 @@ impl Written {
     }
 }
 
-// What was written of lines, where all that were ready were or not: it isn't whole where a line is
-// still early, which waits for one that never came, unless the file has stopped.
+// How much was written; `is_written` says whether every ready line was. A file that hasn't stopped isn't
+// whole if a line still waits for an earlier one that never came.
 fn written_of(merge: &Merge, is_written: bool, stopped: Option<Stopped>) -> Written
     ensures entries { result.entries ≡ merge.now.next }
     ensures whole { (put : List Placed) (taken : List ℕ) → HasMerged put taken merge.now →
@@ -66,22 +66,22 @@ fn written_of(merge: &Merge, is_written: bool, stopped: Option<Stopped>) -> Writ
     }
 }
 
-// When a file is to be brought to the disk.
+// When a file must be synced to the disk.
 #[derive(Drop)]
 struct Syncing {
-    // Something was written since the last time.
+    // Something was written since the last sync.
     is_behind: bool,
     last: Duration,
 }
 
 impl Syncing {
-    // How long the writer sleeps where nothing is ready.
+    // How long the writer sleeps if nothing is ready.
     fn pause(&self) -> Duration {
         Duration::from_secs(if self.is_behind { 1 } else { LOOK })
     }
 
-    // Brings the file to the disk where that is behind and a second has passed. Where the disk
-    // refuses, it is tried the next time.
+    // Syncs the file if something was written and a second has passed. If the disk refuses, the next
+    // call tries again.
     fn sync<R: Clock, F: TrailFile>(&mut self, rt: &R, file: &mut F)
         ensures { Keeps (F.contents file.old) (F.contents file.new) }
     {
@@ -98,7 +98,7 @@ impl Syncing {
     }
 }
 
-// One write. How many of the bytes were taken; none where the file refused them.
+// Writes once. The answer is how many of the bytes were taken; 0 if the file refused them.
 fn write_some<F: Write>(file: &mut F, bytes: &[u8]) -> usize
     ensures bound { result ≤ length bytes.now }
     ensures writes { Appends (F.contents file.old) (F.contents file.new) (take result bytes.now) }
@@ -106,7 +106,7 @@ fn write_some<F: Write>(file: &mut F, bytes: &[u8]) -> usize
     file.write(bytes).unwrap_or(0)
 }
 
-// Brings the file to the disk, and tries again each second for some seconds.
+// Syncs the file, and tries again each second for some seconds.
 fn sync_last<R: Clock, F: TrailFile>(rt: &R, file: &mut F) -> bool
     ensures { Keeps (F.contents file.old) (F.contents file.new) }
 {
@@ -130,19 +130,19 @@ fn last_line(alloc: Global, ended: &Ended) -> Result<Vec<u8>, AllocError>
 }
 
 impl Recorder {
-    // How many bytes are ready, and whether all loops have left.
+    // How many bytes are ready, and whether all loops have ended.
     fn look(&self, rt: &impl Wait) -> (usize, bool) {
         let waiting = self.waiting.lock(rt);
         (waiting.merge.ready(), waiting.loops == 0)
     }
 
-    // Takes what is ready.
+    // Takes the text that is ready.
     fn take(&self, rt: &impl Wait) -> Vec<u8> {
         self.waiting.lock(rt).merge.take()
     }
 
-    // Writes the bytes. What the file refuses is tried again each second; once all loops have left,
-    // for some seconds. Whether all were written.
+    // Writes the bytes. A refused write is tried again each second; after all loops have ended, only for
+    // some seconds. The answer is whether all bytes were written.
     fn push<R: Clock + Wait, F: Write>(&self, rt: &R, file: &mut F, bytes: &[u8]) -> bool
         ensures { HasWritten (F.contents file.old) (F.contents file.new) bytes.now result }
     {
@@ -168,21 +168,21 @@ impl Recorder {
         unreachable!()
     }
 
-    // Writes what is ready. Whether all of it was written.
+    // Writes the text that is ready. The answer is whether all of it was written.
     fn write_ready<R: Clock + Wait, F: Write>(&self, rt: &R, file: &mut F) -> bool {
         let text = self.take(rt);
         self.push(rt, file, &text)
     }
 
-    // What was written, once all loops have left.
+    // How much was written, after all loops have ended.
     fn written(&self, rt: &impl Wait, is_written: bool) -> Written {
         written_of(&self.waiting.lock(rt).merge, is_written, self.stopped())
     }
 
-    /// Writes the lines as they come, until all loops have left. It sleeps while none is ready, and
-    /// lets a tenth of a second pass where there are few. What the disk refuses is tried again each
-    /// second, and for five seconds at the end. Each second in which something was written, it is
-    /// brought to the disk.
+    /// Writes the lines as they come, until all loops have ended. It sleeps as long as no line is ready,
+    /// and waits a tenth of a second for more if few are. A refused write is tried again each second,
+    /// and for five seconds at the end. The file is synced in each second in which something was
+    /// written.
     pub fn write_all<R: Clock + Wait, F: TrailFile>(&self, rt: &R, file: &mut F) -> Written {
         let mut syncing = Syncing {
             is_behind: false,
@@ -212,8 +212,8 @@ impl Recorder {
         unreachable!()
     }
 
-    /// Writes the last line behind what was written, where that is whole, and brings the file to
-    /// the disk. Whether the file is whole then, with its last line, and on the disk.
+    /// Writes the last line, if all lines before it were written, and syncs the file. The answer is
+    /// whether the whole file is on the disk, with its last line.
     pub fn end<R: Clock + Wait, F: TrailFile>(
         &self,
         rt: &R,

@@ -1,3 +1,5 @@
 pub mod Lines
+pub mod Paying
+pub mod Places
 pub mod Seen
 pub mod Spelled

@@ -9,7 +9,7 @@ use Rattle.server_users.specs.Entries.{Entry, IsUser, AreUsers, HaveOwnNames, na
 use Rattle.server_users.specs.Stands.{entry_of, entries_of}
 use Rattle.server_users.proofs.Spelled.{one_name}
 
--- what was read so far: a line for each user, or all of it where the last line feed lacks
+-- what was read: a line for each user, or the whole file if it lacks the last line feed
 pub record HaveRead (us : List Entry) (file rest : List ℕ) : Type 0 where
   pub users : AreUsers us
   pub lines : (file ≡ text us ++ rest) ⊎ ((rest ≡ []) × (file ++ 0x0A ∷ [] ≡ text us))
@@ -42,7 +42,7 @@ text_push : (us : List Entry) (u : Entry)
 text_push us u = flat_map-append (λ (e : Entry). spelled e ++ 0x0A ∷ []) us (u ∷ [])
     ∙ ap (λ l. text us ++ l) (append-nil (spelled u ++ 0x0A ∷ []))
 
--- a line is read: what stands behind it is the rest
+-- a line is read: the text after it is the rest
 read_line : (us : List Entry) (u : Entry) (file rest line more : List ℕ)
     → (file ≡ text us ++ rest) ⊎ ((rest ≡ []) × (file ++ 0x0A ∷ [] ≡ text us))
     → rest ≡ line ++ more → spelled u ≡ line → EndsLine more
@@ -131,7 +131,7 @@ stop us file rest line more h some r is f wrong = record {
   wrong = wrong;
 }
 
--- the same, of a name that stood before
+-- the reading stops at a line whose name is on an earlier line
 pub stop_twice : (us : List Entry) (u : Entry) (file rest line more : List ℕ)
     → HaveRead us file rest → ((0 < length rest) ⊎ (us ≡ [])) → rest ≡ line ++ more → IsLine line
     → EndsLine more

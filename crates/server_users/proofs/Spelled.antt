@@ -6,7 +6,7 @@ use Rattle.std.proofs.lemmas.List.{drop_at, take_at}
 use Rattle.attach_proto.specs.Texts.{is_digit}
 use Rattle.server_users.specs.Entries.{Entry, IsUser, spelled}
 
--- lists that end in equally many are cut at the same place
+-- equal lists whose ends have the same length are cut at the same place
 cut_same : (xs ys zs ws : List ℕ) → xs ++ ys ≡ zs ++ ws → length ys ≡ length ws
     → (xs ≡ zs) × (ys ≡ ws)
 cut_same xs ys zs ws e n =

@@ -1,20 +1,20 @@
--- What a user has paid for steps, and how much of it comes back.
+-- What a user has paid for steps, and how much of that comes back.
 use Rattle.std.specs.Prelude.{ℕ, ◌+◌, ◌-◌, min, max}
 use Rattle.server_users.specs.declared.allowance.Outcome.{Outcome}
 use Rattle.server_users.specs.declared.allowance.Outcome.TheVariants as outcome
 
 pub record Purse : Type 0 where
-  -- what was paid and hasn't come back, in milliseconds
+  -- what was paid and hasn't come back yet, in milliseconds
   pub spent : ℕ
-  -- how much of it was paid for steps that weren't checked
+  -- the part of it that was paid for steps that weren't checked
   pub lent : ℕ
-  -- the time up to which that is so
+  -- the time of the last change, in milliseconds
   pub seen : ℕ
 
 abbrev pub fresh : Purse
 fresh = record { spent = 0; lent = 0; seen = 0 }
 
--- a millisecond's worth comes back in each millisecond
+-- in each millisecond, one of the milliseconds that were paid comes back
 abbrev pub stands_at : ℕ → Purse → Purse
 stands_at now p =
     let spent : ℕ = p.spent - (now - p.seen) in
@@ -23,7 +23,7 @@ stands_at now p =
 abbrev pub paid : ℕ → Purse → Purse
 paid cost p = record p { spent = p.spent + cost }
 
--- what a step that cost this much leaves
+-- the purse after a step of this cost and outcome
 abbrev pub settled : Outcome → ℕ → Purse → Purse
 settled outcome.Granted cost p = record p { spent = p.spent - (cost + p.lent); lent = 0 }
 settled outcome.Unchecked cost p = record p { lent = min (p.lent + cost) p.spent }

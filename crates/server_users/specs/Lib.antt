@@ -1,3 +1,4 @@
+pub mod Accounts
 pub mod Allowances
 pub mod Entries
 pub mod Stands

@@ -1,4 +1,4 @@
--- What is kept of users, as entries, and what faults say.
+-- The users that are kept, as entries, and the meaning of faults.
 use Rattle.std.specs.Prelude.{ℕ, List, map, Contains}
 use Rattle.acl.specs.Names.{name_of}
 use Rattle.server_users.specs.declared.user.User.{User}
@@ -14,7 +14,7 @@ entry_of u = record { name = name_of u.id; token = u.token }
 abbrev pub entries_of : List User → List Entry
 entries_of us = map entry_of us
 
--- what a fault says of the file
+-- the meaning of a fault of a file
 abbrev pub Breaks : List ℕ → UsersFault → Type 0
 Breaks file (BadLine n) = BreaksAt file n
 Breaks file NoMemory = Unit {0}

@@ -1,4 +1,4 @@
-//! What a user may try in vain.
+//! What a user may still try in vain.
 
 ghost use Rattle.std.specs.Prelude.{◌≡◌, ◌↔◌, ◌<◌, ◌+◌, ◌*◌, ◌/◌, IsTrue, min, true, false};
 ghost use Rattle.server_users.specs.Allowances.{fresh, paid, settled, stands_at};
@@ -8,30 +8,30 @@ use std::marker::Model;
 /// What came of a step that a user tried.
 #[derive(Clone, Copy, Debug, PartialEq, Eq)]
 pub enum Outcome {
-    /// It was done, and rights or locks were checked for it.
+    /// It was done, and the rights or locks that were checked for it allowed it.
     Granted,
     /// It was done, and nothing was checked for it.
     Unchecked,
-    /// It was refused, or a right or a lock stood against it.
+    /// It was refused, or a right or a lock didn't allow it.
     Denied,
     /// The session took no step.
     Untaken,
 }
 
-/// A unit comes back after so many milliseconds.
+/// How many milliseconds it takes until a unit comes back.
 pub const UNIT: u32 = 1_000;
 
-// All that a user may spend comes back in so many milliseconds: 1,000 units.
+// A user may spend at most 1,000 units, which come back in this number of milliseconds.
 const MOST: u64 = 1_000_000;
 
-// The trail keeps so many bytes of a step for each further unit.
+// How many of the bytes that the trail keeps cost one unit.
 const BYTES: u32 = 128;
 
-// No frame of a peer has more bytes.
+// The most bytes of a frame of a peer.
 const LONGEST: u32 = 65_535;
 
-/// What a step costs: a unit for each entry of the trail to which it leads, and one more for every
-/// 128 bytes that the trail keeps of it.
+/// What a step costs, in milliseconds: 1,000 (a unit) for each entry that it makes in the trail, and
+/// 1,000 more for each 128 bytes that the trail keeps of it.
 pub fn price(entries: u16, bytes: usize) -> u32
     ensures { result ≡ 1000 * (entries + min bytes 65535 / 128) }
 {
@@ -39,8 +39,9 @@ pub fn price(entries: u16, bytes: usize) -> u32
     UNIT * (u32::from(entries) + bytes / BYTES)
 }
 
-/// What a user may try in vain: 1,000 units at once, then one a second. Each step is paid for before
-/// it is tried. One that is granted gives back its cost, and that of the unchecked steps before it.
+/// What a user may still try in vain: 1,000 units at once, then one a second. Each step is paid for
+/// before it is tried. A step that is granted gives back its cost and the costs of the unchecked steps
+/// before it.
 #[derive(Debug)]
 pub struct Allowance {
     spent: u64,
@@ -70,7 +71,7 @@ impl Model for Allowance {
 }
 
 impl Allowance {
-    /// Nothing is spent.
+    /// An allowance of which nothing is spent.
     pub fn new() -> Allowance
         ensures { result ≡ fresh }
     {
@@ -81,7 +82,7 @@ impl Allowance {
         }
     }
 
-    // Takes back what came back up to this time, in milliseconds.
+    // Gives back what comes back by this time, in milliseconds.
     fn pass(&mut self, now: u64)
         ensures { self.new ≡ stands_at now self.old }
     {
@@ -90,7 +91,7 @@ impl Allowance {
         self.seen = self.seen.max(now);
     }
 
-    /// Pays for a step at this time, in milliseconds, unless all is spent. Whether it did.
+    /// Pays for a step at this time, in milliseconds, unless all is spent. The answer is whether it did.
     pub fn pay(&mut self, now: u64, cost: u32) -> bool
         ensures answer { IsTrue result ↔ ((stands_at now self.old).spent < 1000000) }
         ensures paid { result ≡ true → self.new ≡ paid cost (stands_at now self.old) }
@@ -104,7 +105,7 @@ impl Allowance {
         true
     }
 
-    /// A step that was paid for so came to this.
+    /// Settles what came of a step that was paid for at this cost.
     pub fn settle(&mut self, cost: u32, outcome: Outcome)
         ensures { self.new ≡ settled outcome cost self.old }
     {

@@ -1,4 +1,4 @@
-//! Who somebody is.
+//! Finds the user who shows a token.
 
 ghost use Rattle.std.specs.Prelude.{◌≡◌, ◌↔◌, IsOk, IfOk, IfErr, IsSome, IfSome, Contains};
 ghost use Rattle.acl.specs.Names.{name_of};
@@ -10,6 +10,7 @@ use crate::users::{Users, has_name};
 use acl::UserId;
 use attach_proto::Token;
 
+// The user who has this name and this token.
 fn holder(users: &[User], name: &[u8], token: &Token) -> Option<UserId>
     ensures some { IsSome result
         ↔ Contains (entries_of users.now) (record { name = name.now; token = token.now }) }
@@ -23,7 +24,8 @@ fn holder(users: &[User], name: &[u8], token: &Token) -> Option<UserId>
     None
 }
 
-/// The user of this name, who shows this token. The time doesn't depend on where a token differs.
+/// The user of this name, if the token is theirs. The time that this takes doesn't depend on where a
+/// token differs.
 pub fn authenticate(users: &Users, name: &[u8], token: &Token) -> Result<UserId, AuthFault>
     ensures ok { IsOk result ↔ Contains users.now (record { name = name.now; token = token.now }) }
     ensures named { IfOk result (λ user. name_of user ≡ name.now) }

@@ -1,4 +1,4 @@
-//! What can be wrong.
+//! Why a user isn't let in, and why a users' file isn't read.
 
 ghost use Rattle.std.specs.Prelude.{◌≡◌};
 ghost use Rattle.server_users.specs.declared.fault.UsersFault.TheVariants as users;
@@ -6,7 +6,7 @@ ghost use Rattle.server_users.specs.declared.fault.UsersFault.TheVariants as use
 use std::alloc::AllocFailed;
 use thiserror::Error;
 
-/// Why somebody isn't let in.
+/// Why a user isn't let in.
 #[derive(Clone, Copy, Debug, PartialEq, Eq, Error)]
 pub enum AuthFault {
     #[error("no user has this name")]
@@ -15,12 +15,12 @@ pub enum AuthFault {
     BadToken,
 }
 
-/// Why a users' file isn't read.
+/// Why a users' file can't be used.
 #[derive(Clone, Copy, Debug, PartialEq, Eq, Error)]
 pub enum UsersFault {
-    /// The first line, counted from 1, that isn't a name, one blank and a token, or whose name
-    /// stood before.
-    #[error("line {0}: not a new name, one blank and 64 digits of 0 to 9, a to f")]
+    /// The number of the first line, counted from 1, that isn't a name, one blank and a token, or whose
+    /// name is on an earlier line.
+    #[error("line {0}: it must be a new name, one blank and 64 digits (0 to 9, a to f)")]
     BadLine(usize),
     #[error("out of memory")]
     NoMemory,

@@ -1,13 +1,17 @@
-//! Who may connect: the users' file, who shows which token, and what a user may try in vain.
+//! The users who may connect: their file and tokens, and what each user may still try and have.
 #![tactic(auto)]
 
 mod allowance;
+mod allowances;
 mod authenticating;
 mod fault;
+mod tally;
 mod user;
 mod users;
 
 pub use allowance::{Allowance, Outcome, UNIT, price};
+pub use allowances::Allowances;
 pub use authenticating::authenticate;
 pub use fault::{AuthFault, UsersFault};
+pub use tally::Tally;
 pub use users::Users;

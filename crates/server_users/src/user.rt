@@ -8,13 +8,14 @@ ghost use Rattle.server_users.specs.Stands.{entry_of};
 use acl::UserId;
 use attach_proto::{TOKEN_LEN, Token};
 
-/// Who may connect, and how they show who they are.
+/// A user who may connect, and the token that they show.
 #[derive(Debug, Drop)]
 pub struct User {
     pub id: UserId,
     pub token: Token,
 }
 
+// The user of this name and this token, if the words are a name and a token.
 fn user_of(name: &[u8], digits: &[u8]) -> Option<User>
     ensures some { IfSome result (λ u. IsUser (entry_of u)
         × (entry_of u ≡ record { name = name.now; token = digits.now })) }
@@ -43,7 +44,7 @@ impl User {
         user_of(name, digits)
     }
 
-    /// The same user.
+    /// A copy of the user.
     pub fn copied(&self) -> User
         ensures { result ≡ self.now }
     {
@@ -60,8 +61,8 @@ impl User {
         self.id.as_bytes() == name
     }
 
-    /// Whether the user has this name and this token. The time doesn't depend on where a token
-    /// differs.
+    /// Whether the user has this name and this token. The time that this takes doesn't depend on where
+    /// the tokens differ.
     pub fn shows(&self, name: &[u8], token: &Token) -> bool
         ensures { IsTrue result
             ↔ (entry_of self.now ≡ record { name = name.now; token = token.now }) }

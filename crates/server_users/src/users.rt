@@ -12,7 +12,7 @@ use acl::UserId;
 use std::alloc::{AllocError, Global};
 use std::marker::Model;
 
-/// Who may connect: names and tokens, the first the session's owner.
+/// The users who may connect, with their tokens. The first is the session's owner.
 #[derive(Debug)]
 pub struct Users {
     pub(crate) list: Vec<User>,
@@ -36,7 +36,7 @@ impl Model for Users {
     ghost invariant = { λ u. AreUsers (entries_of u.list.items) × (0 < vec_len u.list) };
 }
 
-// The first line, and what stands behind it, with its line feed.
+// The first line without its line feed, and the rest, which begins with that line feed.
 fn split_line(bytes: &[u8]) -> (&[u8], &[u8])
     ensures whole { bytes.now ≡ result.0.now ++ result.1.now }
     ensures line { IsLine result.0.now }
@@ -49,7 +49,7 @@ fn split_line(bytes: &[u8]) -> (&[u8], &[u8])
     bytes.split_at(end)
 }
 
-// What stands behind a line, without its line feed.
+// The rest after a line, without the line feed that it begins with.
 fn behind_feed(more: &[u8]) -> &[u8]
     ensures { result.now ≡ drop 1 more.now }
 {
@@ -72,8 +72,8 @@ pub(crate) fn has_name(users: &[User], name: &[u8]) -> bool
 }
 
 impl Users {
-    /// The users of a file, whose lines are each a name, one blank and 64 digits of `0` to `9`, `a`
-    /// to `f`. No name stands twice. The last line's feed may lack.
+    /// Reads the users of a file. Each line is a name, one blank and 64 digits of `0` to `9`, `a` to
+    /// `f`. No two lines have the same name. The last line may lack its line feed.
     pub fn read(alloc: Global, file: &[u8]) -> Result<Users, UsersFault>
         ensures ok { IfOk result (λ users. AreUsers users × IsFileOf users file.now) }
         ensures bad { IfErr result (Breaks file.now) }
@@ -96,7 +96,7 @@ impl Users {
         }
     }
 
-    /// A copy.
+    /// A copy of the users.
     pub fn copy(&self, alloc: Global) -> Result<Users, AllocError>
         ensures { IfOk result (λ copy. copy ≡ self.now) }
     {
@@ -107,7 +107,7 @@ impl Users {
         Ok(Users { list })
     }
 
-    /// The user of the first line.
+    /// The session's owner, who is the user of the first line.
     pub fn owner(&self) -> UserId
         ensures { slice_get (names self.now) 0 ≡ Some (name_of result) }
     {

@@ -1,0 +1,61 @@
+-- An account that is changed at the place where it is found.
+use Rattle.std.proofs.Common.{◌≡◌, ℕ, zero, suc, ◌<◌, ◌≤◌, Bool, true, false, List, [], ◌∷◌, Some, None, set, get_or, ap, sym, subst, ◌∙◌, arith, Option}
+use Rattle.std.specs.Prelude.{unwrap_or, option_map, IfSome, IsTrue}
+use Rattle.acl.specs.Same.{same_user}
+use Rattle.acl.specs.declared.user_id.UserId.{UserId}
+use Rattle.server_users.specs.declared.allowances.Account.{Account}
+use Rattle.server_users.specs.Allowances.{Purse, fresh, stands_at}
+use Rattle.server_users.specs.Accounts.{account_of, IsFirst}
+use Rattle.server_users.proofs.Places.{is_of, account_at, set_own, set_other}
+
+passes : {X : Type 0} (p : X → Bool) (xs : List X) (i : ℕ) (d : X) → IsFirst p xs i
+    → p (get_or xs i d) ≡ true
+passes p [] i d at = absurd at
+passes p (x ∷ xs) zero d at = at
+passes p (x ∷ xs) (suc i) d at = passes p xs i d at.1
+
+module _ (accounts : List Account) (u : UserId) (i : ℕ) (a : Account)
+    (first : IsFirst (is_of u) accounts i) (is : a ≡ get_or accounts i a) where
+  own_name : same_user a.user u ≡ true
+  own_name = subst (λ b. same_user b.user u ≡ true) (sym is) (passes (is_of u) accounts i a first)
+
+  -- its user has what was put there
+  pub own_is : (new : Purse) → account_of (set accounts i (record { user = a.user; allowance = new })) u ≡ Some new
+  own_is new = set_own accounts u i (record { user = a.user; allowance = new }) first own_name
+
+  -- the others have what they had
+  pub other_is : (new : Purse) (v : UserId) → (v ≡ u → ⊥)
+      → account_of (set accounts i (record { user = a.user; allowance = new })) v ≡ account_of accounts v
+  other_is new v differ =
+      set_other accounts u v i (record { user = a.user; allowance = new }) first own_name differ
+
+  pub found_is : account_of accounts u ≡ Some a.allowance
+  found_is = account_at accounts u i a first ∙ ap (λ b. Some b.allowance) (sym is)
+
+  pub held_is : (p : Purse) → account_of accounts u ≡ Some p → a.allowance ≡ p
+  held_is p own = let e : Some a.allowance ≡ Some p = sym found_is ∙ own in cc (e)
+
+pub not_true : (b : Bool) → b ≡ false → IsTrue b → ⊥
+not_true b is_false is_true = absurd (cc (is_false, is_true))
+
+pub settled_is : (o : Option Purse) (f : Purse → Purse) (p new : Purse) → o ≡ Some p → new ≡ f p
+    → Some new ≡ option_map f o
+settled_is o f p new own is = ap Some is ∙ sym (ap (option_map f) own)
+
+pub none_settled : (o : Option Purse) (f : Purse → Purse) → o ≡ None → o ≡ option_map f o
+none_settled o f none = none ∙ sym (ap (option_map f) none)
+
+-- a user who has no account has enough for a step
+pub unpaid_is : (o : Option Purse) (now : ℕ) (new a : Purse) → a ≡ unwrap_or o fresh
+    → new ≡ stands_at now a → ((stands_at now a).spent < 1000000 → ⊥)
+    → Some new ≡ option_map (stands_at now) o
+unpaid_is None now new a e is spent =
+    absurd (spent (omega (arith, ap (λ (p : Purse). p.spent) e)))
+unpaid_is (Some p) now new a e is spent = ap Some (is ∙ ap (stands_at now) e)
+
+pub waits_is : (o : Option Purse) (now : ℕ) (a : Purse) → a ≡ unwrap_or o fresh
+    → ((stands_at now a).spent < 1000000 → ⊥)
+    → IfSome o (λ p. 1000000 ≤ (stands_at now p).spent)
+waits_is None now a e spent = tt
+waits_is (Some p) now a e spent =
+    subst (λ (q : Purse). 1000000 ≤ (stands_at now q).spent) e (omega (arith, spent))

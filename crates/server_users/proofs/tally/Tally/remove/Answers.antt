@@ -1,0 +1,16 @@
+use Rattle.std.proofs.Common.{sym, ◌∙◌, ap}
+use Rattle.std.specs.List.{position}
+use Rattle.acl.specs.Same.{same_user}
+use Rattle.server_users.proofs.Places.{found, lost, without_first, without_none}
+use Rattle.server_users.proofs.tally.Tally.remove.Goals as goal
+
+pub returns-in-Some-clause-gone : goal.returns-in-Some-clause-gone
+returns-in-Some-clause-gone c = c.remove.ensures.items
+    ∙ without_first c.args.self.now.guests.items c.args.user c.in-Some.place
+    (found (same_user c.args.user) _ _ (ap (position (same_user c.args.user)) (sym c.deref.ensures.value)
+    ∙ sym c.place_of.ensures.place ∙ c.in-Some.is))
+
+pub returns-in_default-clause-gone : goal.returns-in_default-clause-gone
+returns-in_default-clause-gone c = sym (without_none c.args.self.now.guests.items c.args.user
+    (lost (same_user c.args.user) _ (ap (position (same_user c.args.user)) (sym c.deref.ensures.value)
+    ∙ sym c.place_of.ensures.place ∙ c.in_default.is)))
