@@ -11,6 +11,12 @@ same_text (Err e) now more all is same = tt
 pub two_parts : (o p z a : List ℕ) → a ≡ o ++ p → a ++ z ≡ o ++ (p ++ z)
 two_parts o p z a first = ap (λ x. x ++ z) first ∙ append_assoc o p z
 
+pub four_parts : (o w p v z a b c : List ℕ) → a ≡ o ++ w → b ≡ a ++ p → c ≡ b ++ v
+    → c ++ z ≡ o ++ (w ++ (p ++ (v ++ z)))
+four_parts o w p v z a b c first second third =
+    two_parts b v z c third
+    ∙ (two_parts a p (v ++ z) b second ∙ two_parts o w (p ++ (v ++ z)) a first)
+
 pub five_parts : (o w p v q z a b c d : List ℕ) → a ≡ o ++ w → b ≡ a ++ p → c ≡ b ++ v → d ≡ c ++ q
     → d ++ z ≡ o ++ (w ++ (p ++ (v ++ (q ++ z))))
 five_parts o w p v q z a b c d first second third fourth =
