@@ -85,8 +85,7 @@ pub fn simulate_behind<R: Read + Drop, W: Write, E: Write>(
         Err(error) => return tell(&error, writer, errors),
     };
     let Some(owner) = owner_of(&matches) else {
-        report_owner(&matches, errors);
-        return 2;
+        return report_owner(&matches, errors);
     };
     let file = matches.get_str("setup").unwrap_or("");
     let setup = match read_setup(alloc, asked.setup) {
@@ -109,13 +108,16 @@ pub fn simulate_behind<R: Read + Drop, W: Write, E: Write>(
     }
 }
 
-/// Writes that the owner isn't a valid name.
-fn report_owner<E: Write>(matches: &ArgMatches, errors: &mut E) {
+/// Writes that the owner isn't a valid name, and returns the exit status.
+fn report_owner<E: Write>(matches: &ArgMatches, errors: &mut E) -> u8
+    ensures { result ≡ 2 }
+{
     let owner = matches.get_str("owner").unwrap_or("");
     let _ = writeln!(
         errors,
         "muxsim: invalid owner: {owner}: a name has 1 to 20 of a-z, 0-9 and _, and begins with a letter"
     );
+    2
 }
 
 /// The text of the line of a setup that has this number.
