@@ -16,16 +16,16 @@ pub enum Act<'a> {
     /// The one that came last ends, and its number is free.
     Leave,
     SetHabit(usize, Habit),
-    /// So many turns, in each of which all connections are ready.
+    /// This many turns, in each of which all connections are ready.
     Turns(usize),
-    /// So many turns at most in which nothing comes, while the loop has something to do.
+    /// At most this many turns in which nothing comes, while the loop has something to do.
     QuietTurns(usize),
-    /// It is this second, and this many milliseconds pass before each turn. Those that were waited
-    /// for long enough go.
+    /// It is this second, and this many milliseconds pass before each turn. Connections that were
+    /// waited for long enough go.
     SetTime(u64, u64),
-    /// Of those whose first message isn't done the oldest goes, if they are this many or more.
+    /// If the first message of this many connections or more isn't done, the oldest of them goes.
     LetOldestGo(usize),
-    /// The server ends so.
+    /// The server ends for this cause.
     Finish(End),
     /// How the loop stands is noted, and what is seen of the connections from this one on.
     Note(usize),
@@ -69,14 +69,13 @@ impl Seen {
         }
     }
 
-    /// What a connection had at a note.
+    /// What became of a connection's stream up to a note.
     pub fn sent(&self, note: usize, connection: usize) -> Option<&Sent> {
         let note = self.notes.get(note)?;
         note.sent.get(connection.checked_sub(note.first)?)
     }
 
-    /// What a connection had been sent at a note. Where there is no such note or connection it is
-    /// no frame.
+    /// The bytes that a connection was sent up to a note; `?` if there is no such note or connection.
     pub fn bytes(&self, note: usize, connection: usize) -> &[u8] {
         match self.sent(note, connection) {
             Some(sent) => sent.bytes.as_slice(),

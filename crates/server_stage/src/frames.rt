@@ -1,4 +1,4 @@
-//! What peers send, byte by byte, and what they are sent.
+//! Frames that peers send, byte by byte, and what they are sent.
 
 use crate::stop::Stop;
 use attach_proto::{Message, ProtoFault, Reader, Side, Why};
@@ -40,23 +40,23 @@ pub const ACLADD: &[u8] =
 pub const QUIT: &[u8] =
     b"C\0\x49\xff0000000000000000000000000000000000000000000000000000000000000000\x03ownquit";
 
-/// What ends a client or a window.
+/// The frame by which a client or a window leaves.
 pub const DETACH: &[u8] = b"D\0\0";
 
-/// What a client or a command is told first.
+/// The frame that a client or a command is sent first.
 pub const WELCOME: &[u8] = b"y\0\x01\0";
 
-/// What a peer is told last where it, or the server, failed.
+/// The frame that a peer is sent last if it, or the server, failed.
 pub const GONE_FAULT: &[u8] = b"g\0\x01\x06";
 
-/// What a peer was sent.
+/// The messages that a peer was sent.
 #[derive(Drop)]
 pub struct Received {
     pub messages: Vec<Message>,
 }
 
 impl Received {
-    /// The messages of what a peer was sent.
+    /// The messages of these bytes.
     pub fn of(alloc: Global, bytes: &[u8]) -> Result<Received, Stop> {
         let mut messages = Vec::new(alloc);
         let read = Reader::new(alloc, Side::Peer).feed(bytes, &mut messages);

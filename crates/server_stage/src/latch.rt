@@ -1,19 +1,19 @@
-//! Calls of two loops, of which one is held until the other's was answered.
+//! Calls of two loops. One call is held until one of the other loop was answered.
 
 use server_loop::Gate;
 use std::sync::atomic::{AtomicU64, Ordering};
 use std::thread;
 use std::time::{Clock, Duration};
 
-// So many milliseconds a call is held at most.
+// A call is held at most this many milliseconds.
 const WAIT: usize = 30_000;
 
 /// Calls of the loops of a session.
 #[derive(Drop)]
 pub(crate) struct Calls {
-    // How many came. The first is held.
+    // How many calls came. The first is held.
     begun: AtomicU64,
-    // How many were answered, of the first loop and of the second.
+    // How many calls of the first loop, and of the second, were answered.
     first: AtomicU64,
     second: AtomicU64,
     // How often the other loop was waited for in vain.
@@ -21,7 +21,7 @@ pub(crate) struct Calls {
 }
 
 impl Calls {
-    /// Those of this many loops. Of a lone one no call is held.
+    /// The calls of this many loops. If there is one loop alone, no call is held.
     pub(crate) fn new(loops: usize) -> Calls {
         Calls {
             begun: AtomicU64::new(if loops == 2 { 0 } else { 1 }),
@@ -31,7 +31,7 @@ impl Calls {
         }
     }
 
-    /// The gate of a loop, which is the first one or the second.
+    /// The gate of the first loop or of the second.
     pub(crate) fn latch<'a, R>(&'a self, rt: &'a R, is_first: bool) -> Latch<'a, R> {
         let (mine, theirs) = if is_first {
             (&self.first, &self.second)

@@ -1,7 +1,6 @@
 //! A stage for tests of the server: one loop over a new session, or two that run at once. What
-//! happens on it is a list of acts, and what is seen of it is bytes and numbers, so that a test
-//! proves nothing of what a loop holds. Streams are of memory: how they pass bytes, what peers send
-//! byte by byte, and what a client's terminal shows.
+//! happens on it is a list of acts, and what is seen of it is bytes and numbers, so a test needs no
+//! proof of what a loop holds. Streams are of memory, and say how they pass bytes.
 #![tactic(auto)]
 
 mod acts;

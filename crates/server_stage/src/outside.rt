@@ -1,4 +1,4 @@
-//! What is outside of a loop: its peers, and the time.
+//! What is outside a loop: its peers, and the time.
 
 use crate::acts::{Act, Note, Standing};
 use crate::stop::Stop;
@@ -25,7 +25,7 @@ impl Outside {
         }
     }
 
-    /// A peer that sends these bytes: the end of its stream that the loop has.
+    /// Adds a peer that sends these bytes. Returns the loop's end of its stream.
     pub(crate) fn connect(&mut self, habit: Habit, bytes: &[u8]) -> Result<Near, Stop> {
         let (near, far) = ends(self.alloc, habit)?;
         far.send(bytes)?;

@@ -15,17 +15,17 @@ const ROOM: usize = 16_384;
 /// How a stream behaves.
 #[derive(Clone, Copy)]
 pub enum Habit {
-    /// As many bytes a call as there are.
+    /// All bytes at each call.
     Whole,
     /// One byte a call.
     Steady,
-    /// One byte at every other read, and at every other write; the others would wait.
+    /// One byte at every other read, and at every other write. The other calls would wait.
     Slow,
-    /// One byte a call, but for the call of this number, which fails so.
+    /// One byte a call. The call of this number fails with this error.
     Once(usize, ErrorKind),
-    /// Takes this many bytes, and none after them. All that is there is read.
+    /// All bytes at each read. Writes take this many bytes in all, and none after them.
     Takes(usize),
-    /// Takes nothing at this many writes, and then all. All that is there is read.
+    /// All bytes at each read. The first writes, this many, take nothing, and the later ones all.
     Later(usize),
 }
 
@@ -133,7 +133,8 @@ impl Passing {
         })
     }
 
-    // How many bytes may pass at the call of this number, whose way was called so often.
+    // How many bytes may pass at the call of this number, before which there were `count` reads or
+    // writes like it.
     fn allows(&self, call: usize, count: usize) -> io::Result<usize> {
         match self.habit {
             Habit::Whole | Habit::Takes(_) | Habit::Later(_) => Ok(usize::MAX),

@@ -11,7 +11,7 @@ const SIZE: (usize, usize) = (24, 80);
 const ATTACH: &[u8] =
     b"A\0G\0\x18\0P0000000000000000000000000000000000000000000000000000000000000000own";
 
-// Of two clients of the owner the first takes so many bytes.
+// Two clients of the owner, of which the first takes this many bytes.
 fn broken(most: usize) -> [Act<'static>; 8] {
     [
         Act::Connect(Habit::Whole, WINDOW),
@@ -25,7 +25,7 @@ fn broken(most: usize) -> [Act<'static>; 8] {
     ]
 }
 
-// What draws the page, of all that a client was sent: it is welcome, and drawn once.
+// The bytes that draw the page, of all that a client was sent: a WELCOME and one draw.
 fn draw_of(alloc: Global, whole: &[u8]) -> Result<Vec<u8>, Stop> {
     let received = Received::of(alloc, whole)?;
     match received.messages.as_slice() {
@@ -34,10 +34,10 @@ fn draw_of(alloc: Global, whole: &[u8]) -> Result<Vec<u8>, Stop> {
     }
 }
 
-// Whether the first took so many bytes of the whole, and the second was sent all of it. A terminal
-// that had read the first ones shows the same behind it.
+// Whether the first client took this many bytes of the whole, and the second was sent all of it. A
+// terminal that read the first client's bytes shows the same after the second's.
 fn is_same(alloc: Global, seen: &Seen, whole: &[u8], draw: &[u8], most: usize) -> bool {
-    // A WELCOME takes four bytes, and what stands before a draw's bytes three.
+    // A WELCOME has four bytes, and the head of a draw three.
     let read = draw.get(..most.saturating_sub(7)).unwrap_or(draw);
     let Some(first) = whole.get(..most) else {
         return false;
@@ -53,7 +53,7 @@ fn is_anew(rt: &impl System, whole: &[u8], draw: &[u8], most: usize) -> bool {
     }
 }
 
-// The first number of bytes of the whole behind which the next client isn't drawn anew.
+// The first number of bytes after which the next client isn't drawn anew.
 fn first_wrong(rt: &impl System, whole: &[u8], draw: &[u8]) -> Option<usize> {
     for most in 0..whole.len() {
         if !is_anew(rt, whole, draw, most) {

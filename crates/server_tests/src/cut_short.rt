@@ -4,8 +4,8 @@ use crate::rows::{play, typed};
 use server_stage::{ATTACH, Act, DETACH, Habit, Received, Seen, System, WALL, WINDOW, Why};
 use std::alloc::{AllocError, Global};
 
-/// What a connection sends, and the trail's entries once so many of its frames came whole: while
-/// the connection stays, and where it ends there.
+/// The frames that a connection sends, and the trail's entries for each number of frames that came
+/// whole: while the connection stays, and after it ended.
 struct Case {
     frames: &'static [&'static [u8]],
     stays: &'static [&'static [u8]],
@@ -30,19 +30,19 @@ static CASES: [Case; 3] = [
     },
 ];
 
-/// What a connection sends of a case's frames.
+/// The bytes of a case's frames that a connection sends.
 #[derive(Drop)]
 struct Cut {
     bytes: Vec<u8>,
     /// How many frames are whole.
     wholes: usize,
-    /// Whether nothing is cut off.
+    /// All frames are whole.
     is_all: bool,
-    /// Whether the connection ends behind it.
+    /// The connection ends after these bytes.
     ends: bool,
 }
 
-// The first bytes of the frames, so many.
+// The first `count` bytes of the frames.
 fn beginning(alloc: Global, frames: &[&[u8]], count: usize, ends: bool) -> Result<Cut, AllocError> {
     let mut bytes = Vec::new(alloc);
     let mut wholes = 0usize;
@@ -62,8 +62,8 @@ fn beginning(alloc: Global, frames: &[&[u8]], count: usize, ends: bool) -> Resul
     })
 }
 
-// A connection that sends it, beside a window of the owner and his client, which types `k` at
-// last.
+// A connection that sends the bytes, beside a window and a client of the owner. The client types `k`
+// at last.
 fn seen_of(rt: &impl System, cut: &Cut) -> Option<Seen> {
     let acts = [
         Act::Connect(Habit::Whole, WINDOW),
@@ -81,8 +81,8 @@ fn seen_of(rt: &impl System, cut: &Cut) -> Option<Seen> {
     play(rt, &acts)
 }
 
-// Whether the trail has these entries between those of the window and its client, and all that
-// was typed came.
+// Whether the trail has these entries between those of the window and the client, and the window's
+// program has all that was typed.
 fn is_done(alloc: Global, seen: &Seen, wanted: &[u8]) -> bool {
     let typed_wanted = if wanted.contains(&b'K') {
         b"xyk".as_slice()
@@ -97,8 +97,8 @@ fn is_done(alloc: Global, seen: &Seen, wanted: &[u8]) -> bool {
     own == wanted && typed.as_slice() == typed_wanted
 }
 
-// Whether a connection of which all came is let go, and another one that doesn't end stays; and
-// nothing is sent to one of which no frame is whole.
+// Whether the connection is let go if all its frames came, and else stays unless it ends; and is
+// sent nothing if no frame is whole.
 fn is_answered(alloc: Global, seen: &Seen, cut: &Cut) -> bool {
     let bytes = seen.bytes(1, 2);
     let (Ok(received), Some(standing)) = (Received::of(alloc, bytes), seen.standing(0)) else {
@@ -115,8 +115,8 @@ fn is_answered(alloc: Global, seen: &Seen, cut: &Cut) -> bool {
     standing.len == len && may_be_told && is_told
 }
 
-// Whether what is whole of so many bytes is done, and a beginning asks for nothing. One that ends
-// is as if it had ended before what isn't whole.
+// Whether the frames that are whole in this many bytes are done, and the beginning of a frame asks
+// for nothing, also if the connection ends after it.
 fn is_as_due(rt: &impl System, case: &Case, count: usize, ends: bool) -> bool {
     let Ok(cut) = beginning(rt.alloc(), case.frames, count, ends) else {
         return false;
@@ -136,7 +136,7 @@ fn len_of(frames: &[&[u8]]) -> usize {
     len
 }
 
-// The first case, and the number of bytes, after which it isn't as due.
+// The first case and number of bytes with which a connection isn't served as it should be.
 fn first_wrong(rt: &impl System, ends: bool) -> Option<(usize, usize)> {
     for (place, case) in CASES.iter().enumerate() {
         for count in 0..=len_of(case.frames) {

@@ -7,15 +7,15 @@ use server_stage::{
 use std::alloc::Global;
 use std::io::ErrorKind;
 
-// The numbers of a window's connection, of bob's and of the client's.
+// The numbers of the connections of the window, of bob and of the client.
 const WINDOW_AT: usize = 2;
 
 const BOB: usize = 3;
 
 const CLIENT: usize = 4;
 
-// A client of the owner, which types `xy` and whose stream has the habit, beside a window whose
-// program writes meanwhile, and bob, who types `z` behind so many turns.
+// A client of the owner, which types `xy` and whose stream has the habit. Beside it the window's
+// program writes, and bob types `z` after this many turns.
 fn beside(habit: Habit, turns: usize) -> [Act<'static>; 18] {
     [
         Act::Connect(Habit::Whole, MULTIUSER),
@@ -39,8 +39,8 @@ fn beside(habit: Habit, turns: usize) -> [Act<'static>; 18] {
     ]
 }
 
-// The first entries are those of two commands, the window and bob, the last is that of what he
-// types. Between them stand the client's, of whose stream so many bytes were read.
+// The trail's entries if this many bytes of the client's stream were read. The first are those of two
+// commands, the window and bob; then come the client's; the last K is of what bob types.
 fn entries_by(read: usize, is_lost: bool) -> &'static [u8] {
     match (read < 74, read < 79, is_lost) {
         (true, _, _) => b"CCOAK",
@@ -55,7 +55,7 @@ fn typed_by(read: usize) -> &'static [u8] {
     if read < 79 { b"z" } else { b"xyz" }
 }
 
-// What holds of each run: what was read was done, and a client that is lost was detached.
+// Whether what was read was done, and a client that is lost was detached.
 fn is_done(alloc: Global, seen: &Seen, client: &Sent, is_lost: bool) -> bool {
     let Some(typed) = typed(alloc, seen.bytes(1, WINDOW_AT)) else {
         return false;
@@ -70,7 +70,7 @@ fn shows_all(alloc: Global, bytes: &[u8]) -> Option<bool> {
     shows(alloc, (4, 20), &drawn, "hithere", "").ok()
 }
 
-// Whether a client that nothing stops was welcome, and it and bob were drawn all.
+// Whether a client whose calls don't fail got its WELCOME, and it and bob were drawn all.
 fn is_passed(alloc: Global, seen: &Seen) -> Option<bool> {
     let client = seen.sent(1, CLIENT)?;
     let bytes = client.bytes.as_slice();
@@ -121,8 +121,8 @@ static FAILING: [Failing; 4] = [
     },
 ];
 
-// Whether what waits was done later, or a fault closed that connection alone: it wasn't called
-// again, and was sent a beginning of what it is sent else. Bob was sent what he is sent else.
+// Whether the call was made again, or its fault closed that connection alone: it wasn't called again,
+// and was sent a beginning of what it is sent without the fault. Bob was sent the same as without it.
 fn is_served(alloc: Global, calm: &Seen, seen: &Seen, failing: Failing, at: usize) -> Option<bool> {
     let client = seen.sent(1, CLIENT)?;
     let bytes = client.bytes.as_slice();
@@ -142,7 +142,7 @@ fn is_as_due(rt: &impl System, calm: &Seen, failing: Failing, at: usize) -> bool
     }
 }
 
-// How often the client's stream is called before bob types, where it is read whole.
+// The number of calls of the client's stream before bob types, if it is read whole.
 fn places(calm: &Seen) -> Option<usize> {
     match calm.sent(0, CLIENT) {
         Some(client) if client.read == 79 => Some(client.calls),
@@ -150,7 +150,7 @@ fn places(calm: &Seen) -> Option<usize> {
     }
 }
 
-// The first of these ways, by its number, and the call at which it does something else.
+// The first way to fail, by its number, and call at which the loop does something else.
 fn first_wrong(rt: &impl System, calm: &Seen) -> Option<(usize, usize)> {
     let Some(places) = places(calm) else {
         return Some((usize::MAX, 0));

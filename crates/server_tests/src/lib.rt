@@ -1,6 +1,6 @@
 //! Tests of a server's loops: how they end, what refused memory does, an attachment after a broken
-//! one, two of them side by side, who has his turn when, what is rationed, streams that are slow,
-//! wait, fail or end at each place, and made-up bytes.
+//! one, two loops side by side, whose turn it is, what is rationed, streams that are slow, wait, fail
+//! or end at each place, and made-up bytes.
 #![tactic(auto)]
 
 #[cfg(test)]

@@ -1,4 +1,4 @@
-//! Made-up bytes as what a connection sends.
+//! Connections that send made-up bytes.
 
 use crate::rows::{play, typed};
 use server_stage::{ATTACH, Act, Habit, Received, Seen, System, WINDOW, Why};
@@ -6,9 +6,10 @@ use std::alloc::{AllocError, Global};
 
 const LISTS: usize = 10_000;
 
-// The kinds that the server reads; the others are bad, or the server's own.
+// The kinds of frames that the server reads.
 const KINDS: &[u8] = b"AWCKROD";
 
+// Kinds that the server sends, and codes of no kind.
 const OTHERS: &[u8] = b"ydiszg\0\xFF";
 
 // A number below 256 as a byte.
@@ -41,8 +42,8 @@ impl Numbers {
         bytes.get(place).copied().unwrap_or(0)
     }
 
-    // Something like a frame: its kind and its length may be wrong, and some bytes may lack. No
-    // byte is C-a, behind which a client's keys would be commands.
+    // Something like a frame: its kind and its length may be wrong, and some bytes may be missing. No
+    // byte is C-a, after which a client's keys would be commands.
     fn push_frame(&mut self, out: &mut Vec<u8>) -> Result<(), AllocError> {
         let kinds = if self.below(6) == 0 { OTHERS } else { KINDS };
         out.push(self.one_of(kinds))?;
@@ -66,8 +67,8 @@ impl Numbers {
     }
 }
 
-// What a connection is due, at the frame that these bytes begin with: how many bytes it takes where
-// more may come, or else why it is let go, if it is.
+// What the frame at the front of these bytes leads to: its length in bytes if the connection goes on
+// after it; or else why the connection is let go, if it is.
 fn due_at(is_client: bool, bytes: &[u8]) -> Result<usize, Option<Why>> {
     match bytes {
         [kind, ..] if !KINDS.contains(kind) => Err(Some(Why::Fault)),
@@ -97,7 +98,7 @@ fn due(is_client: bool, bytes: &[u8]) -> Option<Why> {
     None
 }
 
-// Whether a connection that sent these bytes, and was sent those, got what it is due.
+// Whether a connection that sent these bytes was sent what it should be.
 fn is_due(alloc: Global, is_client: bool, bytes: &[u8], sent: &[u8]) -> bool {
     let Ok(received) = Received::of(alloc, sent) else {
         return false;
@@ -107,7 +108,7 @@ fn is_due(alloc: Global, is_client: bool, bytes: &[u8], sent: &[u8]) -> bool {
     received.gone() == wanted && (is_client || received.messages.len() == count)
 }
 
-// What each list begins with: those of even numbers come of clients, the others of strangers.
+// The beginning of a list: clients send those of even numbers, strangers the others.
 fn beginning(number: usize) -> &'static [u8] {
     if number % 2 == 0 { ATTACH } else { b"" }
 }
@@ -121,8 +122,8 @@ fn lists(alloc: Global) -> Result<Vec<Vec<u8>>, AllocError> {
     Ok(lists)
 }
 
-// A window and its client, which types at last; and meanwhile connections that send the lists, each
-// in two cuts.
+// A window and its client, which types at last. Meanwhile connections send the lists, each list cut
+// at two places.
 fn acts(alloc: Global, lists: &[Vec<u8>]) -> Result<Vec<Act<'_>>, AllocError> {
     let mut acts = Vec::with_capacity(alloc, lists.len().saturating_mul(11).saturating_add(7))?;
     acts.extend_from_slice(&[
@@ -150,7 +151,7 @@ fn acts(alloc: Global, lists: &[Vec<u8>]) -> Result<Vec<Act<'_>>, AllocError> {
     Ok(acts)
 }
 
-// Whether a list is answered as it is due in both cuts, beside two peers that stay.
+// Whether a list is answered as it should be with both cuts, beside two peers that stay.
 fn is_answered(alloc: Global, seen: &Seen, number: usize, list: &[u8]) -> bool {
     let begin = beginning(number);
     let bytes = list.strip_prefix(begin).unwrap_or(b"?");
@@ -177,7 +178,7 @@ fn go_on(alloc: Global, seen: &Seen) -> bool {
     typed.ends_with(b"still") && client.gone().is_none()
 }
 
-// The first list that isn't answered as it is due.
+// The first list that isn't answered as it should be.
 fn first_wrong(alloc: Global, seen: &Seen, lists: &[Vec<u8>]) -> Option<usize> {
     for (number, list) in lists.iter().enumerate() {
         if !is_answered(alloc, seen, number, list) {

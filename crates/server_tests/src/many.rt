@@ -1,10 +1,10 @@
-//! Much at once: a peer that falls too far behind, who has his turn when, and a crowd.
+//! Much at once: a peer that falls too far behind, whose turn it is, and a crowd.
 
 use crate::rows::{Row, Wanted, first_wrong, is_played, play};
 use server_stage::{ATTACH, Act, Habit, Seen, System, WELCOME, WINDOW, Why};
 use std::alloc::{AllocError, Global};
 
-// What begins so and goes on with so many of these pieces.
+// A beginning, and then this piece as many times.
 fn often(
     alloc: Global,
     beginning: &[u8],
@@ -23,8 +23,8 @@ fn full_frame(alloc: Global) -> Result<Vec<u8>, AllocError> {
     often(alloc, b"K\x20\0", b"x", 8_192)
 }
 
-// A client types 127 frames into a window whose program takes its WELCOME alone; then comes the
-// rest.
+// A client types 127 frames into a window whose program takes nothing but its WELCOME; then the rest
+// happens.
 fn flood<'a>(alloc: Global, frame: &'a [u8], rest: &[Act<'a>]) -> Result<Vec<Act<'a>>, AllocError> {
     let first = [
         Act::Connect(Habit::Takes(4), WINDOW),
@@ -40,8 +40,8 @@ fn flood<'a>(alloc: Global, frame: &'a [u8], rest: &[Act<'a>]) -> Result<Vec<Act
     Ok(acts)
 }
 
-// A frame of 8,192 bytes takes 8,195: 127 of them are 1,040,765, and 128 are 1,048,960. Up to
-// 1,048,576 wait; behind them it is sent all, and let go, and its window is closed.
+// A frame of 8,192 keys has 8,195 bytes: 127 of them have 1,040,765 bytes, and 128 have 1,048,960. Up
+// to 1,048,576 bytes may wait. With more, the peer is sent all and let go, and its window is closed.
 static TOO_FAR: [Row; 4] = [
     (0, Wanted::Sent(0, WELCOME)),
     (1, Wanted::TypedLen(0, 128 * 8_192)),
@@ -63,8 +63,8 @@ fn goes_too_far(rt: &impl System) -> Result<bool, AllocError> {
     Ok(is_played(rt, &acts, &TOO_FAR))
 }
 
-// The loop has something to do, though nothing comes, behind the turn in which the window is given
-// up, and neither before it nor behind the next one.
+// After the turn in which the window is given up the loop has something to do, though nothing comes;
+// before that turn and after the next one it hasn't.
 static GIVEN_UP: [Row; 4] = [
     (0, Wanted::IsDue(false)),
     (1, Wanted::IsDue(true)),
@@ -77,8 +77,8 @@ fn is_drawn(seen: &Seen) -> bool {
     seen.bytes(1, 1).len() < seen.bytes(2, 1).len()
 }
 
-// The window's program reads no more. The window is closed when all else of the turn is done, so
-// nobody would tell the loop of it; in the next turn its client is drawn.
+// The window's program reads no more. The window is closed when all else of the turn is done, and no
+// event tells the loop of it; in the next turn its client is drawn.
 fn sees_its_last_step(rt: &impl System) -> Result<bool, AllocError> {
     let alloc = rt.alloc();
     let frame = full_frame(alloc)?;
@@ -100,9 +100,9 @@ fn sees_its_last_step(rt: &impl System) -> Result<bool, AllocError> {
 // A window asks for its state, as output.
 const ASK: &[u8] = b"O\0\x04\x1b[5n";
 
-// Keys come before output, which comes in pieces. Eight steps are done a turn, so that the first
-// client's letter comes behind its commands, in turn 126; no turn but the first is one in which
-// something comes.
+// Keys are done before output, and output in pieces. Eight steps are done in a turn, so the first
+// client's letter, which comes after its commands, is done in turn 126. Bytes come in the first turn
+// alone.
 static SHARES: [Row; 4] = [
     (0, Wanted::Typed(0, b"b\x1b[0n")),
     (1, Wanted::Typed(0, b"b\x1b[0n\x1b[0n")),
@@ -144,8 +144,8 @@ fn nobody_waits(rt: &impl System) -> Result<bool, AllocError> {
     Ok(is_played(rt, &busy(&output, &commands), &SHARES))
 }
 
-// 8,192 at once, of which attaching and opening are two, each a second before; and 1,000 a second.
-// It waits meanwhile.
+// 8,192 entries at once, and 1,000 more a second. A second before, the attach and the window took
+// entries, which have come back. Between, the loop waits.
 static RATE: [Row; 4] = [
     (0, Wanted::TypedLen(0, 8_193)),
     (0, Wanted::IsDue(false)),

@@ -1,4 +1,4 @@
-//! How a server ends, by `quit` or from outside; who is let in; and two loops at once.
+//! How a server ends, by `quit` or from outside; which connections are let in; and two loops at once.
 
 use crate::rows::{Row, Wanted, first_wrong, is_played};
 use server_stage::{ATTACH, Act, End, GONE_FAULT, Habit, QUIT, System, WALL, WINDOW, Why, perform};
@@ -35,7 +35,7 @@ fn all_are_told_why(rt: HostRuntime) {
     assert!(rt; ends(&rt, b"", None, End::TrailFull, Why::TrailFull));
 }
 
-// What a command's connection is sent that is done.
+// The frames that a connection is sent whose command was done.
 const DONE: &[u8] = b"y\0\x01\0g\0\x01\0";
 
 static ENDED: [Row; 2] = [
@@ -43,7 +43,7 @@ static ENDED: [Row; 2] = [
     (0, Wanted::End(Some(End::Quit))),
 ];
 
-// A `quit` where nothing is open.
+// A `quit` while no window is open.
 #[test]
 fn quit_alone(rt: HostRuntime) {
     let acts = [
@@ -155,9 +155,9 @@ fn both_are_answered(rt: &impl System) -> bool {
     }
 }
 
-/// Loops that take turns fail here: one loop that serves all connections, or a lock of the session
-/// that each loop holds for the whole of its turn, from `read_all` to the end of `end_turn`. The
-/// call that is held then waits for one that can't come.
+/// Loops that exclude each other fail here: one loop that serves all connections, or loops that each
+/// hold the session's lock for a whole turn, from `read_all` to the end of `end_turn`. The call that
+/// is held then waits for a call that can't come.
 #[test]
 fn loops_take_no_turns(rt: HostRuntime) {
     assert!(rt; both_are_answered(&rt));

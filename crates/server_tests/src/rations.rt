@@ -16,10 +16,10 @@ const GIVE: &[u8] = b"C\0\x54\xff00000000000000000000000000000000000000000000000
 // The connection of bob's client.
 const BOB: usize = 4;
 
-// So many frames of one letter are typed.
+// This many frames of one letter are typed.
 const LETTERS: usize = 1_500;
 
-// Bob's client types its letters at once, may not type, waits some seconds, and then may type.
+// Bob's client types all its letters while bob may not type, waits some seconds, and then bob may.
 fn acts(letters: &[u8]) -> [Act<'_>; 19] {
     [
         Act::SetTime(0, 0),
@@ -52,7 +52,7 @@ fn letters(alloc: Global) -> Result<Vec<u8>, AllocError> {
     Ok(letters)
 }
 
-// How many texts a connection had been told at a note.
+// How many texts a connection was sent up to a note.
 fn told(alloc: Global, seen: &Seen, note: usize, connection: usize) -> Option<usize> {
     let received = Received::of(alloc, seen.bytes(note, connection)).ok()?;
     let mut count = 0usize;

@@ -1,5 +1,5 @@
-//! Refused memory. Played as it stands this meets no refusal; each allocation refused in turn, at
-//! most one peer is let go, and all is as without a refusal once it is tried again.
+//! Refused memory. When each allocation is refused in turn, at most one peer is let go, and all is as
+//! without a refusal once it is tried again. Played as it stands, the test meets no refusal.
 
 use server_stage::{
     ACLADD, ATTACH, ATTACH_BOB, Act, GONE_FAULT, Habit, MULTIUSER, Received, Seen, Stop, System,
@@ -24,14 +24,14 @@ static BEGINNING: [Act; 8] = [
     Act::Turns(2),
 ];
 
-// The numbers of the windows' connections of the first scene and of the second. Behind one come the
-// owner's client, bob's, and the two that give the scene's command.
+// The numbers of the windows' connections of the first scene and of the second. After each come the
+// owner's client, bob's client, and the two connections that give the scene's command.
 const ONE: usize = 4;
 
 const OTHER: usize = 9;
 
-// A window whose program writes, the owner's client and bob's, which type, and a command. All
-// peers end behind it. Connections have numbers from this one on.
+// A window whose program writes, the owner's client and bob's, which type, and a command. Then all
+// peers end. The connections have numbers from this one on.
 fn scene(window: usize) -> [Act<'static>; 22] {
     let (client, bob) = (window.saturating_add(1), window.saturating_add(2));
     [
@@ -60,8 +60,8 @@ fn scene(window: usize) -> [Act<'static>; 22] {
     ]
 }
 
-/// What a scene left: whether the window, the owner's client and bob's stayed, and whether each has
-/// all that it is due.
+/// What a scene left: whether the window, the owner's client and bob's stayed, and whether each was
+/// sent all that it should be.
 #[derive(Clone, Copy, Debug, PartialEq, Eq)]
 struct Left {
     stayed: [bool; 3],
@@ -73,7 +73,7 @@ const ALL: Left = Left {
     is_whole: [true, true, true],
 };
 
-// Whether a peer was neither let go for a fault nor refused at the door.
+// Whether a peer was let in, and not let go for a fault.
 fn has_stayed(bytes: &[u8]) -> bool {
     !bytes.is_empty() && !bytes.ends_with(GONE_FAULT)
 }
@@ -91,7 +91,7 @@ fn is_shown(alloc: Global, bytes: &[u8]) -> Result<bool, Stop> {
     Ok(received.says("own: hello") && shows(alloc, (4, 20), &drawn, "hithere", "own: hello")?)
 }
 
-// What the scene left at this note whose window is that connection.
+// What the scene left at this note; its window is that connection.
 fn left_by(alloc: Global, seen: &Seen, note: usize, window: usize) -> Result<Left, Stop> {
     let typed = seen.bytes(note, window);
     let client = seen.bytes(note, window.saturating_add(1));
@@ -106,8 +106,8 @@ fn left_by(alloc: Global, seen: &Seen, note: usize, window: usize) -> Result<Lef
     })
 }
 
-// Where all stayed each has all. Where one was let go the clients that stayed have all of a window
-// that stayed, and were not let go by it.
+// If all stayed, each has all. If one was let go, the others stayed, and clients that stayed have all
+// of a window that stayed.
 fn is_as_due(left: Left) -> bool {
     let [window, client, bob] = left.stayed;
     let [_, client_has, bob_has] = left.is_whole;
@@ -120,7 +120,7 @@ fn is_as_due(left: Left) -> bool {
     }
 }
 
-// Whether a command was done that this connection gave, and the next one.
+// Whether a command was done that this connection and the next one gave.
 fn is_done(seen: &Seen, note: usize, connection: usize) -> bool {
     let first = seen.bytes(note, connection);
     let second = seen.bytes(note, connection.saturating_add(1));
@@ -142,14 +142,14 @@ fn acts(alloc: Global) -> Result<Vec<Act<'static>>, Stop> {
     Ok(acts)
 }
 
-// Whether each command was done, and all ended behind each scene.
+// Whether each command was done, and all had ended after each scene.
 fn are_done(seen: &Seen) -> bool {
     let is_begun = is_done(seen, 0, 0) && is_done(seen, 0, 2);
     let are_told = is_done(seen, 0, ONE + 3) && is_done(seen, 2, OTHER + 3);
     is_begun && are_told && is_over(seen, 1) && is_over(seen, 3)
 }
 
-// Whether both scenes are as due, one of them at least as without a refusal.
+// Whether both scenes are as they should be, and at least one is as without a refusal.
 fn are_as_due(alloc: Global, seen: &Seen) -> Result<bool, Stop> {
     let first = left_by(alloc, seen, 0, ONE)?;
     let second = left_by(alloc, seen, 2, OTHER)?;
@@ -165,7 +165,7 @@ fn attempt(rt: &impl System) -> Result<bool, Stop> {
 #[test]
 fn a_refusal_ends_one_peer_at_most(rt: HostRuntime) {
     let attempted = match attempt(&rt) {
-        // What was refused is the test's own.
+        // The allocation that was refused was the test's own.
         Err(Stop::Memory) => attempt(&rt),
         attempted => attempted,
     };

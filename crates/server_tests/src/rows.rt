@@ -1,4 +1,4 @@
-//! Plays and what is to be seen of them, in rows.
+//! Plays, and rows that say what is to be seen of them.
 
 use server_stage::{Act, End, Received, Seen, Standing, System, Why, perform, shows};
 use std::alloc::Global;
@@ -6,19 +6,19 @@ use std::alloc::Global;
 /// What is to be seen at a note. Connections count from 0, in the order in which they came.
 #[derive(Clone, Copy)]
 pub enum Wanted {
-    /// A connection was sent just this.
+    /// A connection was sent these bytes.
     Sent(usize, &'static [u8]),
-    /// A window's program has just this.
+    /// A window's program has these bytes.
     Typed(usize, &'static [u8]),
-    /// A window's program has so many bytes.
+    /// A window's program has this many bytes.
     TypedLen(usize, usize),
-    /// Whether a window's program has this byte.
+    /// A window's program has this byte, or hasn't.
     HasTyped(usize, u8, bool),
-    /// A connection is let go for this, or stays.
+    /// A connection is let go for this cause, or stays.
     Gone(usize, Option<Why>),
-    /// A client's terminal of 4 lines by 20 columns shows this.
+    /// A client's terminal of 4 lines by 20 columns shows this text.
     Shows(usize, &'static str),
-    /// So many connections are there.
+    /// This many connections are there.
     Len(usize),
     /// Whether the loop has something to do, though nothing comes.
     IsDue(bool),
@@ -28,14 +28,14 @@ pub enum Wanted {
     End(Option<End>),
     /// The trail's entries at last, a letter for each.
     Entries(&'static [u8]),
-    /// The last of them.
+    /// The trail's last entries, a letter for each.
     LastEntries(&'static [u8]),
 }
 
 /// A note's number, and what is to be seen at it.
 pub type Row = (usize, Wanted);
 
-/// What the program of a window that was sent these bytes has.
+/// The bytes for a window's program, of these frames.
 pub fn typed(alloc: Global, bytes: &[u8]) -> Option<Vec<u8>> {
     Received::of(alloc, bytes).ok()?.input(alloc).ok()
 }
@@ -46,7 +46,7 @@ fn is_shown(alloc: Global, bytes: &[u8], text: &str) -> Option<bool> {
     shows(alloc, (4, 20), &drawn, text, "").ok()
 }
 
-// Whether a window's program that was sent these bytes has what it is to have.
+// Whether a window's program that was sent these frames has the wanted bytes.
 fn has_typed(alloc: Global, bytes: &[u8], wanted: Wanted) -> bool {
     let Some(typed) = typed(alloc, bytes) else {
         return false;
@@ -59,7 +59,7 @@ fn has_typed(alloc: Global, bytes: &[u8], wanted: Wanted) -> bool {
     }
 }
 
-// Whether a connection that was sent these bytes is let go for this, or stays.
+// Whether a connection that was sent these frames is let go for this cause, or stays.
 fn is_gone(alloc: Global, bytes: &[u8], why: Option<Why>) -> bool {
     match Received::of(alloc, bytes) {
         Ok(received) => received.gone() == why,
@@ -67,7 +67,7 @@ fn is_gone(alloc: Global, bytes: &[u8], why: Option<Why>) -> bool {
     }
 }
 
-// Whether the loop stands as it is to stand.
+// Whether the loop stands as wanted.
 fn stands(standing: Standing, wanted: Wanted) -> bool {
     match wanted {
         Wanted::Len(len) => standing.len == len,
@@ -78,7 +78,7 @@ fn stands(standing: Standing, wanted: Wanted) -> bool {
     }
 }
 
-// Whether a row says what is seen.
+// Whether what a row says is seen.
 fn is_so(alloc: Global, seen: &Seen, (note, wanted): Row) -> bool {
     match wanted {
         Wanted::Sent(place, bytes) => seen.bytes(note, place) == bytes,
@@ -98,7 +98,7 @@ fn is_so(alloc: Global, seen: &Seen, (note, wanted): Row) -> bool {
     }
 }
 
-/// The first of the rows that doesn't say what is seen.
+/// The first of the rows that says something else than what is seen.
 pub fn first_wrong(alloc: Global, seen: &Seen, rows: &[Row]) -> Option<usize> {
     for (place, row) in rows.iter().enumerate() {
         if !is_so(alloc, seen, *row) {
@@ -108,12 +108,12 @@ pub fn first_wrong(alloc: Global, seen: &Seen, rows: &[Row]) -> Option<usize> {
     None
 }
 
-/// What is seen of a loop over a new session.
+/// What is seen when a loop over a new session performs the acts.
 pub fn play(rt: &impl System, acts: &[Act]) -> Option<Seen> {
     perform(rt, 1, acts).ok()
 }
 
-/// Whether of these acts all is seen that the rows say.
+/// Whether all that the rows say is seen when a loop performs the acts.
 pub fn is_played(rt: &impl System, acts: &[Act], rows: &[Row]) -> bool {
     match play(rt, acts) {
         Some(seen) => first_wrong(rt.alloc(), &seen, rows).is_none(),

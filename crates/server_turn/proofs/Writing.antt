@@ -1,4 +1,4 @@
--- A write keeps what a connection wrote at the front of what was put into it.
+-- After a write, what was written and what waits are still all that was put.
 use Rattle.std.proofs.Common.{◌≡◌, ℕ, List, take, drop, Option, Some, None, append_assoc}
 use Rattle.std.proofs.lemmas.List.{take-append-drop}
 use Rattle.std.specs.Io.KnownBytes.{Keeps, Appends}

@@ -12,12 +12,12 @@ pub record Waiting : Type 0 where
 abbrev pub HasWritten : List ℕ → List ℕ → Waiting → Type 0
 HasWritten put written turn = put ≡ written ++ turn.unsent
 
--- the same of what a writer holds; where that isn't known there is no such writer
+-- of the bytes that were put, a writer holds those that were written; its contents are known
 abbrev pub IsWritten : List ℕ → Option (List ℕ) → Waiting → Type 0
 IsWritten put None turn = ⊥
 IsWritten put (Some written) turn = HasWritten put written turn
 
--- the last bytes come once
+-- the last bytes are put once
 abbrev pub ended : List ℕ → Waiting → Waiting
 ended last turn = if turn.has_ended then turn else record turn {
   unsent = turn.unsent ++ last;

@@ -10,10 +10,10 @@ use std::io;
 use std::io::Write;
 use std::marker::Model;
 
-/// How many bytes stand ready for the end.
+/// How many bytes the last frame has, for which room is reserved.
 pub const LAST: usize = 4;
 
-/// How many bytes stand before a frame's payload.
+/// How many bytes a frame has before its payload.
 pub const HEAD: usize = 3;
 
 /// The bytes that a connection has still to write, and whether a step other than a draw was made
@@ -55,7 +55,7 @@ impl Model for Turn {
 }
 
 impl Turn {
-    /// Nothing to write yet. The room for the last bytes is reserved.
+    /// A connection with nothing to write yet. The room for the last bytes is reserved.
     pub fn new(alloc: Global) -> Result<Turn, AllocError>
         ensures nothing { IfOk result (λ t.
             t ≡ record { unsent = []; told = false; has_ended = false }) }
@@ -71,7 +71,7 @@ impl Turn {
         })
     }
 
-    // Lets go what was written, once it is half of what is held. Where it is all, nothing moves.
+    // Lets go of what was written, once that is half of what is held or more.
     fn shrink(&mut self)
         ensures { self.new ≡ self.old }
     {
@@ -84,7 +84,7 @@ impl Turn {
         }
     }
 
-    /// Puts the bytes behind those that wait.
+    /// Puts bytes after those that wait.
     pub fn put(&mut self, bytes: &[u8]) -> Result<(), AllocError>
         ensures ok { OnOk result
             (self.new ≡ record self.old { unsent = self.old.unsent ++ bytes.now }) }
@@ -97,7 +97,7 @@ impl Turn {
         self.bytes.extend_from_slice(bytes)
     }
 
-    /// Puts a frame's head and its payload behind those that wait: both or neither.
+    /// Puts a frame's head and its payload after the bytes that wait: both or neither.
     pub fn put_frame(&mut self, head: [u8; HEAD], payload: &[u8]) -> Result<(), AllocError>
         ensures ok { OnOk result
             (self.new ≡ record self.old { unsent = self.old.unsent ++ (head ++ payload.now) }) }
@@ -112,7 +112,7 @@ impl Turn {
         self.bytes.extend_from_slice(payload)
     }
 
-    /// Puts the last bytes behind those that wait, once. It takes no memory.
+    /// Puts the last bytes after those that wait. A second call puts nothing. It takes no memory.
     pub fn end(&mut self, last: [u8; LAST])
         ensures ended { self.new ≡ ended last self.old }
         ensures written { (put written : List ℕ) → HasWritten put written self.old
@@ -125,7 +125,8 @@ impl Turn {
         }
     }
 
-    /// One write of what waits. What was taken leaves; at a fault nothing does.
+    /// Makes one write of the bytes that wait. Those that were taken don't wait any more; after an
+    /// error all still wait.
     pub fn send<W: Write>(&mut self, writer: &mut W) -> io::Result<usize>
         ensures count { IfOk result (λ n. n ≤ length self.old.unsent) }
         ensures ok { IfOk result (λ n.
@@ -149,22 +150,22 @@ impl Turn {
         self.bytes.len() - self.sent
     }
 
-    /// A step other than a draw was made.
+    /// Notes that a step other than a draw was made.
     pub fn told(&mut self)
         ensures { self.new ≡ record self.old { told = true } }
     {
         self.told = true;
     }
 
-    /// Whether a draw is to be asked for: nothing waits, and a step other than a draw was told
-    /// since the last draw.
+    /// Whether a draw is to be asked for: no bytes wait, and a step other than a draw was made since
+    /// the last draw.
     pub fn wants_draw(&self) -> bool
         ensures { result ≡ (self.now.told && (length self.now.unsent == 0)) }
     {
         self.told && self.sent == self.bytes.len()
     }
 
-    /// A draw was done.
+    /// Notes that a draw was made.
     pub fn drawn(&mut self)
         ensures { self.new ≡ record self.old { told = false } }
     {
