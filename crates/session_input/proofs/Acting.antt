@@ -1,11 +1,10 @@
--- A command that needs a client is refused if its client isn't attached.
-use Rattle.std.proofs.Common.{◌≡◌, true, false, ℕ, List, Option, Some, None, Ok, Err, ap, sym, ◌∙◌, inr}
+-- A command that acts on a client is refused if that isn't attached.
+use Rattle.std.proofs.Common.{◌≡◌, true, ℕ, List, Option, Some, None, Ok, Err, ap, sym, ◌∙◌, inr}
 use Rattle.std.specs.Prelude.{Result, IfOk}
 use Rattle.std.specs.Option.{is_some}
-use Rattle.acl.specs.declared.act.LockMode.TheVariants.{Off, Auto, On}
 use Rattle.command_lang.specs.command.Command.{Command}
 use Rattle.command_lang.specs.command.Command.TheVariants as command
-use Rattle.command_lang.specs.Needs.{needs}
+use Rattle.session_input.specs.Acting.{acts_on_client}
 use Rattle.session_model.specs.declared.refusal.Refusal.{Refusal}
 use Rattle.session_model.specs.declared.refusal.Refusal.TheVariants.{NoWindow}
 use Rattle.session_model.specs.Tables.{Tables, Client}
@@ -18,24 +17,27 @@ use Rattle.session_state.specs.declared.state.State.{State}
 use Rattle.session_state.specs.Doing.{Does, IsAsBefore, IsSilent, caller_in}
 use Rattle.session_commands.specs.Giving.{NobodyGives}
 
-not_so : {A : Type 0} → false ≡ true → A
-not_so is = absurd (cc (is))
-
 module _ (t : Tables) (k : model.Caller) (none : caller_client t k ≡ None) where
   no_client : (f : Client → Answer) → on_client t k f ≡ Err NoWindow
   unfolding given
   no_client f = ap (λ p. given p NoWindow f) none
 
-  -- by the table's rows; a command that needs no client is none of these
-  refused : (c : Command) → (needs c).client ≡ true → does t k c ≡ Err NoWindow
+  refused : (c : Command) → acts_on_client c ≡ true → does t k c ≡ Err NoWindow
   refused command.Detach acts = no_client _
-  refused (command.Writelock Off) acts = absurd (cc (acts))
-  refused (command.Writelock Auto) acts = absurd (cc (acts))
-  refused (command.Writelock On) acts = absurd (cc (acts))
-  refused c acts = search (no_client, not_so)
+  refused (command.Select word) acts = no_client _
+  refused command.Next acts = no_client _
+  refused command.Prev acts = no_client _
+  refused command.Other acts = no_client _
+  refused (command.Split vertical) acts = no_client _
+  refused command.Focus acts = no_client _
+  refused command.Remove acts = no_client _
+  refused command.Only acts = no_client _
+  refused command.Fit acts = no_client _
+  refused (command.Scrollview back) acts = no_client _
+  refused c acts = absurd (cc (acts))
 
--- so no deed is done of it if nobody who is attached gives it
-pub nobody_gives : (k : Caller) (c : Command) (s : State) (made : StepOutput) (r : Refusal) → (needs c).client ≡ true
+-- such a command is refused if no client that is attached gives it
+pub nobody_gives : (k : Caller) (c : Command) (s : State) (made : StepOutput) (r : Refusal) → acts_on_client c ≡ true
     → (r ≡ NoWindow) × NobodyGives k s → Does k c s (Err r) s made made
 nobody_gives k c s made r acts none = λ t st fit passed.
     inr (refused t (caller_in t k) (none.1 t st) c acts ∙ ap (λ (e : Refusal). Err e) (sym none.0))

@@ -1,3 +1,4 @@
+pub mod Acting
 pub mod Given
 pub mod KeyStepping
 pub mod Lines

@@ -5,10 +5,10 @@ ghost use Rattle.std.specs.Option.{is_some};
 ghost use Rattle.session_state.specs.Doing.{Does, GivesBy, HasRoomToAct, IsAsBefore, IsSilent};
 ghost use Rattle.session_state.specs.Doing.{IsWhole};
 ghost use Rattle.session_model.specs.declared.refusal.Refusal.TheVariants.{NoWindow};
-ghost use Rattle.command_lang.specs.Needs.{needs};
+ghost use Rattle.session_input.specs.Acting.{acts_on_client};
 ghost use Rattle.session_input.specs.Ruled.{Rules};
 
-use command_lang::{Command, needs_of};
+use command_lang::Command;
 use session_access::{
     acladd, aclchg, acldel, aclgrp, aclgrp_of, aclumask, detach, kill, multiuser, quit,
 };
@@ -31,7 +31,27 @@ fn window_of(caller: Caller) -> Result<u32, Refusal>
     }
 }
 
-/// Carries out a command that needs a client, for the client that gives it.
+/// Whether a command acts on the client that gives it.
+fn is_of_client(command: &Command) -> bool
+    ensures { result ≡ acts_on_client command.now }
+{
+    matches!(
+        command,
+        Command::Detach
+            | Command::Select(_)
+            | Command::Next
+            | Command::Prev
+            | Command::Other
+            | Command::Split { .. }
+            | Command::Focus
+            | Command::Remove
+            | Command::Only
+            | Command::Fit
+            | Command::Scrollview(_)
+    )
+}
+
+/// Carries out a command that acts on the client that gives it.
 fn act_on_client(
     state: &mut State,
     caller: Caller,
@@ -41,7 +61,7 @@ fn act_on_client(
 ) -> Result<Option<Bytes>, Refusal>
     requires room { HasRoomToAct made.old }
     requires gives { GivesBy client state.old caller }
-    requires client { (needs command.now).client ≡ true }
+    requires client { acts_on_client command.now ≡ true }
     ensures answer { Does caller command.now state.old result state.new made.old made.new }
     ensures silent { IsSilent result state.old state.new made.old made.new }
 {
@@ -75,8 +95,7 @@ fn act(
         → IsAsBefore state.old state.new made.old made.new) }
     ensures whole { IsWhole result state.old state.new made.old made.new }
 {
-    let needs = needs_of(command);
-    if needs.client {
+    if is_of_client(command) {
         let client = client_of(state, caller)?;
         return act_on_client(state, caller, client, command, made);
     }

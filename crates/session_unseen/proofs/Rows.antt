@@ -14,7 +14,7 @@ use Rattle.acl.specs.Commands.{change_fault}
 use Rattle.command_lang.specs.command.Command.{Command as Order}
 use Rattle.command_lang.specs.command.Command.TheVariants as command
 use Rattle.regions.specs.declared.rect.Rect.{Rect}
-use Rattle.regions.specs.Layouts.{Arrangement, next_focus, remove_focused}
+use Rattle.regions.specs.Layouts.{Arrangement}
 use Rattle.terminal_model.specs.Writing.{Writing}
 use Rattle.terminal_model.specs.Writing as written
 use Rattle.session_model.specs.declared.event.Effect.{Effect}
