@@ -1,4 +1,4 @@
--- Checks pass in cut tables as in these, and are refused so.
+-- Checks pass in cut tables if they pass in these, and are refused alike.
 use Rattle.std.proofs.Common.{◌≡◌, ℕ, Bool, List, [], ◌∷◌, ◌++◌, Option, Some, None, refl, ap, ◌∙◌}
 use Rattle.std.specs.Prelude.{if◌then◌else◌}
 use Rattle.std.specs.Option.{option_map, is_some}

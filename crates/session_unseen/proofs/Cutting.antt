@@ -24,7 +24,7 @@ module _ {A : Type 0} (f : A → A) where
   read_all g [] same = refl
   read_all g (x ∷ xs) same = ap (λ y. y ∷ map g (map f xs)) (same x) ∙ ap (λ ys. g x ∷ ys) (read_all g xs same)
 
-  -- a change of each row goes before and behind
+  -- a change of each row may come before the cut or after it
   pub change_all : (g h : A → A) (xs : List A) → ((x : A) → g (f x) ≡ f (h x)) → map g (map f xs) ≡ map f (map h xs)
   change_all g h [] same = refl
   change_all g h (x ∷ xs) same = ap (λ y. y ∷ map g (map f xs)) (same x)

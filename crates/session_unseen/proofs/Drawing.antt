@@ -1,4 +1,4 @@
--- What a draw does to alike tables: a client whose views stand gets the same, and whether anything is delivered is the same.
+-- A draw does the same to alike tables for a client whose views stand, and delivers something to both or neither.
 use Rattle.std.proofs.Common.{◌≡◌, ℕ, Bool, true, false, List, [], ◌∷◌, Option, Some, None, refl, ap, sym, ◌∙◌, subst}
 use Rattle.std.specs.Prelude.{if◌then◌else◌}
 use Rattle.std.specs.Option.{option_map}
@@ -22,7 +22,7 @@ use Rattle.session_unseen.specs.Observed.{is_any}
 use Rattle.session_unseen.proofs.Cutting.{put_same, cut_client, cut, client_cut, with_client_cut}
 use Rattle.session_unseen.proofs.Viewing.{view_cut}
 
--- ---- where a draw is needed
+-- ---- a draw that is needed
 
 abbrev Needed : Bool → Option View → View → Type 0
 Needed true last v = NeedsDraw last v
@@ -86,7 +86,7 @@ module _ (shown : ℕ → Bool) (seeing : UserId → Bool) where
   drawn_cut [] v c = refl
   drawn_cut (f ∷ fs) v c = refl
 
-  -- of others' clients nothing of it stands
+  -- nothing of it is left of others' clients
   other_drawn : (t : Tables) (c : Client) (effects : List Effect) (v : View) → client_at t c.serial ≡ Some c
       → seeing c.user ≡ false → less (with_client t (with_drawn effects v c)) ≡ less t
   other_drawn t c effects v own not_his =

@@ -187,7 +187,7 @@ module _ (shown : ℕ → Bool) (seeing : UserId → Bool) where
       (λ c. ap (λ text. decimal c.serial ++ (codes " " ++ (name_of c.user ++ (codes " " ++ text))))
       (focus_text_cut t (focused c))))
 
-  -- ---- numbers, and who is in focus
+  -- ---- numbers, and windows in focus
 
   number_in_cut : (o : Option Window)
       → Rattle.std.specs.Option.option_map_or (λ (w : Window). w.number) (option_map f o) 0 ≡

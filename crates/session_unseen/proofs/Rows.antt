@@ -1,4 +1,5 @@
--- Each command does to cut tables what it does to these: one row a command.
+-- Each command does to cut tables what it does to these. A command that lists or changes a page, without
+-- looking a window up, needs no row here: the last one finds its proof.
 use Rattle.std.proofs.Common.{◌≡◌, ℕ, ◌-◌, Bool, true, false, not, List, [], ◌∷◌, ◌++◌, Option, Some, None, Ok, Err}
 use Rattle.std.proofs.Common.{refl, ap, sym, ◌∙◌, map, filter}
 use Rattle.std.specs.Prelude.{if◌then◌else◌, ◌==◌}
@@ -13,7 +14,7 @@ use Rattle.acl.specs.Commands.{change_fault}
 use Rattle.command_lang.specs.command.Command.{Command as Order}
 use Rattle.command_lang.specs.command.Command.TheVariants as command
 use Rattle.regions.specs.declared.rect.Rect.{Rect}
-use Rattle.regions.specs.Layouts.{Arrangement, next_focus, remove_focused}
+use Rattle.regions.specs.Layouts.{Arrangement}
 use Rattle.terminal_model.specs.Writing.{Writing}
 use Rattle.terminal_model.specs.Writing as written
 use Rattle.session_model.specs.declared.event.Effect.{Effect}
@@ -119,6 +120,10 @@ module _ (shown : ℕ → Bool) (seeing : UserId → Bool) where
       (acts : List Object → List Act) → os ≡ ps → changes (less t) names os acts ≡ cut_answer (changes t names ps acts)
   changes_cut t names os ps acts same = ap (λ o. changes (less t) names o acts) same
       ∙ change_cut t (change_fault t.owner (known_users t) names) ps acts
+
+  listed_cut : (t : Tables) (bytes text : List ℕ) → bytes ≡ text
+      → deeds.listing (less t) bytes ≡ cut_deed shown seeing (deeds.listing t text)
+  listed_cut t bytes text same = ap (deeds.listing (less t)) same
 
   -- ---- pages
 
@@ -297,15 +302,12 @@ module _ (shown : ℕ → Bool) (seeing : UserId → Bool) where
   row_cut t k (command.Multiuser false) = ok_cut _ _
       (parts_cut (λ c. not (deeds.is_of t.owner c)) reason.SingleUser (record t { is_multiuser = false }) (λ c. refl))
   row_cut t k (command.Writelock mode) = window_cut_by t k _ _ (λ w. refl)
-  row_cut t k (command.Defwritelock mode) = refl
   row_cut t k (command.Wall bytes) = ok_cut _ _ (tells_cut _ t)
-  row_cut t k command.Screen = refl
   row_cut t k command.Windows =
       ok_cut _ _
       (ap (deeds.listing (less t))
       (ap (windows_text (less t) k.user) (focus_cut k.client k.window)
       ∙ windows_text_cut shown seeing t k.user (focus_of k)))
-  row_cut t k command.Displays = ok_cut _ _ (ap (deeds.listing (less t)) (clients_text_cut shown seeing t))
   row_cut t k (command.Select word) = selected_cut t k (λ c. window_named (less t).windows word)
       (λ c. window_named t.windows word) (Windows NoSuchWindow) (λ c. named_cut shown seeing t.windows word)
   row_cut t k command.Next = selected_cut t k (λ c. window_after (less t).windows (option_map f k.window))
@@ -314,13 +316,6 @@ module _ (shown : ℕ → Bool) (seeing : UserId → Bool) where
       (λ c. window_before t.windows k.window) NoWindow (λ c. before_cut shown seeing t.windows k.window)
   row_cut t k command.Other = selected_cut t k (λ c. option_and_then (window_at (less t)) (former_of c))
       (λ c. option_and_then (window_at t) (former_of c)) NoWindow (λ c. given_window_cut shown seeing t (former_of c))
-  row_cut t k (command.Split vertical) = client_cut_by t k _ _ (λ c. unless_cut _ _ _ _ (arranged_cut t c _))
-  row_cut t k command.Focus = client_cut_by t k _ _
-      (λ c. ok_cut _ _ (entered_cut t c (record c.layout { focus = next_focus c.layout })))
-  row_cut t k command.Remove = client_cut_by t k _ _
-      (λ c. refused_cut _ _ _ _ (entered_cut t c (remove_focused c.layout)))
-  row_cut t k command.Only = client_cut_by t k _ _ (λ c. ok_cut _ _ (arranged_cut t c _))
-  row_cut t k (command.Scrollview n) = client_cut_by t k _ _ (λ c. ok_cut _ _ (arranged_cut t c _))
   row_cut t k command.Fit = client_cut_by t k _ _
       (λ c. window_cut_by t k _ _
       (λ w. given_cut (deeds.focused_box c) (deeds.focused_box c) (λ b. b) NoWindow (fits (less t) (f w)) (fits t w)
@@ -342,3 +337,13 @@ module _ (shown : ℕ → Bool) (seeing : UserId → Bool) where
   row_cut t k command.Kill = window_cut_by t k _ _
       (λ w. ok_cut _ _ (closes_cut (λ (v : Window). v.serial == w.serial) reason.Killed t (λ v. refl)))
   row_cut t k command.Quit = ok_cut _ _ (quits_cut t)
+  row_cut t k c = search (
+    ok_cut,
+    listed_cut,
+    client_cut_by,
+    unless_cut,
+    refused_cut,
+    arranged_cut,
+    entered_cut,
+    clients_text_cut,
+  ) depth 7

@@ -1,4 +1,4 @@
--- What a step of a spectator does.
+-- A step of a spectator changes the spectator's own client alone; Spectators proves what others keep.
 use Rattle.std.proofs.Common.{◌≡◌, ◌<◌, ℕ, Bool, true, false, List, [], ◌∷◌, ◌++◌, Option, Some, None, Ok, Err, Result}
 use Rattle.std.proofs.Common.{refl, ap, ◌∙◌, subst, arith}
 use Rattle.std.specs.Prelude.{if◌then◌else◌, ◌==◌}
@@ -172,7 +172,7 @@ module _ (user : UserId) (own : Option ℕ) (t : Tables) (watches : IsSpectator 
   by_answer v n m (Err r) s is done = said v n _ (text_of r) s is
   by_answer v n m (Ok d) s is done = listed n m d.lists d is done
 
-  -- the client that gives keys, in tables where they were read
+  -- the client that gives keys, in tables after they were read
   module _ (c : Client) (is : is_it own c.serial ≡ true) (mine : c.user ≡ user) where
     of_own : (v : Tables) (d : Client) → caller_client v (caller_of v c) ≡ Some d → is_it own d.serial ≡ true
     of_own v d at = ap (is_it own) (row_serial (λ (x : Client). x.serial) v.clients c.serial d at) ∙ is

@@ -1,4 +1,4 @@
--- In each step of a spectator others keep what they have.
+-- In each step of a spectator others keep what they have; Spectating proves what the step does.
 use Rattle.std.proofs.Common.{◌≡◌, ℕ, Bool, true, false, not, List, [], ◌∷◌, ◌++◌, Option, Some, None, Ok, Err, Result}
 use Rattle.std.proofs.Common.{refl, ap, sym, ◌∙◌, subst, take, ⊎_elim}
 use Rattle.std.specs.Prelude.{if◌then◌else◌, ◌==◌, ◌&&◌, ◌||◌, ◌^◌, nat_lt, MatchOption}

@@ -87,7 +87,8 @@ module _ (shown : ℕ → Bool) (seeing : UserId → Bool) (t u : Tables) (same 
 
     -- each window that a client whose views stand shows readable stands whole
     abbrev pub StandsAt : Tables → EventValue → Type 0
-    StandsAt x (Draw client) = (c : Client) → client_at x client ≡ Some c → seeing c.user ≡ true → Stands shown seeing x c
+    StandsAt x (Draw client) =
+        (c : Client) → client_at x client ≡ Some c → seeing c.user ≡ true → Stands shown seeing x c
     StandsAt x event = Unit {0}
 
     draws_alike : (client : ℕ) (ds es : List Effect) (o p : Option Client) → client_at t client ≡ o
@@ -130,7 +131,7 @@ module _ (shown : ℕ → Bool) (seeing : UserId → Bool) (t u : Tables) (same 
     same_giver (OfClient client) = same_client_user client
     same_giver OfNobody = refl
 
-    -- ---- whom effects are for
+    -- ---- the users that effects are for
 
     module _ (opened : ℕ → Bool) (user : UserId) where
       client_read : (o p : Option Client) → option_map g o ≡ option_map g p
@@ -139,10 +140,12 @@ module _ (shown : ℕ → Bool) (seeing : UserId → Bool) (t u : Tables) (same 
       client_read None None alike = refl
       client_read None (Some d) alike = absurd (cc (alike))
       client_read (Some c) None alike = absurd (cc (alike))
-      client_read (Some c) (Some d) alike = let e : g c ≡ g d = cc (alike) in ap (λ (x : Client). same_user x.user user) e
+      client_read (Some c) (Some d) alike =
+          let e : g c ≡ g d = cc (alike) in ap (λ (x : Client). same_user x.user user) e
 
       same_owner : (client : ℕ) → is_client_of t user client ≡ is_client_of u user client
-      same_owner client = client_read (client_at t client) (client_at u client) (same_client shown seeing t u client same)
+      same_owner client =
+          client_read (client_at t client) (client_at u client) (same_client shown seeing t u client same)
 
       same_for : (f : Effect) → is_for opened t user f ≡ is_for opened u user f
       same_for (Input w bytes) = refl
@@ -164,9 +167,9 @@ module _ (shown : ℕ → Bool) (seeing : UserId → Bool) (t u : Tables) (same 
       seen_of x event reply fs = (if is_users user (user_of x event) then Replied reply ∷ [] else []) ++
           (told_to x fs ++ drawn_to x user event fs)
 
-      -- the rest of it, where nothing is drawn
-      plain : (event : EventValue) (ds es : List Effect) → is_hidden shown event ≡ false → ds ≡ (outcome t event).effects
-          → es ≡ (outcome u event).effects → told_to t ds ≡ told_to u es
+      -- the rest of the step, if nothing is drawn
+      plain : (event : EventValue) (ds es : List Effect) → is_hidden shown event ≡ false
+          → ds ≡ (outcome t event).effects → es ≡ (outcome u event).effects → told_to t ds ≡ told_to u es
       plain event ds es stands is was =
           ap (map (λ f. Told f)) (all_for ds)
           ∙ ap (λ fs. told_to u fs) (is ∙ ap (λ (o : Outcome). o.effects) (same_outcome event stands) ∙ sym was)

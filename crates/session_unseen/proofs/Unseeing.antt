@@ -1,4 +1,4 @@
--- A user observes the same of two runs that differ in output that is hidden from him alone.
+-- A user observes the same of two runs that differ only in output that is hidden from the user.
 use Rattle.std.proofs.Common.{◌≡◌, ℕ, Bool, true, false, not, List, [], ◌∷◌, ◌++◌, Option, Some, None, refl, ap, sym}
 use Rattle.std.proofs.Common.{◌∙◌, map, filter}
 use Rattle.std.specs.Prelude.{if◌then◌else◌, ◌||◌, ◌&&◌}
@@ -34,7 +34,7 @@ same_shown t u user (Draw client) V same =
     (sym (shown_cut t user client) ∙ ap (λ x. shown_to x user (client_at x client)) same ∙ shown_cut u user client)
 same_shown t u user event V same = refl
 
--- more are shown
+-- more windows are shown
 or_first : (a b : Bool) → a ≡ true → (a || b) ≡ true
 or_first true b is = refl
 or_first false b is = absurd (cc (is))
@@ -53,7 +53,7 @@ still_open : (t : Tables) (user : UserId) (event : EventValue) (V : ℕ → Bool
 still_open t user (Draw client) V is = refl
 still_open t user event V is = is
 
--- behind hidden output no more are shown
+-- after hidden output no more windows are shown
 same_behind : (t : Tables) (user : UserId) (event : EventValue) (V : ℕ → Bool) → is_hidden V event ≡ true
     → with_shown t user event V ≡ V
 same_behind t user (Output at bytes) V is = refl
@@ -108,7 +108,7 @@ module _ (user : UserId) (start : Tables) (opened : ℕ → Bool) where
   abbrev open_events : (ℕ → Bool) → List Entry → List EventValue
   open_events V run = events_from user V start run
 
-  -- behind hidden output of one
+  -- after hidden output in one run
   skip : (V : ℕ → Bool) (d : Entry) (p other : List Entry) → Within V → IsStep (at p) d → is_hidden V d.event ≡ true
       → Same V p other → Same V (d ∷ p) other
   skip V d p other within step hidden same = record {
@@ -119,7 +119,7 @@ module _ (user : UserId) (start : Tables) (opened : ℕ → Bool) where
   back : (V : ℕ → Bool) (run other : List Entry) → Same V run other → Same V other run
   back V run other same = record { tables = sym same.tables; seen = sym same.seen }
 
-  -- behind a step of both
+  -- after a step of both runs
   both : (V W : ℕ → Bool) (d e : Entry) (p q : List Entry) → d.event ≡ e.event → is_hidden V d.event ≡ false
       → IsStep (at p) d → IsStep (at q) e
       → with_shown (at p) user d.event V ≡ W → with_shown (at q) user d.event V ≡ W → Same W p q
@@ -167,8 +167,8 @@ module _ (user : UserId) (start : Tables) (opened : ℕ → Bool) where
   alike_step V d p within ran step stands before (e ∷ q) run is = on (is_hidden V e.event) refl is
       (alike_step V d p within ran step stands before q run.0) where
         on : (b : Bool) → is_hidden V e.event ≡ b
-            → d.event ∷ open_events (with_shown (at p) user d.event V) p ≡ (if b then [] else e.event ∷ []) ++ open_events
-            (with_shown (at q) user e.event V) q
+            → d.event ∷ open_events (with_shown (at p) user d.event V) p
+            ≡ (if b then [] else e.event ∷ []) ++ open_events (with_shown (at q) user e.event V) q
             → (d.event ∷ open_events (with_shown (at p) user d.event V) p ≡ open_events V q → Same V (d ∷ p) q)
             → Same V (d ∷ p) (e ∷ q)
         on true hidden is more =
@@ -177,8 +177,8 @@ module _ (user : UserId) (start : Tables) (opened : ℕ → Bool) where
             (back V (d ∷ p) q (more (is ∙ ap (λ x. open_events x q) (same_behind (at q) user e.event V hidden)))))
         on false hidden is more =
             let heads : d.event ≡ e.event = cc (is) in
-            let tails : open_events (with_shown (at p) user d.event V) p ≡ open_events (with_shown (at q) user e.event V) q
-            = cc (is) in
+            let tails : open_events (with_shown (at p) user d.event V) p
+            ≡ open_events (with_shown (at q) user e.event V) q = cc (is) in
             let bared : cut none nobody (at p) ≡ cut none nobody (at q) =
             bare start p q ran run.0
             (sym (skeleton_of user (with_shown (at p) user d.event V) start p) ∙ ap skeleton tails
@@ -208,7 +208,7 @@ module _ (user : UserId) (start : Tables) (opened : ℕ → Bool) where
       → observed_from opened user start run ≡ observed_from opened user start other
   unseen_by V run other within ran also is = (alike run ran V other within also is).seen
 
--- windows that he opened are the same in both
+-- the windows that the user opened are the same in both runs
 same_opened : (user : UserId) (t u : Tables) → cut none nobody t ≡ cut none nobody u
     → has_opened t user ≡ has_opened u user
 same_opened user t u same = ap (λ (x : Tables). has_opened x user) same

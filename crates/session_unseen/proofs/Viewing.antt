@@ -1,4 +1,4 @@
--- A client is granted the same view of cut tables where each window that it shows readable stands whole.
+-- A client is granted the same view of cut tables if each window that it shows readable is left whole.
 use Rattle.std.proofs.Common.{◌≡◌, ℕ, Bool, true, false, List, [], ◌∷◌, Option, Some, None, refl, ap, sym, ◌∙◌, map}
 use Rattle.std.specs.Prelude.{if◌then◌else◌, ◌&&◌, ◌||◌}
 use Rattle.std.specs.List.{list_any}

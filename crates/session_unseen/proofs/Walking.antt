@@ -1,4 +1,4 @@
--- Two runs that differ in hidden output alone, step by step.
+-- Two runs that differ only in hidden output have alike tables after each step.
 use Rattle.std.proofs.Common.{◌≡◌, ℕ, Bool, true, false, not, List, [], ◌∷◌, ◌++◌, refl, ap, sym, ◌∙◌, subst, map}
 use Rattle.std.proofs.Common.{filter}
 use Rattle.std.specs.Prelude.{if◌then◌else◌}
@@ -45,7 +45,8 @@ skeleton_of user V start (e ∷ past) = on (is_hidden V e.event) refl
           start past) ≡ skeleton (e.event ∷ events past)
       on true is same = same
           ∙ sym
-          (ap (λ b. if not b then e.event ∷ skeleton (events past) else skeleton (events past)) (is_output V e.event is))
+          (ap (λ b. if not b then e.event ∷ skeleton (events past) else skeleton (events past))
+          (is_output V e.event is))
       on false is same = ap (λ es. if not (is_hidden none e.event) then e.event ∷ es else es) same
 
 -- a step of both, of one event
@@ -100,8 +101,8 @@ module _ (start : Tables) where
             → (d.event ∷ skeleton (events p) ≡ skeleton (events q) → Bare (d ∷ p) q) → Bare (d ∷ p) (e ∷ q)
         on true hidden is more = more is ∙ sym (hidden_cut none nobody (at q) e hidden)
         on false hidden is more =
-            let same : Bare p q = before q run.0 (let tails : skeleton (events p) ≡ skeleton (events q) = cc (is) in tails)
-            in
+            let same : Bare p q =
+            before q run.0 (let tails : skeleton (events p) ≡ skeleton (events q) = cc (is) in tails) in
             both_step none nobody (at p) (at q) same d e (let heads : d.event ≡ e.event = cc (is) in heads) stands step
             run.1 (trivial (at p) (at q) (at p) same d.event) (trivial (at p) (at q) (at q) same d.event)
 

@@ -1,4 +1,4 @@
--- What a command does that changes nothing but its client's page.
+-- A command that watches leaves others' clients and all windows as they are, by its kind of deed.
 use Rattle.std.proofs.Common.{◌≡◌, ℕ, Bool, true, false, not, List, [], ◌∷◌, Option, Some, None, Ok, Err, refl, ap, sym}
 use Rattle.std.proofs.Common.{◌∙◌, filter}
 use Rattle.std.specs.Prelude.{if◌then◌else◌, ◌==◌}
@@ -11,20 +11,22 @@ use Rattle.acl.specs.Same.{same_user}
 use Rattle.command_lang.specs.command.Command.{Command as Order}
 use Rattle.command_lang.specs.command.Command.TheVariants as command
 use Rattle.command_lang.specs.Names.{name_of}
-use Rattle.regions.specs.Layouts.{Arrangement, remove_focused}
+use Rattle.regions.specs.Layouts.{Arrangement}
 use Rattle.session_model.specs.declared.event.Effect.{Effect}
 use Rattle.session_model.specs.declared.event.Effect.TheVariants.{Deliver, Say, GoneClient}
 use Rattle.session_model.specs.declared.event.Reason.TheVariants as reason
 use Rattle.session_model.specs.declared.message.Message.{Message}
-use Rattle.session_model.specs.declared.refusal.Refusal.{Refusal}
-use Rattle.session_model.specs.Tables.{Tables, Window, Client, row_of, with_row, client_at, with_client, with_layout}
+use Rattle.session_model.specs.Tables.{Tables, Client, row_of, with_row, client_at, with_client, with_layout}
 use Rattle.session_model.specs.Tables.{focused}
 use Rattle.session_model.specs.Lines.{Caller}
 use Rattle.session_model.specs.Deeds as deeds
-use Rattle.session_model.specs.Deeds.{Deed, Answer, given, unless, refused_if, parts, arranges, enters, selects}
+use Rattle.session_model.specs.Deeds.{Deed, Answer, parts, arranges, enters}
 use Rattle.session_model.specs.Deeds.{entering, hearing}
-use Rattle.session_model.specs.Commands.{does, caller_client, on_client}
+use Rattle.session_model.specs.Commands.{does, caller_client}
 use Rattle.session_model.specs.Answering.{told}
+use Rattle.session_laws.specs.Written.{order_writing}
+use Rattle.session_laws.proofs.Doing.{Either}
+use Rattle.session_laws.proofs.Shapes as shapes
 use Rattle.session_laws.proofs.Lists.{row_serial, equal, all_map, all_passed, all_of}
 use Rattle.session_unseen.specs.Watching.{is_watching, others_clients}
 
@@ -58,28 +60,34 @@ abbrev pub IfDone : (Deed → Type 0) → Answer → Type 0
 IfDone P (Ok d) = P d
 IfDone P (Err r) = Unit {0}
 
-by_given : {X : Type 0} (P : Deed → Type 0) (o : Option X) (r : Refusal) (f : X → Answer)
-    → ((x : X) → o ≡ Some x → IfDone P (f x)) → IfDone P (given o r f)
-unfolding given
-by_given P None r f on = tt
-by_given P (Some x) r f on = on x refl
+if_done : (P : Deed → Type 0) (a : Answer) → Either P a → IfDone P a
+if_done P (Ok d) is = is
+if_done P (Err r) is = tt
 
-by_unless : {F : Type 0} (P : Deed → Type 0) (of : F → Refusal) (o : Option F) (d : Deed) → P d
-    → IfDone P (unless of o d)
-unfolding unless
-by_unless P of None d p = p
-by_unless P of (Some f) d p = tt
+-- a command that watches is no other one
+no_other : (c x : Order) → c ≡ x → is_watching (name_of x) ≡ false → is_watching (name_of c) ≡ true → ⊥
+no_other c x same other is = absurd (cc (ap (λ o. is_watching (name_of o)) same, other, is))
 
-by_refused : (P : Deed → Type 0) (b : Bool) (r : Refusal) (d : Deed) → P d → IfDone P (refused_if b r d)
-unfolding refused_if
-by_refused P true r d p = tt
-by_refused P false r d p = p
+writes_nothing : (c : Order) → is_watching (name_of c) ≡ true → order_writing c ≡ []
+writes_nothing command.Clear is = absurd (cc (is))
+writes_nothing command.Reset is = absurd (cc (is))
+writes_nothing (command.Encoding coding) is = absurd (cc (is))
+writes_nothing c is = refl
+
+acts_nothing : (t : Tables) (k : Caller) (c : Order) (all : List Act) → is_watching (name_of c) ≡ true
+    → shapes.Acted t k c all → ⊥
+acts_nothing t k c all is (shapes.added names objects same clear every) = no_other c _ same refl is
+acts_nothing t k c all is (shapes.changed names bits list objects same clear every) = no_other c _ same refl is
+acts_nothing t k c all is (shapes.grouped word leader same clear) = no_other c _ same refl is
+acts_nothing t k c all is (shapes.masked masks same clear) = no_other c _ same refl is
+acts_nothing t k c all is (shapes.locked w mode same at) = no_other c _ same refl is
+acts_nothing t k c all is (shapes.preset mode same) = no_other c _ same refl is
 
 module _ (user : UserId) (own : Option ℕ) where
   abbrev his : Client → Bool
   his c = same_user c.user user
 
-  -- clients of this serial are his
+  -- clients with this serial are the user's
   abbrev pub AllHis : List Client → Type 0
   AllHis cs = AllByRecursion (λ (c : Client). is_it own c.serial ≡ true → his c ≡ true) cs
 
@@ -140,7 +148,7 @@ module _ (user : UserId) (own : Option ℕ) where
     on true more = (all.0, more)
     on false more = more
 
-  -- ---- tables in which his client alone has changed
+  -- ---- tables in which the user's client alone has changed
 
   pub record Still (t v : Tables) : Type 0 where
     pub owner : v.owner ≡ t.owner
@@ -242,11 +250,6 @@ module _ (user : UserId) (own : Option ℕ) where
       effects = tt;
     }
 
-    selected : (o : Client → Option Window) (r : Refusal)
-        → IfDone (Leaves t) (on_client v k (λ c. given (o c) r (λ w. Ok (selects v c w))))
-    selected o r = by_given (Leaves t) (caller_client v k) _ _
-        (λ c at. by_given (Leaves t) (o c) r _ (λ w is. entered c _ at))
-
     parted : (c : Client) → caller_client v k ≡ Some c
         → Leaves t (parts (λ (d : Client). d.serial == c.serial) reason.Detached v)
     parted c at = parted_by t v c.serial still (of_own c at)
@@ -254,19 +257,24 @@ module _ (user : UserId) (own : Option ℕ) where
     nothing : (bytes : List ℕ) → Leaves t (deeds.listing v bytes)
     nothing bytes = record { tables = still; acts = tt; effects = tt }
 
+    -- each kind of deed
+    each : (c : Order) → is_watching (name_of c) ≡ true → (d : Deed) → shapes.Shape v k c d → Leaves t d
+    each c is d (shapes.lists bytes quiet tells) = nothing bytes
+    each c is d (shapes.acts all quiet acted) = absurd (acts_nothing v k c all is acted)
+    each c is d (shapes.enters_page e l of at shows) = entered e l at
+    each c is d (shapes.keeps_page e l of at shows same) = arranged e l at
+    each c is d (shapes.writes_to w what one at) = absurd (cc (writes_nothing c is, one))
+    each c is d (shapes.opened same) = absurd (no_other c _ same refl is)
+    each c is d (shapes.shut same) = absurd (no_other c _ same refl is)
+    each c is d (shapes.told bytes same) = absurd (no_other c _ same refl is)
+    each c is d (shapes.removed word same clear) = absurd (no_other c _ same refl is)
+    each c is d (shapes.fitted w rows columns same at) = absurd (no_other c _ same refl is)
+    each c is d (shapes.titled w bytes same at) = absurd (no_other c _ same refl is)
+    each c is d (shapes.numbered w n same at free) = absurd (no_other c _ same refl is)
+    each c is d (shapes.typed w bytes same at) = absurd (no_other c _ same refl is)
+    each c is d (shapes.detached e same at) = parted e at
+    each c is d (shapes.killed w same at) = absurd (no_other c _ same refl is)
+    each c is d (shapes.quits same) = absurd (no_other c _ same refl is)
+
     pub watched : (c : Order) → is_watching (name_of c) ≡ true → IfDone (Leaves t) (does v k c)
-    watched command.Windows is = nothing _
-    watched command.Displays is = nothing _
-    watched (command.Select word) is = selected _ _
-    watched command.Next is = selected _ _
-    watched command.Prev is = selected _ _
-    watched command.Other is = selected _ _
-    watched (command.Split vertical) is = by_given (Leaves t) (caller_client v k) _ _
-        (λ c at. by_unless (Leaves t) _ _ _ (arranged c _ at))
-    watched command.Focus is = by_given (Leaves t) (caller_client v k) _ _ (λ c at. entered c _ at)
-    watched command.Remove is = by_given (Leaves t) (caller_client v k) _ _
-        (λ c at. by_refused (Leaves t) _ _ _ (entered c (remove_focused c.layout) at))
-    watched command.Only is = by_given (Leaves t) (caller_client v k) _ _ (λ c at. arranged c _ at)
-    watched (command.Scrollview n) is = by_given (Leaves t) (caller_client v k) _ _ (λ c at. arranged c _ at)
-    watched command.Detach is = by_given (Leaves t) (caller_client v k) _ _ (λ c at. parted c at)
-    watched c is = absurd (cc (is))
+    watched c is = if_done (Leaves t) (does v k c) (shapes.by_shape (Leaves t) v k c (λ d of. each c is d of))

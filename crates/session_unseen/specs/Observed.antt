@@ -15,8 +15,8 @@ use Rattle.session_model.specs.Run.{tables_from}
 use Rattle.session_guests.specs.Locking.{user_of}
 use Rattle.session_unseen.specs.Hidden.{has_opened}
 
--- a reply to an event of his; an effect for a window that he opened or a client of his; a draw of a
--- client of his: its view, and whether anything was delivered
+-- a reply to an event of the user; an effect for a window that the user opened, or for a client of the
+-- user; a draw of such a client: its view, and whether anything was delivered
 pub data Observation : Type 0 where
   Replied : Reply → Observation
   Told : Effect → Observation
@@ -30,7 +30,7 @@ abbrev pub is_client_of : Tables → UserId → ℕ → Bool
 is_client_of t user client =
     option_map_or (λ (c : Client). same_user c.user user) (client_at t client) false
 
--- whom an effect is for; what is delivered is told of by the view
+-- the user that an effect is for; a delivered frame is observed as the view
 abbrev pub is_for : (ℕ → Bool) → Tables → UserId → Effect → Bool
 is_for opened t user (Input window bytes) = opened window
 is_for opened t user (Size window rows columns) = opened window
@@ -57,14 +57,14 @@ abbrev pub drawn_to : Tables → UserId → EventValue → List Effect → List 
 drawn_to t user (Draw client) effects = drawn_for t user (client_at t client) effects
 drawn_to t user event effects = []
 
--- what he observes of one step, where he opened these windows
+-- what a user who opened these windows observes of one step
 abbrev pub observed : (ℕ → Bool) → Tables → UserId → Entry → List Observation
 observed opened t user e =
     replied_to t user e
     ++ (map (λ f. Told f) (filter (is_for opened t user) e.effects)
     ++ drawn_to t user e.event e.effects)
 
--- and of some tables' run, the newest first
+-- what the user observes of a run from some tables, the newest first
 abbrev pub observed_from : (ℕ → Bool) → UserId → Tables → List Entry → List Observation
 observed_from opened user start [] = []
 observed_from opened user start (e ∷ past) =

@@ -7,8 +7,8 @@ use Rattle.session_model.specs.Run.{IsRunFrom}
 use Rattle.session_unseen.specs.Hidden.{unhidden}
 use Rattle.session_unseen.specs.Observed.{observations}
 
--- Two runs of some tables that differ only in output that is hidden from a user, which may be other
--- output, more or less of it, and at other times: he observes the same of both.
+-- Two runs from some tables differ only in output that is hidden from a user: it may be other output,
+-- more or less of it, and at other times. The user observes the same of both.
 abbrev pub HiddenOutputIsUnseen : Type 0
 HiddenOutputIsUnseen =
     (user : UserId) (start : Tables) (run other : List Entry) →

@@ -1,5 +1,5 @@
--- Who only watches, and what stays as it is in his steps.
-use Rattle.std.specs.Prelude.{◌≡◌, ℕ, Bool, true, false, not, List, [], Some, filter}
+-- A user who only watches, and what stays as it is in that user's steps.
+use Rattle.std.specs.Prelude.{◌≡◌, ◌&&◌, ℕ, Bool, true, false, not, List, [], Some, filter}
 use Rattle.std.specs.List.{AllByRecursion}
 use Rattle.acl.specs.declared.user_id.UserId.{UserId}
 use Rattle.acl.specs.declared.bits.Bit.TheVariants.{Write, Execute}
@@ -7,6 +7,8 @@ use Rattle.acl.specs.declared.command_name.CommandName.{CommandName}
 use Rattle.acl.specs.declared.command_name.CommandName.TheVariants as name
 use Rattle.acl.specs.declared.act.Object.TheVariants as object
 use Rattle.acl.specs.Same.{same_user}
+use Rattle.command_lang.specs.Rows.{row}
+use Rattle.command_lang.specs.needs.Needs.{Needs}
 use Rattle.writelock.specs.Holding.{mode_of, default_of}
 use Rattle.session_model.specs.declared.event.Effect.{Effect}
 use Rattle.session_model.specs.declared.event.Effect.TheVariants.{Deliver, Say, GoneClient}
@@ -23,23 +25,18 @@ use Rattle.session_guests.specs.Contained.{stood}
 use Rattle.session_guests.specs.Locking.{user_of, HoldersMayWrite}
 use Rattle.session_unseen.specs.Observed.{is_client_of}
 
--- commands that change nothing but their client's page, or list
+-- a command's row of the table says that it needs a client, and no window: it changes nothing but
+-- that client's page, or detaches it
+abbrev pub is_of_page : Needs → Bool
+is_of_page n = n.client && not n.window
+
+-- commands of a page, and those that list windows or clients
 abbrev pub is_watching : CommandName → Bool
-is_watching name.Detach = true
-is_watching name.Select = true
-is_watching name.Next = true
-is_watching name.Prev = true
-is_watching name.Other = true
-is_watching name.Split = true
-is_watching name.Focus = true
-is_watching name.Remove = true
-is_watching name.Only = true
-is_watching name.Scrollview = true
 is_watching name.Windows = true
 is_watching name.Displays = true
-is_watching _ = false
+is_watching c = is_of_page (row c).needs
 
--- a user who has w nowhere, and x on none but those; he isn't the owner
+-- a user who has w nowhere, and x on no other command; the owner isn't one
 pub record IsSpectator (t : Tables) (user : UserId) : Type 0 where
   pub write : (window : ℕ) → may_in t user Write (object.Window window) ≡ false
   pub commands :
@@ -50,7 +47,7 @@ pub record IsSpectator (t : Tables) (user : UserId) : Type 0 where
 abbrev pub others_clients : UserId → List Client → List Client
 others_clients user clients = filter (λ (c : Client). not (same_user c.user user)) clients
 
--- whether an effect is for a client of his
+-- whether an effect is for a client of the user
 abbrev pub is_for_his : Tables → UserId → Effect → Bool
 is_for_his t user (Say client bytes) = is_client_of t user client
 is_for_his t user (Deliver client bytes) = is_client_of t user client
@@ -79,7 +76,7 @@ pub record SameForOthers (t u : Tables) (user : UserId) : Type 0 where
   pub views :
       (c : Client) → lists_clients c.message ≡ false → granted_view u c ≡ granted_view t c
 
--- a step of his leaves others all that they have, and each effect is for a client of his
+-- a step of the user leaves others all that they have, and each effect is for a client of the user
 pub record LeavesOthers (t : Tables) (e : Entry) (user : UserId) : Type 0 where
   pub tables : SameForOthers t (after t e) user
   pub effects : AllByRecursion (λ f. is_for_his t user f ≡ true) e.effects
