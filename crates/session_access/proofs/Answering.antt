@@ -1,4 +1,4 @@
--- What rows answer.
+-- What the rows of `detach`, `kill`, `quit` and `multiuser` answer.
 use Rattle.std.proofs.Common.{◌≡◌, ◌∙◌, ℕ, List, Option, Some, None, Ok, Err, refl, ap, sym, subst, ◌⊎◌, inl, inr}
 use Rattle.std.specs.Prelude.{◌==◌}
 use Rattle.std.specs.Option.{option_and_then}
@@ -68,7 +68,7 @@ detach_is t k client is =
     ∙ ap (λ o. given (option_and_then (client_at t) o) NoWindow
     (λ c. Ok (parts (λ d. d.serial == c.serial) reason.Detached t))) (sym is)
 
--- an answer that is another's
+-- an answer that equals another one
 pub refused_alike : (a b : Answer) (r : Refusal) → a ≡ b → (r ≡ NoMemory) ⊎ (a ≡ Err r) → (r ≡ NoMemory) ⊎ (b ≡ Err r)
 refused_alike a b r same answer = subst (λ x. (r ≡ NoMemory) ⊎ (x ≡ Err r)) same answer
 

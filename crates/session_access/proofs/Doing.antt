@@ -1,4 +1,4 @@
--- What the deeds of list commands leave.
+-- A command on the lists leaves what its row says; Ending and Parting prove it of windows and clients.
 use Rattle.std.proofs.Common.{◌≡◌, ℕ, List, Option, Some, None, Ok, Err, refl, ap, sym, subst, ◌∙◌, inl, inr}
 use Rattle.std.proofs.Common.{append-nil}
 use Rattle.std.specs.Prelude.{Result, OnOk, IfOk, ◌⊎◌}
@@ -24,7 +24,7 @@ use Rattle.session_state.specs.Stands.{Stands}
 use Rattle.session_state.specs.Doing.{Answers}
 use Rattle.session_access.specs.Asked.{answered, NamesNothing}
 
--- a list command was answered as its row says, where a fault refuses it, and else it acts
+-- a command on the lists is refused by a fault as its row says, and acts if there is none
 pub acted : {X : Type 0} (t : Tables) (acts : List Act) (old : State) (lists : Table) (locks : Locks)
     (before after : StepOutput) (answer : Answer) (fault : Option AclFault) (done : Result X AclFault)
     (result : Result (Option (List ℕ)) Refusal)
@@ -116,7 +116,7 @@ module _ (t : Tables) (names asked : List (Option UserId)) (same : names ≡ ask
   nothing_is found acts at is = found_is found acts is
       ∙ ap (λ o. given o (Windows NoSuchWindow) (λ all. Ok (acting t (acts all)))) at
 
-  -- where an item names nothing
+  -- an item names nothing
   pub change_without : (found : Option (List Object)) (acts : List Object → List Act) (r : Refusal)
       → change_fault t.owner (known_users t) names ≡ None → NamesNothing r (found ≡ None)
       → (r ≡ NoMemory) ⊎ (changes t asked found acts ≡ Err r)

@@ -1,4 +1,4 @@
--- Windows that are closed, one and all.
+-- Windows that are closed, one or all, leave what the definitions' deeds leave.
 use Rattle.std.proofs.Common.{◌≡◌, ◌∙◌, ℕ, ◌<◌, Bool, true, false, not, List, [], ◌∷◌, ◌++◌, Option, Some, None, Ok}
 use Rattle.std.proofs.Common.{Err, refl, ap, sym, subst, map, filter, arith, append_assoc}
 use Rattle.std.specs.Prelude.{if◌then◌else◌, ◌==◌}
@@ -99,14 +99,14 @@ module _ (t : Tables) (why : Reason) (window : ℕ) where
   not_there None f is = (refl, cc (is))
   not_there (Some w) f is = absurd (cc (is))
 
-  -- there is none
+  -- there is no such window
   pub closing_refused : (f : WindowsFault) → closed window t.windows ≡ Err f → closing window why t ≡ Err (refusal_of f)
   closing_refused f is =
       let missing = not_there (window_at t window) f is in
       given_none (window_at t window) NoWindow (λ w. Ok (closes (λ v. v.serial == window) why t)) missing.0
       ∙ ap (λ e. Err (refusal_of e)) missing.1
 
-  -- it is closed
+  -- the window is closed
   pub closing_done : (s : State) (acl : Table) (locks : Locks) (windows : List Window) (clients : List Client)
       (before after : StepOutput) → Stands t s → AreFit t
       → ((edition : Edition) (owner : UserId) (h : History) → StandsFor s.acl edition owner h

@@ -1,4 +1,4 @@
--- What `aclgrp` without a leader lists, and that listing does nothing else.
+-- `aclgrp` without a leader lists the definitions' text, and does nothing else.
 use Rattle.std.proofs.Common.{◌≡◌, ℕ, Bool, false, List, [], Option, Some, None, Ok, Err}
 use Rattle.std.proofs.Common.{ap, sym, ◌∙◌, append-nil}
 use Rattle.std.specs.Prelude.{if◌then◌else◌}
@@ -40,7 +40,7 @@ lists t s made answer text bytes st is same = (
   },
 )
 
--- whether a user beside the owner is known
+-- whether a user other than the owner is known
 pub fault_is : (t : Tables) (s : State) (word : List ℕ) (user owner : UserId) (b : Bool)
     → Stands t s → named_by word ≡ Some user → owner ≡ s.acl.owner
     → same_user owner user ≡ false → knows s.acl user ≡ b
@@ -55,7 +55,7 @@ fault_is t s word user owner b st named own other known =
     else (if among (known_users t) user then None else Some UnknownUser)) not_owner
     ∙ ap (λ (c : Bool). if c then None else Some UnknownUser) among_is)
 
--- `aclgrp` without a leader, where its user is known
+-- `aclgrp` without a leader, if its user is known
 pub leaders_listed : (t : Tables) (k : Caller) (word : List ℕ) (user : UserId)
     → named_by word ≡ Some user → known_fault t word ≡ None
     → does t k (command.Aclgrp word None) ≡ Ok (listing t (group_text user (leaders_in t user)))

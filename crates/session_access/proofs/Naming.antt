@@ -1,4 +1,4 @@
--- Words, and what they name.
+-- The users and objects that words name are those that the definitions find.
 use Rattle.std.proofs.Common.{◌≡◌, ℕ, ◌+◌, ◌<◌, Bool, true, false, List, [], ◌∷◌, ◌++◌, Option, Some, None, length, map}
 use Rattle.std.proofs.Common.{take, drop, get_or, refl, ap, sym, ◌∙◌, arith, inl, inr, append_assoc, append-nil}
 use Rattle.std.specs.Prelude.{if◌then◌else◌, ◌&&◌, ◌||◌, not, cond, filter, nat_lt, nat_eq, ◌==◌, slice_get}
@@ -31,7 +31,7 @@ use Rattle.session_access.specs.Asked.{names_in}
 
 -- ---- users
 
--- all known users but the owner are those of whichever tables the lists stand for
+-- all known users but the owner are those of all tables that the lists stand for
 pub others_stand : (t : Tables) (a : Table) → StandsFor a t.edition t.owner t.acts
     → other_names a ≡ map (λ u. Some u) (others t)
 others_stand t a st =

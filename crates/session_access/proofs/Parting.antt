@@ -1,4 +1,4 @@
--- Clients that go: the code's rows and the definitions', and what is said of one after another.
+-- Clients that go one after another leave the rows, acts and effects of the definitions' deed.
 use Rattle.std.proofs.Common.{◌≡◌, ◌∙◌, ℕ, ◌+◌, ◌<◌, Bool, true, false, not, List, [], ◌∷◌, ◌++◌, Option, Some, None}
 use Rattle.std.proofs.Common.{refl, ap, sym, subst, map, filter, length, take, drop, reverse, append_assoc, append-nil}
 use Rattle.std.proofs.Common.{arith, get_or, add-one, take-append-drop}
@@ -45,7 +45,7 @@ use Rattle.session_access.specs.Going.{attached_now, is_of_now, last_of}
 goes_same : (g : Going) (m : model.Client) (c : Client) → ClientStands m c → goes_now g c ≡ goes g m
 goes_same g m c st = ap (λ n. takes g n c.user) st.serial_is ∙ ap (λ u. takes g m.serial u) st.user_is
 
--- what is made of the serials of those who go
+-- what is made of the serials of the clients that go
 pub going_same : {X : Type 0} (f : ℕ → X) (g : Going) (rows : List model.Client) (cs : List Client) → AreClients rows cs
     → map (λ (c : Client). f c.serial) (filter (goes_now g) cs) ≡ map (λ (m : model.Client). f m.serial)
     (filter (goes g) rows)
@@ -124,7 +124,7 @@ any_kept p q (x ∷ xs) = on (q x) (any_kept p q xs) where
   on true rest = kept (p x) rest
   on false rest = lost (p x) rest
 
--- ---- who has a client
+-- ---- users who have a client
 
 any_attached : (u : UserId) (cs : List Client)
     → list_any (λ (p : ℕ × UserId). same_user p.1 u) (attached_now cs) ≡ list_any (is_of_now u) cs
@@ -268,7 +268,7 @@ module _ (g : Going) (xs ds : List Client) (c : Client) (next : ℕ) (rises : Ri
 
 -- ---- one after another
 
--- these have been looked at, and those are ahead
+-- some clients were looked at, and the others are ahead
 abbrev pub Noted : Going → List Client → List Client → List Client → Locks → Locks → Type 0
 Noted g cs xs ds old now =
     (edition : Edition) (owner : UserId) (h : History) (next : ℕ) → Rises (serials_now cs) next
@@ -304,7 +304,7 @@ module _ (g : Going) (xs : List Client) (c : Client) where
       ap (λ ys. ys ++ ds) (filter-append (stays g) xs (c ∷ [])
       ∙ ap (λ b. filter (stays g) xs ++ (if not b then c ∷ [] else [])) is ∙ append-nil (filter (stays g) xs))
 
-  -- it goes
+  -- the client goes
   pub noted_gone : (cs ds : List Client) (old now new : Locks) → goes_now g c ≡ true → cs ≡ xs ++ c ∷ ds
       → Noted g cs xs (c ∷ ds) old now
       → ((edition : Edition) (owner : UserId) (h : History) (client : ℕ) → LocksStandFor now edition owner h
@@ -323,7 +323,7 @@ module _ (g : Going) (xs : List Client) (c : Client) where
             ∙ ap (λ ys. reverse (attached_now ys)) (sym (stay_same ds goes)),
       )
 
-  -- it stays
+  -- the client stays
   pub noted_stayed : (cs ds : List Client) (old now : Locks) → goes_now g c ≡ false → Noted g cs xs (c ∷ ds) old now
       → Noted g cs (xs ++ c ∷ []) ds old now
   noted_stayed cs ds old now is noted edition owner h next rises stands are =
@@ -369,7 +369,7 @@ module _ (g : Going) (rows : List model.Client) (cs : List Client) (st : AreClie
       (filter (goes g) rows)
   gone_are why = going_same (λ n. GoneClient n why) g rows cs st
 
-  -- the locks stand once they are told, behind other acts of the same clients too
+  -- the locks stand for the tables once they are told, also after other acts of these clients
   pub locks_told : (old new : Locks) (edition : Edition) (owner : UserId) (h : History) (next : ℕ)
       → TellsLocks g cs old new → Rises (client_serials rows) next
       → clients_of h ≡ reverse (map (λ (m : model.Client). (m.serial, m.user)) rows) → LocksStandFor old edition owner h

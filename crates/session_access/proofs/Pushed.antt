@@ -1,9 +1,9 @@
--- Elements that were pushed, and what is behind a place.
+-- A list with a pushed element, and the part of a list after a place.
 use Rattle.std.proofs.Common.{◌≡◌, ℕ, ◌-◌, List, [], ◌∷◌, ◌++◌, Ok, Err, length, take, drop, arith, length-drop}
 use Rattle.std.proofs.lemmas.List.{take_all}
 use Rattle.std.specs.Prelude.{Result, IsOk, is_ok, if◌then◌else◌}
 
--- what is behind a place
+-- the part after a place
 pub rest_is : {A : Type 0} (xs : List A) (i : ℕ) → take (length xs - i) (drop i xs) ≡ drop i xs
 rest_is xs i = take_all (length xs - i) (drop i xs) (omega (arith, length-drop i xs))
 

@@ -1,4 +1,4 @@
--- Objects that are named are there.
+-- The objects that items name are there: open windows, or commands.
 use Rattle.std.proofs.Common.{◌≡◌, ℕ, Bool, true, false, List, [], ◌∷◌, ◌++◌, Option, Some, None, filter, refl, ap}
 use Rattle.std.proofs.Common.{subst, ◌∙◌}
 use Rattle.std.specs.Prelude.{if◌then◌else◌, IfSome, is_some, nat_lt, nat_eq, find, ◌==◌}
@@ -136,7 +136,7 @@ module _ (t : Tables) (agree : ActsAgree t) where
   each_there [] = All-nil (IsThere t)
   each_there (item ∷ items) = both_there (item_objects t item) (objects_of t items) (item_there item) (each_there items)
 
-  -- so are those of the items of a list
+  -- the objects of a list's items are there
   pub objects_there : (list : List (List ℕ)) (objects : List Object) → objects_of t list ≡ Some objects
       → All (IsThere t) objects
   objects_there list objects is = subst (λ o. IfSome o (All (IsThere t))) is (each_there list)

@@ -1,4 +1,4 @@
--- What the words of list commands stand for, and what such a command answers.
+-- What the words of commands on the lists stand for, and what such a command answers.
 use Rattle.std.specs.Prelude.{ℕ, ◌≡◌, ◌⊎◌, ◌++◌, not, List, [], ◌∷◌, Option, Some, None}
 use Rattle.std.specs.Prelude.{Result, Ok, Err, if◌then◌else◌, map, filter, nat_eq}
 use Rattle.std.specs.List.{list_any, flat_map}
@@ -28,7 +28,7 @@ use Rattle.windows.specs.declared.window.Window.{Window}
 
 -- ---- users
 
--- the user whom a word names
+-- the user that a word names
 abbrev pub named : List ℕ → Option UserId
 named word = named_by word
 
@@ -54,7 +54,7 @@ object_named t item =
     option_or (option_map object.Command (command_named item))
     (option_map (λ (w : model.Window). object.Window w.serial) (window_named t.windows item))
 
--- something is named, and is put behind what was there
+-- something is named, and comes after what was there
 abbrev pub Names : Option (List Object) → List Object → List Object → Type 0
 Names found before after =
     (objects : List Object) × (found ≡ Some objects) × (after ≡ before ++ objects)
@@ -91,7 +91,7 @@ abbrev pub refusal_of : AclFault → Refusal
 refusal_of fault.NoMemory = refusal.NoMemory
 refusal_of f = refusal.Acl f
 
--- a list command was done, and lists nothing; or it was refused
+-- a command on the lists was done, and lists nothing; or it was refused
 abbrev pub answered : {X : Type 0} → Result X AclFault → Result (Option (List ℕ)) Refusal
 answered (Ok x) = Ok None
 answered (Err f) = Err (refusal_of f)

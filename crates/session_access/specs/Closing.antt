@@ -1,4 +1,4 @@
--- Windows that are closed.
+-- What a window that is closed leaves.
 use Rattle.std.specs.Prelude.{ℕ, ◌==◌, List, Ok, map}
 use Rattle.acl.specs.declared.act.Act.{Act}
 use Rattle.acl.specs.declared.act.Act.TheVariants.{Closed}
@@ -19,7 +19,7 @@ closed_row w = Closed w.serial
 abbrev pub closed_acts : List Window → List Act
 closed_acts windows = map closed_row windows
 
--- a window is closed, where there is one of the serial
+-- the window with this serial, if there is one, is closed
 abbrev pub closing : ℕ → Reason → Tables → Answer
 closing window why t =
     given (window_at t window) NoWindow (λ w. Ok (closes (λ v. v.serial == window) why t))

@@ -1,4 +1,4 @@
--- Clients that go.
+-- Which clients go, and what they leave.
 use Rattle.std.specs.Prelude.{ℕ, ◌≡◌, ◌==◌, Bool, true, not, ◌&&◌, ◌||◌, List, Option, Some, None}
 use Rattle.std.specs.Prelude.{if◌then◌else◌, map, filter, reverse}
 use Rattle.std.specs.List.{list_any}
@@ -32,7 +32,7 @@ takes All serial user = true
 abbrev pub goes : Going → model.Client → Bool
 goes g c = takes g c.serial c.user
 
--- ---- the same of the clients as they are kept
+-- ---- from the rows of the code
 
 abbrev pub goes_now : Going → Client → Bool
 goes_now g c = takes g c.serial c.user
@@ -56,7 +56,7 @@ attached_now clients = map (λ (c : Client). (c.serial, c.user)) clients
 abbrev pub is_of_now : UserId → Client → Bool
 is_of_now user c = same_user c.user user
 
--- the user of a client that goes now, where it is his last
+-- the user of a client that goes now, if it is their last one
 abbrev pub last_of : UserId → Going → List Client → List Client → Option UserId
 last_of user g before behind =
     if list_any (λ c. is_of_now user c && not (goes_now g c)) before
@@ -65,13 +65,13 @@ last_of user g before behind =
 
 -- ---- the tables
 
--- serials rise, and the acts say who is attached
+-- serials rise, and the acts say which clients are attached
 pub record AreAttached (t : Tables) : Type 0 where
   pub rise : Rises (client_serials t.clients) t.next_client
   pub clients_are :
       clients_of t.acts ≡ reverse (map (λ (c : model.Client). (c.serial, c.user)) t.clients)
 
--- those who go have gone, whichever tables the state stood for
+-- the clients that go have gone, for all tables that the state stood for
 abbrev pub Goes : Going → Reason → State → State → StepOutput → StepOutput → Type 0
 Goes g why old new before after =
     (t : Tables) → Stands t old → AreAttached t → HasDone t (parts (goes g) why t) new before after

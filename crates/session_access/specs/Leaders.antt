@@ -1,4 +1,4 @@
--- What is listed of a user's leaders.
+-- The text that lists a user's leaders.
 use Rattle.std.specs.Prelude.{ℕ, ◌≡◌, List, [], ◌∷◌, ◌++◌, Some, None, Result, Ok, Err, map}
 use Rattle.std.specs.List.{flat_map}
 use Rattle.std.proofs.Common.{refl, ap, ◌∙◌, sym, append_assoc}
@@ -16,12 +16,12 @@ use Rattle.session_state.specs.Stands.{Stands}
 abbrev pub SaysLeaders : State → UserId → List ℕ → Type 0
 SaysLeaders s user text = (t : Tables) → Stands t s → text ≡ group_text user (leaders_in t user)
 
--- a known user beside the owner, or why he is none
+-- a known user other than the owner, or why the user isn't one
 abbrev pub IsKnownUser : Tables → List ℕ → Result UserId AclFault → Type 0
 IsKnownUser t word (Ok user) = (named_by word ≡ Some user) × (known_fault t word ≡ None)
 IsKnownUser t word (Err fault) = known_fault t word ≡ Some fault
 
--- items behind separators, one after another
+-- items, each after a separator
 pub behind_each : {A : Type 0} (sep : List ℕ) (f : A → List ℕ) (xs : List A)
     → behind sep (map f xs) ≡ flat_map (λ x. sep ++ f x) xs
 behind_each sep f [] = refl

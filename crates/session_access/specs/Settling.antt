@@ -1,4 +1,4 @@
--- What is answered where clients or windows only go.
+-- The answer of a command or event by which clients only go or windows are only closed.
 use Rattle.std.specs.Prelude.{ℕ, ◌==◌, None, Result, Ok, Err}
 use Rattle.session_model.specs.declared.event.Reason.TheVariants as reason
 use Rattle.session_model.specs.declared.refusal.Refusal.{Refusal}
@@ -11,19 +11,19 @@ use Rattle.session_state.specs.Stands.{Stands}
 use Rattle.session_model.specs.Sound.{AreFit}
 use Rattle.session_state.specs.Doing.{Answers}
 
--- as a command that lists nothing
+-- the answer of a command that lists nothing
 abbrev pub Settled :
     Tables → Answer → Result (Unit {0}) Refusal → State → StepOutput → StepOutput → Type 0
 Settled t answer (Ok done) new before after = Answers t answer (Ok None) new before after
 Settled t answer (Err r) new before after = Answers t answer (Err r) new before after
 
--- whichever tables the state stood for
+-- for all tables that the state stood for
 abbrev pub Settles :
     (Tables → Answer) → State → Result (Unit {0}) Refusal → State → StepOutput → StepOutput → Type 0
 Settles answer old result new before after =
     (t : Tables) → Stands t old → AreFit t → Settled t (answer t) result new before after
 
--- a client goes, where there is one of the serial
+-- the client with this serial, if there is one, goes
 abbrev pub detaching : ℕ → Tables → Answer
 detaching client t =
     given (client_at t client) NoWindow

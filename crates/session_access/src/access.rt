@@ -1,4 +1,4 @@
-//! Commands of the access lists: who is known, who may do what, and who follows whom.
+//! Commands on the access lists: which users are known, what they may do, and whom they follow.
 
 ghost use Rattle.std.specs.Prelude.{◌≡◌, None, Some};
 ghost use Rattle.command_lang.specs.command.Command.TheVariants as command;
@@ -19,10 +19,11 @@ use command_lang::{BitList, Leader, Masks, Text, Texts, Users};
 use session_model::{Bytes, Reason, Refusal};
 use session_state::{Caller, State, StepOutput};
 
-/// So many acts may follow those of a command in its step: users who leave windows.
+/// The most acts that may follow those of a command in its step: one for each client that leaves a
+/// window.
 const ROOM: usize = 64;
 
-/// The refusal of an access list's command.
+/// The refusal for a fault of the access lists.
 fn refusal_of(fault: AclFault) -> Refusal
     ensures { result ≡ refusal_of fault }
 {
@@ -32,7 +33,7 @@ fn refusal_of(fault: AclFault) -> Refusal
     }
 }
 
-/// A list command was done, or refused.
+/// The answer of a command on the lists, which was done or refused.
 fn answered(done: Result<(), AclFault>) -> Result<Option<Bytes>, Refusal>
     ensures { result ≡ answered done }
 {
@@ -42,7 +43,7 @@ fn answered(done: Result<(), AclFault>) -> Result<Option<Bytes>, Refusal>
     }
 }
 
-/// `acladd`: users become known, and get each bit on each window and command.
+/// `acladd`: makes users known, and gives them each bit on each window and command.
 pub fn acladd(
     state: &mut State,
     users: &Users,
@@ -58,7 +59,7 @@ pub fn acladd(
     answered(state.acl.add(&names, &objects, acts, ROOM, locks))
 }
 
-/// `acldel`: a user's clients go, and then he.
+/// `acldel`: removes a user's clients, and then the user.
 pub fn acldel(
     state: &mut State,
     word: &str,
@@ -89,8 +90,8 @@ pub fn acldel(
     Ok(None)
 }
 
-/// `aclchg`: bits of users on the objects of a list are given and taken. The fault of a name goes
-/// before an item that names nothing.
+/// `aclchg`: gives users bits on the objects of a list, or takes them. If a name is wrong and an item
+/// names nothing, the name's fault is the answer.
 pub fn aclchg(
     state: &mut State,
     users: &Users,
@@ -116,7 +117,7 @@ pub fn aclchg(
     answered(state.acl.change(change, acts, ROOM, locks))
 }
 
-/// `aclgrp` with a leader: the user follows him, or with `none` nobody.
+/// `aclgrp` with a leader: the user follows that leader, or nobody if it is `none`.
 pub fn aclgrp(
     state: &mut State,
     name: &Text,
@@ -135,7 +136,7 @@ pub fn aclgrp(
     )
 }
 
-/// The known user whom a word names, beside the owner; else why a list command on it is refused.
+/// The known user, other than the owner, that a word names, or why a command on the lists is refused.
 fn known_user(state: &State, word: &str) -> Result<UserId, AclFault>
     ensures { (t : Tables) → Stands t state.now → IsKnownUser t word.now result }
 {
@@ -162,7 +163,7 @@ pub fn aclgrp_of(state: &State, caller: Caller, name: &str) -> Result<Option<Byt
     }
 }
 
-/// `aclumask`: what users get on windows that the caller opens later, and the presets.
+/// `aclumask`: sets what users get on windows that the caller opens later, and the presets.
 pub fn aclumask(
     state: &mut State,
     caller: Caller,

@@ -1,4 +1,4 @@
-//! Windows that are closed.
+//! How windows are closed.
 
 ghost use Rattle.std.specs.Prelude.{◌≡◌, ◌≤◌, ◌+◌, ◌++◌, ℕ, map, length};
 ghost use Rattle.std.specs.Prelude.{vec_len, vec_capacity, IfOk};
@@ -17,7 +17,7 @@ use std::alloc::{AllocError, Global};
 use windows::Window;
 use writelock::Locks;
 
-/// The effects of windows that are closed.
+/// The effects that say why these windows are closed.
 pub(crate) fn gone_windows(
     alloc: Global,
     windows: &[Window],
@@ -53,7 +53,7 @@ pub(crate) fn note_closed(windows: &[Window], acl: &mut Acl, locks: &mut Locks, 
     }
 }
 
-/// A window is closed: its row goes, no region shows it, and it has no rights and no lock.
+/// Closes a window: its row is removed, no region shows it, and its rights and its lock vanish.
 pub(crate) fn close(
     state: &mut State,
     window: u32,

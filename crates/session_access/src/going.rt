@@ -1,4 +1,4 @@
-//! Clients that go.
+//! How clients go.
 
 ghost use Rattle.std.specs.Prelude.{◌≡◌, ◌≤◌, ◌+◌, ◌++◌, ◌&&◌, ℕ, not, filter, map};
 ghost use Rattle.std.specs.Prelude.{length, reverse, vec_len, vec_capacity};
@@ -22,14 +22,14 @@ use session_state::{State, StepOutput};
 use std::alloc::{AllocError, Global};
 use writelock::Locks;
 
-/// Which clients go.
+/// The clients that go.
 #[derive(Clone, Copy, PartialEq, Eq, Debug)]
 pub(crate) enum Going {
-    /// The one of a serial.
+    /// The client with this serial.
     One(u32),
-    /// Those of a user.
+    /// A user's clients.
     Of(UserId),
-    /// All but those of a user.
+    /// All clients but a user's.
     AllBut(UserId),
     All,
 }
@@ -48,7 +48,7 @@ impl Going {
     }
 }
 
-/// The effects of those who go.
+/// The effects that say why these clients go.
 pub(crate) fn gone_clients(
     alloc: Global,
     clients: &[Client],
@@ -67,14 +67,14 @@ pub(crate) fn gone_clients(
     Ok(gone)
 }
 
-/// Whether one of these is the user's.
+/// Whether one of these clients is the user's.
 fn is_among(clients: &[Client], user: UserId) -> bool
     ensures { result ≡ list_any (is_of_now user) clients.now }
 {
     clients.iter().any(|client| client.user == user)
 }
 
-/// Whether one of these is the user's and stays.
+/// Whether one of these clients is the user's and stays.
 fn stays_among(clients: &[Client], user: UserId, going: Going) -> bool
     ensures { result ≡ list_any (λ c. is_of_now user c && not (goes_now going c)) clients.now }
 {
@@ -83,8 +83,8 @@ fn stays_among(clients: &[Client], user: UserId, going: Going) -> bool
         .any(|client| client.user == user && !going.has(client))
 }
 
-/// The user of a client that goes now, if it is his last: none of his is among those behind it, and
-/// none of those before it stays.
+/// The user of a client that goes now, if it is their last one: none of the clients after it is
+/// theirs, and none of their clients before it stays.
 fn last_of(before: &[Client], user: UserId, behind: &[Client], going: Going) -> Option<UserId>
     ensures { result ≡ last_of user going before.now behind.now }
 {
@@ -95,7 +95,7 @@ fn last_of(before: &[Client], user: UserId, behind: &[Client], going: Going) -> 
     }
 }
 
-/// Notes those who part, by rising serials, and tells the locks.
+/// Notes the clients that go, by rising serials, and tells the locks.
 pub(crate) fn note_parted(clients: &[Client], going: Going, locks: &mut Locks, acts: &mut Vec<Act>)
     requires { vec_len acts.old + length clients.now ≤ vec_capacity acts.old }
     ensures acts { acts.new.items ≡ acts.old.items ++ parted_now going clients.now }
@@ -119,7 +119,7 @@ pub(crate) fn note_parted(clients: &[Client], going: Going, locks: &mut Locks, a
     }
 }
 
-/// Removes those who go.
+/// Removes the clients that go.
 fn remove(clients: &mut Clients, going: Going)
     ensures { Keeps (λ c. not (goes going c)) clients.old clients.new }
 {
@@ -131,7 +131,7 @@ fn remove(clients: &mut Clients, going: Going)
     }
 }
 
-/// Clients go: each is told why, and parts.
+/// Removes clients, and tells each of them why it goes.
 pub(crate) fn go(
     state: &mut State,
     going: Going,

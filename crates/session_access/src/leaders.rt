@@ -17,7 +17,7 @@ fn push_bytes(bytes: &[u8], out: &mut Vec<u8>) -> Result<(), AllocError>
     out.extend_from_slice(bytes)
 }
 
-/// Appends names, a comma before each.
+/// Appends names, each after a comma.
 fn push_others(leaders: &[UserId], out: &mut Vec<u8>) -> Result<(), AllocError>
     ensures { OnOk result (out.new.items
         ≡ out.old.items ++ behind (codes ",") (map name_of leaders.now)) }
@@ -42,7 +42,7 @@ fn push_leaders(leaders: &[UserId], out: &mut Vec<u8>) -> Result<(), AllocError>
     }
 }
 
-/// Appends the parts of a user's leaders.
+/// Appends the parts of a user's line of leaders.
 fn push_group_parts(user: UserId, leaders: &[UserId], out: &mut Vec<u8>) -> Result<(), AllocError>
     ensures { OnOk result (out.new.items ≡ out.old.items ++ group_text user leaders.now) }
 {
@@ -51,7 +51,7 @@ fn push_group_parts(user: UserId, leaders: &[UserId], out: &mut Vec<u8>) -> Resu
     push_leaders(leaders, out)
 }
 
-/// Appends a user and his leaders, as `bob: ann,eve`, or `bob: none`.
+/// Appends a user and their leaders, as `bob: ann,eve` or `bob: none`.
 pub fn push_group(user: UserId, leaders: &[UserId], out: &mut Vec<u8>) -> Result<(), AllocError>
     ensures ok { OnOk result (out.new.items ≡ out.old.items ++ group_text user leaders.now) }
     ensures err { OnErr result (out.new.items ≡ out.old.items) }
@@ -61,7 +61,7 @@ pub fn push_group(user: UserId, leaders: &[UserId], out: &mut Vec<u8>) -> Result
     out.extend_from_slice(&made)
 }
 
-/// A user and his leaders.
+/// The text of a user and their leaders.
 pub fn leaders_text(state: &State, user: UserId) -> Result<Bytes, AllocError>
     ensures { IfOk result (SaysLeaders state.now user) }
 {

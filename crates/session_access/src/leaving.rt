@@ -1,4 +1,4 @@
-//! Commands by which clients or windows go, and events of the same.
+//! Commands and events by which clients go or windows are closed.
 
 ghost use Rattle.std.specs.Prelude.{◌≡◌, true, IsOk};
 ghost use Rattle.command_lang.specs.command.Command.TheVariants as command;
@@ -13,7 +13,7 @@ use crate::going::{Going, go, gone_clients, note_parted};
 use session_model::{Bytes, Reason, Refusal};
 use session_state::{State, StepOutput};
 
-/// A client goes.
+/// Removes a client whose terminal went.
 pub fn detach_client(state: &mut State, client: u32, made: &mut StepOutput) -> Result<(), Refusal>
     ensures answer { Settles (detaching client) state.old result state.new made.old made.new }
     ensures whole { IsWhole result state.old state.new made.old made.new }
@@ -25,7 +25,7 @@ pub fn detach_client(state: &mut State, client: u32, made: &mut StepOutput) -> R
     Ok(())
 }
 
-/// A window's program ended.
+/// Closes a window whose program ended.
 pub fn close_window(state: &mut State, window: u32, made: &mut StepOutput) -> Result<(), Refusal>
     ensures answer { Settles (closing window reason.Detached) state.old result state.new
         made.old made.new }
@@ -34,7 +34,7 @@ pub fn close_window(state: &mut State, window: u32, made: &mut StepOutput) -> Re
     close(state, window, Reason::Detached, made)
 }
 
-/// `detach`: the client that asks goes.
+/// `detach`: removes the client that gives the command.
 pub fn detach(
     state: &mut State,
     client: u32,
@@ -47,7 +47,7 @@ pub fn detach(
     Ok(None)
 }
 
-/// `kill`: the window is closed.
+/// `kill`: closes the window.
 pub fn kill(state: &mut State, window: u32, made: &mut StepOutput) -> Result<Option<Bytes>, Refusal>
     ensures answer { DoesOn window command.Kill state.old result state.new made.old made.new }
     ensures silent { IsSilent result state.old state.new made.old made.new }
@@ -56,7 +56,7 @@ pub fn kill(state: &mut State, window: u32, made: &mut StepOutput) -> Result<Opt
     Ok(None)
 }
 
-/// `quit`: all windows are closed, and all clients go.
+/// `quit`: closes all windows, and removes all clients.
 pub fn quit(state: &mut State, made: &mut StepOutput) -> Result<Option<Bytes>, Refusal>
     ensures answer { DoesForAll command.Quit state.old result state.new made.old made.new }
     ensures silent { IsSilent result state.old state.new made.old made.new }
@@ -75,8 +75,8 @@ pub fn quit(state: &mut State, made: &mut StepOutput) -> Result<Option<Bytes>, R
     Ok(None)
 }
 
-/// `multiuser`: other users than the owner may be there, or go. `on` takes no memory where acts
-/// have room.
+/// `multiuser`: lets other users than the owner in, or removes their clients. `on` takes no memory if
+/// there is room for acts.
 pub fn multiuser(
     state: &mut State,
     is_on: bool,

@@ -1,4 +1,4 @@
-//! The entries of masks.
+//! The entries that the masks of `aclumask` make.
 
 ghost use Rattle.std.specs.Prelude.{◌≡◌, ◌++◌, OnOk, IfOk, map, option_copied};
 ghost use Rattle.acl.specs.Table.{StandsFor};
@@ -13,7 +13,8 @@ use acl::{Acl, BitChange, MaskEntry, MaskScope, PresetKind, UserId};
 use command_lang::{Mask, Text, Users};
 use std::alloc::{AllocError, Global};
 
-/// What a lone word of a mask concerns: `?` and `??` are the presets, for windows and for commands.
+/// What the only word before a mask's bits concerns: `?` is the preset for windows, `??` that for
+/// commands.
 fn word_scope(word: &Text) -> MaskScope
     ensures { result ≡ word_scope word.now }
 {
@@ -24,7 +25,7 @@ fn word_scope(word: &Text) -> MaskScope
     }
 }
 
-/// The word of a mask with one word for its users.
+/// The one word that a mask has for its users, if it has exactly one.
 fn lone_word(users: &Option<Users>) -> Option<&Text>
     ensures { option_copied result ≡ lone_word users.now }
 {
@@ -37,7 +38,7 @@ fn lone_word(users: &Option<Users>) -> Option<&Text>
     }
 }
 
-/// The users of a mask: without names, all known users but the owner.
+/// The users of a mask. If it names none, these are all known users but the owner.
 fn names_in(
     alloc: Global,
     acl: &Acl,
@@ -52,7 +53,7 @@ fn names_in(
     }
 }
 
-/// Each user as one whom a mask concerns.
+/// These users, as those that a mask concerns.
 fn each_scope(alloc: Global, names: &[Option<UserId>]) -> Result<Vec<MaskScope>, AllocError>
     ensures { IfOk result (λ scopes. scopes.items ≡ map User names.now) }
 {
@@ -62,7 +63,7 @@ fn each_scope(alloc: Global, names: &[Option<UserId>]) -> Result<Vec<MaskScope>,
         .collect(alloc)
 }
 
-/// Whom a mask concerns: the presets, or users.
+/// Those that a mask concerns: a preset, or users.
 fn scopes_of(alloc: Global, acl: &Acl, users: &Option<Users>) -> Result<Vec<MaskScope>, AllocError>
     ensures { IfOk result (λ scopes. (t : Tables) → StandsFor acl.now t.edition t.owner t.acts
         → scopes.items ≡ scopes_of t users.now) }
@@ -74,7 +75,7 @@ fn scopes_of(alloc: Global, acl: &Acl, users: &Option<Users>) -> Result<Vec<Mask
     each_scope(alloc, &names)
 }
 
-/// Appends a mask's bits for one of those whom it concerns.
+/// Appends a mask's bits for one of those that it concerns.
 fn push_bits(
     scope: MaskScope,
     bits: &[BitChange],

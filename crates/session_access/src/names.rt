@@ -1,4 +1,4 @@
-//! The users whom words name.
+//! The users that words name.
 
 ghost use Rattle.std.specs.Prelude.{◌≡◌, IfOk, map};
 ghost use Rattle.acl.specs.Table.{StandsFor};
@@ -25,22 +25,22 @@ pub fn others(alloc: Global, acl: &Acl) -> Result<Vec<Option<UserId>>, AllocErro
     Ok(names)
 }
 
-/// The user whom a word names.
+/// The user that a word names, if it is a name.
 pub fn named(word: &Text) -> Option<UserId>
     ensures { result ≡ named word.now }
 {
     UserId::of(word.as_str().as_bytes())
 }
 
-/// The users whom words name.
+/// The users that words name, or none for a word that is no name.
 fn each_named(alloc: Global, words: &[Text]) -> Result<Vec<Option<UserId>>, AllocError>
     ensures { IfOk result (λ names. names.items ≡ map named words.now) }
 {
     words.iter().map(|word| named(word)).collect(alloc)
 }
 
-/// The users of a list command: `*` is all known users but the owner, and a word that is no name
-/// names nobody.
+/// The users of a command on the lists: `*` is all known users but the owner, and a word that is no
+/// name names nobody.
 pub fn names_of(alloc: Global, acl: &Acl, users: &Users) -> Result<Vec<Option<UserId>>, AllocError>
     ensures { IfOk result (λ names. (t : Tables) → StandsFor acl.now t.edition t.owner t.acts
         → names.items ≡ names_of t users.now) }
@@ -51,7 +51,7 @@ pub fn names_of(alloc: Global, acl: &Acl, users: &Users) -> Result<Vec<Option<Us
     }
 }
 
-/// `none`, or the leader whom a word names.
+/// The leader that a word names, or nobody for `none`.
 pub fn new_leader(leader: &Leader) -> NewLeader
     ensures { result ≡ new_leader_of leader.now }
 {

@@ -1,4 +1,4 @@
-//! The objects that items of a list name.
+//! The objects that the items of a list name.
 
 ghost use Rattle.std.specs.Prelude.{◌≡◌, ◌++◌, ◌==◌, ◌||◌, OnOk, IfOk, IfErr, None, Some};
 ghost use Rattle.std.specs.Prelude.{map, nat_eq};
@@ -29,7 +29,7 @@ fn push_windows(windows: &Windows, objects: &mut Vec<Object>) -> Result<(), Allo
     Ok(())
 }
 
-/// Appends commands.
+/// Appends each of these commands.
 fn push_commands(names: &[CommandName], objects: &mut Vec<Object>) -> Result<(), AllocError>
     ensures { OnOk result (objects.new.items ≡ objects.old.items ++ map Command names.now) }
 {
@@ -50,28 +50,28 @@ pub fn every_object(alloc: Global, windows: &Windows) -> Result<Vec<Object>, All
     Ok(objects)
 }
 
-/// Whether each byte of an item is `#` or `?`.
+/// Whether all bytes of an item are `#` or `?`.
 fn has_wide_bytes(item: &[u8]) -> bool
     ensures { result ≡ list_all (λ b. b == 0x23 || b == 0x3F) item.now }
 {
     item.iter().all(|b| *b == b'#' || *b == b'?')
 }
 
-/// Whether an item is made of `#` and `?`.
+/// Whether an item is made of `#` and `?`, and isn't empty.
 fn is_wide(item: &str) -> bool
     ensures { result ≡ is_wide item.now }
 {
     !item.is_empty() && has_wide_bytes(item.as_bytes())
 }
 
-/// Whether an item has the byte.
+/// Whether an item contains this byte.
 fn has(item: &str, byte: u8) -> bool
     ensures { result ≡ list_any (nat_eq byte) item.now }
 {
     item.as_bytes().contains(&byte)
 }
 
-/// Appends what an item of `#` and `?` names: all windows, and all commands.
+/// Appends what an item of `#` and `?` names: `#` is all windows, `?` all commands.
 fn push_wide(windows: &Windows, item: &str, objects: &mut Vec<Object>) -> Result<(), AllocError>
     ensures { OnOk result (objects.new.items ≡ objects.old.items ++ wide windows.now item.now) }
 {
@@ -84,7 +84,8 @@ fn push_wide(windows: &Windows, item: &str, objects: &mut Vec<Object>) -> Result
     Ok(())
 }
 
-/// The command that an item names, by its name or alias, else the window, by its number or title.
+/// The command that an item names by its name or alias, or else the window that it names by its number
+/// or title.
 fn object_of(windows: &Windows, item: &str) -> Option<Object>
     ensures { (t : Tables) → StandFor t.windows windows.now → result ≡ object_named t item.now }
 {
@@ -95,7 +96,7 @@ fn object_of(windows: &Windows, item: &str) -> Option<Object>
     Some(Object::Window(window.serial))
 }
 
-/// Appends what an item names.
+/// Appends the objects that an item names.
 fn push_item(windows: &Windows, item: &str, objects: &mut Vec<Object>) -> Result<(), Refusal>
     ensures ok { OnOk result ((t : Tables) → StandFor t.windows windows.now
         → Names (item_objects t item.now) objects.old.items objects.new.items) }

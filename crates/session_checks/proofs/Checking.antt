@@ -1,4 +1,4 @@
--- Checks, one after another.
+-- Checks made one after another, up to the first that fails, are the definitions' checks.
 use Rattle.std.proofs.Common.{◌≡◌, ℕ, zero, suc, ◌+◌, ◌<◌, length, get_or, take, drop, add-one, arith, Bool, true}
 use Rattle.std.proofs.Common.{false, List, [], ◌∷◌, ◌++◌, Option, Some, None, Result, Ok, Err, refl, ap, sym, subst}
 use Rattle.std.proofs.Common.{inl, inr, ◌∙◌, append_assoc}
@@ -12,7 +12,7 @@ use Rattle.session_model.specs.Checks.{passes, verdict, refusal_of, first_fault,
 use Rattle.session_checks.specs.Checked.{Passed, Failed, Checked, AllMade, listed}
 
 module _ (t : Tables) where
-  -- where some pass, those behind them decide
+  -- if some pass, those after them decide
   pub fault_on : (cs ds : List Check) → first_fault t cs ≡ None → first_fault t (cs ++ ds) ≡ first_fault t ds
   fault_on [] ds is = refl
   fault_on (c ∷ cs) ds is = on (passes t c) is (fault_on cs ds) where
@@ -34,7 +34,7 @@ module _ (t : Tables) where
         ∙ sym (append_assoc (verdict t c) (verdicts t cs) (verdicts t ds))
     on false is rest = absurd (cc (is))
 
-  -- where one fails, none behind it is made
+  -- if one fails, none after it is made
   pub fault_stop : (cs ds : List Check) (r : Refusal) → first_fault t cs ≡ Some r → first_fault t (cs ++ ds) ≡ Some r
   fault_stop [] ds r is = absurd (cc (is))
   fault_stop (c ∷ cs) ds r is = on (passes t c) is (fault_stop cs ds r) where
@@ -73,7 +73,7 @@ module _ (t : Tables) where
         ∙ ap (λ vs. before ++ vs) (sym (verdicts_on cs (ds ++ more) p.none));
   }
 
-  -- or memory was wanting
+  -- memory was wanting
   pub refused_on : (cs ds more : List Check) (r : Refusal) (before middle after : List Verdict)
       → Passed t cs before middle → (r ≡ NoMemory) ⊎ Failed t ds r middle after
       → (r ≡ NoMemory) ⊎ Failed t (cs ++ (ds ++ more)) r before after
@@ -93,7 +93,7 @@ module _ (t : Tables) where
   all_made [] ds made = (tt, made)
   all_made (c ∷ cs) ds made = let rest = all_made cs ds made.1 in ((made.0, rest.0), rest.1)
 
-  -- the checks up to a place, the one there if there is one, and those behind it
+  -- the checks up to a place, the one there if there is one, and those after it
   pub around_one : (cs : List (Option Check)) (i : ℕ) (d : Option Check) → i < length cs
       → listed cs ≡ listed (take i cs) ++ (option_to_list (get_or cs i d) ++ listed (drop (suc i) cs))
   around_one [] i d lt = absurd (omega arith)

@@ -1,4 +1,4 @@
--- The checks of commands and of typed bytes, as they are listed.
+-- The lists of checks that the code makes are the definitions' lists.
 use Rattle.std.proofs.Common.{◌≡◌, ℕ, Bool, true, false, List, [], ◌∷◌, ◌++◌, Option, Some, None}
 use Rattle.std.proofs.Common.{refl, ap, sym, subst, ◌∙◌}
 use Rattle.std.specs.Option.{option_map, option_and_then, is_some}
@@ -22,13 +22,13 @@ use Rattle.session_state.specs.Doing.{caller_in}
 use Rattle.session_checks.specs.Checked.{AllMade, listed, only_if, access, writing, writing_on}
 use Rattle.session_checks.specs.Checked.{lock_on, row_of_caller}
 
--- one that is needed, and others
+-- a check that is needed, and then others
 pub needed : (b : Bool) (c : Check) (cs : List (Option Check))
     → listed (only_if b (Some c) ∷ cs) ≡ where_needed b (c ∷ []) ++ listed cs
 needed true c cs = refl
 needed false c cs = refl
 
--- those of a window
+-- the checks of a window
 pub on_window : (n : Needs) (w write lock : Bool) (user : UserId) (window : Option ℕ)
     → listed (only_if w (Some (access user window))
     ∷ only_if w (only_if write (writing_on user window))

@@ -1,4 +1,4 @@
--- Windows and clients of a state and of its tables.
+-- A window or client is found in a state exactly if it is in the tables that the state stands for.
 use Rattle.std.proofs.Common.{◌≡◌, ℕ, length, ◌∙◌, Some, refl}
 use Rattle.session_model.specs.Tables as model
 use Rattle.session_model.specs.Tables.{Tables, window_at}

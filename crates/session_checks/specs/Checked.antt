@@ -18,19 +18,19 @@ use Rattle.session_model.specs.Checks.{verdicts, first_fault}
 use Rattle.session_state.specs.declared.caller.Caller.{Caller}
 use Rattle.session_state.specs.Doing.{caller_in}
 
--- they pass, and their verdicts stand behind those before
+-- all checks pass, and their verdicts come after those before
 pub record Passed (t : Tables) (cs : List Check) (before after : List Verdict) : Type 0 where
   pub none : first_fault t cs ≡ None
   pub noted : after ≡ before ++ verdicts t cs
 
--- the first that fails is the answer, and the verdicts up to that one stand behind those before
+-- the first check that fails is the answer, and the verdicts up to that one come after those before
 pub record Failed
     (t : Tables) (cs : List Check) (r : Refusal) (before after : List Verdict)
     : Type 0 where
   pub first : first_fault t cs ≡ Some r
   pub noted : after ≡ before ++ verdicts t cs
 
--- so they were made, or memory was wanting
+-- the checks were made, or memory was wanting
 abbrev pub Checked : {X : Type 0} →
     Tables → List Check → Result X Refusal → List Verdict → List Verdict → Type 0
 Checked t cs (Ok x) before after = Passed t cs before after
@@ -45,7 +45,7 @@ abbrev pub AllMade : Tables → List Check → Type 0
 AllMade t [] = Unit {0}
 AllMade t (c ∷ cs) = IsMade t c × AllMade t cs
 
--- those that there are
+-- the checks of a list that has gaps
 abbrev pub listed : List (Option Check) → List Check
 listed [] = []
 listed (None ∷ cs) = listed cs
@@ -55,12 +55,12 @@ listed (Some c ∷ cs) = c ∷ listed cs
 abbrev pub row_of_caller : Tables → Caller → Option ℕ
 row_of_caller t k = option_map (λ (w : Window). w.serial) (caller_in t k).window
 
--- x on a window, or that there is none
+-- the check of x on a window, or the refusal if there is no window
 abbrev pub access : UserId → Option ℕ → Check
 access user None = Must false NoWindow
 access user (Some w) = Right user Execute (object.Window w)
 
--- w on a window, or that there is none
+-- the check of w on a window, or the refusal if there is no window
 abbrev pub writing : UserId → Option ℕ → Check
 writing user None = Must false NoWindow
 writing user (Some w) = Right user Write (object.Window w)
@@ -68,14 +68,14 @@ writing user (Some w) = Right user Write (object.Window w)
 abbrev pub writing_on : UserId → Option ℕ → Option Check
 writing_on user window = option_map (λ w. Right user Write (object.Window w)) window
 
--- the lock of a window, if there is one
+-- the check of a window's lock, if there is a window
 abbrev pub lock_on : UserId → Option ℕ → Option Check
 lock_on user window = option_map (λ w. Unlocked user w) window
 
--- a check, where it is needed
+-- a check, if it is needed
 abbrev pub only_if : Bool → Option Check → Option Check
 only_if needed check = if needed then check else None
 
--- one client more has a place, and a serial
+-- there is a place and a serial for one more client
 abbrev pub has_seat : Tables → Bool
 has_seat t = nat_lt (length t.clients) CLIENTS && nat_lt t.next_client SERIALS

@@ -1,4 +1,4 @@
-//! Checks, one after another.
+//! How checks are made, one after another.
 
 ghost use Rattle.std.specs.Prelude.{◌≡◌, ◌∷◌, [], true, option_to_list};
 ghost use Rattle.acl.specs.History.{there};
@@ -13,7 +13,7 @@ use acl::{Bit, Object, UserId};
 use session_model::{Check, EntryDenied, LockDenied, Refusal, Verdict};
 use session_state::State;
 
-/// Checks a right on what is there.
+/// Checks a user's right on a command, or on an open window.
 fn check_right(
     state: &State,
     user: UserId,

@@ -15,7 +15,7 @@ use command_lang::{Command, needs_of};
 use session_model::{Check, Refusal, Verdict};
 use session_state::{Caller, State};
 
-/// The window that a caller's command acts on, if it is open.
+/// The serial of the window that a caller's command acts on, if that window is open.
 pub(crate) fn open_window(state: &State, caller: Caller) -> Option<u32>
     ensures { (t : Tables) → Stands t state.now → result ≡ row_of_caller t caller }
 {
@@ -28,7 +28,7 @@ pub(crate) fn open_window(state: &State, caller: Caller) -> Option<u32>
     }
 }
 
-/// x on a window, or that there is none.
+/// The check of x on a window, or the refusal if there is no window.
 fn access(user: UserId, window: Option<u32>) -> Check
     ensures { result ≡ access user window }
 {
@@ -38,7 +38,7 @@ fn access(user: UserId, window: Option<u32>) -> Check
     }
 }
 
-/// w on a window, if there is one.
+/// The check of w on a window, if there is a window.
 fn writing_on(user: UserId, window: Option<u32>) -> Option<Check>
     ensures { result ≡ writing_on user window }
 {
@@ -48,7 +48,7 @@ fn writing_on(user: UserId, window: Option<u32>) -> Option<Check>
     }
 }
 
-/// The lock of a window, if there is one.
+/// The check of a window's lock, if there is a window.
 pub(crate) fn lock_on(user: UserId, window: Option<u32>) -> Option<Check>
     ensures { result ≡ lock_on user window }
 {
@@ -58,7 +58,7 @@ pub(crate) fn lock_on(user: UserId, window: Option<u32>) -> Option<Check>
     }
 }
 
-/// The check, where it is needed.
+/// A check, if it is needed.
 fn only_if(needed: bool, check: Option<Check>) -> Option<Check>
     ensures { result ≡ only_if needed check }
 {

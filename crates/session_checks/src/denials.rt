@@ -9,7 +9,7 @@ use acl::Object;
 use session_model::Denied;
 use session_state::State;
 
-/// The number of a window.
+/// The number of the window with this serial.
 pub(crate) fn number_of(state: &State, window: u32) -> u8
     ensures { (t : Tables) → Stands t state.now → result ≡ number_of t window }
 {
@@ -19,7 +19,7 @@ pub(crate) fn number_of(state: &State, window: u32) -> u8
     }
 }
 
-/// A window with its number, or a command.
+/// What a denial names: a window with its number, or a command.
 pub(crate) fn denied_on(state: &State, object: Object) -> Denied
     ensures { (t : Tables) → Stands t state.now → result ≡ denied_on t object }
 {

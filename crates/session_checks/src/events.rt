@@ -26,21 +26,21 @@ pub fn is_known(state: &State, user: UserId) -> bool
     state.acl.knows(user)
 }
 
-/// Whether the mode of the session lets a user in: in single-user mode the owner alone.
+/// Whether the session's mode lets a user in. Single-user mode only lets the owner in.
 fn is_let_in(state: &State, user: UserId) -> bool
     ensures { (t : Tables) → Stands t state.now → result ≡ is_let_in t user }
 {
     state.acl.owner() == user || state.is_multiuser
 }
 
-/// Whether one window more has a place, and a number.
+/// Whether there is a place and a number for one more window.
 fn has_place(state: &State) -> bool
     ensures { (t : Tables) → Stands t state.now → result ≡ has_place t.windows }
 {
     state.windows.len() < WINDOWS && state.windows.free_number().is_some()
 }
 
-/// Whether one client more has a place, and a serial.
+/// Whether there is a place and a serial for one more client.
 fn has_seat(state: &State) -> bool
     ensures { (t : Tables) → Stands t state.now → result ≡ has_seat t }
 {
@@ -63,7 +63,7 @@ pub fn check_typing(
     check_all(state, &checks, verdicts)
 }
 
-/// w on a window, or that there is none.
+/// The check of w on a window, or the refusal if there is no window.
 fn writing(user: UserId, window: Option<u32>) -> Check
     ensures { result ≡ writing user window }
 {

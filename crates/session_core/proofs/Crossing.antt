@@ -1,4 +1,4 @@
--- A session may go to another thread.
+-- A session may go to another thread, since its state may.
 use denote.Builtin.{u32}
 use denote.Param.Send.{IsSend, plain_send}
 use denote.Param.SendFields.{declared_send}

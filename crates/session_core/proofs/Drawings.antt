@@ -1,4 +1,4 @@
--- Draws by frames that are shared or not.
+-- A draw, by the shared frame or by one of its own, leaves the shared frame as the definitions say.
 use Rattle.std.proofs.Common.{◌≡◌, ℕ, ◌++◌, Bool, List, Some, None, Err, ap, sym, ◌∙◌, subst}
 use Rattle.redraw.specs.Frames.{Made}
 use Rattle.session_model.specs.declared.event.Effect.{Effect}
@@ -43,7 +43,7 @@ module _ (client : ℕ) (old new : State) (shared shares : Sharing) (before afte
         on t is (c, there, view, (drawn, some)) =
             (c, there, (drawn, joined_shared t client c there drawn.effects shared shares l some is at view joins))
 
-  -- one that is drawn by a frame of its own
+  -- a client that is drawn by a frame of its own
   pub drawn_own : (f : Made) → DrawsBy client (Some f) old new before after → SharesOrForgets client f shared shares
       → DrawsSharing client old shared new shares before after
   drawn_own f by how = λ t st fit is. on t is (by t st fit) where
@@ -54,7 +54,7 @@ module _ (client : ℕ) (old new : State) (shared shares : Sharing) (before afte
     on t is (c, there, (leads, (drawn, some))) =
         (c, there, (drawn, own_shared t client c there drawn.effects shared shares f some is leads how))
 
-  -- one that needs no draw
+  -- a client that needs no draw
   pub drawn_none : DrawsBy client None old new before after → shares ≡ shared
       → DrawsSharing client old shared new shares before after
   drawn_none by same = λ t st fit is. on t is (by t st fit) where
@@ -65,7 +65,7 @@ module _ (client : ℕ) (old new : State) (shared shares : Sharing) (before afte
     on t is (c, there, (drawn, none)) =
         (c, there, (drawn, none_shared t client c there drawn.effects shares none (subst (IsShared t) (sym same) is)))
 
-  -- behind what changed nothing
+  -- after a step that changed nothing
   pub from_before : (mid : State) (first : Sharing) (middle : StepOutput) → IsAsBefore old mid before middle
       → first ≡ shared
       → DrawsSharing client mid first new shares middle after → DrawsSharing client old shared new shares before after

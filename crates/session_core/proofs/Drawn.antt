@@ -1,4 +1,4 @@
--- Draws are steps.
+-- A draw that was done or refused is a step; Drawings proves what it leaves of the shared frame.
 use Rattle.std.proofs.Common.{◌≡◌, ℕ, List, [], Option, Some, None, Err, refl, ap, sym, subst}
 use Rattle.std.proofs.Common.{◌∙◌, append-nil, true, false, inl, inr}
 use Rattle.std.specs.Prelude.{MatchOption, ◌⊎◌}

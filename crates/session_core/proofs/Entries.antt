@@ -1,4 +1,4 @@
--- Outcomes that have come about are steps.
+-- An outcome that has happened is a step of the definitions.
 use Rattle.std.proofs.Common.{◌≡◌, Bool, true, false, List, Ok, Err, refl, ap, sym, subst, inl, inr}
 use Rattle.std.specs.Prelude.{OnErr}
 use Rattle.session_model.specs.declared.event.Effect.{Effect}
@@ -16,7 +16,7 @@ use Rattle.session_input.specs.Stepping.{HasHappened, Stepped, Steps}
 use Rattle.session_core.specs.declared.sharing.Sharing.{Sharing}
 use Rattle.session_core.specs.Taking.{TakenAs, StayShared, Takes, wants_memory}
 
--- whether it is a draw
+-- whether an event is a draw
 abbrev pub is_draw : EventValue → Bool
 is_draw (Draw client) = true
 is_draw _ = false

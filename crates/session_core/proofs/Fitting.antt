@@ -1,4 +1,4 @@
--- The tables of a run are those that its session needs.
+-- The tables of a run are fit, as the session's proofs need them.
 use Rattle.session_model.specs.Trace.{Trace}
 use Rattle.session_model.specs.Tables.{fresh}
 use Rattle.session_model.specs.Sound.{AreFit}

@@ -1,4 +1,4 @@
--- What is left of shared frames behind a step.
+-- What the code leaves of the shared frame after a step is what the definitions leave.
 use Rattle.std.proofs.Common.{◌≡◌, ℕ, List, [], Option, Some, None, Ok, Err, refl, ap, sym, ◌∙◌, subst, inl, inr}
 use Rattle.std.specs.Prelude.{is_ok}
 use Rattle.terminal_model.specs.Shows.{View}
@@ -58,7 +58,7 @@ module _ (t u : Tables) (rise : Rises (client_serials t.clients) t.next_client) 
 
 module _ (t : Tables) (e : Entry) (sound : AreSound t) (step : IsStep t e) (old mid new : Sharing) (is : IsShared t old)
   where
-    -- behind a step that leaves what was drawn
+    -- after a step that leaves what was drawn
     passed_by : (event : EventValue) → e.event ≡ event
         → StayDrawn t.clients (drawn event e.effects (outcome t event).tables).clients → mid ≡ old
         → PassesOn mid.lead mid new → IsShared (after t e) new

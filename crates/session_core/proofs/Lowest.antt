@@ -1,4 +1,4 @@
--- The least serial from one on.
+-- The client that the code finds has the lowest serial that isn't below a number.
 use Rattle.std.proofs.Common.{◌≡◌, ℕ, zero, suc, ◌<◌, ◌≤◌, true, false, List, [], ◌∷◌, length, Some, None, map, get_or}
 use Rattle.std.proofs.Common.{refl, ap, ◌∙◌, arith}
 use Rattle.std.specs.Prelude.{nat_le}

@@ -1,4 +1,4 @@
--- Clients that need no draw.
+-- A client that the session knows to need no draw is drawn nothing, and knows so after each step.
 use Rattle.std.proofs.Common.{◌≡◌, ◌≢◌, ℕ, ◌++◌, Bool, true, false, List, [], ◌∷◌, Option, Some, None, Ok, Err, map}
 use Rattle.std.proofs.Common.{refl, ap, sym, ◌∙◌, subst, inl, inr, append-nil}
 use Rattle.std.specs.Prelude.{if◌then◌else◌, ◌==◌, ◌||◌, MatchOption, codes, nat_eq, is_ok}
@@ -32,7 +32,7 @@ serial_of c = c.serial
 
 -- ---- views, once a client was drawn
 
--- a row of which the same is told
+-- what is read of each row stays as it is, if the new row has it too
 map_row : {B : Type 0} (f : Client → B) (cs : List Client) (s : ℕ) (c d : Client) → row_of serial_of cs s ≡ Some c
     → f d ≡ f c
     → map f (with_row serial_of cs s d) ≡ map f cs
@@ -123,7 +123,7 @@ module _ (t : Tables) (client : ℕ) where
       let own : client_at t c.serial ≡ Some c = ap (client_at t) (serial_is serial_of t.clients client c at) ∙ at in
       ap (λ cs. record t { clients = cs }) (with_back serial_of t.clients c.serial c own)
 
-  -- the client needs none then, and who needed none doesn't either
+  -- the client needs none then, and the others that needed none still don't
   after_draw : (c : Client) (effects : List Effect) → client_at t client ≡ Some c → IsDraw t effects c
       → IsDrawn (drawn_on (Some c) effects t) client × ((n : ℕ) → IsDrawn t n → IsDrawn (drawn_on (Some c) effects t) n)
   after_draw c [] at is =

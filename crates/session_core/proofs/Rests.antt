@@ -1,4 +1,4 @@
--- Keys that are read in steps: each has the rest that the one before left.
+-- Keys read in steps, each with the rest that the step before left, are all the keys that were read.
 use Rattle.std.proofs.Common.{◌≡◌, ℕ, ◌+◌, ◌-◌, ◌<◌, ◌≤◌, List, [], ◌∷◌, length, take, drop, refl, ap, sym, ◌∙◌, arith}
 use Rattle.std.proofs.Common.{length-drop, drop-drop, ◌⊎◌}
 use Rattle.std.proofs.lemmas.List.{take_all}
@@ -12,7 +12,7 @@ use Rattle.session_core.specs.Headline.{read_by, SomeSteps, take_call}
 use Rattle.session_core.proofs.RunReading.{last_read, some_left}
 use Rattle.session_core.proofs.Runs.{one_step, then_steps}
 
--- what stands behind a place
+-- the part after a place
 pub rest_from : (bytes : List ℕ) (part : ℕ) → take (length bytes - part) (drop part bytes) ≡ drop part bytes
 rest_from bytes part = take_all (length bytes - part) (drop part bytes) (omega (arith, length-drop part bytes))
 

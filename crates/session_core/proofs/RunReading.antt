@@ -1,4 +1,4 @@
--- A step of keys reads at least one, where there is one.
+-- A step of keys reads at least one key, if there is one.
 use Rattle.std.proofs.Common.{◌≡◌, ℕ, zero, suc, ◌+◌, ◌<◌, ◌≤◌, Bool, true, false, List, [], ◌∷◌, length, Option, Some}
 use Rattle.std.proofs.Common.{None, Ok, Err, take, drop, refl, ap, sym, subst, ◌∙◌, arith, add-one, ◌⊎◌, inl, inr}
 use Rattle.std.proofs.lemmas.List.{append-nil}

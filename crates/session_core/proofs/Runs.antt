@@ -1,4 +1,4 @@
--- Steps one after another.
+-- Steps taken one after another are a run of the session, and each keeps the promise.
 use Rattle.std.proofs.Common.{◌≡◌, ℕ, ◌<◌, ◌+◌, true, List, [], ◌∷◌, ◌++◌, length, zero, suc, get_or, drop, map, refl}
 use Rattle.std.proofs.Common.{ap, sym, ◌∙◌, subst, arith, append_assoc, lt-ltb}
 use Rattle.std.specs.Borrow.{Bor}
@@ -49,7 +49,7 @@ replies_of-append [] ys = refl
 replies_of-append (x ∷ xs) ys = ap (λ es. last_reply (untaken_keys x.event x.reply) x.reply ++ es)
     (replies_of-append xs ys) ∙ sym (append_assoc _ (replies_of xs) (replies_of ys))
 
--- events that come behind are left
+-- later events are left
 serves_before : (events : List EventValue) (steps : List Entry) (left more : List EventValue) → Serves events steps left
     → Serves (events ++ more) steps (left ++ more)
 serves_before events [] left more s = ap (λ es. es ++ more) s
@@ -69,7 +69,7 @@ serves_on (event ∷ events) (x ∷ xs) ys mid left s t =
 
 -- ---- what each step keeps
 
--- a step of the session behind a run of it
+-- a step of the session after a run of it
 abbrev IsNext : Trace → Entry → Type 0
 IsNext h e = IsRun h × IsStep (tables_of h) e
 
@@ -237,7 +237,7 @@ more_steps old mid new events first left rest e1 e2 e3 r1 r2 r3 before after h s
       tt,
     )
 
--- the same, with what is left and told by equations
+-- the run of a step and of the steps after it, with what is left and told by equations
 pub then_steps : (old mid new : Session) (events first left rest left_mid left_new : List EventValue)
     (e1 e2 e3 : List Effect) (r1 r2 r3 r4 : List Reply)
     → left_mid ≡ first ++ rest → left_new ≡ left ++ rest → r4 ≡ r2 ++ r3

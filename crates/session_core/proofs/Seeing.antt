@@ -1,4 +1,4 @@
--- What a client is to see.
+-- The view that a session gives of a client is its granted view, or no client has the serial.
 use Rattle.std.proofs.Common.{◌≡◌, ℕ, Option, Some, None, Ok, Err, sym, subst, inl, inr}
 use Rattle.std.specs.Prelude.{Result, MatchOption}
 use Rattle.terminal_model.specs.Shows.{View}

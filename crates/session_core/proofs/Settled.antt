@@ -1,4 +1,4 @@
--- Deeds of a row that is there, or is not.
+-- An event on a client or window that is there was done as its deed; on one that isn't, it was refused.
 use Rattle.std.proofs.Common.{◌≡◌, List, [], Option, Some, None, Ok, Err, refl, ap, sym, append-nil, inl, inr}
 use Rattle.std.specs.Prelude.{◌⊎◌}
 use Rattle.session_model.specs.declared.refusal.Refusal.{Refusal}

@@ -1,4 +1,4 @@
--- Frames that several clients read.
+-- The shared frame stays right for its followers when a client forgets, joins or begins one.
 use Rattle.std.proofs.Common.{◌≡◌, ◌≢◌, ℕ, Bool, true, false, not, List, [], ◌∷◌, Option, Some, None, refl, ap, sym}
 use Rattle.std.proofs.Common.{◌∙◌, subst, inl, inr}
 use Rattle.std.specs.Prelude.{if◌then◌else◌, ◌==◌, ◌||◌}
@@ -20,7 +20,7 @@ use Rattle.session_core.specs.Sharing.{AllKnow, IsLead, IsLeadIfAny, IsShared, w
 use Rattle.session_core.specs.Sharing.{Begins, SharesOrForgets}
 use Rattle.session_core.proofs.Needless.{serial_of, shown, now, view_same, back}
 
--- one of some clients that were drawn the same
+-- one of some clients that were drawn one thing
 pub one_knows : (t : Tables) (known : Option View) (clients : List ℕ) (n : ℕ) → is_one_of n clients ≡ true
     → AllKnow t known clients → Knows t known n
 one_knows t known [] n one all = absurd (cc (one))
@@ -53,7 +53,7 @@ module _ (t : Tables) (c : Client) (own : client_at t c.serial ≡ Some c) (byte
     on true same rest = rest
     on false differs rest = (knows_other known n differs all.0, rest)
 
-  -- and the client to have been drawn what it is granted to see
+  -- the client is known to have been drawn what it is granted to see
   own_knows : Knows then_ (Some (granted_view t c)) c.serial
   own_knows = λ d at. let e : shown t c own bytes ≡ d = cc (own_row, at) in ap (λ (x : Client). x.drawn) (sym e)
 
@@ -119,7 +119,7 @@ module _ (t : Tables) (c : Client) (own : client_at t c.serial ≡ Some c) (byte
             (record { led = lead.led; before = lead.before; follow = follow });
       }
 
-  -- its frame is the one that others follow
+  -- the client's frame is the one that others follow
   begun_with : (old new : Sharing) (l : Lead) → IsShared t old → l.client ≡ c.serial → LeadsOn t c l.frame
       → Begins l old new → IsShared then_ new
   begun_with old new l is client on b =

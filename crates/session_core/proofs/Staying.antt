@@ -1,4 +1,4 @@
--- What was drawn for clients stays behind keys, commands and output.
+-- What was drawn for clients stays after keys, commands and output.
 use Rattle.std.proofs.Common.{◌≡◌, ℕ, ◌<◌, Bool, true, false, List, [], ◌∷◌, Option, Some, Ok, Err, ap, sym, ◌∙◌, subst}
 use Rattle.std.proofs.Common.{⊎_elim, take, arith}
 use Rattle.std.specs.Prelude.{if◌then◌else◌, ◌==◌}

@@ -1,4 +1,4 @@
--- Nobody leaves where nothing changes.
+-- Nobody leaves a window in a step that changes no focus.
 use Rattle.std.proofs.Common.{◌≡◌, ℕ, Bool, true, false, List, [], ◌∷◌, Option, Some, None, refl}
 use Rattle.std.proofs.Common.{ap, ◌∙◌, ◌++◌, append-nil}
 use Rattle.std.specs.Prelude.{◌&&◌, ◌||◌}
@@ -20,7 +20,7 @@ shows_own c w is =
     ap (λ (b : Bool). b && is_window w (focused c)) (same_user-refl c.user)
     ∙ ap (is_window w) is ∙ same_number w
 
--- who sees a window still doesn't leave it
+-- a user who still sees a window doesn't leave it
 pub none_left : (before after : List Client)
     → ((user : UserId) (w : ℕ) → is_in_focus before user w ≡ true → is_in_focus after user w ≡ true)
     → left_acts before after ≡ []

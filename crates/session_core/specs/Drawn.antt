@@ -18,8 +18,8 @@ abbrev pub draws_one_of : List ℕ → EventValue → Bool
 draws_one_of clients (Draw client) = list_any (nat_eq client) clients
 draws_one_of clients event = false
 
--- which clients are known to need no draw after a step: those of before where it was refused, with
--- its client where it was a Draw, and none else, since any other event may change what they see
+-- which clients are known to need no draw after a step: those of before, if it was refused; those and
+-- its client, if it was a Draw; and else none, since any other event may change what they see
 abbrev pub AreNoted : Reply → EventValue → List ℕ → List ℕ → Type 0
 AreNoted (Err r) event old new = new ≡ old
 AreNoted (Ok done) (Draw client) old new = (new ≡ old ++ client ∷ []) ⊎ (new ≡ old)

@@ -36,7 +36,7 @@ AllSteps P h (e ∷ steps) = P h e × AllSteps P (with_step h e) steps
 abbrev pub Keeps : Trace → Entry → Type 0
 Keeps h e = KeepsPromise (tables_of h) e
 
--- what is left of an event after a step: keys that it did not read
+-- what is left of an event after a step: the keys that it didn't read
 abbrev pub untaken_keys : EventValue → Reply → List EventValue
 untaken_keys (Keys client bytes) (Ok done) =
     if nat_lt done.taken (length bytes) then Keys client (drop done.taken bytes) ∷ [] else []
@@ -74,17 +74,17 @@ without_keys part [] = []
 without_keys part (Keys client bytes ∷ events) = Keys client (drop part bytes) ∷ events
 without_keys part (event ∷ events) = event ∷ events
 
--- what a run that came so far leaves of the events
+-- what a run that came this far leaves of the events
 abbrev pub untaken_events : Ran → List EventValue → List EventValue
 untaken_events ran events = without_keys ran.part (drop ran.taken events)
 
--- so many bytes are a part of the first of some events: of keys no more than they are, of others
--- none
+-- this many bytes are a part of the first of some events: of keys no more than there are, of other
+-- events none
 abbrev pub IsPart : ℕ → List EventValue → Type 0
 IsPart part (Keys client bytes ∷ events) = part ≤ length bytes
 IsPart part _ = part ≡ 0
 
--- a run came so far in these events: it stopped exactly where it left one
+-- a run came this far in these events: it stopped exactly if it left one
 pub record HasCome (ran : Ran) (events : List EventValue) : Type 0 where
   pub within : ran.taken ≤ length events
   pub part : IsPart ran.part (drop ran.taken events)

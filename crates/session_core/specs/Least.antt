@@ -1,4 +1,4 @@
--- Serials from one on.
+-- The lowest serial that isn't below a number.
 use Rattle.std.specs.Prelude.{ℕ, nat_le, List, [], ◌∷◌, Option, Some, None, if◌then◌else◌}
 
 -- the first serial that is none below this one

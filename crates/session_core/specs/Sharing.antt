@@ -1,4 +1,4 @@
--- Frames that several clients read.
+-- The frame that several clients read.
 use Rattle.std.specs.Prelude.{ℕ, ◌≡◌, ◌⊎◌, ◌==◌, ◌++◌, Bool, true, not, List, [], ◌∷◌}
 use Rattle.std.specs.Prelude.{Option, Some, None, Ok, Err, filter, nat_eq}
 use Rattle.std.specs.List.{AllByRecursion, list_any}
@@ -40,7 +40,7 @@ without client clients = filter (λ n. not (n == client)) clients
 abbrev pub is_one_of : ℕ → List ℕ → Bool
 is_one_of client clients = list_any (nat_eq client) clients
 
--- a client isn't among them any more
+-- the client isn't among the known ones any more
 pub record Forgets (client : ℕ) (old new : Sharing) : Type 0 where
   pub lead : new.lead ≡ old.lead
   pub alike : new.alike.items ≡ without client old.alike.items
@@ -54,8 +54,8 @@ pub record Joins (client : ℕ) (old new : Sharing) : Type 0 where
       (new.followers.items ≡ without client old.followers.items ++ client ∷ [])
       ⊎ (new.followers.items ≡ without client old.followers.items)
 
--- a client's frame is the one from now on; the clients that were drawn the same as others stay,
--- where it is one of them
+-- a client's frame is the one from now on; the clients that were drawn what it leads from stay, if the
+-- client is one of them
 pub record Begins (l : Lead) (old new : Sharing) : Type 0 where
   pub lead : new.lead ≡ Some l
   pub alike :
@@ -69,16 +69,16 @@ abbrev pub SharesOrForgets : ℕ → Made → Sharing → Sharing → Type 0
 SharesOrForgets client f old new =
     Begins (record { client = client; frame = f }) old new ⊎ Forgets client old new
 
--- where what is to be shown may have changed, the followers are those that were drawn the same
--- last, or those that were before the frame still are
+-- if what is to be shown may have changed, the followers are now the clients that were drawn one thing
+-- last, or those from before the frame still are
 abbrev pub PassesOn : Option Lead → Sharing → Sharing → Type 0
 PassesOn None old new = new ≡ old
 PassesOn (Some l) old new =
     (new.lead ≡ None)
     × ((new.alike.items ≡ old.followers.items) ⊎ (new.alike.items ≡ old.alike.items))
 
--- what is left of them behind a step: all where it was refused or a Draw, which has changed them
--- itself; no frame behind keys, a command or output; and nothing behind another event
+-- what is left after a step: all, if the step was refused or a Draw, which has changed it itself; no
+-- frame, after keys, a command or output; and nothing, after any other event
 abbrev pub AreLeft : Reply → EventValue → Sharing → Sharing → Type 0
 AreLeft (Err r) event old new = new ≡ old
 AreLeft (Ok done) (Draw client) old new = new ≡ old

@@ -10,8 +10,8 @@ use Rattle.session_core.specs.Sharing.{IsShared}
 use Rattle.session_state.specs.Noted.{Noted}
 use Rattle.session_core.specs.declared.session.Session.{Session}
 
--- all its steps, whose tables its state stands for, clients that need no draw in them, and frames
--- that are shared
+-- all its steps, whose tables its state stands for, clients that need no draw in them, and the frame
+-- that is shared
 pub record StandsFor (h : Trace) (s : Session) : Type 0 where
   pub run : IsRun h
   pub stands : Stands (tables_of h) s.state
@@ -33,7 +33,7 @@ entry_of event reply noted effects = record {
 }
 
 -- for each trace that the session stands for before, it stands afterwards for that trace with this
--- step, whose effects were put behind others
+-- step, whose effects come after others
 abbrev pub Takes :
     Session → EventValue → Noted → List Effect → List Effect → Reply → Session → Type 0
 Takes old event noted before after reply new = (h : Trace) → StandsFor h old →

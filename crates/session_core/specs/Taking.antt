@@ -19,8 +19,8 @@ abbrev pub wants_memory : Reply → Bool
 wants_memory (Err NoMemory) = true
 wants_memory _ = false
 
--- a step of the session: the state stands for the tables after it, and its acts, effects and
--- verdicts stand behind those before
+-- a step of the session: the state stands for the tables after it, and its acts, effects and verdicts
+-- come after those before
 pub record HasTaken (t : Tables) (e : Entry) (new : State) (before after : StepOutput)
     (old noted : List Verdict) : Type 0 where
   pub step : IsStep t e
@@ -29,26 +29,26 @@ pub record HasTaken (t : Tables) (e : Entry) (new : State) (before after : StepO
   pub effects : after.effects.items ≡ before.effects.items ++ e.effects
   pub verdicts : noted ≡ old ++ e.verdicts
 
--- one of this event, with this reply, behind which a fact holds of the tables
+-- a step of this event with this reply, after which a fact holds of the tables
 abbrev pub TakenAs : EventValue → Reply → Tables → (Tables → Type 0) → State → StepOutput →
     StepOutput → List Verdict → List Verdict → Type 0
 TakenAs event reply t P new before after old noted =
     (e : Entry) × (e.event ≡ event) × (e.reply ≡ reply) × HasTaken t e new before after old noted
     × P (run.after t e)
 
--- the frames that are shared are so behind a Draw, and stay at any other event
+-- the shared frame is so after a Draw, and stays at any other event
 abbrev pub StayShared : EventValue → Sharing → Sharing → Tables → Type 0
 StayShared (Draw client) old new after = IsShared after new
 StayShared event old new after = new ≡ old
 
--- whichever tables the state stood for, unless memory was wanting
+-- so it is for all tables that the state stood for, unless memory was wanting
 abbrev pub Takes : EventValue → State → Sharing → Reply → State → Sharing → StepOutput →
     StepOutput → List Verdict → List Verdict → Type 0
 Takes event old shared result new shares before after past noted =
     (t : Tables) → Stands t old → AreFit t → IsShared t shared → wants_memory result ≡ false
     → TakenAs event result t (StayShared event shared shares) new before after past noted
 
--- the client of a serial is there and was drawn, and the frames that are shared are so then
+-- the client with the serial is there and was drawn, and the shared frame is so then
 abbrev pub DrawsSharing : ℕ → State → Sharing → State → Sharing → StepOutput → StepOutput → Type 0
 DrawsSharing client old shared new shares before after =
     (t : Tables) → Stands t old → AreFit t → IsShared t shared

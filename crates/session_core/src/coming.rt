@@ -1,4 +1,4 @@
-//! Clients and windows that come, and the sizes of clients.
+//! How clients attach and change their sizes, and how windows open.
 
 ghost use Rattle.std.specs.Prelude.{◌≡◌, OnErr};
 ghost use Rattle.session_model.specs.Trace.{Attach, Resize, Open};
@@ -12,8 +12,7 @@ use session_events::{Focuses, attach, leave, open, resize};
 use session_model::{Done, Refusal, Reply};
 use session_state::{State, Step, WindowSize};
 
-/// What is answered where nothing was read and nothing is listed: the serial of what was made, and
-/// its number.
+/// The answer if nothing was read and nothing is listed: the serial and the number of what was made.
 pub(crate) fn made_so(made: u32, number: u8) -> Done
     ensures { Ok result ≡ reply_of 0 made number None }
 {
@@ -25,7 +24,7 @@ pub(crate) fn made_so(made: u32, number: u8) -> Done
     }
 }
 
-/// A client of a user attaches.
+/// Attaches a client of a user.
 pub(crate) fn attach_client(
     state: &mut State,
     user: UserId,
@@ -45,7 +44,7 @@ pub(crate) fn attach_client(
     Ok(made_so(client, 0))
 }
 
-/// A client's terminal has another size.
+/// Gives a client's terminal another size.
 pub(crate) fn resize_client(
     state: &mut State,
     client: u32,
@@ -68,7 +67,7 @@ pub(crate) fn resize_client(
     Ok(made_so(0, 0))
 }
 
-/// A user opens a window.
+/// Opens a window for a user.
 pub(crate) fn open_window(
     state: &mut State,
     user: UserId,

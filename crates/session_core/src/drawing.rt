@@ -1,4 +1,4 @@
-//! Draws.
+//! How clients are drawn.
 
 ghost use Rattle.std.specs.Prelude.{◌≡◌, List, IfOk, OnOk, OnErr, true, false};
 ghost use Rattle.session_model.specs.declared.verdict.Verdict.{Verdict};
@@ -16,7 +16,8 @@ use session_model::{Event, Refusal, Reply};
 use session_state::{State, StepOutput};
 use session_view::{Lead, draw, draw_like};
 
-/// Draws for a client by the frame that others follow, where it sees the same; else does nothing.
+/// Draws for a client by the frame that others follow, if the client sees the same, and else does
+/// nothing.
 fn follow(
     state: &mut State,
     sharing: &mut Sharing,
@@ -42,7 +43,7 @@ fn follow(
     Ok(true)
 }
 
-/// A client was drawn by a frame of its own, which others may follow or not.
+/// Notes that a client was drawn by a frame of its own, and whether others may follow that frame.
 fn share(state: &mut State, sharing: &mut Sharing, client: u32, frame: Frame)
     ensures state { state.new ≡ state.old }
     ensures shared { SharesOrForgets client frame sharing.old sharing.new }
@@ -77,7 +78,7 @@ fn draw_alone(
     Ok(())
 }
 
-/// A client is sent what its terminal is to show.
+/// Sends a client what its terminal is to show.
 pub(crate) fn draw_client(
     state: &mut State,
     sharing: &mut Sharing,
@@ -106,8 +107,8 @@ pub(crate) fn draws_one_of(clients: &[u32], event: Event) -> bool
     }
 }
 
-/// Notes which clients need no draw after a step: a draw adds its own, if there is room, and any
-/// other event may have changed what they are to show.
+/// Notes which clients need no draw after a step. A draw adds its client, if there is room; any other
+/// event may have changed what clients are to show.
 pub(crate) fn note_drawn(clients: &mut Vec<u32>, event: Event, reply: &Reply)
     ensures { AreNoted reply.now (happening event.entry) clients.old.items clients.new.items }
 {

@@ -1,4 +1,4 @@
-//! Clients that go, and windows whose programs end.
+//! How clients go, and how windows close whose programs end.
 
 ghost use Rattle.std.specs.Prelude.{List, OnErr};
 ghost use Rattle.session_model.specs.declared.verdict.Verdict.{Verdict};
@@ -12,7 +12,7 @@ use session_events::{Focuses, leave};
 use session_model::Reply;
 use session_state::{State, StepOutput};
 
-/// A client goes.
+/// Removes a client whose terminal went.
 pub(crate) fn let_go(state: &mut State, client: u32, made: &mut StepOutput) -> Reply
     ensures step { (past : List Verdict) → Steps (Detach client) state.old result state.new
         made.old made.new past past }
@@ -24,7 +24,7 @@ pub(crate) fn let_go(state: &mut State, client: u32, made: &mut StepOutput) -> R
     Ok(made_so(0, 0))
 }
 
-/// The program of a window ended.
+/// Closes a window whose program ended.
 pub(crate) fn end_window(state: &mut State, window: u32, made: &mut StepOutput) -> Reply
     ensures step { (past : List Verdict) → Steps (Closed window) state.old result state.new
         made.old made.new past past }

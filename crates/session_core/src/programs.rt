@@ -1,4 +1,4 @@
-//! What programs of windows write.
+//! The output of windows' programs.
 
 ghost use Rattle.std.specs.Prelude.{List, OnErr};
 ghost use Rattle.session_model.specs.declared.verdict.Verdict.{Verdict};
@@ -11,7 +11,7 @@ use session_events::output;
 use session_model::{Refusal, Reply};
 use session_state::{State, StepOutput};
 
-/// The program of a window writes. No client's page changes, so nobody leaves a window.
+/// Takes what a window's program writes. No client's page changes, so nobody leaves a window.
 pub(crate) fn write(state: &mut State, window: u32, bytes: &[u8], made: &mut StepOutput) -> Reply
     ensures step { (past : List Verdict) → Steps (Output window bytes.now) state.old result
         state.new made.old made.new past past }

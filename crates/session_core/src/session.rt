@@ -28,11 +28,11 @@ use std::alloc::Global;
 use std::mem;
 use view::View;
 
-/// A session: its windows, the clients that show them, and who may do what.
+/// A session: its windows, the clients that show them, and its users' rights.
 pub struct Session {
     alloc: Global,
     state: State,
-    /// Clients that need no draw.
+    /// Clients that are known to need no draw.
     drawn: Vec<u32>,
     /// Frames that several clients read.
     sharing: Sharing,
@@ -49,11 +49,11 @@ impl Drop for Session {
     }
 }
 
-/// What was taken of an event.
+/// How much of an event was taken.
 enum Taken {
     /// All of it, with the reply of its last step.
     Whole(Reply),
-    /// So many bytes: there was no memory for more.
+    /// The first N bytes; the rest found no memory.
     Part(usize),
 }
 
@@ -75,7 +75,7 @@ fn read_by(reply: &Reply) -> usize
 }
 
 impl Session {
-    /// A session that has taken no event, whose users may be in up to eight groups.
+    /// A new session that has taken no event, whose users may be in up to eight groups.
     pub fn new(alloc: Global, owner: UserId) -> Result<Session, Refusal>
         ensures ok { IfOk result (StandsFor (begun edition.Second owner)) }
         ensures err { IfErr result (λ r. r ≡ NoMemory) }
@@ -83,7 +83,7 @@ impl Session {
         Session::of(alloc, owner, Edition::Second)
     }
 
-    /// A session that has taken no event, whose users may be in one group.
+    /// A new session that has taken no event, whose users may be in one group.
     pub fn first_edition(alloc: Global, owner: UserId) -> Result<Session, Refusal>
         ensures ok { IfOk result (StandsFor (begun edition.First owner)) }
         ensures err { IfErr result (λ r. r ≡ NoMemory) }
@@ -123,8 +123,8 @@ impl Session {
         reply
     }
 
-    /// Takes events until one finds no memory, for its reply or for a step. Each event that is
-    /// wholly taken has one reply, that of its last step.
+    /// Takes events until one finds no memory for its reply or for a step. Each event that is taken
+    /// whole has one reply, that of its last step.
     pub fn run(
         &mut self,
         events: &[Event],
@@ -133,14 +133,14 @@ impl Session {
     ) -> Ran
         // The call is a run of the session, each of whose steps keeps the promise: typed bytes
         // reach windows exactly by rights and locks, and else it is told why; commands act exactly
-        // where x is granted; after each draw every terminal of the client's size shows its granted
+        // if x is granted; after each draw every terminal of the client's size shows its granted
         // view; denials name their entries and holders; and there is no other effect.
         ensures promise { SomeRun self.old (run_call events.now effects.old.items
             effects.new.items replies.old.items replies.new.items result) self.new
             (AllSteps Keeps) }
-        // How far it came.
+        // How far the call came.
         ensures came { HasCome result (map happening events.now) }
-        // Each event was taken, but where a step found no memory.
+        // Each event was taken, unless a step found no memory.
         ensures whole { result.stopped ≡ false → result.taken ≡ length events.now }
     {
         let mut notes = Notes::new(self.alloc);
@@ -160,7 +160,7 @@ impl Session {
         }
     }
 
-    /// A new session after these events, as far as memory lasts, with what they made.
+    /// A new session that has taken these events, as far as memory lasts, with what they made.
     pub fn after(
         alloc: Global,
         owner: UserId,
@@ -183,14 +183,14 @@ impl Session {
         Ok((session, ran))
     }
 
-    /// What a client is to see now.
+    /// What a client is to see at this moment.
     pub fn view(&self, client: u32) -> Result<View, Refusal>
         ensures { (h : Trace) → StandsFor h self.now → IsViewOf h client result }
     {
         view_of(&self.state, client)
     }
 
-    /// The least serial of a client from there on.
+    /// The lowest serial of a client that isn't below this one.
     pub fn clients_from(&self, serial: u32) -> Option<u32>
         ensures least { (h : Trace) → StandsFor h self.now
             → result ≡ least_from serial (client_serials (tables_of h).clients) }
@@ -203,7 +203,7 @@ impl Session {
         }
     }
 
-    /// How many groups its users may be in. It never changes.
+    /// How many groups the session's users may be in. It never changes.
     pub fn edition(&self) -> Edition
         ensures { (h : Trace) → StandsFor h self.now → result ≡ (tables_of h).edition }
     {
@@ -217,7 +217,7 @@ impl Session {
         self.state.acl.owner()
     }
 
-    /// A session of an edition that has taken no event.
+    /// A new session of an edition, which has taken no event.
     fn of(alloc: Global, owner: UserId, edition: Edition) -> Result<Session, Refusal>
         ensures ok { IfOk result (StandsFor (begun edition owner)) }
         ensures err { IfErr result (λ r. r ≡ NoMemory) }
@@ -249,8 +249,8 @@ impl Session {
         Taken::Whole(reply)
     }
 
-    /// Takes keys: each step has the rest that the one before didn't read. One that reads nothing
-    /// is the last.
+    /// Takes keys: each step has the rest that the step before didn't read. A step that reads nothing is
+    /// the last one.
     fn take_keys(
         &mut self,
         client: u32,
@@ -282,7 +282,7 @@ impl Session {
     }
 }
 
-/// The place of the first client whose serial isn't below this one.
+/// The place of the first client with a serial that isn't below this one.
 fn place_from(clients: &[Client], serial: u32) -> Option<usize>
     ensures place { result ≡ position (λ (c : Client). nat_le serial c.serial) clients.now }
     ensures within { IfSome result (λ place. place < length clients.now) }
@@ -290,7 +290,7 @@ fn place_from(clients: &[Client], serial: u32) -> Option<usize>
     clients.iter().position(|client| serial <= client.serial)
 }
 
-/// A run that was stopped there.
+/// The answer of a run that was stopped at this event.
 fn stopped_at(taken: usize, part: usize) -> Ran
     ensures { result ≡ record { taken = taken; part = part; stopped = true } }
 {

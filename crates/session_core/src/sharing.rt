@@ -1,4 +1,4 @@
-//! Frames that several clients read.
+//! The frame that several clients read.
 
 ghost use Rattle.std.specs.Prelude.{◌≡◌, [], None, IfOk, option_copied};
 ghost use Rattle.session_model.specs.Trace.{happening};
@@ -11,11 +11,11 @@ use session_view::{Lead, see_the_same};
 use std::alloc::{AllocError, Global};
 use std::mem;
 
-/// The frame that clients follow, and what is known of them.
+/// The frame that clients follow, and what is known of these clients.
 pub struct Sharing {
     /// The frame, with the client for which it was made.
     lead: Option<Lead>,
-    /// Clients that were drawn the same last: what was known before the frame.
+    /// Clients whose last draw was one and the same: what was known before the frame.
     alike: Vec<u32>,
     /// Clients that were drawn what the frame shows.
     followers: Vec<u32>,
@@ -31,7 +31,7 @@ impl Drop for Sharing {
     }
 }
 
-/// Takes a client out of a list. It mostly isn't in it.
+/// Removes a client from a list. It mostly isn't there.
 fn leave_out(clients: &mut Vec<u32>, client: u32)
     ensures { clients.new.items ≡ without client clients.old.items }
 {
@@ -41,7 +41,7 @@ fn leave_out(clients: &mut Vec<u32>, client: u32)
 }
 
 impl Sharing {
-    /// No frame.
+    /// Without a frame.
     pub(crate) fn new(alloc: Global) -> Result<Sharing, AllocError>
         ensures lead { IfOk result (λ s. s.lead ≡ None) }
         ensures alike { IfOk result (λ s. s.alike.items ≡ []) }
@@ -60,14 +60,14 @@ impl Sharing {
         self.lead.as_ref()
     }
 
-    /// Whether a client is known to have been drawn what is known before the frame.
+    /// Whether a client is known to have been drawn what was known before the frame.
     pub(crate) fn knows(&self, client: u32) -> bool
         ensures { result ≡ is_one_of client self.now.alike.items }
     {
         self.alike.contains(&client)
     }
 
-    /// Whether a client sees the same as those that were drawn the same last.
+    /// Whether a client sees the same as the clients that were drawn what was known before the frame.
     fn sees_the_same(&self, state: &State, client: u32) -> bool {
         match self.alike.first() {
             Some(other) => see_the_same(state, client, *other),
@@ -75,15 +75,15 @@ impl Sharing {
         }
     }
 
-    /// Whether a client's own frame may be the one that others follow: nobody follows another one,
-    /// and few clients would be forgotten, or such that will follow this one.
+    /// Whether a client's own frame may be the one that others follow. Nobody may follow another frame
+    /// then, and only few clients may be forgotten, or clients that will follow this frame.
     pub(crate) fn may_lead(&self, state: &State, client: u32) -> bool {
         let is_free = self.lead.is_none() || self.followers.len() < 2;
         let is_one = self.alike.len() < 2 || self.knows(client);
         is_free && (is_one || self.sees_the_same(state, client))
     }
 
-    /// A client was drawn something else.
+    /// Notes that a client was drawn something else.
     pub(crate) fn forget(&mut self, client: u32)
         ensures { Forgets client self.old self.new }
     {
@@ -91,7 +91,7 @@ impl Sharing {
         leave_out(&mut self.followers, client);
     }
 
-    /// A client was drawn what the frame shows.
+    /// Notes that a client was drawn what the frame shows.
     pub(crate) fn join(&mut self, client: u32)
         ensures { Joins client self.old self.new }
     {
@@ -99,7 +99,8 @@ impl Sharing {
         let _kept = self.followers.push(client);
     }
 
-    /// A client was drawn by this frame, which others may follow now; the one that there was.
+    /// Notes that a client was drawn by this frame, which others may follow now. Returns the frame that
+    /// there was before.
     pub(crate) fn begin(&mut self, lead: Lead) -> Option<Lead>
         ensures { Begins lead self.old self.new }
     {
@@ -114,8 +115,8 @@ impl Sharing {
         mem::replace(&mut self.lead, Some(lead))
     }
 
-    /// Nobody follows the frame any more: the followers are those that were drawn the same last
-    /// now, unless more clients are left of those that were. The frame that there was.
+    /// Notes that nobody follows the frame any more. Its followers are now the clients whose last draw is
+    /// known, unless there are more of those that didn't follow it. Returns the frame.
     fn pass_on(&mut self) -> Option<Lead>
         ensures lead { result ≡ self.old.lead }
         ensures passes { PassesOn self.old.lead self.old self.new }
@@ -128,7 +129,7 @@ impl Sharing {
         Some(lead)
     }
 
-    /// Nothing is known, and there is no frame; the frame that there was.
+    /// Forgets the frame and all clients. Returns the frame.
     fn clear(&mut self) -> Option<Lead>
         ensures lead { self.new.lead ≡ None }
         ensures alike { self.new.alike.items ≡ [] }
@@ -148,9 +149,9 @@ pub(crate) fn keep_memory(state: &mut State, lead: Option<Lead>)
     }
 }
 
-/// Notes a step. Keys, a command and output leave all terminals as they are, but not what they are
-/// to show; another event but a Draw, which has noted it itself, may be of a terminal that is new
-/// or has another size. The memory of a frame that isn't needed any more is kept.
+/// Notes a step. Keys, a command and output leave all terminals as they are, but may change what these
+/// are to show. A Draw has noted itself. Any other event may be of a terminal that is new or has another
+/// size. The memory of a frame that isn't needed any more is kept.
 pub(crate) fn note_step(state: &mut State, sharing: &mut Sharing, event: Event, reply: &Reply)
     ensures state { state.new ≡ state.old }
     ensures left { AreLeft reply.now (happening event.entry) sharing.old sharing.new }

@@ -1,4 +1,4 @@
-//! Steps.
+//! How a session takes a step.
 
 ghost use Rattle.std.specs.Prelude.{◌≡◌, Err};
 ghost use Rattle.session_model.specs.declared.refusal.Refusal.TheVariants.{NoMemory};
@@ -15,9 +15,9 @@ use session_input::{give_keys, give_line};
 use session_model::{Event, Reply};
 use session_state::{State, Step, WindowSize};
 
-/// A step of a session: its checks are made and noted, then it does what its event does, and at its
-/// end users leave the windows that none of their clients has in focus any more. Nothing is left of
-/// a step that found no memory but what was checked.
+/// Takes a step of a session: its checks are made and noted, then it does what its event does, and at
+/// its end users leave the windows that none of their clients has in focus any more. A step that found
+/// no memory leaves nothing but the notes of what was checked.
 pub fn take(state: &mut State, sharing: &mut Sharing, event: Event, step: &mut Step) -> Reply
     ensures step { Takes (happening event.entry) state.old sharing.old result state.new sharing.new
         step.old.made step.new.made step.old.verdicts.items step.new.verdicts.items }

@@ -1,4 +1,4 @@
--- A window whose program writes.
+-- If the program of a window writes, the state stands for the tables with that output and its answers.
 use Rattle.std.proofs.Common.{◌≡◌, ℕ, true, false, List, [], ◌∷◌, ◌++◌, length, Some, Ok, Err}
 use Rattle.std.proofs.Common.{ap, sym, subst, ◌∙◌, append-nil, ◌⊎◌, inl, inr}
 use Rattle.std.proofs.Common.{is_ok}
@@ -71,7 +71,7 @@ module _ (t : Tables) (window : ℕ) (w : Window) (bytes : List ℕ)
             (sym serial_of_row);
       }
 
-  -- or memory was wanting
+  -- memory was wanting
   pub unfed : (f : WindowsFault) → (f ≡ fault.NoMemory) ⊎ (fed_in window bytes t.windows ≡ Err f)
       → refusal_of f ≡ NoMemory
   unfed f (inl full) = ap refusal_of full

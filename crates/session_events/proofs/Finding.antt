@@ -1,4 +1,4 @@
--- Windows that are found, and serials that no window has.
+-- The window with the lowest number is open, and no window has the next serial.
 use Rattle.std.proofs.Common.{◌≡◌, ◌≢◌, ℕ, ◌<◌, Bool, true, false, List, [], ◌∷◌, Option, Some, None}
 use Rattle.std.proofs.Common.{refl, ap, subst, ◌∙◌, arith, is_some}
 use Rattle.std.specs.Prelude.{if◌then◌else◌, ◌==◌, nat_lt}
@@ -14,7 +14,7 @@ use Rattle.session_events.specs.Events.{IsOpenIn}
 abbrev serial : Window → ℕ
 serial w = w.serial
 
--- a window that stands in a table has a row
+-- a window of a table has a row
 found_first : (w : Window) (ws : List Window) → is_some (row_of serial (w ∷ ws) w.serial) ≡ true
 found_first w ws =
     ap is_some (if_true (w.serial == w.serial) (Some w) (row_of serial ws w.serial)
@@ -47,7 +47,7 @@ lowest_there (v ∷ ws) w is = by (lowest ws) (lowest_there ws w) is where
       (found_first v ws)
   by (Some u) on is = chosen (nat_lt u.number v.number) u on is
 
--- the window of the lowest number is open
+-- the window with the lowest number is open
 pub lowest_open : (t : Tables) → AreFit t
     → IsOpenIn t.acts (option_map (λ (w : Window). w.serial) (lowest t.windows))
 lowest_open t fit = by (lowest t.windows) refl where

@@ -1,4 +1,4 @@
--- Who has left which window, by the code's clients and by the definitions'.
+-- The users who left windows by the code's rows are those by the definitions' tables.
 use Rattle.std.proofs.Common.{◌≡◌, ◌∙◌, ℕ, ◌+◌, Bool, true, false, List, [], ◌∷◌, ◌++◌, Option, Some, None, refl, ap}
 use Rattle.std.proofs.Common.{sym, subst, length, take, drop, append_assoc, arith, ◌≤◌, ◌-◌, length-drop}
 use Rattle.std.specs.Prelude.{Result, Ok, Err, IsOk, is_ok, if◌then◌else◌, ◌&&◌, ◌||◌, slice_get, map}
@@ -60,7 +60,7 @@ before_same : (user : UserId) (w : ℕ) (rows : List model.Client)
 before_same user w [] = refl
 before_same user w (m ∷ rows) = ap (λ b. shows user w m || b) (before_same user w rows)
 
--- ---- who has left
+-- ---- users who have left
 
 by_if : (user : UserId) (w : ℕ) (a b : Bool)
     → leaving user (if a || b then (let none : Option ℕ = None in none) else Some w) ≡
@@ -78,7 +78,7 @@ one_same m (Some w) rows now cs st =
     (before_same m.user w rows)
     ∙ ap (λ b. if is_in_focus rows m.user w || b then [] else leaving m.user (Some w)) (now_same m.user w now cs st)
 
--- those who have left, by the focuses before and the clients now
+-- the users who have left, by the focuses before and the clients now
 pub left_same : (rows now : List model.Client) (cs : List Client) → AreClients now cs
     → all_left (focuses_of rows) cs ≡ left_acts rows now
 left_same [] now cs st = refl

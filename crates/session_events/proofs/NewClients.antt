@@ -1,4 +1,4 @@
--- A client that attaches.
+-- A client that attaches is the definitions' one, and its user enters the window that it shows.
 use Rattle.std.proofs.Common.{◌≡◌, ℕ, ◌+◌, List, [], ◌∷◌, ◌++◌, Option, Some, None}
 use Rattle.std.proofs.Common.{ap, sym, subst, ◌∙◌, append_assoc, append-nil}
 use Rattle.std.specs.Option.{option_map}
@@ -25,7 +25,7 @@ use Rattle.session_state.specs.Doing.{HasDone}
 use Rattle.session_events.specs.Events.{IsOpenIn}
 use Rattle.session_events.proofs.Finding.{lowest_open}
 
--- the window that a client shows that attaches
+-- the window that a new client shows
 abbrev pub first_of : Tables → Option ℕ
 first_of t = option_map (λ (w : Window). w.serial) (lowest t.windows)
 
@@ -61,7 +61,7 @@ module _ (t : Tables) (user : UserId) (rows columns : ℕ) where
           next_client_is = ap (λ n. n + 1) st.next_client_is;
         }
 
-    -- and then he enters it
+    -- then its user enters the window
     pub attached_done : (new : State) (before middle after : StepOutput) → AreFit t
         → middle.acts.items ≡ before.acts.items ++ act.Attached serial user ∷ []
         → middle.effects.items ≡ before.effects.items

@@ -1,4 +1,4 @@
--- A window that opens.
+-- A window that opens is the definitions' one, with the next serial and the lowest free number.
 use Rattle.std.proofs.Common.{◌≡◌, ℕ, ◌+◌, ◌<◌, true, List, [], ◌∷◌, ◌++◌, length, ap, sym, subst, refl}
 use Rattle.std.proofs.Common.{Option, Some, None, Ok, Err, ◌∙◌, append-nil, arith, ◌⊎◌, inl, inr}
 use Rattle.std.proofs.Common.{is_some}
@@ -104,7 +104,7 @@ module _ (t : Tables) (user : UserId) (rows columns keep : ℕ) (title : List �
       cc (by.1, opened_is) in
       subst (λ (vs : List Window). StandFor vs ws) same by.2
 
-  -- or memory is wanting
+  -- memory is wanting
   pub unopened : (f : WindowsFault)
       → (f ≡ fault.NoMemory) ⊎ (opened serial rows columns keep title t.windows ≡ Err f)
       → refusal_of f ≡ NoMemory

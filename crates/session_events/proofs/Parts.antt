@@ -1,4 +1,4 @@
--- Effects that are taken away, one at a time.
+-- Effects removed one at a time, from the front, leave what the definitions leave.
 use Rattle.std.proofs.Common.{◌≡◌, ℕ, ◌+◌, ◌<◌, ◌≤◌, Bool, true, false, List, [], ◌∷◌, ◌++◌}
 use Rattle.std.proofs.Common.{refl, ap, sym, ◌∙◌, length, take, drop, get_or, arith}
 use Rattle.std.proofs.Common.{append-nil, append_assoc, length-append}
@@ -28,7 +28,7 @@ pub kept : {A : Type 0} (said more : List A) → take (length said) (said ++ mor
 kept [] more = refl
 kept (x ∷ said) more = ap (λ xs. x ∷ xs) (kept said more)
 
--- so far
+-- the effects up to a place
 pub record Part (past said more now : List Effect) (turn place : ℕ) : Type 0 where
   pub done : List Effect
   pub rest : List Effect

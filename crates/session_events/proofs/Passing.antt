@@ -1,9 +1,9 @@
--- Checks that have passed, and serials that are left.
+-- If the checks of an event have passed, each of them has, and a serial is left.
 use Rattle.std.proofs.Common.{◌≡◌, ℕ, Bool, true, false, Option, Some, None, refl, sym}
 use Rattle.std.specs.Prelude.{if◌then◌else◌, ◌&&◌}
 use Rattle.session_model.specs.declared.refusal.Refusal.{Refusal}
 
--- one passed, and so did those behind it
+-- if some checks have passed, the first has, and so have the others
 pub both_passed : (b : Bool) (o : Option Refusal) (r : Refusal) → (if b then o else Some r) ≡ None
     → (b ≡ true) × (o ≡ None)
 both_passed true o r is = (refl, is)
@@ -20,7 +20,7 @@ pub taken_is : (b : Bool) (next s : ℕ) → (if b then Some next else None) ≡
 taken_is true next s is = sym (let e : next ≡ s = cc (is) in e)
 taken_is false next s is = absurd (cc (is))
 
--- one is left, where this is so
+-- if the check of it has passed, a serial is left
 pub one_left : (b : Bool) (next : ℕ) → (if b then Some next else None) ≡ None → b ≡ false
 one_left true next is = absurd (cc (is))
 one_left false next is = refl

@@ -1,10 +1,10 @@
--- What was said in a step isn't said again.
+-- No text is said twice to a client in one step.
 use Rattle.std.specs.Prelude.{ℕ, ◌≡◌, ◌++◌, Bool, List, ◌∷◌, length}
 use Rattle.std.specs.List.{list_any}
 use Rattle.session_model.specs.declared.event.Effect.{Effect}
 use Rattle.session_model.specs.Answering.{says_same, unsaid}
 
--- whether the same was said to the same client before
+-- whether one of the earlier effects says the same text to the same client
 abbrev pub is_said : List Effect → Effect → Bool
 is_said said effect = list_any (says_same effect) said
 
@@ -16,7 +16,7 @@ SaysAgain effects start end place result =
     → effects ≡ front ++ e ∷ rest → length front ≡ place
     → result ≡ is_said said e
 
--- behind these places those that say the same as one between them are taken away
+-- after these places, each effect that says the same as one between them is removed
 abbrev pub DropsSaid : ℕ → ℕ → List Effect → List Effect → Type 0
 DropsSaid start end old new =
     (past said more : List Effect) → old ≡ past ++ (said ++ more)

@@ -1,4 +1,4 @@
--- What an event does to a session's state, whichever tables that stands for.
+-- What an event does to a session's state, for all tables that the state stands for.
 use Rattle.std.specs.Prelude.{ℕ, ◌≡◌, ◌∷◌, [], true, List, Option, Some, None, Result, Ok, Err}
 use Rattle.std.specs.Prelude.{nat_lt, if◌then◌else◌}
 use Rattle.acl.specs.declared.user_id.UserId.{UserId}
@@ -18,22 +18,22 @@ use Rattle.session_state.specs.Stands.{Stands}
 use Rattle.session_model.specs.Sound.{AreFit}
 use Rattle.session_state.specs.Doing.{HasDone}
 
--- the serial that comes next, unless all are given
+-- the next serial, unless all of them are given out
 abbrev pub serial_from : ℕ → Option ℕ
 serial_from next = if nat_lt next SERIALS then Some next else None
 
--- a window that is open after these acts, if it is one
+-- a window, if there is one, is open by these acts
 abbrev pub IsOpenIn : History → Option ℕ → Type 0
 IsOpenIn h None = Unit {0}
 IsOpenIn h (Some window) = is_open h window ≡ true
 
--- an event's deed was done, with this for an answer; or it was refused for want of memory
+-- an event's deed was done, and this is its answer; or it was refused for want of memory
 abbrev pub Happens : {A : Type 0} →
     Tables → Deed → A → Result A Refusal → State → StepOutput → StepOutput → Type 0
 Happens t d answer (Ok a) new before after = (a ≡ answer) × HasDone t d new before after
 Happens t d answer (Err r) new before after = r ≡ NoMemory
 
--- a client attaches where its checks have passed, and its serial is the answer
+-- if its checks have passed, a client attaches, and its serial is the answer
 abbrev pub Attaches :
     UserId → ℕ → ℕ → State → Result ℕ Refusal → State → StepOutput → StepOutput → Type 0
 Attaches user rows columns old result new before after =
@@ -41,7 +41,7 @@ Attaches user rows columns old result new before after =
     → first_fault t (attach_checks t user rows columns) ≡ None
     → Happens t (attaches t (new_client t user rows columns)) t.next_client result new before after
 
--- a window opens where its checks have passed, and its serial and its number are the answer
+-- if its checks have passed, a window opens, and its serial and its number are the answer
 abbrev pub Opens : UserId → ℕ → ℕ → ℕ → List ℕ → State → Result (ℕ × ℕ) Refusal →
     State → StepOutput → StepOutput → Type 0
 Opens user rows columns keep title old result new before after =
@@ -50,7 +50,7 @@ Opens user rows columns keep title old result new before after =
     → let w : Window = new_window t rows columns keep title in
     Happens t (opens t user w) (w.serial, w.number) result new before after
 
--- a client's page has another size where its check has passed
+-- if its check has passed, a client's page has another size
 abbrev pub Resizes : ℕ → ℕ → ℕ → State → State → StepOutput → StepOutput → Type 0
 Resizes client rows columns old new before after =
     (t : Tables) (c : Client) → Stands t old → AreFit t → client_at t client ≡ Some c

@@ -1,4 +1,4 @@
--- Who leaves which window at a step's end.
+-- Which users leave which windows at the end of a step.
 use Rattle.std.specs.Prelude.{ℕ, ◌≡◌, Bool, ◌&&◌, ◌||◌, List, [], ◌∷◌, ◌++◌, Option, Some, None}
 use Rattle.std.specs.Prelude.{if◌then◌else◌, map}
 use Rattle.std.specs.List.{list_any}
@@ -28,20 +28,20 @@ focus_in c = focus_by c.user (focused c)
 abbrev pub focuses_of : List model.Client → List Focus
 focuses_of clients = map focus_in clients
 
--- the same of the clients as they are kept
+-- what each client has in focus, from the rows of the code
 abbrev pub focus_now : Client → Focus
 focus_now c = focus_by c.user (in_focus c)
 
--- ---- who has left
+-- ---- users who have left
 
--- whether the user looks at the window there
+-- whether a focus is the user's, and at the window
 abbrev pub looks_at : UserId → ℕ → Focus → Bool
 looks_at user window f = same_user f.user user && is_window window f.window
 
 abbrev pub shows_now : UserId → ℕ → Client → Bool
 shows_now user window c = same_user c.user user && is_window window (in_focus c)
 
--- the window that a user has left, unless a later focus was at it too, or one is now
+-- the window that a user has left, unless a later focus was at it too, or a client shows it now
 abbrev pub left_window : UserId → Option ℕ → List Focus → List Client → Option ℕ
 left_window user None rest now = None
 left_window user (Some w) rest now =
@@ -58,18 +58,18 @@ all_left (f ∷ before) now =
 
 -- ---- a step's end
 
--- the tables once a deed is done and users have left windows: those of the step's outcome, whatever
--- was checked and is answered
+-- the tables once a deed is done and users have left windows: those of the step's outcome, whatever was
+-- checked or answered
 abbrev pub ended : Tables → Deed → Tables
 ended t d = (finished t [] done d).tables
 
--- the state stands for them, and just the acts of those who left stand behind those before
+-- the state stands for them, and only the acts of those who left come after those before
 pub record HasLeft (t : Tables) (d : Deed) (new : State) (before after : StepOutput) : Type 0 where
   pub stands : Stands (ended t d) new
   pub acts : after.acts.items ≡ before.acts.items ++ left_acts t.clients d.tables.clients
   pub effects : after.effects.items ≡ before.effects.items
 
--- whichever deed was done, from whichever tables had these focuses
+-- so it is after every deed, from all tables that had these focuses
 abbrev pub Leaves : List Focus → State → State → StepOutput → StepOutput → Type 0
 Leaves focuses old new before after =
     (t : Tables) (d : Deed) → focuses ≡ focuses_of t.clients → Stands (did t d) old

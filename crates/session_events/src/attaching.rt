@@ -16,7 +16,7 @@ use acl::{Act, Bit, Object, UserId};
 use session_model::Refusal;
 use session_state::{State, StepOutput, is_client_size};
 
-/// The window of the lowest number.
+/// The window with the lowest number.
 fn first_window(state: &State) -> Option<u32>
     ensures { (t : Tables) → Stands t state.now
         → result ≡ option_map (λ (w : Window). w.serial) (lowest t.windows) }
@@ -27,7 +27,7 @@ fn first_window(state: &State) -> Option<u32>
     }
 }
 
-/// A user enters the window that he sees, if he sees one.
+/// A user enters the window that they see, if they see one.
 fn enter(state: &mut State, user: UserId, window: Option<u32>, made: &mut StepOutput)
     requires { HasRoom 255 made.old }
     ensures done { (t : Tables) → Stands t state.old → IsOpenIn t.acts window
@@ -45,8 +45,8 @@ fn enter(state: &mut State, user: UserId, window: Option<u32>, made: &mut StepOu
     state.locks.entered(user, window, may_write);
 }
 
-/// A client of a user attaches, whose checks have passed, and gets the next serial. Its one region
-/// shows the window of the lowest number, which its user enters.
+/// Attaches a client, whose checks have passed, and gives it the next serial. Its one region shows
+/// the window with the lowest number, which its user enters.
 pub fn attach(
     state: &mut State,
     user: UserId,
@@ -74,7 +74,8 @@ pub fn attach(
     Ok(client)
 }
 
-/// A client's terminal has another size, whose check has passed. No other size changes anything.
+/// Gives a client's terminal a size, whose check has passed. Nothing changes if it has that size
+/// already.
 pub fn resize(state: &mut State, client: u32, rows: u16, columns: u16, made: &mut StepOutput)
     requires { HasRoomToAct made.old }
     ensures answer { Resizes client rows columns state.old state.new made.old made.new }

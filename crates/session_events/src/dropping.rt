@@ -1,4 +1,4 @@
-//! What is said once in a step.
+//! Messages that a step would say twice to a client.
 
 ghost use Rattle.std.specs.Prelude.{◌≡◌, ◌<◌, true, length};
 ghost use Rattle.std.specs.List.{remove};
@@ -7,7 +7,7 @@ ghost use Rattle.session_events.specs.Dropping.{is_said, SaysAgain, DropsSaid};
 
 use session_model::Effect;
 
-/// Whether two effects say the same to one client.
+/// Whether two effects say one text to one client.
 fn says_same(effect: &Effect, other: &Effect) -> bool
     ensures { result ≡ says_same effect.now other.now }
 {
@@ -20,14 +20,14 @@ fn says_same(effect: &Effect, other: &Effect) -> bool
     }
 }
 
-/// Whether the same was said to the same client before.
+/// Whether one of the earlier effects says the same text to the same client.
 fn is_said(said: &[Effect], effect: &Effect) -> bool
     ensures { result ≡ is_said said.now effect.now }
 {
     said.iter().any(|other| says_same(effect, other))
 }
 
-/// Whether the effect at a place says what was said between two others.
+/// Whether the effect at `place` says what an effect between two other places says.
 fn says_again(effects: &[Effect], from: usize, to: usize, place: usize) -> bool
     ensures there { result ≡ true → place < length effects.now }
     ensures again { SaysAgain effects.now from to place result }
@@ -39,7 +39,7 @@ fn says_again(effects: &[Effect], from: usize, to: usize, place: usize) -> bool
     }
 }
 
-/// Takes away the effect at a place.
+/// Removes the effect at a place.
 fn remove_at(effects: &mut Vec<Effect>, place: usize)
     requires { place < length effects.old.items }
     ensures { effects.new.items ≡ remove effects.old.items place }
@@ -47,7 +47,7 @@ fn remove_at(effects: &mut Vec<Effect>, place: usize)
     let _effect = effects.remove(place);
 }
 
-/// Takes away what is said behind these two places and was said between them.
+/// Removes each effect after these two places that says what an effect between them says.
 pub fn drop_said(effects: &mut Vec<Effect>, from: usize, to: usize)
     ensures { DropsSaid from to effects.old.items effects.new.items }
 {

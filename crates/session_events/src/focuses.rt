@@ -1,4 +1,4 @@
-//! What is in focus at a moment.
+//! What the clients have in focus at a moment.
 
 ghost use Rattle.std.specs.Prelude.{◌≡◌, ◌≤◌, [], ◌∷◌, ◌++◌, ◌<◌, length};
 ghost use Rattle.session_model.specs.Tables.{Tables};
@@ -10,7 +10,7 @@ use session_clients::Client;
 use session_state::State;
 use std::marker::Model;
 
-/// How many clients there are at most.
+/// The most clients that a session has.
 const MOST: usize = 64;
 
 /// The user of a client, and the window in its focused region.
@@ -42,7 +42,7 @@ impl Model for Focuses {
 impl Focuses {
     ghost use Rattle.session_events.specs.Leaving.{focuses_of};
 
-    /// No client.
+    /// The focuses of no client.
     fn none(owner: UserId) -> Focuses
         ensures { result ≡ [] }
     {
@@ -56,7 +56,7 @@ impl Focuses {
         }
     }
 
-    /// What the clients of a state have in focus.
+    /// The focuses of a state's clients.
     pub fn of(state: &State) -> Focuses
         ensures { (t : Tables) → Stands t state.now → AreSound t
             → result ≡ focuses_of t.clients }
@@ -71,7 +71,7 @@ impl Focuses {
         focuses
     }
 
-    /// One more, where there is a place for it.
+    /// Adds a focus, if there is a place for it.
     fn push(&mut self, focus: Focus)
         ensures { length self.old < 64 → self.new ≡ self.old ++ focus ∷ [] }
     {

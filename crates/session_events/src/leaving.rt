@@ -1,4 +1,4 @@
-//! Users who leave windows.
+//! How users leave windows at the end of a step.
 
 ghost use Rattle.std.specs.Prelude.{◌≡◌, ◌≤◌, ◌+◌, ◌++◌, true, length, vec_len, vec_capacity};
 ghost use Rattle.std.specs.List.{list_any};
@@ -15,7 +15,7 @@ use session_clients::Client;
 use session_state::{State, StepOutput};
 use writelock::Locks;
 
-/// Whether it is this window.
+/// Whether a focus is at this window.
 fn is_window(window: u32, focus: Option<u32>) -> bool
     ensures { result ≡ is_window window focus }
 {
@@ -25,7 +25,7 @@ fn is_window(window: u32, focus: Option<u32>) -> bool
     }
 }
 
-/// Whether one of these is the user's, at this window.
+/// Whether one of these focuses is the user's, and is at this window.
 fn is_among(focuses: &[Focus], user: UserId, window: u32) -> bool
     ensures { result ≡ list_any (looks_at user window) focuses.now }
 {
@@ -50,9 +50,9 @@ fn shows_at(clients: &[Client], place: usize, user: UserId, window: u32) -> bool
     }
 }
 
-/// The window that the user of the focus at this place has left: no later focus of his is at it,
-/// and no client of his shows it now. That is mostly the client of the same place, which is looked
-/// at first.
+/// The window that the user of the focus at this place has left: none of their later focuses is at it,
+/// and none of their clients shows it now. Mostly the client at the same place still shows it, so
+/// that one is looked at first.
 fn left_window(focus: Focus, place: usize, rest: &[Focus], clients: &[Client]) -> Option<u32>
     ensures { result ≡ left_window focus.user focus.window rest.now clients.now }
 {
@@ -67,7 +67,7 @@ fn left_window(focus: Focus, place: usize, rest: &[Focus], clients: &[Client]) -
     }
 }
 
-/// Notes who has left which window, where these were the focuses before, and tells the locks.
+/// Notes which users have left which windows, from the focuses before, and tells the locks.
 fn note_left(before: &[Focus], clients: &[Client], locks: &mut Locks, acts: &mut Vec<Act>)
     requires { vec_len acts.old + length before.now ≤ vec_capacity acts.old }
     ensures acts { acts.new.items ≡ acts.old.items ++ all_left before.now clients.now }
@@ -86,8 +86,8 @@ fn note_left(before: &[Focus], clients: &[Client], locks: &mut Locks, acts: &mut
     }
 }
 
-/// Ends a step: whoever had a window in focus before it, by a client of his, and has it no more,
-/// has left it. These acts are noted, and the locks are told.
+/// Ends a step: a user whose client had a window in focus before the step has left that window, if
+/// none of their clients has it in focus now. These acts are noted, and the locks are told.
 pub fn leave(state: &mut State, before: &Focuses, made: &mut StepOutput)
     requires { HasRoomToLeave made.old }
     ensures { Leaves before.now state.old state.new made.old made.new }

@@ -1,5 +1,5 @@
-//! What events do: clients attach and take other sizes, windows open and are written to by their
-//! programs; and the end of a step: users leave windows, and what was said isn't said again.
+//! What events do: clients attach and change their sizes, windows open, and their programs write to
+//! them. Then the end of a step: users leave windows, and no message is said twice.
 #![tactic(auto)]
 
 mod attaching;

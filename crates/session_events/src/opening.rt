@@ -1,4 +1,4 @@
-//! Windows that open.
+//! How windows open.
 
 ghost use Rattle.session_state.specs.Doing.{HasRoomToAct, IsWhole};
 ghost use Rattle.session_events.specs.Events.{Opens};
@@ -9,8 +9,8 @@ use session_model::{Refusal, WindowsFault};
 use session_state::{State, StepOutput, WindowSize};
 use windows::is_window_size;
 
-/// A user opens a window, whose checks have passed; it gets the next serial and the lowest number
-/// that is free. Gives both.
+/// Opens a window for a user, whose checks have passed. It gets the next serial and the lowest free
+/// number, which are returned.
 pub fn open(
     state: &mut State,
     user: UserId,

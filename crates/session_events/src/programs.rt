@@ -1,4 +1,4 @@
-//! What programs of windows write.
+//! The output of windows' programs.
 
 ghost use Rattle.session_state.specs.Doing.{HasRoomToAct, IsWhole};
 ghost use Rattle.session_events.specs.Events.{Outputs};
@@ -6,7 +6,7 @@ ghost use Rattle.session_events.specs.Events.{Outputs};
 use session_model::{Bytes, Effect, Refusal};
 use session_state::{State, StepOutput};
 
-/// The program of a window that is open writes: its terminal reads that, and what it answers is
+/// The program of an open window writes: the window's terminal reads the bytes, and what it answers is
 /// input for the program.
 pub fn output(
     state: &mut State,

@@ -1,11 +1,11 @@
-//! Serials.
+//! The serials of windows and clients.
 
 ghost use Rattle.std.specs.Prelude.{◌≡◌};
 ghost use Rattle.session_events.specs.Events.{serial_from};
 
 use session_model::SERIALS;
 
-/// The serial that comes next, unless all are given.
+/// The next serial, unless all of them are given out.
 pub(crate) fn serial_from(next: u64) -> Option<u32>
     ensures { result ≡ serial_from next }
 {

@@ -1,4 +1,4 @@
--- The steps of a call are guarded.
+-- The steps of a call, and of a new session's run, obey the laws of guests.
 use Rattle.std.proofs.Common.{◌≡◌, Bool, List, [], ◌∷◌, refl, ap, sym, subst}
 use Rattle.acl.specs.declared.user_id.UserId.{UserId}
 use Rattle.acl.specs.declared.edition.Edition.{Edition}
@@ -51,7 +51,7 @@ guarded laws h [] run keep = tt
 guarded laws h (e ∷ steps) run keep =
     (guarded_step laws h e run keep.0.step, guarded laws (with_step h e) steps (run, keep.0.step) keep.1)
 
--- steps behind others that are counted from a start
+-- steps after others that are counted from a start
 since : Laws → (start : Tables) (guests : UserId → Bool) → AreGuests start guests
     → (h : Trace) (past steps : List Entry) → tables_of h ≡ tables_from start past → IsRunFrom start past
     → contained.AllSteps (ChangesAreTheirs guests) start past → AllSteps Keeps h steps

@@ -16,11 +16,11 @@ use Rattle.session_core.specs.Headline.{with_steps}
 use Rattle.session_core.specs.Stands.{StandsFor}
 use Rattle.session_core.specs.declared.session.Session.{Session}
 
--- A step changes rights by a granted list command alone; a new window is given by its opener's
--- masks; who holds a lock may write there, took it in a step of his own, and keeps it in steps of
--- users who may neither write there nor change rights; the mode, others' clients, and windows with
--- their numbers and titles change by granted commands alone; and a step of a user who only watches
--- leaves others all that they have.
+-- A step changes rights only by a granted command on the lists. A new window's rights are given by its
+-- opener's masks. A user who holds a lock may write there, took it in a step of their own, and keeps it
+-- in steps of users who may neither write there nor change rights. The mode, others' clients, and
+-- windows with their numbers and titles change only by granted commands. A step of a user who only
+-- watches leaves others all that they have.
 pub record IsGuarded (h : Trace) (e : Entry) : Type 0 where
   pub rights : RightsAreGated (tables_of h) e
   pub windows : IsGivenByMasks (tables_of h) e e.event e.reply
@@ -34,7 +34,7 @@ pub record IsGuarded (h : Trace) (e : Entry) : Type 0 where
       (user : UserId) → user_of (tables_of h) e.event ≡ Some user →
       IsSpectator (tables_of h) user → LeavesOthers (tables_of h) e user
 
--- users who may not change rights before the call can't by it, while nobody else does
+-- if nobody else changes rights in the call, users who may not change them before it may not after it
 abbrev pub AreContainedBy : Trace → List Entry → Type 0
 AreContainedBy h steps =
     (guests : UserId → Bool) → AreGuests (tables_of h) guests →
@@ -51,7 +51,7 @@ CallsAreGuarded =
     (old : Session) (call : Call) (new : Session) → SomeRun old call new (AllSteps Keeps) →
     SomeRun old call new GuestsAreHeld
 
--- and what the run of a new session promises
+-- the run of a new session promises this too
 abbrev pub NewRunsAreGuarded : Type 0
 NewRunsAreGuarded =
     (edition : Edition) (owner : UserId) (call : Call) (new : Session) →

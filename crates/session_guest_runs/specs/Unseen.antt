@@ -1,4 +1,4 @@
--- What sessions show whose runs differ in output that is hidden from a user alone.
+-- What sessions show if their runs differ only in output that is hidden from a user.
 use Rattle.std.specs.Prelude.{◌≡◌}
 use Rattle.acl.specs.declared.user_id.UserId.{UserId}
 use Rattle.session_model.specs.Trace.{Trace}
@@ -11,8 +11,8 @@ use Rattle.session_core.specs.declared.session.Session.{Session}
 abbrev pub beginning : Trace → Tables
 beginning h = fresh h.edition h.owner
 
--- two sessions of one edition and owner, whose runs have the same events but for output that is
--- hidden from a user: he observed the same of both
+-- two sessions of one edition and owner, whose runs have the same events but for output that is hidden
+-- from a user: that user observed the same of both
 abbrev pub SessionsHideOutput : Type 0
 SessionsHideOutput =
     (user : UserId) (one other : Session) (h g : Trace) →

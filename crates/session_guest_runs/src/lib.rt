@@ -1,14 +1,14 @@
-//! The laws of guests, of what `Session::run` did: each function here does nothing, and its
-//! contract says what holds.
+//! The laws of guests for what `Session::run` did. Each function here is a law: it does nothing, and
+//! its contract says what holds.
 #![tactic(auto)]
 
 ghost use Rattle.session_guest_runs.specs.Guarded.{CallsAreGuarded, NewRunsAreGuarded};
 ghost use Rattle.session_guest_runs.specs.Unseen.{SessionsHideOutput};
 
-/// The steps that `Session::run` promises of a call, and those of a new session's run, change
-/// rights, locks, the mode, others' clients and windows as the laws of guests say; a step of one who
-/// only watches leaves others all that they have; and users who may not change rights can't by the
-/// call, while nobody else does.
+/// The steps that `Session::run` promises of a call, and those of a new session's run, change rights,
+/// locks, the mode, others' clients and windows only as the laws of guests say. A step of a user who
+/// only watches leaves others all that they have. If nobody else changes rights in the call, users who
+/// may not change them before it may not after it.
 pub fn calls_are_guarded()
     ensures call { CallsAreGuarded }
     ensures new { NewRunsAreGuarded }
@@ -23,9 +23,9 @@ pub fn calls_are_guarded()
     session_laws::tables_stay_fit();
 }
 
-/// Of two sessions of one edition and owner, which stand for runs that differ only in output that
-/// is hidden from a user, he observed the same. (Each call of `Session::run` says for which run the
-/// session stands after it.)
+/// If two sessions of one edition and owner stand for runs that differ only in output that is hidden
+/// from a user, that user observed the same of both. (Each call of `Session::run` says for which run
+/// the session stands after it.)
 pub fn sessions_hide_output()
     ensures { SessionsHideOutput }
 {

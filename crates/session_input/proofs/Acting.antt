@@ -1,4 +1,4 @@
--- Commands whose client isn't attached.
+-- A command that acts on a client is refused if that isn't attached.
 use Rattle.std.proofs.Common.{◌≡◌, true, ℕ, List, Option, Some, None, Ok, Err, ap, sym, ◌∙◌, inr}
 use Rattle.std.specs.Prelude.{Result, IfOk}
 use Rattle.std.specs.Option.{is_some}
@@ -36,13 +36,13 @@ module _ (t : Tables) (k : model.Caller) (none : caller_client t k ≡ None) whe
   refused (command.Scrollview back) acts = no_client _
   refused c acts = absurd (cc (acts))
 
--- such a command is refused where no client that is attached gives it
+-- such a command is refused if no client that is attached gives it
 pub nobody_gives : (k : Caller) (c : Command) (s : State) (made : StepOutput) (r : Refusal) → acts_on_client c ≡ true
     → (r ≡ NoWindow) × NobodyGives k s → Does k c s (Err r) s made made
 nobody_gives k c s made r acts none = λ t st fit passed.
     inr (refused t (caller_in t k) (none.1 t st) c acts ∙ ap (λ (e : Refusal). Err e) (sym none.0))
 
--- what lists nothing leaves all as it was, where it lists something
+-- a command that lists nothing has nothing to show for the case that it lists
 pub silent_lists : (r : Result (Option (List ℕ)) Refusal) (old new : State) (before after : StepOutput)
     → IsSilent r old new before after
     → IfOk r (λ text. is_some text ≡ true → IsAsBefore old new before after)

@@ -1,4 +1,4 @@
--- Lines and keys that were answered.
+-- What a line or keys answered is the outcome of their event.
 use Rattle.std.proofs.Common.{◌≡◌, ℕ, true, false, List, [], Option, Some, None}
 use Rattle.std.proofs.Common.{Result, Ok, Err, refl, ap, sym, ◌∙◌, append-nil, inl, inr}
 use Rattle.std.specs.Prelude.{◌⊎◌}

@@ -1,4 +1,4 @@
--- Bytes that are typed.
+-- Bytes that are typed go to the window in focus, or their client is told why not.
 use Rattle.std.proofs.Common.{◌≡◌, ℕ, true, false, List, [], ◌∷◌, ◌++◌, Option, Some, None, refl}
 use Rattle.std.proofs.Common.{ap, sym, ◌∙◌, length, inl, inr}
 use Rattle.std.specs.Prelude.{◌⊎◌, ◌==◌}
@@ -23,7 +23,7 @@ use Rattle.session_checks.specs.Checked.{Passed, Failed}
 use Rattle.session_input.specs.Said.{wants_memory}
 use Rattle.session_input.specs.Typing.{Typed, input_to}
 
--- where the checks passed, there is a window in focus
+-- if the checks passed, there is a window in focus
 focus_there : (t : Tables) (user : UserId) (o : Option Window)
     → first_fault t (typing_checks user o) ≡ None → (w : Window) × (o ≡ Some w)
 focus_there t user None passed = absurd (cc (passed))
@@ -63,7 +63,7 @@ typed_through t c (b ∷ bytes) before after old noted some passed put =
       verdicts = passed.noted;
     }
 
--- or the client is told why not
+-- the client is told why not
 pub typed_refused : (t : Tables) (c : Client) (n : ℕ) (typed : List ℕ) (r : Refusal)
     (before after : StepOutput) (old noted : List Verdict) → (length typed == 0) ≡ false → c.serial ≡ n
     → Failed t (typing_checks c.user (focused_window t c)) r old noted

@@ -1,4 +1,4 @@
--- Lines that are read.
+-- What the code's reader has read of keys is what a step of the definitions reads.
 use Rattle.std.proofs.Common.{◌≡◌, ℕ, true, false, List, [], ◌∷◌, Option, Some, Result, Ok, Err, refl, ap, sym, ◌∙◌}
 use Rattle.std.proofs.Common.{length, inl, inr}
 use Rattle.std.specs.Prelude.{◌⊎◌, ◌==◌, IfOk}

@@ -1,4 +1,4 @@
--- A step of keys: what they type, and then the command that they complete.
+-- A step of keys does what they type, and then what their command does, as the definitions' step.
 use Rattle.std.proofs.Common.{◌≡◌, ℕ, zero, suc, ◌+◌, ◌<◌, ◌≤◌, Bool, true, false, List, [], ◌∷◌, ◌++◌, Option, Some}
 use Rattle.std.proofs.Common.{None}
 use Rattle.std.proofs.Common.{Result, Ok, Err, refl, ap, sym, subst, ◌∙◌, arith, length, append-nil, append_assoc}
@@ -86,7 +86,7 @@ were_read t c found bytes count new before after past noted is count_is given =
 
 -- ---- what they type
 
--- the checks are the same, whatever row the client has
+-- the checks are the same for each row that the client may have
 same_fault : (t : Tables) (d : Client) (user : UserId) (o : Option Window)
     → first_fault (with_client t d) (typing_checks user o) ≡ first_fault t (typing_checks user o)
 same_fault t d user None = refl
@@ -150,7 +150,7 @@ module _ (t : Tables) (n : ℕ) (c : Client) (keys : List ℕ) (at : client_at t
       ∙ ap (λ (o : Option Refusal). (typed_deed t c (b ∷ bytes) (focused_window t c) o).effects)
       fault_is
 
--- ---- who gives them
+-- ---- the client that gives them
 
 pub called_by : (c : Client) (row : Row) (n : ℕ) → c.serial ≡ n → ClientStands c row
     → caller_now row ≡ caller_by n c

@@ -1,4 +1,4 @@
--- Windows that are found by their numbers.
+-- The window that a number names is found again by its serial.
 use Rattle.std.proofs.Common.{◌≡◌, ◌<◌, ℕ, Bool, true, false, List, [], ◌∷◌, Option, Some, None}
 use Rattle.std.proofs.Common.{ap, sym, subst, ◌∙◌, arith}
 use Rattle.std.specs.Prelude.{◌==◌, if◌then◌else◌}
@@ -33,7 +33,7 @@ above s (v ∷ ws) n w all is = on (v.number == n) is (above s ws n w all.1) whe
 apart : (m n : ℕ) → m < n → (m == n) ≡ false
 apart m n lt = grind (arith, nat_tests, lt)
 
--- and its serial names the same one
+-- its serial names the same window
 number_row : (ws : List model.Window) (next n : ℕ) (w : model.Window)
     → Rises (window_serials ws) next → with_number ws n ≡ Some w
     → row_of serial ws w.serial ≡ Some w

@@ -1,4 +1,4 @@
--- What comes of commands by keys.
+-- A command by keys that was done or refused, and told of, is the definitions' deed.
 use Rattle.std.proofs.Common.{◌≡◌, ℕ, true, false, List, ◌++◌, Option, Some, None, Result, Ok, Err, ap}
 use Rattle.std.proofs.Common.{sym, subst, ◌∙◌, append-nil, append_assoc, inl, inr}
 use Rattle.std.specs.Prelude.{OnOk}
@@ -117,7 +117,7 @@ obeyed_listing t c d' n k d text s new before middle after old noted same st at 
       verdicts = told ∙ ap (λ (r : Ruling). old ++ r.verdicts) is;
     }
 
--- what was done behind these acts and effects was done behind the same
+-- what was done after some acts and effects was done after equal ones
 pub kept_on : (t : Tables) (d : Deed) (new : State) (before middle after : StepOutput)
     → HasDone t d new before after → before.acts.items ≡ middle.acts.items
     → before.effects.items ≡ middle.effects.items → HasDone t d new middle after

@@ -1,4 +1,4 @@
--- Outcomes that have come about.
+-- A deed that was done, or a refusal, is the outcome of its event.
 use Rattle.std.proofs.Common.{◌≡◌, ◌++◌, List, [], Option, Some, None, Err}
 use Rattle.std.proofs.Common.{refl, ap, sym, subst, ◌∙◌, append-nil, append_assoc, inl, inr}
 use Rattle.std.specs.Prelude.{◌⊎◌}
@@ -57,7 +57,7 @@ was_done t vs d o reply said middle new before first second after past noted is 
       verdicts = told;
     })
 
--- nobody leaves behind a deed that leaves each client's focus
+-- nobody leaves a window after a deed that leaves each client's focus
 pub nobody_leaves : (t : Tables) (d : Deed) (new : State) (made : StepOutput)
     → left_acts t.clients d.tables.clients ≡ [] → Stands (did t d) new → HasLeft t d new made made
 nobody_leaves t d new made none st = record {

@@ -1,4 +1,4 @@
--- A client's row that is put in place of the one before it: the same client with the same page.
+-- If a client's row is replaced by one of the same client and page, the state stands for the new row.
 use Rattle.std.proofs.Common.{◌≡◌, ℕ, suc, ◌≤◌, Bool, true, false, List, [], ◌∷◌, ◌++◌, Some, map, length, refl, ap}
 use Rattle.std.proofs.Common.{sym, subst, ◌∙◌}
 use Rattle.std.specs.Prelude.{if◌then◌else◌, ◌==◌, reverse}
@@ -136,7 +136,7 @@ read_stands message keys reader c row read st = record {
   screen = st.screen;
 }
 
--- so stands the state once they were exchanged in its row
+-- the state stands for that client once its reader and message were exchanged
 pub stands_read : (t : Tables) (s : State) (n : ℕ) (c : Client) (keys : List ℕ)
     (reader then_reader : Keeping) (message then_message : Message) (cs : List Row)
     → client_at t n ≡ Some c → StandsFor reader (c.keys ++ keys)

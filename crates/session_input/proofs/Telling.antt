@@ -1,4 +1,4 @@
--- Clients that are told something.
+-- A client that was told a text has its message, and the state stands for that.
 use Rattle.std.proofs.Common.{◌≡◌, ℕ, List, [], ◌∷◌, ◌++◌, Option, Some, None, ap, sym, subst}
 use Rattle.std.proofs.Common.{◌∙◌, append-nil}
 use Rattle.session_model.specs.declared.event.Effect.TheVariants.{Say}

@@ -10,7 +10,7 @@ use Rattle.session_model.specs.Tables.{Tables, Client}
 use Rattle.session_model.specs.Deeds.{changing}
 use Rattle.session_model.specs.Answering.{Ordered, by_line}
 
--- that of a line of the prompt, or its fault; an empty line gives none
+-- the command of a line of the prompt, or its fault; an empty line gives none
 abbrev pub given_line : List ℕ → Option (Result Command ParseFault)
 given_line [] = None
 given_line (b ∷ bytes) = Some (read_line (b ∷ bytes))
@@ -20,7 +20,7 @@ given (Some (bound order)) = Some (Ok order)
 given (Some (line bytes)) = given_line bytes
 given _ = None
 
--- what comes of it
+-- the deed of a command that keys give
 abbrev pub ordered_by : Tables → Client → Option (Result Command ParseFault) → Ordered
 ordered_by t c None = record { verdicts = []; deed = changing t }
 ordered_by t c (Some order) = by_line t c order

@@ -23,28 +23,28 @@ use Rattle.session_input.specs.Typing.{caller_by}
 use Rattle.session_input.specs.Obeying.{Obeyed}
 use Rattle.session_input.specs.Reads.{keys_deed, keys_verdicts, read_of, HasEnded}
 
--- a client that gives keys, as it is kept
+-- the caller of a client's keys, from the client's row
 abbrev pub caller_now : Row → Caller
 caller_now c = record { user = c.user; client = Some c.serial; window = in_focus c }
 
--- a client has the serial
+-- there is a client with the serial
 abbrev pub IsHere : ℕ → State → Type 0
 IsHere client s = (c : Row) × (row_of (λ (c : Row). c.serial) s.clients client ≡ Some c)
 
--- what these keys give behind those before: what they type, and the command or the line; the reader
--- has read them all
+-- what these keys give after those before: what they type, and the command or the line; the reader has
+-- read them all
 pub record AreRead (c : Client) (keys : List ℕ) (reader : Keeping) (typed : List ℕ)
     (order : Option (Result Command ParseFault)) : Type 0 where
   pub typed_is : typed ≡ typed_bytes (items_behind c.keys keys)
   pub order_is : order ≡ given (command_item (items_behind c.keys keys))
   pub reads : StandsFor reader (c.keys ++ keys)
 
--- so many of the bytes were read
+-- this many of the bytes were read
 pub record IsReading (c : Client) (bytes : List ℕ) (reader : Keeping) (r : KeysRead) : Type 0 where
   pub taken_is : r.taken ≡ taken c.keys bytes
   pub read : AreRead c (read_of c bytes) reader r.typed r.order
 
--- whichever client's keys the reader had read
+-- so it was for every client whose keys the reader had read
 abbrev pub ReadsOf : Keeping → List ℕ → Keeping → KeysRead → Type 0
 ReadsOf old bytes new r = (c : Client) → StandsFor old c.keys → IsReading c bytes new r
 
@@ -52,7 +52,7 @@ ReadsOf old bytes new r = (c : Client) → StandsFor old c.keys → IsReading c 
 abbrev pub read_by : Message → List ℕ → Client → Client
 read_by message keys c = hearing message (reading keys c)
 
--- the command that keys complete was obeyed, where the client has read them and says this
+-- the command that keys complete was obeyed, once the client had read them and had this message
 abbrev pub ObeysRead : Caller → ℕ → Keeping → Message → Result Command ParseFault →
     State → State → StepOutput → StepOutput → List Verdict → List Verdict → Type 0
 ObeysRead k client reader message order old new before after past noted =
@@ -67,7 +67,7 @@ pub record AreGiven (t : Tables) (c : Client) (keys : List ℕ) (new : State) (b
   pub done : HasDone t (keys_deed t c keys) new before after
   pub verdicts : noted ≡ old ++ keys_verdicts t c keys
 
--- whichever tables the state stood for
+-- so it was for all tables that the state stood for
 abbrev pub Gives : Caller → ℕ → Keeping → List ℕ → Option (Result Command ParseFault) →
     State → State → StepOutput → StepOutput → List Verdict → List Verdict → Type 0
 Gives k client reader typed order old new before after past noted =
@@ -75,7 +75,7 @@ Gives k client reader typed order old new before after past noted =
     → client_at t client ≡ Some c → k ≡ caller_by client c → AreRead c keys reader typed order
     → AreGiven t c keys new before after past noted
 
--- and then users left windows
+-- the deed of keys was done, and then users left windows
 pub record HaveEnded (t : Tables) (c : Client) (keys : List ℕ) (new : State) (before after : StepOutput)
     (old noted : List Verdict) : Type 0 where
   pub ended : HasEnded t (keys_deed t c keys) new before after

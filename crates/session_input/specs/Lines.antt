@@ -14,7 +14,7 @@ use Rattle.session_state.specs.declared.state.State.{State}
 use Rattle.session_state.specs.Stands.{Stands}
 use Rattle.session_model.specs.Sound.{AreFit}
 
--- why a line with a fault is refused
+-- the refusal for a line with this fault
 abbrev pub refusal_by : ParseFault → FaultKind → Refusal
 refusal_by f fault.NoMemory = NoMemory
 refusal_by f kind = Line f
@@ -28,7 +28,7 @@ Parses line (Ok order) = read_line line ≡ Ok order
 Parses line (Err r) =
     (r ≡ NoMemory) ⊎ ((f : ParseFault) × (read_line line ≡ Err f) × (r ≡ Line f))
 
--- a serial is that of the window of a number, whichever tables the state stands for
+-- a serial is that of the window with a number, for all tables that the state stands for
 abbrev pub IsNumbered : State → Option ℕ → Option ℕ → Type 0
 IsNumbered s number serial =
     (t : Tables) → Stands t s → AreFit t

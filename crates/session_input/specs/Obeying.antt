@@ -13,14 +13,14 @@ use Rattle.session_state.specs.Doing.{HasDone}
 use Rattle.session_input.specs.Given.{ordered_by}
 use Rattle.session_input.specs.Typing.{caller_by}
 
--- what comes of it was done, and its verdicts were noted
+-- the deed of a command that keys give was done, and its verdicts were noted
 pub record Obeyed (t : Tables) (c : Client) (order : Option (Result Command ParseFault))
     (new : State) (before after : StepOutput) (old noted : List Verdict) : Type 0 where
   pub done : HasDone t (ordered_by t c order).deed new before after
   pub verdicts : noted ≡ old ++ (ordered_by t c order).verdicts
 
--- Whichever tables the state stood for. The row of the client may be another one, with the same
--- serial, user and focus.
+-- So it was for all tables that the state stood for. The row of the client may be another one, with
+-- the same serial, user and focus.
 abbrev pub Obeys : Caller → ℕ → Option (Result Command ParseFault) → State → State →
     StepOutput → StepOutput → List Verdict → List Verdict → Type 0
 Obeys k client order old new before after past noted =

@@ -15,18 +15,18 @@ use Rattle.session_model.specs.Sound.{AreFit}
 use Rattle.session_events.specs.Leaving.{ended}
 pub use Rattle.session_input.specs.Ruled.{Ruled}
 
--- what the keys type behind those before them
+-- what the keys type after those before them
 abbrev pub typing : Tables → Client → List ℕ → Deed
 typing t c keys =
     types (with_client t (reading keys c)) (reading keys c)
     (typed_bytes (items_behind c.keys keys))
 
--- and what the command or the line does that they complete
+-- what the command or the line does that the keys complete
 abbrev pub order : Tables → Client → List ℕ → Ordered
 order t c keys =
     ordered (typing t c keys).tables (reading keys c) (command_item (items_behind c.keys keys))
 
--- both
+-- what the keys type, and then what their command does
 abbrev pub keys_verdicts : Tables → Client → List ℕ → List Verdict
 keys_verdicts t c keys =
     typing_verdicts t c (typed_bytes (items_behind c.keys keys)) ++ (order t c keys).verdicts
@@ -49,14 +49,14 @@ pub record HasEnded (t : Tables) (d : Deed) (new : State) (before after : StepOu
       after.acts.items ≡ before.acts.items ++ (d.acts ++ left_acts t.clients d.tables.clients)
   pub effects : after.effects.items ≡ before.effects.items ++ d.effects
 
--- so many were read, their step was taken to its end, and their verdicts were noted
+-- these keys were read, their step was taken to its end, and their verdicts were noted
 pub record HasRead (t : Tables) (c : Client) (read : List ℕ) (count : ℕ) (new : State)
     (before after : StepOutput) (old noted : List Verdict) : Type 0 where
   pub count_is : count ≡ length read
   pub ended : HasEnded t (keys_deed t c read) new before after
   pub verdicts : noted ≡ old ++ keys_verdicts t c read
 
--- where a client gave them; memory may be wanting
+-- if there is a client that gave the keys; memory may be wanting
 abbrev pub ReadFor : Tables → Option Client → List ℕ → Result ℕ Refusal → State → StepOutput → StepOutput →
     List Verdict → List Verdict → Type 0
 ReadFor t (Some c) bytes (Ok count) new before after old noted =
@@ -65,7 +65,7 @@ ReadFor t (Some c) bytes (Err r) new before after old noted = r ≡ NoMemory
 ReadFor t None bytes (Ok count) new before after old noted = ⊥
 ReadFor t None bytes (Err r) new before after old noted = (r ≡ NoWindow) × (noted ≡ old)
 
--- whichever tables the state stood for
+-- so it was for all tables that the state stood for
 abbrev pub Reads : ℕ → List ℕ → State → Result ℕ Refusal → State → StepOutput → StepOutput →
     List Verdict → List Verdict → Type 0
 Reads client bytes old result new before after past noted =

@@ -21,7 +21,7 @@ Ruled t r (Ok lists) new before after old noted =
 Ruled t r (Err e) new before after old noted =
     (e ≡ NoMemory) ⊎ ((r.answer ≡ Err e) × (noted ≡ old ++ r.verdicts))
 
--- whichever tables the state stood for
+-- so it was for all tables that the state stood for
 abbrev pub Rules : Caller → Command → State → Result (Option (List ℕ)) Refusal →
     State → StepOutput → StepOutput → List Verdict → List Verdict → Type 0
 Rules k c old result new before after noted now_noted =

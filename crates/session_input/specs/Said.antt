@@ -10,7 +10,7 @@ use Rattle.session_state.specs.declared.state.State.{State}
 use Rattle.session_state.specs.Stands.{Stands}
 use Rattle.session_state.specs.Doing.{HasDone}
 
--- a client that is there was told a text, and has the message, whichever tables the state stood for
+-- a client that is there was told a text, and has the message, for all tables that the state stood for
 abbrev pub Says : ℕ → Message → List ℕ → State → State → StepOutput → StepOutput → Type 0
 Says client message text old new before after =
     (t : Tables) (c : Client) → Stands t old → client_at t client ≡ Some c

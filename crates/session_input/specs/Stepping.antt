@@ -1,4 +1,4 @@
--- What has come about, of an outcome.
+-- An outcome that has happened.
 use Rattle.std.specs.Prelude.{◌≡◌, ◌⊎◌, ◌++◌, List, Ok, Err}
 use Rattle.session_model.specs.declared.refusal.Refusal.TheVariants.{NoMemory}
 use Rattle.session_model.specs.declared.verdict.Verdict.{Verdict}
@@ -11,8 +11,8 @@ use Rattle.session_state.specs.declared.state.State.{State}
 use Rattle.session_state.specs.Stands.{Stands}
 use Rattle.session_model.specs.Sound.{AreFit}
 
--- its reply was given, the state stands for its tables, and its acts, effects and verdicts stand
--- behind those before
+-- its reply was given, the state stands for its tables, and its acts, effects and verdicts come after
+-- those before
 pub record HasHappened (o : Outcome) (reply : Reply) (new : State) (before after : StepOutput)
     (old noted : List Verdict) : Type 0 where
   pub replied : o.reply ≡ reply
@@ -21,7 +21,7 @@ pub record HasHappened (o : Outcome) (reply : Reply) (new : State) (before after
   pub effects : after.effects.items ≡ before.effects.items ++ o.effects
   pub verdicts : noted ≡ old ++ o.verdicts
 
--- so it was, or memory was wanting
+-- the outcome has happened, or memory was wanting
 abbrev pub Stepped :
     Outcome → Reply → State → StepOutput → StepOutput → List Verdict → List Verdict → Type 0
 Stepped o (Ok done) new before after old noted =
@@ -29,7 +29,7 @@ Stepped o (Ok done) new before after old noted =
 Stepped o (Err r) new before after old noted =
     (r ≡ NoMemory) ⊎ HasHappened o (Err r) new before after old noted
 
--- that of an event, whichever tables the state stood for
+-- an event's outcome has happened, for all tables that the state stood for
 abbrev pub Steps : EventValue → State → Reply → State → StepOutput → StepOutput → List Verdict →
     List Verdict → Type 0
 Steps event old reply new before after past noted =

@@ -1,4 +1,4 @@
--- Bytes that a client's keys type.
+-- The bytes that a client's keys type.
 use Rattle.std.specs.Prelude.{ℕ, ◌≡◌, ◌++◌, List, [], ◌∷◌, Option, Some, None}
 use Rattle.std.specs.Option.{option_map_or}
 use Rattle.session_model.specs.declared.event.Effect.{Effect}
@@ -16,7 +16,7 @@ use Rattle.session_state.specs.declared.state.State.{State}
 use Rattle.session_state.specs.Stands.{Stands}
 use Rattle.session_model.specs.Sound.{AreFit}
 
--- a client that gives keys, for the window in focus
+-- the caller of a client's keys, for the window in focus
 abbrev pub caller_by : ℕ → Client → Caller
 caller_by serial c = record { user = c.user; client = Some serial; window = focused c }
 
@@ -24,7 +24,7 @@ caller_by serial c = record { user = c.user; client = Some serial; window = focu
 abbrev pub input_to : Option ℕ → List ℕ → List Effect
 input_to window typed = option_map_or (λ w. Input w typed ∷ []) window []
 
--- what its status line says then
+-- the message on its status line then
 abbrev pub message_after : Tables → Client → List ℕ → Message
 message_after t c [] = Silence
 message_after t c (b ∷ bytes) =
@@ -33,20 +33,20 @@ message_after t c (b ∷ bytes) =
       | Some r ↦ Text (text_of r)
     ]
 
--- they are typed: this is the effect, and the verdicts are noted
+-- the bytes were typed: this is the effect, and the verdicts were noted
 pub record Typed (t : Tables) (c : Client) (typed : List ℕ) (message : Message)
     (before after : StepOutput) (old noted : List Verdict) : Type 0 where
   pub message_is : message ≡ message_after t c typed
   pub effects : after.effects.items ≡ before.effects.items ++ (types t c typed).effects
   pub verdicts : noted ≡ old ++ typing_verdicts t c typed
 
--- whichever tables the state stands for
+-- so it was for all tables that the state stands for
 abbrev pub Types : Caller → ℕ → List ℕ → State → Message → StepOutput → StepOutput → List Verdict →
     List Verdict → Type 0
 Types k client typed s message before after old noted =
     (t : Tables) (c : Client) → Stands t s → AreFit t → client_at t client ≡ Some c
     → k ≡ caller_by client c → Typed t c typed message before after old noted
 
--- effects stand behind those before
+-- these effects come after those before
 abbrev pub Grows : List Effect → List Effect → Type 0
 Grows before after = (more : List Effect) × (after ≡ before ++ more)

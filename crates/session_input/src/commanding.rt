@@ -15,7 +15,7 @@ use session_model::{Done, Refusal, Reply};
 use session_state::{Caller, State, Step};
 use std::alloc::Global;
 
-/// Why a line with a fault is refused.
+/// The refusal for a line with this fault.
 fn line_refusal(fault: ParseFault) -> Refusal
     ensures { result ≡ line_refusal fault }
 {
@@ -35,7 +35,7 @@ fn command_of(alloc: Global, line: &[u8]) -> Result<Command, Refusal>
     }
 }
 
-/// The serial of the window of a number.
+/// The serial of the window with this number.
 fn window_numbered(state: &State, number: Option<u8>) -> Option<u32>
     ensures { IsNumbered state.now number result }
 {
@@ -44,7 +44,7 @@ fn window_numbered(state: &State, number: Option<u8>) -> Option<u32>
     Some(window.serial)
 }
 
-/// A known user gives a command by a line, for the window of a number.
+/// Takes a known user's command by a line, for the window with a number.
 pub fn give_line(
     state: &mut State,
     user: UserId,

@@ -9,7 +9,7 @@ use command_lang::{Command, FaultKind, ParseFault, parse};
 use keys::KeyItem;
 use std::alloc::{AllocError, Global};
 
-/// Whether memory was wanting.
+/// Whether a fault is one for want of memory.
 fn is_want(fault: &ParseFault) -> bool
     ensures { result ≡ is_want fault.now }
 {
@@ -26,7 +26,7 @@ fn faulty_line(fault: ParseFault) -> Result<Option<Result<Command, ParseFault>>,
     Ok(Some(Err(fault)))
 }
 
-/// The command or the fault of a line, if it isn't empty.
+/// The command of a line or its fault, if the line isn't empty.
 fn line_command(
     alloc: Global,
     line: &[u8],
@@ -42,8 +42,8 @@ fn line_command(
     }
 }
 
-/// The command that an item gives, or why its line is none; nothing where it gives no command. The
-/// line is that of the prompt.
+/// The command that an item gives, or the fault of its line, which is the prompt's. There is none if
+/// the item gives no command.
 pub fn command_given(
     alloc: Global,
     item: Option<KeyItem>,

@@ -25,11 +25,11 @@ struct KeysRead {
     taken: usize,
     /// What they type.
     typed: Bytes,
-    /// The command that the last of them gives, or why its line is none.
+    /// The command that the last of them gives, or the fault of its line.
     order: Option<Result<Command, ParseFault>>,
 }
 
-/// Who gives a command by this client's keys.
+/// The caller of a command that this client's keys give.
 fn caller_of(row: &Client) -> Caller
     ensures { result ≡ caller_now row.now }
 {
@@ -40,7 +40,7 @@ fn caller_of(row: &Client) -> Caller
     }
 }
 
-/// Reads keys of a client up to the first one that completes a command or a line. At an `Err` the
+/// Reads keys of a client up to the first one that completes a command or a line. After an `Err` the
 /// reader has read some of them.
 fn read(alloc: Global, reader: &mut KeyReader, bytes: &[u8]) -> Result<KeysRead, AllocError>
     ensures { IfOk result (ReadsOf reader.old bytes.now reader.new) }
@@ -54,7 +54,7 @@ fn read(alloc: Global, reader: &mut KeyReader, bytes: &[u8]) -> Result<KeysRead,
     })
 }
 
-/// A client has read keys and says this; then it gives the command that they complete.
+/// A client whose row has this reader and message gives the command that its keys complete.
 fn obey_read(
     state: &mut State,
     given: &KeyOrder,
@@ -81,7 +81,7 @@ fn obey_read(
     }
 }
 
-/// A client gives keys that complete a command: what they type, and then the command.
+/// A client gives keys that complete a command: they are typed, and then the command is obeyed.
 fn give(
     state: &mut State,
     given: &KeyOrder,
@@ -112,7 +112,7 @@ fn give(
     }
 }
 
-/// Keys that complete a command: users may leave windows by it.
+/// Takes keys that complete a command. Users may leave windows by it.
 fn give_order(
     state: &mut State,
     given: &KeyOrder,
@@ -133,8 +133,8 @@ fn give_order(
     Ok(())
 }
 
-/// Keys that complete no command: they are typed. Each client shows what it showed, so nobody
-/// leaves a window.
+/// Takes keys that complete no command: they are typed. Each client shows what it showed before, so
+/// nobody leaves a window.
 fn give_typed(
     state: &mut State,
     by: KeyCaller,
@@ -153,10 +153,9 @@ fn give_typed(
     Ok(())
 }
 
-/// A step of a client's keys: they are read up to the first one that completes a command or a line
-/// of the prompt. What they type goes to the window in focus, the command is obeyed, the client is
-/// told of what was refused, each thing once, and then users leave windows. Gives how many keys
-/// were read.
+/// Takes a step of a client's keys: they are read up to the first one that completes a command or a
+/// line of the prompt. What they type goes to the window in focus, the command is obeyed, the client is
+/// told once of each refusal, and then users leave windows. Returns how many keys were read.
 pub fn keys(state: &mut State, client: u32, bytes: &[u8], step: &mut Step) -> Result<usize, Refusal>
     ensures answer { Reads client bytes.now state.old result state.new
         step.old.made step.new.made step.old.verdicts.items step.new.verdicts.items }

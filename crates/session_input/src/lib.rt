@@ -1,4 +1,4 @@
-//! What users put in: keys, which type or give commands, and lines, which give them; a command is
+//! The input of users: keys, which type or give commands, and lines, which give commands. A command is
 //! checked, carried out and answered.
 #![tactic(auto)]
 

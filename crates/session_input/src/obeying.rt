@@ -1,4 +1,4 @@
-//! Commands by keys, and what their client is told of them.
+//! How a client's commands by keys are obeyed, and what the client is told of them.
 
 ghost use Rattle.std.specs.Prelude.{◌≡◌, Ok, Some, IfOk, IfErr, OnOk};
 ghost use Rattle.session_model.specs.Answering.{message_of};
@@ -13,8 +13,8 @@ use session_model::{Bytes, Message, Refusal};
 use session_state::{KeyCaller, State, Step};
 use std::alloc::{AllocError, Global};
 
-/// What a client's status line says of what a command lists: the lists of windows and of clients
-/// are made anew at each draw.
+/// The message for what a command lists. The lists of windows and of clients are made anew at each
+/// draw.
 fn message_of(alloc: Global, command: &Command, text: &Bytes) -> Result<Message, AllocError>
     ensures { IfOk result (λ message. message ≡ message_of command.now text.now) }
 {
@@ -25,7 +25,7 @@ fn message_of(alloc: Global, command: &Command, text: &Bytes) -> Result<Message,
     }
 }
 
-/// A client gives a command by keys, and is told what it lists, or why it is refused.
+/// Obeys a command of a client, and tells the client what it lists, or why it is refused.
 fn obey_command(
     state: &mut State,
     by: KeyCaller,
@@ -53,7 +53,7 @@ fn obey_command(
     }
 }
 
-/// A client gives a command by keys, or a line that is none.
+/// Obeys a command that a client gives by keys, or tells the client the fault of its line.
 pub fn obey(
     state: &mut State,
     by: KeyCaller,

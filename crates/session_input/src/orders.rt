@@ -1,4 +1,4 @@
-//! Commands that are given.
+//! How a command is checked and carried out.
 
 ghost use Rattle.std.specs.Prelude.{◌≡◌, true, Some, None, IfOk, IfErr};
 ghost use Rattle.std.specs.Option.{is_some};
@@ -20,7 +20,7 @@ use session_commands::{
 use session_model::{Bytes, Refusal};
 use session_state::{Caller, State, Step, StepOutput};
 
-/// The window of a caller's command, by its serial.
+/// The serial of the window of a caller's command.
 fn window_of(caller: Caller) -> Result<u32, Refusal>
     ensures ok { IfOk result (λ window. caller.window ≡ Some window) }
     ensures err { IfErr result (λ refusal. (refusal ≡ NoWindow) × (caller.window ≡ None)) }
@@ -51,7 +51,7 @@ fn is_of_client(command: &Command) -> bool
     )
 }
 
-/// What a command that acts on the client that gives it does.
+/// Carries out a command that acts on the client that gives it.
 fn act_on_client(
     state: &mut State,
     caller: Caller,
@@ -81,8 +81,7 @@ fn act_on_client(
     }
 }
 
-/// What a command does once its checks have passed: the deed of its row, for the client that gives
-/// it or the window that it acts on.
+/// Carries out a command whose checks have passed, for the client that gives it or for its window.
 #[tactic(auto, using(crate::proofs::Acting::silent_lists))]
 fn act(
     state: &mut State,
@@ -130,8 +129,8 @@ fn act(
     }
 }
 
-/// A command that is given: its checks are made, and then it does what its row says. A command that
-/// lists changes nothing; nor does a refusal, but for what was checked.
+/// Makes the checks of a command, and then carries it out. A command that lists changes nothing. A
+/// refusal changes nothing but the notes of what was checked.
 pub fn order(
     state: &mut State,
     caller: Caller,

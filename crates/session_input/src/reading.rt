@@ -1,4 +1,4 @@
-//! Keys of clients.
+//! The keys of clients.
 
 ghost use Rattle.std.specs.Prelude.{OnErr};
 ghost use Rattle.session_model.specs.Trace.{Keys};
@@ -9,8 +9,8 @@ use crate::key_step::keys;
 use session_model::{Done, Reply};
 use session_state::{State, Step};
 
-/// A client gives keys: they are read up to the first that completes a command or a line. Users
-/// leave windows only where there is one.
+/// Takes the keys of a client, up to the first that completes a command or a line. Users leave windows
+/// only if there is one.
 pub fn give_keys(state: &mut State, client: u32, bytes: &[u8], step: &mut Step) -> Reply
     ensures step { Steps (Keys client bytes.now) state.old result state.new
         step.old.made step.new.made step.old.verdicts.items step.new.verdicts.items }

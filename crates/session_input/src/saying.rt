@@ -1,4 +1,4 @@
-//! What a client is told.
+//! How a client is told something.
 
 ghost use Rattle.std.specs.Prelude.{◌≡◌, IfOk, IfErr, OnOk, OnErr};
 ghost use Rattle.session_model.specs.Texts.{text_of};
@@ -11,14 +11,14 @@ use session_model::{Bytes, Effect, Message, Refusal};
 use session_state::{State, StepOutput};
 use std::alloc::{AllocError, Global};
 
-/// Whether memory was wanting.
+/// Whether a refusal is one for want of memory.
 pub(crate) fn wants_memory(refusal: &Refusal) -> bool
     ensures { result ≡ wants_memory refusal.now }
 {
     matches!(refusal, Refusal::NoMemory)
 }
 
-/// What is told of a refusal.
+/// The text that tells of a refusal.
 pub(crate) fn why(alloc: Global, refusal: &Refusal) -> Result<Bytes, AllocError>
     ensures { IfOk result (λ text. text ≡ text_of refusal.now) }
 {
@@ -27,7 +27,7 @@ pub(crate) fn why(alloc: Global, refusal: &Refusal) -> Result<Bytes, AllocError>
     Ok(Bytes::from_vec(text))
 }
 
-/// A client is told a text, and its status line says this from now on.
+/// Tells a client a text, and puts a message on its status line.
 pub(crate) fn say(
     state: &mut State,
     client: u32,
@@ -45,7 +45,7 @@ pub(crate) fn say(
     Ok(())
 }
 
-/// A client is told why something was refused.
+/// Tells a client why something was refused.
 pub(crate) fn say_why(
     state: &mut State,
     client: u32,

@@ -1,4 +1,4 @@
-//! Bytes that keys type.
+//! The bytes that keys type.
 
 ghost use Rattle.std.specs.Prelude.{◌≡◌, ◌++◌, ◌∷◌, [], IfOk, IfErr, OnOk, OnErr};
 ghost use Rattle.session_model.specs.Texts.{text_of};
@@ -13,7 +13,7 @@ use session_model::{Bytes, Effect, Message, Refusal};
 use session_state::{KeyCaller, State, Step};
 use std::alloc::{AllocError, Global};
 
-/// Bytes for a window's program.
+/// Sends bytes to a window's program.
 fn put_typed(window: Option<u32>, typed: Bytes, effects: &mut Vec<Effect>) -> Result<(), AllocError>
     ensures ok { OnOk result (effects.new.items ≡ effects.old.items ++ input_to window typed) }
     ensures err { OnErr result (effects.new.items ≡ effects.old.items) }
@@ -25,7 +25,7 @@ fn put_typed(window: Option<u32>, typed: Bytes, effects: &mut Vec<Effect>) -> Re
     Ok(())
 }
 
-/// A client is told why it may not type. Gives what its status line says then.
+/// Tells a client why it may not type. Returns the message for its status line.
 fn deny(
     alloc: Global,
     client: u32,
@@ -42,8 +42,8 @@ fn deny(
     Ok(message)
 }
 
-/// Bytes that a client's keys type go to the window in focus, or it is told why not. Gives what its
-/// status line says then.
+/// Sends the bytes that a client's keys type to the window in focus, or tells the client why not.
+/// Returns the message for its status line.
 pub fn type_bytes(
     state: &State,
     by: KeyCaller,

@@ -1,4 +1,4 @@
--- What a session has may go to another thread.
+-- A session's state may go to another thread, since each of its parts may.
 use denote.Param.Send.{IsSend, plain_send}
 use denote.Param.SendFields.{declared_send}
 use Rattle.std.proofs.alloc.Global.TheSendSync as heap

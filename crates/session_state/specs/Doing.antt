@@ -1,4 +1,4 @@
--- What a command does to a session's state, whichever tables that stands for.
+-- What a command does to a session's state, for all tables that the state stands for.
 use Rattle.std.specs.Prelude.{ℕ, ◌≡◌, ◌⊎◌, ◌≤◌, ◌+◌, ◌++◌, List, Option, None, Result, Ok, Err}
 use Rattle.std.specs.Prelude.{vec_len, vec_capacity, Some, IfOk, OnOk, OnErr}
 use Rattle.std.specs.Option.{option_and_then}
@@ -17,7 +17,7 @@ use Rattle.session_state.specs.declared.state.State.{State}
 use Rattle.session_state.specs.Stands.{Stands}
 use Rattle.session_model.specs.Sound.{AreFit}
 
--- who gives a command, with the row of the window
+-- the caller of a command, with the row of the window
 abbrev pub caller_in : Tables → Caller → model.Caller
 caller_in t k = record {
   user = k.user;
@@ -29,8 +29,8 @@ caller_in t k = record {
 abbrev pub did : Tables → Deed → Tables
 did t d = record d.tables { acts = followed_by t.acts d.acts }
 
--- a deed was done: the state stands for the tables then, and the deed's acts and effects stand
--- behind those before
+-- a deed was done: the state stands for the tables then, and the deed's acts and effects come after
+-- those before
 pub record HasDone (t : Tables) (d : Deed) (new : State) (before after : StepOutput) : Type 0 where
   pub stands : Stands (did t d) new
   pub acts : after.acts.items ≡ before.acts.items ++ d.acts
@@ -44,7 +44,7 @@ Answers t answer (Ok lists) new before after =
     (d : Deed) × (answer ≡ Ok d) × (lists ≡ d.lists) × HasDone t d new before after
 Answers t answer (Err r) new before after = (r ≡ NoMemory) ⊎ (answer ≡ Err r)
 
--- where its checks have passed
+-- what a command answers to this caller, once its checks have passed
 abbrev pub Does : Caller → Command → State → Result (Option (List ℕ)) Refusal →
     State → StepOutput → StepOutput → Type 0
 Does k c old result new before after =
@@ -52,12 +52,12 @@ Does k c old result new before after =
     → first_fault t (checks t (caller_in t k) c) ≡ None
     → Answers t (does t (caller_in t k) c) result new before after
 
--- the same, whoever gives it
+-- what it answers to every caller
 abbrev pub DoesForAll : Command → State → Result (Option (List ℕ)) Refusal → State →
     StepOutput → StepOutput → Type 0
 DoesForAll c old result new before after = (k : Caller) → Does k c old result new before after
 
--- whoever gives it for this window
+-- what it answers to every caller for this window
 abbrev pub DoesOn : ℕ → Command → State → Result (Option (List ℕ)) Refusal → State →
     StepOutput → StepOutput → Type 0
 DoesOn window c old result new before after =
@@ -67,12 +67,12 @@ DoesOn window c old result new before after =
 abbrev pub IsAttached : ℕ → State → Type 0
 IsAttached client s = (t : Tables) → Stands t s → (m : Client) × (client_at t client ≡ Some m)
 
--- and the caller gives commands by it
+-- the caller gives commands by this client, which is attached
 pub record GivesBy (client : ℕ) (s : State) (k : Caller) : Type 0 where
   pub client_is : k.client ≡ Some client
   pub attached : IsAttached client s
 
--- whoever gives it by this client
+-- what it answers to every caller by this client
 abbrev pub DoesBy : ℕ → Command → State → Result (Option (List ℕ)) Refusal → State →
     StepOutput → StepOutput → Type 0
 DoesBy client c old result new before after =
@@ -84,15 +84,16 @@ pub record IsAsBefore (old new : State) (before after : StepOutput) : Type 0 whe
   pub acts : after.acts.items ≡ before.acts.items
   pub effects : after.effects.items ≡ before.effects.items
 
--- so many more acts can be noted without memory
+-- n more acts can be noted without memory
 abbrev pub HasRoom : ℕ → StepOutput → Type 0
 HasRoom n made = vec_len made.acts + n ≤ vec_capacity made.acts
 
--- for what a command or an event does, and behind it for each client that leaves a window at the
+-- room for what a command or an event does, and then for each client that leaves a window at the
 -- step's end
 abbrev pub HasRoomToAct : StepOutput → Type 0
 HasRoomToAct made = HasRoom 256 made
 
+-- room for each client that leaves a window at the step's end
 abbrev pub HasRoomToLeave : StepOutput → Type 0
 HasRoomToLeave made = HasRoom 64 made
 
@@ -102,7 +103,7 @@ abbrev pub IsWhole : {A E : Type 0} → Result A E → State → State →
 IsWhole result old new before after =
     OnErr result (IsAsBefore old new before after) × OnOk result (HasRoomToLeave after)
 
--- the same of what lists nothing
+-- done without a list, and there is room to leave; or refused, and all is as before
 abbrev pub IsSilent : Result (Option (List ℕ)) Refusal → State → State →
     StepOutput → StepOutput → Type 0
 IsSilent result old new before after =

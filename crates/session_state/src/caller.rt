@@ -1,9 +1,9 @@
-//! Who gives a command.
+//! The caller of a command.
 
 use acl::UserId;
 
-/// Who gives a command: a user; their client, by its serial, where keys give it; and the window that
-/// it would act on, by its serial.
+/// Who gives a command: the user; the serial of their client, if they give it by keys; and the serial
+/// of the window that the command would act on, if there is one.
 #[derive(Clone, Copy, PartialEq, Eq, Debug)]
 pub struct Caller {
     pub user: UserId,

@@ -1,4 +1,4 @@
-//! What is noted of a step.
+//! The notes of a step: its acts and its checks.
 
 ghost use Rattle.std.specs.Prelude.{◌≡◌};
 ghost use Rattle.session_state.specs.Noted.{nothing};
@@ -8,8 +8,8 @@ use session_model::Verdict;
 use std::alloc::Global;
 use std::marker::Model;
 
-/// What a step did to rights and locks, and what it checked. Each step that isn't refused for want
-/// of memory makes them anew.
+/// What a step did to rights and locks, and what it checked. Each step makes new notes, unless it is
+/// refused for want of memory.
 pub struct Notes {
     acts: Vec<Act>,
     verdicts: Vec<Verdict>,
@@ -33,7 +33,7 @@ impl Model for Notes {
 }
 
 impl Notes {
-    /// Notes of nothing.
+    /// Notes without acts and verdicts.
     pub fn new(alloc: Global) -> Notes
         ensures { result ≡ nothing }
     {
@@ -47,14 +47,14 @@ impl Notes {
         self.acts.as_slice()
     }
 
-    /// What the step checked, in its order.
+    /// What the step checked, in the order of the checks.
     pub fn verdicts(&self) -> &[Verdict]
         ensures { result.now ≡ self.now.verdicts }
     {
         self.verdicts.as_slice()
     }
 
-    /// The acts and the verdicts of the step, each in their order.
+    /// Takes the acts and the verdicts of the step out, each in their order.
     pub fn into_parts(self) -> (Vec<Act>, Vec<Verdict>)
         ensures acts { result.0.items ≡ self.acts }
         ensures verdicts { result.1.items ≡ self.verdicts }

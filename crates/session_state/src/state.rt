@@ -1,4 +1,4 @@
-//! What a session has.
+//! The state of a session.
 
 ghost use Rattle.std.specs.Prelude.{IfOk};
 ghost use Rattle.session_model.specs.Tables.{fresh};
@@ -40,7 +40,7 @@ impl Drop for State {
 impl State {
     ghost use Rattle.session_state.specs.Stands.{Stands};
 
-    /// A session of an owner: single-user, without windows and clients.
+    /// The state of a new session: single-user, without windows and clients.
     pub fn new(alloc: Global, owner: UserId, edition: Edition) -> Result<State, AllocError>
         ensures { IfOk result (Stands (fresh edition owner)) }
     {

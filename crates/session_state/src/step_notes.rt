@@ -5,8 +5,8 @@ use crate::step_output::StepOutput;
 use command_lang::{Command, ParseFault};
 use session_model::Verdict;
 
-/// What a step has made so far, and what it has checked. What was checked stays where a step is
-/// refused.
+/// What a step has made up to now, and what it has checked. If the step is refused, what it has
+/// checked stays.
 #[derive(Drop)]
 pub struct Step {
     pub made: StepOutput,
@@ -20,13 +20,13 @@ pub struct KeyCaller {
     pub client: u32,
 }
 
-/// What keys complete: who gives it, and the command, or why its line is none.
+/// A command that keys complete, or the fault of its line, and who gives it.
 pub struct KeyOrder {
     pub by: KeyCaller,
     pub order: Result<Command, ParseFault>,
 }
 
-// (one call where an order is let go, and not a case for each command that it may be)
+// Written out, so that letting an order go is one call, and not a case for each command.
 impl Drop for KeyOrder {
     fn drop(self) {
         let KeyOrder { by: _, order: _ } = self;

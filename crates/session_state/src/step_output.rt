@@ -3,8 +3,8 @@
 use acl::Act;
 use session_model::Effect;
 
-/// The acts and the effects that a step has made so far, in their order, perhaps after those of
-/// steps before it.
+/// The acts and the effects that a step has made up to now, in their order. Those of earlier steps may
+/// stand before them.
 #[derive(Drop)]
 pub struct StepOutput {
     pub acts: Vec<Act>,

@@ -1,4 +1,4 @@
--- Clients that are granted to see the same.
+-- Clients that the code finds alike are granted to see the same.
 use Rattle.std.proofs.Common.{◌≡◌, ◌↔◌, ℕ, ◌+◌, ◌<◌, zero, suc, Bool, true, false, List, [], ◌∷◌, Option, Some, None}
 use Rattle.std.proofs.Common.{refl, ap, sym, ◌∙◌, subst, map, take, length, get_or, arith}
 use Prim.Native.Char.{code}
@@ -63,7 +63,7 @@ see_alike t m n k =
 
 -- ---- regions
 
--- what a window's region shows two users is the same where both may read it, or neither may
+-- a window's region shows two users the same if both may read the window, or neither may
 pub by_rights : (t : Tables) (user other : UserId) (shown : Shown) (serial : ℕ) (w : model.Window)
     → shown.window ≡ Some serial → window_at t serial ≡ Some w → (p q : Bool)
     → p ≡ may_in t user Read (object.Window serial) → q ≡ may_in t other Read (object.Window serial)
@@ -92,7 +92,7 @@ by_rights t user other shown serial w at here false true may also = (
       ∙ (same ∙ readable t other shown serial w at here (sym also))))),
 )
 
--- one after another
+-- regions, one after another
 pub alike_more : {A B : Type 0} (f g : A → B) (xs : List A) (i : ℕ) (x d : A) → i < length xs → x ≡ get_or xs i d
     → f x ≡ g x
     → map f (take i xs) ≡ map g (take i xs) → map f (take (i + 1) xs) ≡ map g (take (i + 1) xs)

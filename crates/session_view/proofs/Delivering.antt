@@ -1,4 +1,4 @@
--- Views that are drawn.
+-- A frame that is delivered draws the client's granted view, and the state stands for it being drawn.
 use Rattle.std.proofs.Common.{◌≡◌, ℕ, List, [], ◌∷◌, ◌++◌, Option, Some, None, refl, ap, sym, ◌∙◌, subst, append-nil}
 use Rattle.std.specs.Prelude.{◌==◌}
 use Rattle.terminal_model.specs.Shows.{View, ShowsFromAny, NeedsDraw, NeedsNoDraw}
@@ -61,7 +61,7 @@ module _ (t : Tables) (s : State) (client : ℕ) (m : model.Client) (v : View) (
   sent bytes =
       append-nil _ ∙ if_true (client == m.serial) bytes [] (equal_number client m.serial (sym own))
 
-  -- the row, to which so much was delivered
+  -- the row, to which these bytes were delivered
   abbrev drawn_row : List ℕ → View → model.Client
   drawn_row bytes w = record m { delivered = m.delivered ++ bytes; drawn = Some w }
 
@@ -165,7 +165,7 @@ module _ (client : ℕ) (old : State) (clients : List Client) (row : Client) (v 
         granted = subst (IsGranted t r.0) (sym view) r.4;
       } in (r.0, r.1, (on, delivers t r.0 r.2 r.1 on))
 
--- the same, whatever it was drawn by
+-- the draw of a client, by a frame or without one
 pub drawn_for : (client : ℕ) (frame : Option Made) (old new : State) (made after : StepOutput)
     → DrawsBy client frame old new made after → DrawsFor client old new made after
 drawn_for client None old new made after by = λ t st fit. on t (by t st fit) where

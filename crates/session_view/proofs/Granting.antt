@@ -1,4 +1,4 @@
--- The view that is composed for a client.
+-- The view that is composed for a client is its granted view.
 use Rattle.std.proofs.Common.{◌≡◌, ℕ, ◌+◌, ◌-◌, ◌<◌, ◌≤◌, Bool, true, List, Option, Some, None}
 use Rattle.std.proofs.Common.{arith, refl, ap, sym, ◌∙◌, subst}
 use Rattle.std.proofs.Common.{map, length, Result, Ok, Err, IfOk}
@@ -107,7 +107,7 @@ view_is s c r parts status (Ok v) rects each inside last shown says size exact d
     (says t m st fit is) page (exact m.layout.shape m.rows m.columns) (drawable m.layout.shape m.rows m.columns)
 view_is s c r parts status (Err e) rects each inside last shown says size exact drawable = tt
 
--- that of the client of a serial
+-- the view of the client with the serial
 pub view_there : (t : Tables) (c : Client) (o : Option model.Client) (v : View)
     → BothOrNone ClientStands o (Some c) → ((m : model.Client) → ClientStands m c → IsGranted t m v)
     → ViewOf t o (Ok v)

@@ -1,4 +1,4 @@
--- Clients that see the same as the one for which a frame was made.
+-- A client that sees the same as the client of a frame is drawn by that frame, or by its own.
 use Rattle.std.proofs.Common.{◌≡◌, ℕ, Some, ap, sym, ◌∙◌, subst}
 use Rattle.redraw.specs.Shadow.{Knowledge, knowledge_of}
 use Rattle.redraw.specs.Frames.{Made}

@@ -1,4 +1,4 @@
--- The lines of a window's page, moved back.
+-- The lines of a window's page, scrolled back, are the definitions' lines.
 use Rattle.std.proofs.Common.{ℕ, zero, suc, ◌-◌, ◌<◌, List, [], ◌∷◌, ◌++◌, length}
 use Rattle.std.proofs.Common.{get_or, take, reverse, map, sym, subst, arith}
 use Rattle.std.specs.List.{All}

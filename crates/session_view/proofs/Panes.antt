@@ -1,4 +1,4 @@
--- What regions show a user.
+-- What the code's regions show a user is what the definitions' regions show.
 use Rattle.std.proofs.Common.{◌≡◌, ℕ, zero, suc, ◌+◌, ◌<◌, ◌≤◌, true, false, List, [], ◌∷◌}
 use Rattle.std.proofs.Common.{◌++◌, Option, Some, None, refl, ap, sym, ◌∙◌, subst, map, take, length}
 use Rattle.std.proofs.Common.{get_or, arith, add-one, is_some}
@@ -53,7 +53,7 @@ module _ (t : Tables) (user : UserId) (shown : Shown) (serial : ℕ) (m : model.
   window_part : part_shown t user shown ≡ part_of_window t user shown.back (Some m)
   window_part = ap (part_in_focus t user shown.back) at ∙ ap (part_of_window t user shown.back) here
 
-  -- a window that he may not read, and one that he may
+  -- a window that the user may not read, and one that the user may read
   pub hidden : may_in t user Read (object.Window serial) ≡ false → part_shown t user shown ≡ view.unread m.number
   hidden denied =
       window_part
@@ -73,7 +73,7 @@ module _ (t : Tables) (user : UserId) (shown : Shown) (serial : ℕ) (m : model.
 
 -- ---- all of them
 
--- one region more
+-- one more region
 pub part_more : (R : Shown → Part → Type 0) (shown : List Shown) (i : ℕ) (s d : Shown) (parts new : List Part)
     (part : Part) → i < length shown → s ≡ get_or shown i d → Matched R (take i shown) parts
     → R s part → new ≡ parts ++ part ∷ [] → Matched R (take (i + 1) shown) new
@@ -95,7 +95,7 @@ region_at R (s ∷ shown) (q ∷ parts) (suc i) p m inside is =
     let rest = region_at R shown parts i p m.1 (omega (arith, inside)) is in
     (rest.0, ap (λ (ss : List Shown). s ∷ ss) rest.1, rest.2)
 
--- one pane more
+-- one more pane
 pub pane_more : (t : Tables) (user : UserId) (shown : List Shown) (parts : List Part) (i : ℕ) (p : Part)
     (panes new : List Pane) (pane : Pane) → Matched (ShowsPart t user) shown parts → i < length parts
     → p ≡ get_or parts i p

@@ -1,4 +1,4 @@
--- Draws, whichever tables a state stands for.
+-- Draws, for all tables that a state stands for.
 use Rattle.std.specs.Prelude.{ℕ, ◌≡◌, ◌⊎◌, ◌++◌, List, [], Option, Some, None, Result, Ok, Err}
 use Rattle.redraw.specs.Shadow.{knowledge_of}
 use Rattle.redraw.specs.Frames.{Made}
@@ -13,7 +13,7 @@ use Rattle.session_state.specs.Stands.{Stands}
 use Rattle.session_model.specs.Sound.{AreFit}
 use Rattle.session_view.specs.Viewed.{IsGranted}
 
--- the client's draw stands behind the effects before it, and the state knows of it; no act was made
+-- the client's draw comes after the earlier effects, and the state knows of it; no act was made
 pub record HasDrawn (t : Tables) (c : Client) (new : State) (before after : StepOutput) : Type 0 where
   pub effects : List Effect
   pub is_draw : IsDraw t effects c
@@ -21,7 +21,7 @@ pub record HasDrawn (t : Tables) (c : Client) (new : State) (before after : Step
   pub acts_are : after.acts.items ≡ before.acts.items
   pub stands : Stands (drawn_on (Some c) effects t) new
 
--- the client of a serial is there, and it was drawn
+-- the client with the serial is there, and it was drawn
 abbrev pub DrawsFor : ℕ → State → State → StepOutput → StepOutput → Type 0
 DrawsFor client old new before after = (t : Tables) → Stands t old → AreFit t
     → (c : Client) × (client_at t client ≡ Some c) × HasDrawn t c new before after
@@ -42,7 +42,7 @@ IsNothing effects = effects ≡ []
 abbrev pub IsSomething : List Effect → Type 0
 IsSomething effects = effects ≡ [] → ⊥
 
--- the client of a serial, if it is there and the frame leads it on, was drawn by it
+-- if the client with the serial is there and the frame leads it on, the client was drawn by the frame
 abbrev pub Delivers : ℕ → Made → State → State → StepOutput → StepOutput → Type 0
 Delivers client f old new before after = (t : Tables) (c : Client) → Stands t old
     → client_at t client ≡ Some c → LeadsOn t c f → HasDrawnSo IsSomething t c new before after
@@ -53,7 +53,7 @@ IsDrawnBy None t c new before after = HasDrawnSo IsNothing t c new before after
 IsDrawnBy (Some f) t c new before after =
     LeadsOn t c f × HasDrawnSo IsSomething t c new before after
 
--- the client of a serial is there, and was
+-- the client with the serial is there, and was drawn by a frame or needed none
 abbrev pub DrawsBy : ℕ → Option Made → State → State → StepOutput → StepOutput → Type 0
 DrawsBy client frame old new before after = (t : Tables) → Stands t old → AreFit t
     → (c : Client) × (client_at t client ≡ Some c) × IsDrawnBy frame t c new before after

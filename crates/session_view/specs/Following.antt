@@ -1,4 +1,4 @@
--- Clients that are drawn what another one is granted to see.
+-- A client that is drawn what another client is granted to see.
 use Rattle.std.specs.Prelude.{ℕ, ◌≡◌, Bool, true, false, Option, Some}
 use Rattle.terminal_model.specs.Shows.{View, NeedsNoDraw}
 use Rattle.session_model.specs.Tables.{Client, Tables, client_at}
@@ -21,19 +21,19 @@ pub record Leads (t : Tables) (c : Client) (l : Lead) : Type 0 where
 abbrev pub IsLed : Tables → Lead → Type 0
 IsLed t l = (c : Client) → client_at t l.client ≡ Some c → Leads t c l
 
--- this was drawn last for the client of a serial, if it is there
+-- this was drawn last for the client with the serial, if it is there
 abbrev pub Knows : Tables → Option View → ℕ → Type 0
 Knows t known client = (c : Client) → client_at t client ≡ Some c → c.drawn ≡ known
 
--- the client of a serial is there, is granted to see what is led to, and was drawn that
+-- the client with the serial is there, is granted to see what the frame shows, and was drawn that
 abbrev pub DrawsLike : ℕ → Lead → Bool → State → State → StepOutput → StepOutput → Type 0
 DrawsLike client l knows old new before after = (t : Tables) → Stands t old → AreFit t
     → IsLed t l → (knows ≡ true → Knows t l.frame.before.known client)
     → (c : Client) × (client_at t client ≡ Some c) × (l.frame.view ≡ granted_view t c)
     × HasDrawnSo IsSomething t c new before after
 
--- where it is known to see the same as the one for which the frame was made, the client of a serial
--- is left alone only if what is led to was drawn for it already
+-- if the client with the serial is known to see the same as the client of the frame, it is left alone
+-- only if what the frame shows was drawn for it already
 abbrev pub IsLeftAlone : ℕ → Lead → Bool → State → Type 0
 IsLeftAlone client l knows old = (t : Tables) → Stands t old → AreFit t → IsLed t l
     → AreBothAlike client l.client t

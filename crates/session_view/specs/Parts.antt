@@ -1,4 +1,4 @@
--- What regions show, whichever tables a state stands for.
+-- What regions show, for all tables that a state stands for.
 use Rattle.std.specs.Prelude.{ℕ, ◌≡◌, List}
 use Rattle.std.specs.Borrow.{Bor}
 use Rattle.acl.specs.declared.user_id.UserId.{UserId}
@@ -27,7 +27,7 @@ ShowsWindow back w lines contents = (m : model.Window) → WindowStands m w →
     cells_of lines ≡ moved_back back (terminal_of m).screen →
     view.window_of contents ≡ window_read m back (terminal_of m).screen
 
--- a window of the table, which may be read, with the lines of its page moved back
+-- a window of the table, which may be read, with the lines of its page scrolled back
 pub record Reads (t : Tables) (user : UserId) (s : Shown) (w : Window) (back : ℕ)
     (lines : List (List Cell)) : Type 0 where
   pub window : model.Window

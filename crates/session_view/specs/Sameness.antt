@@ -1,4 +1,4 @@
--- Clients that are granted to see the same.
+-- Two clients that are granted to see the same.
 use Rattle.std.specs.Prelude.{ℕ, ◌≡◌, ◌↔◌, Bool, true, false, List, Some, None, map}
 use Rattle.acl.specs.declared.user_id.UserId.{UserId}
 use Rattle.keys.specs.Grammar.{items, open_line}
@@ -21,7 +21,7 @@ pub record SeesAlso (t : Tables) (m n : model.Client) : Type 0 where
   pub rows : m.rows ≡ n.rows
   pub columns : m.columns ≡ n.columns
 
--- two clients of these serials are there, and are granted to see the same
+-- clients with these serials are there, and are granted to see the same
 abbrev pub SeeTheSame : ℕ → ℕ → State → Type 0
 SeeTheSame client other s = (t : Tables) → Stands t s → AreFit t
     → (m n : model.Client) × (client_at t client ≡ Some m) × (client_at t other ≡ Some n)
@@ -33,14 +33,14 @@ SeeTheSame client other s = (t : Tables) → Stands t s → AreFit t
 abbrev pub ShowBoth : Tables → UserId → UserId → List Shown → Type 0
 ShowBoth t user other shown = map (part_shown t user) shown ≡ map (part_shown t other) shown
 
--- a message that says the same to each client
+-- a message that says the same text to each client
 abbrev pub is_for_all : Message → Bool
 is_for_all message.Silence = true
 is_for_all (message.Text bytes) = true
 is_for_all message.AllWindows = false
 is_for_all message.AllClients = true
 
--- one message, which says the same to both
+-- one message, which says the same text to both clients
 abbrev pub SayTheSame : Message → Message → Type 0
 SayTheSame m n = (m ≡ n) × (is_for_all m ≡ true)
 
@@ -55,19 +55,19 @@ pub record AreKnownAlike (t : Tables) (m n : model.Client) : Type 0 where
   pub others_closed : open_line (items n.keys).1 ≡ None
   pub messages : SayTheSame m.message n.message
 
--- the clients of two serials are there, and such
+-- the clients with two serials are there and are known to see the same
 abbrev pub AreBothAlike : ℕ → ℕ → Tables → Type 0
 AreBothAlike client other t =
     (m n : model.Client) × (client_at t client ≡ Some m) × (client_at t other ≡ Some n)
     × AreKnownAlike t m n
 
--- ---- the same of a state
+-- ---- of a state
 
--- an answer, of whichever tables a state stands for
+-- what an answer says, for all tables that a state stands for
 abbrev pub Tells : State → Bool → (Tables → Type 0) → Type 0
 Tells s answer P = (t : Tables) → Stands t s → AreFit t → (answer ≡ true) ↔ P t
 
--- of the rows of two clients
+-- what an answer says of the rows of two clients
 abbrev pub TellsOf : State → Client → Client → Bool → Type 0
 TellsOf s a b answer = (t : Tables) (m n : model.Client) → Stands t s → AreFit t
     → ClientStands m a → ClientStands n b → (answer ≡ true) ↔ AreKnownAlike t m n

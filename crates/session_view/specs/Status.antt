@@ -1,4 +1,4 @@
--- What status lines say, whichever tables a state stands for.
+-- What status lines say, for all tables that a state stands for.
 use Rattle.std.specs.Prelude.{ℕ, ◌≡◌, List}
 use Rattle.session_model.specs.Tables as model
 use Rattle.session_model.specs.Tables.{Tables}

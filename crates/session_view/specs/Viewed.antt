@@ -1,4 +1,4 @@
--- What clients are granted to see, whichever tables a state stands for.
+-- What clients are granted to see, for all tables that a state stands for.
 use Rattle.std.specs.Prelude.{ℕ, ◌≡◌, Option, Some, None, Result, Ok, Err}
 use Rattle.terminal_model.specs.Shows.{View}
 use Rattle.view.specs.View.{HasSize}
@@ -24,7 +24,7 @@ abbrev pub IsViewFor : State → Client → View → Type 0
 IsViewFor s c v = (t : Tables) (m : model.Client) → Stands t s → AreFit t → ClientStands m c
     → IsGranted t m v
 
--- that of the client of a serial, if one has it; memory may be wanting
+-- the granted view of the client with the serial, if there is one; memory may be wanting
 abbrev pub ViewOf : Tables → Option model.Client → Result View Refusal → Type 0
 ViewOf t (Some m) (Ok v) = IsGranted t m v
 ViewOf t (Some m) (Err r) = r ≡ NoMemory

@@ -6,7 +6,7 @@ use cells::Cell;
 use view::{Contents, KeyModes};
 use windows::Window;
 
-/// What a region shows of a window whose lines these are, moved back by so many.
+/// What a region shows of a window with these lines, scrolled back by `back` lines.
 pub(crate) fn contents<'a>(window: &'a Window, back: usize, lines: &'a [&'a [Cell]]) -> Contents<'a>
     ensures { ShowsWindow back window.now lines.now result }
 {

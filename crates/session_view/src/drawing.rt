@@ -10,7 +10,7 @@ use session_model::{Bytes, Effect, Refusal};
 use session_state::{State, StepOutput};
 use std::alloc::AllocError;
 
-/// One effect delivers a frame to a client. A refusal leaves all as it was.
+/// Delivers a frame to a client by one effect. A refusal leaves all as it was.
 pub(crate) fn deliver(
     state: &mut State,
     client: u32,
@@ -28,9 +28,9 @@ pub(crate) fn deliver(
     Ok(())
 }
 
-/// Draws for a client what it is granted to see: one effect delivers a frame to it, but none where
-/// its terminal is known to show that already. It is `NoWindow` where no client has the serial. A
-/// refusal leaves all as it was. The frame is handed back.
+/// Draws for a client what it is granted to see: one effect delivers a frame to it, but none if its
+/// terminal is known to show that already. It is `NoWindow` if no client has this serial. A refusal
+/// leaves all as it was. The frame is returned.
 pub fn draw(state: &mut State, client: u32, made: &mut StepOutput) -> Result<Option<Frame>, Refusal>
     ensures ok { OnOk result (DrawsFor client state.old state.new made.old made.new) }
     ensures by { IfOk result (λ frame.

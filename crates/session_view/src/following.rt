@@ -1,4 +1,4 @@
-//! Clients that are drawn what another one is granted to see.
+//! How a client is drawn what another client is granted to see.
 
 ghost use Rattle.std.specs.Prelude.{◌≡◌, true, false, IfOk, OnErr};
 ghost use Rattle.session_state.specs.Doing.{IsAsBefore};
@@ -27,17 +27,17 @@ impl Drop for Lead {
 }
 
 impl Lead {
-    /// The view that was known before the frame, for its memory, where nobody else has it.
+    /// The view that was known before the frame, for its memory, if nobody else has it.
     pub fn into_spare(self) -> Option<View> {
         let Lead { client: _, frame } = self;
         frame.into_spare()
     }
 }
 
-/// Draws for a client, if it is known to see the same, what another one is granted to see: by the
-/// frame that was made for that one, where its own terminal showed the same before, else by one of
-/// its own. Where it isn't known to see the same, or shows that already, nothing is done; neither
-/// is where memory is wanting.
+/// Draws for a client what another client is granted to see, if both are known to see the same. If the
+/// two terminals showed the same before, this takes the frame that was made for the other client, and
+/// else a frame of its own. It does nothing if the clients aren't known to see the same, if the client's
+/// terminal shows that already, or if memory is wanting.
 pub fn draw_like(
     state: &mut State,
     client: u32,

@@ -23,11 +23,11 @@ use windows::Window;
 pub(crate) enum Part<'a> {
     /// No window.
     Empty,
-    /// The window of this number, which he may not read.
+    /// The window with this number, which the user may not read.
     Hidden {
         number: u8,
     },
-    /// A window that he may read, moved back so many lines, and the lines of its page then.
+    /// A window that the user may read: how many lines it is scrolled back, and the lines of its page then.
     Readable {
         window: &'a Window,
         back: usize,
@@ -36,7 +36,7 @@ pub(crate) enum Part<'a> {
 }
 
 impl Part<'_> {
-    /// The part as it is composed.
+    /// The part as a pane of the view.
     fn pane(&self) -> Pane<'_>
         ensures { (t : Tables) (user : UserId) (shown : Shown) → ShowsPart t user shown self.now
             → part_of result ≡ part_shown t user shown }
@@ -53,7 +53,7 @@ impl Part<'_> {
     }
 }
 
-/// What a region shows a user: its window, as far as he may read it.
+/// What a region shows a user: its window, as far as the user may read it.
 fn part_in(state: &State, user: UserId, shown: Shown) -> Result<Part<'_>, AllocError>
     ensures { IfOk result (IsPart state.now user shown) }
 {
@@ -78,7 +78,7 @@ fn part_in(state: &State, user: UserId, shown: Shown) -> Result<Part<'_>, AllocE
     })
 }
 
-/// What regions show a user.
+/// What each of these regions shows a user.
 pub(crate) fn parts<'a>(
     state: &'a State,
     user: UserId,
@@ -94,7 +94,7 @@ pub(crate) fn parts<'a>(
     Ok(made)
 }
 
-/// The parts as they are composed.
+/// The parts as panes of the view.
 pub(crate) fn panes<'p>(alloc: Global, parts: &'p [Part<'_>]) -> Result<Vec<Pane<'p>>, AllocError>
     ensures shown { IfOk result (λ made. (t : Tables) (user : UserId) (shown : List Shown)
         → Matched (ShowsPart t user) shown parts.now

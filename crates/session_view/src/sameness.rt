@@ -18,7 +18,7 @@ fn have_same_size(a: &Client, b: &Client) -> bool
     a.shadow.rows() == b.shadow.rows() && a.shadow.columns() == b.shadow.columns()
 }
 
-/// Whether two messages say the same, whoever has them.
+/// Whether two messages say the same text, on every client's status line.
 fn say_the_same(message: &Message, other: &Message) -> bool
     ensures { (result ≡ true) ↔ SayTheSame message.now other.now }
 {
@@ -30,14 +30,16 @@ fn say_the_same(message: &Message, other: &Message) -> bool
     }
 }
 
-/// Whether the status lines of two clients say the same: no prompt is open, and their messages do.
+/// Whether the status lines of two clients say the same text: no prompt is open, and their messages
+/// say the same.
 fn have_same_status(a: &Client, b: &Client) -> bool
     ensures { (result ≡ true) ↔ HaveSameStatus a.now b.now }
 {
     a.keys.prompt().is_none() && b.keys.prompt().is_none() && say_the_same(&a.message, &b.message)
 }
 
-/// Whether a region shows two users the same: no window, or one that both may read or neither may.
+/// Whether a region shows two users the same: it shows no window, or one that both may read or that
+/// neither may read.
 fn shows_both(state: &State, user: UserId, other: UserId, shown: Shown) -> bool
     ensures { Tells state.now result (λ t. part_shown t user shown ≡ part_shown t other shown) }
 {
@@ -52,7 +54,7 @@ fn shows_both(state: &State, user: UserId, other: UserId, shown: Shown) -> bool
     may == state.acl.may(other, Bit::Read, object).is_ok()
 }
 
-/// Whether regions show two users the same.
+/// Whether each of these regions shows two users the same.
 fn show_both(state: &State, user: UserId, other: UserId, shown: &[Shown]) -> bool
     ensures { Tells state.now result (λ t. ShowBoth t user other shown.now) }
 {
@@ -67,7 +69,7 @@ fn show_both(state: &State, user: UserId, other: UserId, shown: &[Shown]) -> boo
     true
 }
 
-/// Whether two clients are known to see the same. What is cheap is asked first.
+/// Whether two clients are known to see the same. The cheap tests come first.
 fn are_alike(state: &State, a: &Client, b: &Client) -> bool
     ensures { TellsOf state.now a.now b.now result }
 {
@@ -77,7 +79,7 @@ fn are_alike(state: &State, a: &Client, b: &Client) -> bool
         && show_both(state, a.user, b.user, a.layout.shown())
 }
 
-/// Whether the clients of two serials are there and known to see the same.
+/// Whether the clients with two serials are there and known to see the same.
 pub fn see_the_same(state: &State, client: u32, other: u32) -> bool
     ensures exact { Tells state.now result (AreBothAlike client other) }
     ensures granted { result ≡ true → SeeTheSame client other state.now }

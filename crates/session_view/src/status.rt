@@ -9,7 +9,7 @@ use session_model::{Bytes, Message};
 use session_state::State;
 use std::alloc::{AllocError, Global};
 
-/// `:` and the line of a prompt.
+/// The text of a prompt: `:` and its line.
 fn prompt_text(alloc: Global, line: &[u8]) -> Result<Bytes, AllocError>
     ensures { IfOk result (λ text. text ≡ 0x3A ∷ line.now) }
 {

@@ -12,9 +12,9 @@ use session_state::{State, is_client_size};
 use std::alloc::AllocError;
 use view::{View, compose_over};
 
-/// What a client is granted to see, in the memory of a spare view where that has room for it. A
-/// client's terminal has one of the sizes that it may have, and each region of its page has room, so
-/// no memory is the only reason not to have the view.
+/// What a client is granted to see, in the memory of a spare view if that has room for it. A client's
+/// terminal has one of the allowed sizes, and each region of its page has room, so want of memory is
+/// the only reason not to have the view.
 pub(crate) fn view_for(
     state: &State,
     client: &Client,
@@ -37,8 +37,8 @@ pub(crate) fn view_for(
     compose_over(state.alloc, spare, &rects, &panes, status.as_slice())
 }
 
-/// What a client is granted to see: all its regions, each window as far as its user may read it,
-/// and its status line. It is `NoWindow` where no client has the serial.
+/// What a client is granted to see: all its regions, each window as far as its user may read it, and
+/// its status line. It is `NoWindow` if no client has this serial.
 pub fn view_of(state: &State, client: u32) -> Result<View, Refusal>
     ensures { IsViewOf state.now client result }
 {

@@ -8,7 +8,7 @@ use Rattle.writelock.specs.LockTable.{LocksStandFor}
 use Rattle.session_access.specs.Closing.{closed_acts}
 use Rattle.session_access.proofs.closing.note_closed.Given as goal
 
--- those that are closed so far
+-- the windows that are closed up to here
 abbrev pub invariant-loop-i : goal.invariant-loop-i
 invariant-loop-i l =
     (l.acts.items ≡ l.fn.acts.items ++ closed_acts (take l.i l.windows))

@@ -4,7 +4,7 @@ use Rattle.session_access.specs.Going.{parted_now}
 use Rattle.session_access.proofs.Parting.{Noted}
 use Rattle.session_access.proofs.going.note_parted.Given as goal
 
--- those who have parted so far
+-- the clients that have gone up to here
 abbrev pub invariant-loop-i : goal.invariant-loop-i
 invariant-loop-i l =
     (l.acts.items ≡ l.fn.acts.items ++ parted_now l.going (take l.i l.clients))

@@ -8,7 +8,7 @@ use Rattle.writelock.specs.LockTable.{LocksStandFor}
 use Rattle.session_events.specs.Leaving.{all_left}
 use Rattle.session_events.proofs.leaving.note_left.Given as goal
 
--- those who have left so far, and then those behind
+-- the users of the focuses up to here who have left, and then those of the later ones
 abbrev pub invariant-loop-i : goal.invariant-loop-i
 invariant-loop-i l =
     (so_far : List Act) × (so_far ++ all_left (drop l.i l.before) l.clients ≡ all_left l.before l.clients)
