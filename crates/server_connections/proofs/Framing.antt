@@ -1,4 +1,4 @@
--- Frames that stand one behind the other.
+-- Frames that are put one after the other.
 use Rattle.std.proofs.Common.{◌≡◌, ◌∙◌, ◌++◌, ◌∷◌, [], List, ℕ, refl, sym, ap, append_assoc, append-nil}
 use Rattle.std.specs.List.{concat, flat_map}
 use Rattle.std.proofs.lemmas.List.Concat.{flat_map-append}

@@ -1,2 +1,4 @@
 pub mod Framing
+mod Looking
 mod Marking
+mod Walking

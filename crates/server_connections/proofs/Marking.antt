@@ -9,6 +9,7 @@ use Rattle.std.proofs.lemmas.Nat.Bits.{bit_at_clear_same, bit_at_clear_other}
 use Rattle.std.proofs.lemmas.Bool.{cases_lt, cases_eq}
 use Rattle.std.proofs.lemmas.List.{get_or-set_same, get_or-set_other, length-set}
 use Rattle.server_connections.specs.Marked.{IsMarked, IsSameBut, IsNext, NoneFrom, IsFirstBit, HasNoBit, HaveSameMarks}
+use Rattle.server_connections.specs.Marked.{with_mark, without_mark}
 
 -- the bits of a word from one on
 abbrev pub above : ℕ → ℕ → ℕ
@@ -63,7 +64,7 @@ nothing word from small none i low high is =
 
 -- ---- marks of keys
 
--- behind the words no bit is set
+-- after the words no bit is set
 past : (words : List ℕ) (i : ℕ) → length words ≤ i → get_or words i 0 ≡ 0
 past [] i le = refl
 past (x ∷ xs) zero le = absurd (omega arith)
@@ -128,6 +129,12 @@ module _ (words : List ℕ) (key v : ℕ) (within : key / 64 < length words) (is
   at_zero : v ≡ get_or words (key / 64) 0
   at_zero = is ∙ any_default words (key / 64) v 0 within
 
+  pub as_marked : set words (key / 64) (bit_or v (1 * 2 ^ (key % 64) % 2 ^ 64)) ≡ with_mark words key
+  as_marked = ap (λ w. set words (key / 64) (bit_or w (1 * 2 ^ (key % 64) % 2 ^ 64))) at_zero
+
+  pub as_unmarked : set words (key / 64) (bit_and v (2 ^ 64 - 1 - 1 * 2 ^ (key % 64) % 2 ^ 64)) ≡ without_mark words key
+  as_unmarked = ap (λ w. set words (key / 64) (bit_and w (2 ^ 64 - 1 - 1 * 2 ^ (key % 64) % 2 ^ 64))) at_zero
+
   pub marked : IsMarked (set words (key / 64) (bit_or v (1 * 2 ^ (key % 64) % 2 ^ 64))) key
   marked =
       ap (λ w. bit_at w (key % 64))
@@ -154,6 +161,12 @@ module _ (words : List ℕ) (key v : ℕ) (within : key / 64 < length words) (is
 
 pub not_changed : (words : List ℕ) (key : ℕ) → IsSameBut key words words
 not_changed words key = record { others = λ k other. same_marks words k; room = refl }
+
+-- a word after all others isn't there to be set
+pub set_past : (words : List ℕ) (i w : ℕ) → length words ≤ i → words ≡ set words i w
+set_past [] i w le = refl
+set_past (x ∷ xs) zero w le = absurd (omega arith)
+set_past (x ∷ xs) (suc i) w le = ap (λ ws. x ∷ ws) (set_past xs i w (omega arith))
 
 -- ---- the next mark
 

@@ -10,23 +10,23 @@ use Rattle.server_turn.specs.Written.{Waiting}
 use Rattle.server_connections.specs.declared.frames.Sending.{Sending}
 use Rattle.server_connections.specs.declared.frames.Sending.TheVariants as sending
 
--- what a frame may have
+-- a frame's payload has 1 to 8,192 bytes
 abbrev pub IsPiece : List ℕ → Type 0
 IsPiece bytes = (0 < length bytes) × (length bytes ≤ 8192)
 
--- behind what waited stand frames of this kind, of pieces that are these bytes one behind the other
+-- frames of this kind were put after what waited; their payloads are these bytes, piece by piece
 pub record PutsFrames (kind : Kind) (bytes : List ℕ) (old new : Waiting) : Type 0 where
   pub pieces : List (List ℕ)
   pub whole : concat pieces ≡ bytes
   pub each : All IsPiece pieces
   pub put : new ≡ record old { unsent = old.unsent ++ flat_map (frame kind) pieces }
 
--- and so with the front of these bytes
+-- frames of the first of these bytes were put
 abbrev pub PutsFront : Kind → List ℕ → Waiting → Waiting → Type 0
 PutsFront kind bytes old new =
     (front : List ℕ) × (rest : List ℕ) × (bytes ≡ front ++ rest) × PutsFrames kind front old new
 
--- a message stands behind what waited
+-- a message was put after what waited
 abbrev pub PutsMessage : Message → Waiting → Waiting → Type 0
 PutsMessage m old new = new ≡ record old { unsent = old.unsent ++ spelling m }
 
@@ -38,13 +38,13 @@ Sends (sending.Input bytes) = PutsFrames kind.Input bytes.now
 Sends (sending.Say text) = PutsMessage (message.Say text.now)
 Sends (sending.Size rows columns) = PutsMessage (message.Size rows columns)
 
--- what stands where one isn't put whole: of bytes the frames of a front, of a message nothing
+-- what was put if it wasn't put whole: of bytes the frames of the first ones, of a message nothing
 abbrev pub SendsFront : Sending → Waiting → Waiting → Type 0
 SendsFront (sending.Draw bytes) old new = PutsFront kind.Draw bytes.now old new
 SendsFront (sending.Input bytes) old new = PutsFront kind.Input bytes.now old new
 SendsFront other old new = new ≡ old
 
--- no frame spells it: a text can be so; a number and a size can't, and bytes go into frames
+-- no frame can hold it: a text that is too long, or bytes that are no text
 abbrev pub IsUnspellable : Sending → Type 0
 IsUnspellable (sending.Say text) = ¬ (IsSpellable (message.Say text.now))
 IsUnspellable other = ⊥

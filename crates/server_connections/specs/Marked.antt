@@ -1,5 +1,6 @@
 -- Which keys are marked: a bit for each, 64 in a word.
-use Rattle.std.specs.Prelude.{◌≡◌, ◌≢◌, ◌↔◌, ◌≤◌, ◌<◌, ℕ, ◌*◌, ◌/◌, ◌%◌, List, length, get_or}
+use Rattle.std.specs.Prelude.{◌≡◌, ◌≢◌, ◌↔◌, ◌≤◌, ◌<◌, ℕ, ◌*◌, ◌/◌, ◌%◌, ◌^◌, ◌-◌, List, length, get_or, set}
+use Rattle.std.specs.Prelude.{bit_and, bit_or}
 use Rattle.std.specs.Int.{bit_at}
 
 abbrev pub IsMarked : List ℕ → ℕ → Type 0
@@ -12,6 +13,15 @@ HasRoom words key = key < 64 * length words
 -- the same keys are marked
 abbrev pub HaveSameMarks : List ℕ → List ℕ → Type 0
 HaveSameMarks old new = (key : ℕ) → IsMarked new key ↔ IsMarked old key
+
+-- the marks, and that of a key that has room
+abbrev pub with_mark : List ℕ → ℕ → List ℕ
+with_mark words key = set words (key / 64) (bit_or (get_or words (key / 64) 0) (1 * 2 ^ (key % 64) % 2 ^ 64))
+
+-- the marks but for that of a key
+abbrev pub without_mark : List ℕ → ℕ → List ℕ
+without_mark words key =
+    set words (key / 64) (bit_and (get_or words (key / 64) 0) (2 ^ 64 - 1 - 1 * 2 ^ (key % 64) % 2 ^ 64))
 
 -- the same keys are marked, but perhaps for this one, and the same ones have room
 pub record IsSameBut (key : ℕ) (old new : List ℕ) : Type 0 where

@@ -11,7 +11,7 @@ use server_turn::Turn;
 use session_model::Reason;
 use std::alloc::{AllocError, Global};
 
-/// A GONE, which takes no memory.
+/// The frame GONE, which takes no memory.
 #[tactic(auto, unfolding(attach_proto::specs::Spelling::spelling))]
 pub fn gone_frame(why: Why) -> [u8; 4]
     ensures { result ≡ spelling (message.Gone why) }
@@ -19,7 +19,7 @@ pub fn gone_frame(why: Why) -> [u8; 4]
     [Kind::Gone.code(), 0, 1, why.number()]
 }
 
-/// What a peer is told of the session's reason.
+/// The cause that a peer is told, by the session's reason.
 pub fn why_of(reason: Reason) -> Why {
     match reason {
         Reason::Detached => Why::Detached,
@@ -39,12 +39,13 @@ pub enum Sending<'a> {
     Draw(&'a [u8]),
     /// Bytes for a window's program.
     Input(&'a [u8]),
+    /// A text for the user.
     Say(&'a [u8]),
     /// The lines and columns of a window.
     Size(u16, u16),
 }
 
-/// Puts a message behind what waits.
+/// Puts a message after what waits.
 fn put_message(alloc: Global, turn: &mut Turn, message: &Message) -> Result<(), WriteFault>
     ensures ok { OnOk result (PutsMessage message.now turn.old turn.new) }
     ensures unspellable { result ≡ Err WriteFault.Unspellable → ¬ IsSpellable message.now }
@@ -56,7 +57,7 @@ fn put_message(alloc: Global, turn: &mut Turn, message: &Message) -> Result<(), 
     Ok(())
 }
 
-/// Puts a text behind what waits.
+/// Puts a text after what waits.
 fn put_text(alloc: Global, turn: &mut Turn, text: &[u8]) -> Result<(), WriteFault>
     ensures ok { OnOk result (PutsMessage (message.Say text.now) turn.old turn.new) }
     ensures unspellable { result ≡ Err WriteFault.Unspellable
@@ -69,7 +70,7 @@ fn put_text(alloc: Global, turn: &mut Turn, text: &[u8]) -> Result<(), WriteFaul
     }
 }
 
-/// Puts the bytes behind what waits for a peer, in as many frames of this kind as they take.
+/// Puts the bytes after what waits for a peer, in as many frames of this kind as they take.
 fn put_frames(turn: &mut Turn, kind: Kind, bytes: &[u8]) -> Result<(), AllocError>
     ensures ok { OnOk result (PutsFrames kind bytes.now turn.old turn.new) }
     ensures err { OnErr result (PutsFront kind bytes.now turn.old turn.new) }
@@ -80,9 +81,9 @@ fn put_frames(turn: &mut Turn, kind: Kind, bytes: &[u8]) -> Result<(), AllocErro
     Ok(())
 }
 
-/// Puts it behind what waits for a peer; bytes that are too long for one frame go into several. A
-/// text that no frame spells is `Unspellable`. Where memory is refused, a front of the bytes may
-/// stand there.
+/// Puts something after what waits for a peer. Bytes that are too long for one frame go into several.
+/// A text that no frame can hold is `Unspellable`. If memory is refused, the first of the bytes may
+/// have been put.
 pub fn put(alloc: Global, turn: &mut Turn, sending: Sending) -> Result<(), WriteFault>
     ensures ok { OnOk result (Sends sending.entry turn.old turn.new) }
     ensures unspellable { result ≡ Err WriteFault.Unspellable → IsUnspellable sending.entry }

@@ -1,13 +1,16 @@
 //! What a connection asked for that isn't done yet.
 
+ghost use Rattle.std.specs.Prelude.{◌≡◌};
+ghost use Rattle.server_connections.specs.Peers.{is_empty};
+
 use attach_proto::{Message, Reader};
 use std::alloc::{AllocError, Global};
 
-// So many bytes are looked at at once: of short frames a few messages, each of which takes far more
-// memory than its frame.
+// This many bytes are looked at together: a message of a short frame takes far more memory than the
+// frame, so only a few are made at a time.
 const PIECE: usize = 512;
 
-/// A message, and how many of its bytes are done.
+/// A message, and how many of its typed or printed bytes are done.
 #[derive(Drop)]
 pub struct Asked {
     pub message: Message,
@@ -15,7 +18,7 @@ pub struct Asked {
 }
 
 impl Asked {
-    /// The typed or written bytes that aren't done yet.
+    /// The typed or printed bytes that aren't done yet.
     pub fn rest(&self) -> &[u8] {
         match &self.message {
             Message::Keys(bytes) | Message::Output(bytes) => {
@@ -30,14 +33,14 @@ impl Asked {
 #[derive(Drop)]
 pub struct Inbox {
     alloc: Global,
-    // The next one is the last.
+    // In reverse: the next one is the last.
     messages: Vec<Message>,
     begun: Option<Asked>,
-    // What was read behind them, and how much of it was looked at. Where no message is there, all of
-    // it was.
+    // The bytes that were read after them, and how many of these were looked at. If no message is
+    // there, all were.
     rest: Vec<u8>,
     seen: usize,
-    // What came behind them is no frame, or there was no memory for it.
+    // What came after them is no frame, or there was no memory for it.
     is_broken: bool,
 }
 
@@ -53,11 +56,13 @@ impl Inbox {
         }
     }
 
-    pub fn is_empty(&self) -> bool {
+    pub fn is_empty(&self) -> bool
+        ensures { result ≡ is_empty self.now }
+    {
         self.messages.is_empty() && self.begun.is_none()
     }
 
-    // Adds the messages that are whole with the next piece of what is left.
+    // Looks at the next piece of the bytes that are left, and adds the messages that it completes.
     fn look(&mut self, reader: &mut Reader) {
         let end = self.seen.saturating_add(PIECE).min(self.rest.len());
         let piece = self.rest.get(self.seen..end).unwrap_or(b"");
@@ -66,7 +71,7 @@ impl Inbox {
         self.seen = end;
     }
 
-    // Where no message is there, looks at what is left until one is.
+    // While no message is there, looks at the bytes that are left.
     fn refill(&mut self, reader: &mut Reader) {
         for _ in self.seen..self.rest.len() {
             if self.is_broken || !self.messages.is_empty() || self.seen >= self.rest.len() {
@@ -80,13 +85,14 @@ impl Inbox {
         }
     }
 
-    /// Adds the messages that are whole with these bytes, all at once.
+    /// Adds all messages that these bytes complete.
     pub fn take_all(&mut self, reader: &mut Reader, bytes: &[u8]) {
         self.is_broken = reader.feed(bytes, &mut self.messages).is_err();
         self.messages.reverse();
     }
 
-    /// Adds those that are whole with these bytes, a few at a time: the others once these are done.
+    /// Adds the first few messages that these bytes complete. The others are added once these are
+    /// taken out.
     pub fn take(&mut self, reader: &mut Reader, bytes: &[u8]) {
         if bytes.len() <= PIECE {
             self.take_all(reader, bytes);
@@ -102,17 +108,19 @@ impl Inbox {
         self.rest.extend_from_slice(bytes)
     }
 
-    /// What came behind all that was taken out is no frame, or there was no memory for it.
-    pub fn is_broken(&self) -> bool {
+    /// Whether bytes came that are no frame, or for which there was no memory.
+    pub fn is_broken(&self) -> bool
+        ensures { result ≡ self.now.is_broken }
+    {
         self.is_broken
     }
 
-    /// Whether nothing is left but what is no frame.
+    /// Whether all messages are done, and bytes came that are no frame.
     pub fn is_faulty(&self) -> bool {
         self.is_broken && self.is_empty()
     }
 
-    /// Takes the next one out.
+    /// Takes out the next message, or the one that was put back.
     pub fn next(&mut self, reader: &mut Reader) -> Option<Asked> {
         if let Some(asked) = self.begun.take() {
             return Some(asked);
@@ -122,7 +130,7 @@ impl Inbox {
         Some(Asked { message, done: 0 })
     }
 
-    /// Puts back what was taken out last.
+    /// Puts back the message that was taken out last.
     pub fn put_back(&mut self, asked: Asked) {
         self.begun = Some(asked);
     }

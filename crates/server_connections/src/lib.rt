@@ -10,6 +10,7 @@ mod news;
 mod peer;
 mod seat;
 mod stream;
+mod walk;
 
 pub use connections::Connections;
 pub use frames::{Sending, put, why_of};
@@ -18,3 +19,4 @@ pub use news::{Guest, News};
 pub use peer::{Awaits, Peer, Role, Stage};
 pub use seat::{Answer, GuestKind, SeatFault, SessionSeat};
 pub use stream::Came;
+pub use walk::{HasConnections, each_awake};

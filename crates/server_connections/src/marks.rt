@@ -3,6 +3,7 @@
 ghost use Rattle.std.specs.Prelude.{◌≡◌, ◌↔◌, ◌<◌, ◌≤◌, ℕ, None, IfSome, OnOk, length, max, vec_len};
 ghost use Rattle.server_connections.specs.Marked.{HasRoom, IsMarked, IsNext, IsSameBut, NoneFrom};
 ghost use Rattle.server_connections.specs.Marked.{IsFirstBit, HasNoBit, HaveSameMarks};
+ghost use Rattle.server_connections.specs.Marked.{with_mark, without_mark};
 
 use std::alloc::{AllocError, Global};
 use std::marker::Model;
@@ -44,7 +45,7 @@ fn bit_from(word: u64, from: usize) -> Option<usize>
     Some(rest.trailing_zeros() as usize)
 }
 
-// Adds words without a mark, up to so many.
+// Adds words without a mark, until there are this many.
 #[tactic(auto, using(crate::proofs::Marking::same_marks, crate::proofs::Marking::one_word_more))]
 fn grow(words: &mut Vec<u64>, count: usize) -> Result<(), AllocError>
     ensures room { OnOk result (count ≤ vec_len words.new) }
@@ -81,6 +82,7 @@ impl Marks {
     pub fn mark(&mut self, key: usize)
         ensures marked { HasRoom self.old key → IsMarked self.new key }
         ensures others { IsSameBut key self.old self.new }
+        ensures words { self.new ≡ with_mark self.old key }
     {
         let place = key / BITS;
         if place >= self.words.len() {
@@ -89,10 +91,11 @@ impl Marks {
         self.words[place] |= 1u64 << (key % BITS);
     }
 
-    /// Takes the mark of a key.
+    /// Takes a key's mark away.
     pub fn unmark(&mut self, key: usize)
         ensures unmarked { ¬ (IsMarked self.new key) }
         ensures others { IsSameBut key self.old self.new }
+        ensures words { self.new ≡ without_mark self.old key }
     {
         let place = key / BITS;
         if place >= self.words.len() {

@@ -1,20 +1,20 @@
-//! What a loop tells of who comes and goes.
+//! What a loop tells the log.
 
 use crate::seat::GuestKind;
 use acl::UserId;
 use attach_proto::Why;
 
-/// Who stays a while, with the user of it.
+/// A client or a window, with its user.
 #[derive(Clone, Copy, Debug, PartialEq, Eq)]
 pub enum Guest {
-    /// A client has a serial.
+    /// A client of this serial.
     Client(UserId, u32),
-    /// A window has the number that it began with.
+    /// A window that began with this number.
     Window(UserId, u8),
 }
 
 impl Guest {
-    /// Whose it is, and what.
+    /// Its user, and what it is.
     pub fn owner(self) -> (UserId, GuestKind) {
         match self {
             Guest::Client(user, _) => (user, GuestKind::Client),
@@ -27,16 +27,16 @@ impl Guest {
 #[derive(Clone, Copy, Debug, PartialEq, Eq)]
 pub enum News {
     Came(Guest),
-    /// Without a cause its connection ended.
+    /// A guest went: for this cause, or else because its connection ended.
     Went(Guest, Option<Why>),
     /// A user gave a command.
     Done(UserId),
     /// A user gave a command, which was refused.
     Refused(UserId),
-    /// Somebody had a wrong token, or is no user.
+    /// A connection named an unknown user, or its token was wrong.
     WrongToken,
-    /// A connection sent what is no first message.
+    /// A connection sent something else than a first message.
     Misfit,
-    /// The trail has so many hundredths of its most entries.
+    /// The trail is full to this percentage.
     Filled(u8),
 }

@@ -1,5 +1,10 @@
 //! One connection.
 
+ghost use Rattle.std.specs.Prelude.{◌≡◌, ◌↔◌, IfOk, IsTrue};
+ghost use Rattle.server_connections.specs.Peers.{IsNewcomer, awaits, has_more, is_at_rest, is_awaited};
+ghost use Rattle.server_connections.specs.Peers.{is_closed, is_done, is_due, is_new, is_open, is_stranger};
+ghost use Rattle.server_connections.specs.Peers.{listens};
+
 use crate::frames::gone_frame;
 use crate::inbox::Inbox;
 use crate::news::Guest;
@@ -10,11 +15,10 @@ use session_model::Event;
 use std::alloc::{AllocError, Global};
 use std::time::Duration;
 
-/// How many seconds a connection has for its first message, and one that was told to go to read
-/// that.
+// A connection has this many seconds for its first message, and again to read its last frame.
 const PATIENCE: u64 = 10;
 
-/// What a connection is to the session, where windows and clients are named by their serials.
+/// What a connection is to the session. Clients and windows are named by their serials.
 #[derive(Clone, Copy, Debug, PartialEq, Eq)]
 pub enum Role {
     Stranger,
@@ -23,7 +27,25 @@ pub enum Role {
 }
 
 impl Role {
-    /// The event by which it leaves the session.
+    /// Whether both are strangers, the same client or the same window.
+    pub fn is(self, other: Role) -> bool
+        ensures { IsTrue result ↔ (self ≡ other) }
+    {
+        match (self, other) {
+            (Role::Stranger, Role::Stranger) => true,
+            (Role::Client(one), Role::Client(another)) => one == another,
+            (Role::Window(one), Role::Window(another)) => one == another,
+            _ => false,
+        }
+    }
+
+    pub fn is_stranger(self) -> bool
+        ensures { result ≡ is_stranger self }
+    {
+        matches!(self, Role::Stranger)
+    }
+
+    /// The event by which it leaves the session. A stranger isn't part of it.
     pub fn parting<'a>(self) -> Option<Event<'a>> {
         match self {
             Role::Stranger => None,
@@ -39,24 +61,47 @@ pub enum Stage {
     Open,
     /// It asked to go, and isn't read any more.
     Leaving,
-    /// Its last frame was put.
+    /// Its last frame was put: it is closed once it has read all.
     Ending,
-    /// Its last frame was put, and it is closed once it takes no more.
+    /// Its last frame was put: it is closed once it takes no more for now.
     Cut,
     /// Nothing is read or written any more.
     Closed,
 }
 
-/// What a connection may await.
+impl Stage {
+    /// Whether it is read, and sent what the session says.
+    pub fn is_open(self) -> bool
+        ensures { result ≡ is_open self }
+    {
+        matches!(self, Stage::Open)
+    }
+
+    /// Whether it is sent what the session says.
+    pub fn listens(self) -> bool
+        ensures { result ≡ listens self }
+    {
+        matches!(self, Stage::Open | Stage::Leaving)
+    }
+
+    pub fn is_closed(self) -> bool
+        ensures { result ≡ is_closed self }
+    {
+        matches!(self, Stage::Closed)
+    }
+}
+
+/// What a connection can wait for.
 #[derive(Clone, Copy)]
 pub enum Awaits {
-    /// To be looked at, though no event will tell of it.
+    /// Its turn: it has something to read or to do, and no event will tell of it.
     Work,
-    /// That its user may cause more entries, or a look at who may connect.
+    /// Leave for what it asked: until its user may cause more entries, or until the users' file was
+    /// looked at.
     Ration,
-    /// That a look at who may connect is asked for.
+    /// A look at the users' file, which nobody asked for yet.
     Look,
-    /// The end of its patience.
+    /// Its first message, or that it reads its last frame, for at most 10 seconds.
     End,
 }
 
@@ -67,12 +112,12 @@ pub struct Peer<S> {
     pub reader: Reader,
     pub turn: Turn,
     pub role: Role,
-    /// What the session is to be told that left.
+    /// The client or window that left, and of which the session isn't told yet.
     pub leaves: Role,
     pub stage: Stage,
-    /// Which connection of its loop it is.
+    /// How many connections of its loop came before it.
     pub number: u64,
-    /// Who it is, once that is known.
+    /// Its user, once that is known.
     pub user: Option<UserId>,
     /// It was taken in though no more are to stay.
     pub is_extra: bool,
@@ -81,28 +126,25 @@ pub struct Peer<S> {
     /// Its other end was closed.
     pub has_hung_up: bool,
     pub inbox: Inbox,
-    /// What it asked for waits until its user may cause more entries, or for a look at who may
-    /// connect.
+    /// What it asked for waits until its user may cause more entries, or until the users' file was
+    /// looked at.
     pub is_held: bool,
-    /// The look at who may connect that its first message waits for.
+    /// The number of the look at the users' file that its first message waits for.
     pub look: Option<u64>,
-    /// Whom it brought, as long as it is there.
+    /// The guest that it is, until the guest's end was told.
     pub guest: Option<Guest>,
     // Why it was told to go.
     why: Option<Why>,
-    // When it began to be waited for.
+    // Since when its first message, or the end of its reading, is waited for.
     awaited: Option<Duration>,
 }
 
 impl<S: Drop> Peer<S> {
-    /// The connection of this number, which may have sent something. The bytes of its GONE are
+    /// A new connection, which may have sent something already. The room for its last frame is
     /// reserved.
-    pub fn new(
-        alloc: Global,
-        stream: S,
-        number: u64,
-        is_extra: bool,
-    ) -> Result<Peer<S>, AllocError> {
+    pub fn new(alloc: Global, stream: S, number: u64, is_extra: bool) -> Result<Peer<S>, AllocError>
+        ensures { IfOk result (IsNewcomer stream number is_extra) }
+    {
         Ok(Peer {
             stream: Some(stream),
             reader: Reader::new(alloc, Side::Server),
@@ -124,7 +166,7 @@ impl<S: Drop> Peer<S> {
         })
     }
 
-    /// Puts its last frame, which takes no memory.
+    /// Puts its last frame, GONE, which takes no memory.
     pub fn end(&mut self, why: Why) {
         self.turn.end(gone_frame(why));
         self.why = Some(why);
@@ -132,32 +174,36 @@ impl<S: Drop> Peer<S> {
         self.awaited = None;
     }
 
-    /// Its role ends: the session is to be told.
+    /// Ends its role: the session is to be told.
     pub fn leave(&mut self) {
-        if self.role != Role::Stranger {
+        if !self.role.is_stranger() {
             self.leaves = self.role;
             self.role = Role::Stranger;
         }
     }
 
-    /// Gives it up, with what it wasn't sent.
+    /// Gives it up, with all that still waits for it.
     pub fn close(&mut self) {
         self.stream = None;
         self.stage = Stage::Closed;
         self.leave();
     }
 
-    /// Whether there may be something to read. Behind what is no frame nothing is.
-    pub fn has_more(&self) -> bool {
+    /// Whether there may be something to read. After bytes that are no frame there is nothing.
+    pub fn has_more(&self) -> bool
+        ensures { result ≡ has_more self.now }
+    {
         self.has_more && !self.inbox.is_broken()
     }
 
-    /// Whether it is still sent what the session says.
-    pub fn listens(&self) -> bool {
-        self.stage == Stage::Open || self.stage == Stage::Leaving
+    /// Whether it is sent what the session says.
+    pub fn listens(&self) -> bool
+        ensures { result ≡ listens self.now.stage }
+    {
+        self.stage.listens()
     }
 
-    /// Whom it brought, and why it was told to go, once it goes.
+    /// Takes its guest, and why it was told to go, once it goes.
     pub fn farewell(&mut self) -> Option<(Guest, Option<Why>)> {
         if self.listens() {
             return None;
@@ -166,19 +212,25 @@ impl<S: Drop> Peer<S> {
         Some((guest, self.why))
     }
 
-    /// Whether its first message didn't come, or wasn't done yet.
-    pub fn is_new(&self) -> bool {
-        self.role == Role::Stranger && self.stage == Stage::Open
+    /// Whether its first message didn't come, or isn't done yet.
+    pub fn is_new(&self) -> bool
+        ensures { result ≡ is_new self.now }
+    {
+        self.role.is_stranger() && self.stage.is_open()
     }
 
-    /// Whether something is to be done with it, though no event will tell of it.
-    pub fn is_due(&self) -> bool {
+    /// Whether it has something to read or to do, though no event will tell of it.
+    pub fn is_due(&self) -> bool
+        ensures { result ≡ is_due self.now }
+    {
         let has_work = self.has_more() || !self.inbox.is_empty();
-        has_work && self.stage == Stage::Open && !self.is_held
+        has_work && self.stage.is_open() && !self.is_held
     }
 
-    /// Whether it awaits this.
-    pub fn awaits(&self, what: Awaits) -> bool {
+    /// Whether it waits for this.
+    pub fn awaits(&self, what: Awaits) -> bool
+        ensures { result ≡ awaits what self.now }
+    {
         match what {
             Awaits::Work => self.is_due(),
             Awaits::Ration => self.is_held,
@@ -187,17 +239,19 @@ impl<S: Drop> Peer<S> {
         }
     }
 
-    /// Whether it is waited for: for its first message, or until it has read its last.
-    pub fn is_awaited(&self) -> bool {
+    /// Whether its first message is waited for, or that it reads its last frame.
+    pub fn is_awaited(&self) -> bool
+        ensures { result ≡ is_awaited self.now }
+    {
         match self.stage {
-            Stage::Open => self.role == Role::Stranger && self.inbox.is_empty(),
+            Stage::Open => self.role.is_stranger() && self.inbox.is_empty(),
             Stage::Ending => true,
             Stage::Leaving | Stage::Cut | Stage::Closed => false,
         }
     }
 
-    /// Whether it was waited for long enough.
-    pub fn is_overdue(&mut self, now: Duration) -> bool {
+    // Whether it was waited for as long as it may be. The time counts from the first call on.
+    fn is_overdue(&mut self, now: Duration) -> bool {
         if !self.is_awaited() {
             return false;
         }
@@ -210,15 +264,30 @@ impl<S: Drop> Peer<S> {
         }
     }
 
-    /// Whether nothing is to be done with it until something comes from it or is put into it.
-    pub fn is_at_rest(&self) -> bool {
-        let has_work = self.has_more() || self.is_held || !self.inbox.is_empty();
-        let is_guest = self.role != Role::Stranger && self.leaves == Role::Stranger;
-        is_guest && self.stage == Stage::Open && !has_work && self.turn.unsent() == 0
+    /// Once it was waited for as long as it may be: closes it if it was told to go, and else tells it
+    /// so.
+    pub fn expire(&mut self, now: Duration) {
+        if self.is_overdue(now) {
+            match self.stage {
+                Stage::Ending => self.close(),
+                _ => self.end(Why::Fault),
+            }
+        }
     }
 
-    /// Whether nothing is left to do with it.
-    pub fn is_done(&self) -> bool {
-        self.stage == Stage::Closed && self.leaves == Role::Stranger
+    /// Whether nothing is to be done with it until something comes from it or is put into it.
+    pub fn is_at_rest(&self) -> bool
+        ensures { result ≡ is_at_rest self.now }
+    {
+        let has_work = self.has_more() || self.is_held || !self.inbox.is_empty();
+        let is_guest = !self.role.is_stranger() && self.leaves.is_stranger();
+        is_guest && self.stage.is_open() && !has_work && self.turn.unsent() == 0
+    }
+
+    /// Whether nothing is left to do with it: it is closed, and the session knows.
+    pub fn is_done(&self) -> bool
+        ensures { result ≡ is_done self.now }
+    {
+        self.stage.is_closed() && self.leaves.is_stranger()
     }
 }

@@ -6,17 +6,17 @@ use session_model::{Effect, Event, Reply};
 use std::sync::Wait;
 use std::time::{Clock, Duration};
 
-/// What is answered to a submitted event.
+/// The answer to a submitted event.
 #[derive(Drop)]
 pub struct Answer {
     pub reply: Reply,
-    /// So many hundredths of its most entries the trail has by this one, where that is news.
+    /// How full the trail is by this event, in percent, if that is news.
     pub filled: Option<u8>,
     /// What came of the event for the user who tried it.
     pub outcome: Outcome,
 }
 
-/// What a user may have only so many of.
+/// What a user may have a bounded number of.
 #[derive(Clone, Copy, Debug, PartialEq, Eq)]
 pub enum GuestKind {
     Client,
@@ -33,34 +33,35 @@ pub enum SeatFault {
     Strange,
 }
 
-/// A seat in the session that the loops share.
+/// A loop's seat in the session that all loops share.
 pub trait SessionSeat {
-    /// Who may connect at first.
+    /// The users who may connect when the server starts.
     fn users(&self) -> &Users;
 
     /// Submits an event to the session.
     fn submit<R: Wait>(&mut self, rt: &R, event: Event<'_>) -> Result<Answer, SeatFault>;
 
-    /// Pays for a step that a user is about to try, unless the user has to wait. Whether it did.
+    /// Pays `cost` thousandths of a unit for a step that a user is about to try, unless the user has
+    /// to wait. Returns whether it was paid.
     fn pay<R: Wait>(&self, rt: &R, user: UserId, now: Duration, cost: u32) -> bool;
 
-    /// A step that was paid for so came to this.
+    /// Settles what was paid for a step, by what came of it.
     fn settle<R: Wait>(&self, rt: &R, user: UserId, cost: u32, outcome: Outcome);
 
-    /// Counts one more client or window of a user, unless they have as many as a user may have.
-    /// Then the answer is how many that is.
+    /// Counts one more client or window of a user. If the user has as many as a user may have, none
+    /// is counted, and that number is returned.
     fn add<R: Wait>(&self, rt: &R, user: UserId, kind: GuestKind) -> Option<u8>;
 
     /// Counts one client or window less of a user.
     fn remove<R: Wait>(&self, rt: &R, user: UserId, kind: GuestKind);
 
-    /// It is this time, for the entries in the trail's file.
+    /// Says the time to the trail's file, for the entries of the steps that follow.
     fn set_time<R: Clock>(&self, rt: &R);
 
-    /// Whether there is a file of the trail, and nothing is written to it any more.
+    /// Whether the trail has a file to which nothing is written any more.
     fn has_stopped(&self) -> bool;
 
-    /// Takes what waits for the loop's peers, and whether a step other than a draw was made since
-    /// the last call.
+    /// Takes the effects that wait for the loop's peers, and says whether a step other than a draw
+    /// was made since the last call.
     fn take<R: Wait>(&mut self, rt: &R) -> (Vec<Effect>, bool);
 }

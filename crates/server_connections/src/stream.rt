@@ -4,21 +4,22 @@ use crate::inbox::Asked;
 use crate::peer::{Peer, Role, Stage};
 use std::io::{ErrorKind, Read, Write};
 
-/// What a read came to.
+/// What a read brought.
 #[derive(Clone, Copy, Debug, PartialEq, Eq)]
 pub enum Came {
-    /// As much as fits.
+    /// As many bytes as the buffer takes: more may be there.
     Much,
+    /// Fewer bytes.
     Some,
-    /// There is nothing for now.
+    /// Nothing is there for now.
     Nothing,
     /// The connection ended.
     End,
 }
 
 impl<S: Read + Write + Drop> Peer<S> {
-    // Adds the messages that are whole with these bytes, which the next read is to follow if it
-    // has more. A window's are done without delay.
+    // Adds the messages that these bytes complete; after them more may be there to read. A window's
+    // output comes in long frames, so all of its messages are made at once.
     fn feed(&mut self, bytes: &[u8], has_more: bool) {
         if matches!(self.role, Role::Window(_)) {
             self.inbox.take_all(&mut self.reader, bytes);
@@ -28,13 +29,14 @@ impl<S: Read + Write + Drop> Peer<S> {
         self.has_more = has_more;
     }
 
-    /// Takes out what it asks for next.
+    /// Takes out the next message, or what is left of one.
     pub fn next_asked(&mut self) -> Option<Asked> {
         self.inbox.next(&mut self.reader)
     }
 
-    /// Reads once, where all that was read before is done. Where less came than fits, nothing is
-    /// left for now, unless the other end was closed: then an end comes behind it.
+    /// Reads once. The caller does so only when all that was read before is done. If fewer bytes came
+    /// than the buffer takes, nothing is left for now; but if the other end was closed, the end comes
+    /// after them.
     pub fn read(&mut self, buffer: &mut [u8]) -> Came {
         let Some(stream) = &mut self.stream else {
             return Came::Nothing;
@@ -58,7 +60,8 @@ impl<S: Read + Write + Drop> Peer<S> {
         }
     }
 
-    /// Writes what waits, until the connection takes no more for now. One that fails is given up.
+    /// Writes what waits, until the connection takes no more for now. It is given up if a write
+    /// fails.
     pub fn write(&mut self) {
         for _ in 0..u64::MAX {
             let Some(stream) = &mut self.stream else {

@@ -1,4 +1,4 @@
-//! One loop of the server: what it reads of its connections, and what their frames ask for.
+//! One loop of the server: what it reads from its connections, and what their messages ask for.
 #![tactic(auto)]
 
 mod news_line;
@@ -10,6 +10,7 @@ mod turn;
 pub use news_line::NewsLine;
 pub use pace::Pace;
 pub use server_peers::{
-    Answer, End, Gate, Guest, News, Open, Peers, Pending, SeatFault, SessionSeat, Submitted,
+    Answer, Connections, End, Gate, Guest, News, Open, Peers, Pending, SeatFault, SessionSeat,
+    Submitted,
 };
 pub use turn::{Loop, Reads, Writes};

@@ -1,4 +1,4 @@
-//! What is told of who comes and goes.
+//! News as a line of the log.
 
 use acl::UserId;
 use attach_proto::Why;
@@ -6,7 +6,7 @@ use server_peers::{Guest, News};
 use std::fmt;
 use std::fmt::{Display, Formatter};
 
-/// A user's name, as it is told.
+/// A user's name.
 #[derive(Clone, Copy)]
 pub(crate) struct Name(pub(crate) UserId);
 
@@ -16,7 +16,7 @@ impl Display for Name {
     }
 }
 
-/// A guest, as it is told.
+/// A guest, as the log names it.
 #[derive(Clone, Copy)]
 struct Named(Guest);
 
@@ -43,7 +43,7 @@ fn cause(why: Option<Why>) -> &'static str {
     }
 }
 
-/// News, as it is told, and how many wrong tokens there were by now.
+/// News, and how many wrong tokens there were by now.
 #[derive(Clone, Copy)]
 pub struct NewsLine(pub News, pub u64);
 

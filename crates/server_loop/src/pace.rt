@@ -1,17 +1,17 @@
-//! When draws wait.
+//! When a loop's draws wait, and how long it sleeps.
 
 use std::sync::atomic::{AtomicU64, Ordering};
 use std::time::Duration;
 
-// While more may come at once, draws wait for so many milliseconds at most: each client is shown
-// the last.
+// While more may come at once, draws wait for at most this many milliseconds. So a client is shown
+// how a flood stands, and not each of its steps.
 const MOST: u64 = 20;
 
-// Where much came, and no more for so many milliseconds, it is over. As long the draws of a crowd
-// wait for the next ones.
+// A flood is over when nothing much came for this many milliseconds. After a crowd's draws the next
+// ones wait as long.
 const LULL: u64 = 1;
 
-// So many clients that are drawn in one turn are a crowd.
+// This many clients that are drawn in one turn, or more, are a crowd.
 const CROWD: usize = 8;
 
 /// What a loop knows of whether draws are to wait.
@@ -19,16 +19,17 @@ const CROWD: usize = 8;
 pub struct Pace {
     // When much came last, if that isn't over.
     much: Option<Duration>,
+    // Keys were typed in this turn, whose echo may come at once.
     awaits_echo: bool,
     // When a crowd was drawn last, if that was just now.
     drawn: Option<Duration>,
-    // When the draws that wait began to.
+    // Since when draws wait.
     since: Option<Duration>,
-    // How long they do at most, from the last turn on.
+    // How long they wait at most, from the last turn on.
     left: Duration,
 }
 
-// The time of what was lately, if that isn't over. Without a clock it is.
+// This time, if it is less than `LULL` ago. Without a clock it is over.
 fn lately(last: Option<Duration>, now: Option<Duration>) -> Option<Duration> {
     match (last, now) {
         (Some(last), Some(now)) if now.saturating_sub(last) < Duration::from_millis(LULL) => {
@@ -59,9 +60,8 @@ impl Pace {
         self.is_busy() || self.awaits_echo || self.drawn.is_some()
     }
 
-    /// How long the loop sleeps at most, though no event may tell when draws are to be asked for. A
-    /// loop to which much comes tells the others of no output, so these look by themselves: those
-    /// whose draws don't wait at once, as the next ones begin to.
+    /// How long the loop sleeps at most if no event comes. Draws that wait are asked for in time. A
+    /// loop to which much comes doesn't wake the others for output, so these look by themselves.
     pub fn longest_sleep(&self, busy: &AtomicU64) -> Option<Duration> {
         if self.expects_more() {
             Some(Duration::from_millis(LULL))
@@ -74,15 +74,15 @@ impl Pace {
         }
     }
 
-    /// So many clients were drawn in this turn.
+    /// Notes how many clients were drawn in this turn.
     pub fn draw(&mut self, now: Option<Duration>, clients: usize) {
         if clients >= CROWD {
             self.drawn = now;
         }
     }
 
-    /// Tells the other loops whether much comes to this one, in the number of those to which much
-    /// comes. The answer is whether that is new. Without a clock it is over at once.
+    /// Notes whether much comes to this loop, and counts it among those to which much comes. Returns
+    /// whether that changed. Without a clock it is over at once.
     pub fn note(&mut self, busy: &AtomicU64, now: Option<Duration>, is_much: bool) -> bool {
         let was_busy = self.is_busy();
         self.much = if is_much {
@@ -101,9 +101,9 @@ impl Pace {
         true
     }
 
-    /// Whether the draws of this turn are to wait, as they do where keys were typed in it, whose
-    /// echo may come at once, and behind those of a crowd, during which more may have come. Without
-    /// a clock they don't.
+    /// Whether the draws of this turn are to wait: while much comes to a loop, after keys were typed,
+    /// whose echo may come at once, and after a crowd was drawn, during which more may have come.
+    /// Without a clock they don't wait.
     pub fn holds(&mut self, busy: &AtomicU64, now: Option<Duration>, awaits_echo: bool) -> bool {
         self.awaits_echo = awaits_echo;
         self.drawn = lately(self.drawn, now);

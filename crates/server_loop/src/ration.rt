@@ -4,32 +4,33 @@ use acl::UserId;
 use std::alloc::{AllocError, Global};
 use std::time::Duration;
 
-// In the long run a user causes at most so many entries a second, by all loops together.
+// In the long run a user causes at most this many entries a second, by all loops together.
 const A_SECOND: u64 = 1_000;
 
-// So many more come at once, by each loop.
+// At most this many more come at once, by each loop.
 const BURST: u32 = 8_192;
 
+// Microseconds of a second.
 const MICROS: u64 = 1_000_000;
 
-// Until when the entries that a user caused would take, one at a time.
+// When the entries that a user caused would end if each took `period`.
 #[derive(Clone, Copy, Debug)]
 struct Ration {
     user: UserId,
     until: Duration,
 }
 
-/// What is left to the users who were let in.
+/// What each user may still cause.
 #[derive(Drop)]
 pub struct Rations {
     list: Vec<Ration>,
-    // The time of one entry.
+    // The time of one entry, by this loop.
     period: Duration,
     burst: Duration,
 }
 
 impl Rations {
-    /// The rations of one of so many loops.
+    /// The rations of one of this many loops.
     pub fn new(alloc: Global, loops: usize) -> Rations {
         let period = Duration::from_micros((MICROS / A_SECOND).saturating_mul(loops as u64));
         Rations {
@@ -47,7 +48,7 @@ impl Rations {
         }
     }
 
-    /// Counts so many entries of a user.
+    /// Counts entries of a user.
     pub fn count(&mut self, user: UserId, now: Duration, entries: u32) -> Result<(), AllocError> {
         let taken = self.period.saturating_mul(entries);
         match self.list.iter_mut().find(|ration| ration.user == user) {

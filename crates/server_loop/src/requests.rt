@@ -18,7 +18,7 @@ const UNKNOWN: &str = "unknown user or wrong token";
 
 const NO_ROOM: &str = "the server has no room for more connections";
 
-// Whose first message it is: his connection's key, and the user who he showed to be.
+// A connection whose first message is judged: its key, and the user that its token showed.
 #[derive(Clone, Copy)]
 struct Newcomer {
     key: usize,
@@ -33,7 +33,7 @@ fn is_quit(alloc: Global, line: &[u8]) -> Result<bool, AllocError> {
     }
 }
 
-// To how many entries of the trail an event leads: a client goes, too.
+// How many entries of the trail an event leads to. An attach has two, as its client also leaves.
 fn entries_of(event: Event) -> u16 {
     match event {
         Event::Attach { .. } => 2,
@@ -59,8 +59,7 @@ fn taken_of(answer: &Answer) -> usize {
 }
 
 impl<S: Read + Write + Drop, G: Gate + Drop, J: SessionSeat + Drop> Loop<S, G, J> {
-    /// Does a message of a connection, or a step of it. One that isn't read any more asks for
-    /// nothing.
+    /// Does a message of a connection, or a step of it.
     pub(crate) fn obey(&mut self, rt: &impl Wait, key: usize, asked: &mut Asked) -> Went {
         match (self.peers.role_of(key), &asked.message) {
             (Role::Stranger, _) => return self.begin(rt, key, &asked.message),
@@ -84,7 +83,8 @@ impl<S: Read + Write + Drop, G: Gate + Drop, J: SessionSeat + Drop> Loop<S, G, J
         Went::Done
     }
 
-    // What is refused for another cause than memory is passed over.
+    // Submits an event whose answer nobody waits for. A refusal is passed over, unless there was no
+    // memory.
     fn change(&mut self, rt: &impl Wait, key: usize, event: Event) {
         if let Err(Unanswered::NoMemory) = self.peers.submit(rt, event) {
             self.peers.fault(rt, key);
@@ -92,7 +92,7 @@ impl<S: Read + Write + Drop, G: Gate + Drop, J: SessionSeat + Drop> Loop<S, G, J
     }
 
     // Tries a step for a user, and counts what comes of it. There is no answer yet while the user has
-    // to wait. Where there is no memory to count entries, they aren't.
+    // to wait. Entries aren't counted if there is no memory for that.
     fn try_for(
         &mut self,
         rt: &impl Wait,
@@ -101,25 +101,27 @@ impl<S: Read + Write + Drop, G: Gate + Drop, J: SessionSeat + Drop> Loop<S, G, J
     ) -> Result<Option<Answer>, Unanswered> {
         let entries = entries_of(event);
         let cost = price(entries, kept_of(event));
-        if !self.rations.may(user, self.now) || !self.peers.pay(rt, user, self.now, cost) {
+        let now = self.now;
+        if !self.rations.may(user, now) || !self.peers.seat.pay(rt, user, now, cost) {
             return Ok(None);
         }
-        let _ = self.rations.count(user, self.now, cost / UNIT);
+        let _ = self.rations.count(user, now, cost / UNIT);
         let answer = self.peers.submit(rt, event);
         let outcome = match &answer {
             Ok(answer) => answer.outcome,
             Err(_) => Outcome::Untaken,
         };
-        self.peers.settle(rt, user, cost, outcome);
+        self.peers.seat.settle(rt, user, cost, outcome);
         match answer {
             Ok(answer) => Ok(Some(answer)),
             Err(unanswered) => Err(unanswered),
         }
     }
 
-    // A step reads up to the first command; the rest is the next step's.
+    // A step reads keys up to the first command; the rest is the next step's.
     fn keys(&mut self, rt: &impl Wait, key: usize, client: u32, asked: &mut Asked) -> Went {
-        let Some(user) = self.peers.user_of(key) else {
+        let peer = self.peers.connections.get(key);
+        let Some(user) = peer.and_then(|peer| peer.user) else {
             return Went::Done;
         };
         let bytes = asked.rest();
@@ -159,12 +161,12 @@ impl<S: Read + Write + Drop, G: Gate + Drop, J: SessionSeat + Drop> Loop<S, G, J
     fn user_of(&self, name: &Text, token: &Token) -> Option<UserId> {
         let users = match &self.users {
             Some(users) => users,
-            None => self.peers.users(),
+            None => self.peers.seat.users(),
         };
         authenticate(users, name.as_str().as_bytes(), token).ok()
     }
 
-    // A connection is told why it can't begin, and goes.
+    // A connection is told why it can't become a guest, and goes.
     fn turn_away(&mut self, rt: &impl Wait, key: usize, text: &str) {
         self.peers.send(rt, key, Sending::Say(text.as_bytes()));
         self.peers.dismiss(key, Why::Fault);
@@ -177,15 +179,16 @@ impl<S: Read + Write + Drop, G: Gate + Drop, J: SessionSeat + Drop> Loop<S, G, J
         }
     }
 
-    // Whether who may connect was looked at since the connection's first message came.
+    // Whether the users' file was looked at since the connection's first message came.
     fn may_judge(&self, key: usize) -> bool {
-        match self.looked {
-            Some(looked) => self.peers.look_of(key).is_some_and(|look| look <= looked),
-            None => true,
-        }
+        let Some(looked) = self.looked else {
+            return true;
+        };
+        let peer = self.peers.connections.get(key);
+        peer.is_some_and(|peer| peer.look.is_some_and(|look| look <= looked))
     }
 
-    // The first message of a connection.
+    // Judges the first message of a connection.
     fn begin(&mut self, rt: &impl Wait, key: usize, message: &Message) -> Went {
         let (Message::Attach { token, name, .. }
         | Message::Window { token, name, .. }
@@ -202,11 +205,14 @@ impl<S: Read + Write + Drop, G: Gate + Drop, J: SessionSeat + Drop> Loop<S, G, J
             self.turn_away(rt, key, UNKNOWN);
             return Went::Done;
         };
-        if self.peers.is_extra(key) && !matches!(message, Message::Command { .. }) {
-            self.turn_away(rt, key, NO_ROOM);
-            return Went::Done;
+        let is_command = matches!(message, Message::Command { .. });
+        if let Some(peer) = self.peers.connections.touch(key) {
+            peer.user = Some(user);
+            if peer.is_extra && !is_command {
+                self.turn_away(rt, key, NO_ROOM);
+                return Went::Done;
+            }
         }
-        self.peers.set_user(key, user);
         self.begin_as(rt, Newcomer { key, user }, message)
     }
 
@@ -247,7 +253,7 @@ impl<S: Read + Write + Drop, G: Gate + Drop, J: SessionSeat + Drop> Loop<S, G, J
     // A connection becomes a client or a window, unless its user has as many as a user may have.
     fn join(&mut self, rt: &impl Wait, newcomer: Newcomer, kind: GuestKind, event: Event) -> Went {
         let Newcomer { key, user } = newcomer;
-        if let Some(most) = self.peers.add(rt, user, kind) {
+        if let Some(most) = self.peers.seat.add(rt, user, kind) {
             self.say_too_many(rt, newcomer, kind, most);
             return Went::Done;
         }
@@ -256,12 +262,12 @@ impl<S: Read + Write + Drop, G: Gate + Drop, J: SessionSeat + Drop> Loop<S, G, J
             Err(unanswered) => {
                 let why = self.why_unanswered(unanswered);
                 self.peers.dismiss(key, why);
-                self.peers.remove(rt, user, kind);
+                self.peers.seat.remove(rt, user, kind);
                 return Went::Done;
             }
         };
         let Some(answer) = answer else {
-            self.peers.remove(rt, user, kind);
+            self.peers.seat.remove(rt, user, kind);
             return Went::Held;
         };
         match &answer.reply {
@@ -269,7 +275,7 @@ impl<S: Read + Write + Drop, G: Gate + Drop, J: SessionSeat + Drop> Loop<S, G, J
             Err(refusal) => {
                 self.say_refusal(rt, key, refusal);
                 self.peers.dismiss(key, Why::Fault);
-                self.peers.remove(rt, user, kind);
+                self.peers.seat.remove(rt, user, kind);
             }
         }
         Went::Done
@@ -285,7 +291,7 @@ impl<S: Read + Write + Drop, G: Gate + Drop, J: SessionSeat + Drop> Loop<S, G, J
         self.peers.send(rt, key, Sending::Welcome(done.number));
     }
 
-    // No effect tells of a `quit` where nothing is open and nobody attached, so its line is read
+    // No effect tells of a `quit` if no window is open and nobody is attached, so its line is read
     // here too.
     fn command(
         &mut self,
@@ -310,7 +316,7 @@ impl<S: Read + Write + Drop, G: Gate + Drop, J: SessionSeat + Drop> Loop<S, G, J
         Went::Done
     }
 
-    // What a command was answered.
+    // Tells a connection the answer to its command.
     fn tell_answer(&mut self, rt: &impl Wait, newcomer: Newcomer, answer: &Answer, is_quit: bool) {
         let Newcomer { key, user } = newcomer;
         self.peers.send(rt, key, Sending::Welcome(0));
@@ -333,7 +339,7 @@ impl<S: Read + Write + Drop, G: Gate + Drop, J: SessionSeat + Drop> Loop<S, G, J
         }
     }
 
-    // Its user has as many clients or windows as a user may have.
+    // Tells a connection that its user has as many clients or windows as a user may have.
     fn say_too_many(&mut self, rt: &impl Wait, newcomer: Newcomer, kind: GuestKind, most: u8) {
         let Newcomer { key, user } = newcomer;
         let what = match kind {

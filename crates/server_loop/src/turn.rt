@@ -1,33 +1,35 @@
-//! One loop: what it reads.
+//! One loop: how its connections have their turn.
 
 use crate::ration::Rations;
-use server_peers::{Came, End, Gate, Peers, Role, SessionSeat, Submitted};
+use server_peers::{
+    Came, Connections, End, Gate, HasConnections, Peers, Role, SessionSeat, Submitted, each_awake,
+};
 use server_users::Users;
 use std::alloc::{AllocError, Global};
 use std::io::{Read, Write};
-use std::ops::Range;
 use std::sync::Wait;
 use std::time::Duration;
 
-// A connection whose reads are short is read so often at most before the others have their turn.
+// A connection is read at most this many times before the others have their turn.
 const READS: usize = 16;
 
-// A frame is a little longer than half of it.
+// A read takes at most this many bytes. The longest frame has a little more than half of them.
 const READ_SIZE: usize = 16_384;
 
-// So many messages, or steps of one, are done before the others have their turn.
+// At most this many messages of a connection, or steps of one, are done before the others have their
+// turn.
 const STEPS: usize = 8;
 
-/// So many bytes of windows' output are done in a turn, and by one step at most.
+/// At most this many bytes of windows' output are done in a turn, and so by one step.
 pub(crate) const PIECE: usize = 4_096;
 
 /// What became of a message.
 #[derive(Clone, Copy, Debug, PartialEq, Eq)]
 pub(crate) enum Went {
     Done,
-    /// A rest of it is to be done.
+    /// Some of it is still to be done.
     Part,
-    /// It waits until its user may cause more entries, or for a look at who may connect.
+    /// It waits until its user may cause more entries, or for a look at the users' file.
     Held,
 }
 
@@ -36,7 +38,8 @@ pub(crate) enum Went {
 pub struct Reads {
     /// Keys of a client were submitted.
     pub has_typed: bool,
-    /// A connection had more than one read takes, or a window more output than is done in a turn.
+    /// A connection had more bytes than one read takes, or a window had more output than is done in
+    /// a turn.
     pub is_much: bool,
     pub submitted: Submitted,
 }
@@ -51,15 +54,13 @@ pub struct Writes {
     pub end: Option<End>,
 }
 
-/// One loop and its connections. It is told of each turn's reads and writes, and never waits for a
-/// peer.
+/// One loop and its connections. It never waits for a peer.
 pub struct Loop<S, G, J> {
     pub(crate) alloc: Global,
     pub peers: Peers<S, G, J>,
-    /// Who may connect, where that isn't who might at first.
+    /// The users who may connect, if the users' file changed since the server started.
     pub users: Option<Users>,
-    /// The number of the look at who may connect from which that is known; None where nobody looks
-    /// again.
+    /// The number of the look at the users' file by which these are known; None if nobody looks.
     pub looked: Option<u64>,
     pub(crate) rations: Rations,
     /// The time of this turn.
@@ -67,9 +68,9 @@ pub struct Loop<S, G, J> {
     buffer: Vec<u8>,
     pub(crate) has_typed: bool,
     has_much: bool,
-    // How many bytes of output may be done in this turn.
+    // How many bytes of output may still be done in this turn.
     pub(crate) output_left: usize,
-    // The window that has its turn first.
+    // The key from which windows have their turn.
     next: usize,
 }
 
@@ -91,8 +92,16 @@ impl<S: Drop, G: Drop, J: Drop> Drop for Loop<S, G, J> {
     }
 }
 
+impl<S, G, J> HasConnections<S> for Loop<S, G, J> {
+    ghost held = { λ own. own.peers.connections };
+
+    fn connections(&self) -> &Connections<S> {
+        &self.peers.connections
+    }
+}
+
 impl<S: Read + Write + Drop, G: Gate + Drop, J: SessionSeat + Drop> Loop<S, G, J> {
-    /// One of so many loops.
+    /// One of this many loops.
     pub fn new(alloc: Global, seat: J, gate: G, loops: usize) -> Result<Loop<S, G, J>, AllocError> {
         Ok(Loop {
             alloc,
@@ -131,7 +140,7 @@ impl<S: Read + Write + Drop, G: Gate + Drop, J: SessionSeat + Drop> Loop<S, G, J
         matches!(self.peers.role_of(key), Role::Window(_))
     }
 
-    // Does some of what a connection asked for. Whether all of it is done.
+    // Does some of what a connection asked for. Returns whether all of it is done.
     fn obey_some(&mut self, rt: &impl Wait, key: usize) -> bool {
         for _ in 0..STEPS {
             if self.output_left == 0 && self.is_window(key) {
@@ -155,8 +164,7 @@ impl<S: Read + Write + Drop, G: Gate + Drop, J: SessionSeat + Drop> Loop<S, G, J
         !self.peers.has_asked(key)
     }
 
-    // Reads what a connection sent, where all that it asked for before is done, and does some of
-    // it.
+    // Reads what a connection sent, once all that it asked for before is done, and does some of it.
     fn serve(&mut self, rt: &impl Wait, key: usize) {
         for _ in 0..READS {
             let mut came = Came::Some;
@@ -182,59 +190,49 @@ impl<S: Read + Write + Drop, G: Gate + Drop, J: SessionSeat + Drop> Loop<S, G, J
         }
     }
 
-    // Windows whose keys are in this range have their turn one after the other, as far as output
-    // may be done in this turn.
-    fn serve_windows(&mut self, rt: &impl Wait, keys: Range<usize>) {
-        let mut from = keys.start;
-        for _ in 0..self.peers.keys_end() {
-            let Some(key) = self.peers.next_awake(from) else {
-                return;
-            };
-            if keys.end <= key || self.output_left == 0 {
-                return;
-            }
-            if self.is_window(key) && self.peers.is_due_at(key) {
-                self.next = key.saturating_add(1);
-                self.serve(rt, key);
-            }
-            from = key.saturating_add(1);
+    // A window has its turn if output may still be done.
+    fn serve_window(&mut self, rt: &impl Wait, key: usize) {
+        if self.output_left > 0 && self.is_window(key) && self.peers.is_due_at(key) {
+            self.next = key.saturating_add(1);
+            self.serve(rt, key);
         }
     }
 
-    // Clients and strangers have their turn.
-    fn serve_others(&mut self, rt: &impl Wait) {
-        let mut from = 0;
-        for _ in 0..self.peers.keys_end() {
-            let Some(key) = self.peers.next_awake(from) else {
-                return;
-            };
-            if !self.is_window(key) && self.peers.is_due_at(key) {
-                self.serve(rt, key);
-            }
-            from = key.saturating_add(1);
+    // A client or a stranger has its turn.
+    fn serve_other(&mut self, rt: &impl Wait, key: usize) {
+        if !self.is_window(key) && self.peers.is_due_at(key) {
+            self.serve(rt, key);
         }
     }
 
-    /// Those that were waited for long enough go.
+    /// Lets those go whose first message, or the end of whose reading, was waited for long enough.
     pub fn expire(&mut self) {
         self.peers.expire(self.now);
     }
 
-    // All connections have their turn, keys before output. While a crowd is drawn windows wait, so
-    // that all of it is drawn the same.
+    // All connections have their turn, keys before output. Windows begin after the one that had its
+    // turn last. They wait while a crowd is drawn, so that all of it is drawn the same.
     fn serve_all(&mut self, rt: &impl Wait) {
-        self.serve_others(rt);
+        each_awake(self, |own, key| own.serve_other(rt, key));
         if self.peers.is_drawing() {
             return;
         }
         self.output_left = PIECE;
         let first = self.next;
-        self.serve_windows(rt, first..usize::MAX);
-        self.serve_windows(rt, 0..first);
+        each_awake(self, |own, key| {
+            if key >= first {
+                own.serve_window(rt, key);
+            }
+        });
+        each_awake(self, |own, key| {
+            if key < first {
+                own.serve_window(rt, key);
+            }
+        });
     }
 
-    /// Reads what is there to be read and does it, at most so much of each connection that others
-    /// have their turn.
+    /// Reads what is there to be read and does it, so much of each connection that the others have
+    /// their turn.
     pub fn read_all(&mut self, rt: &impl Wait) -> Reads {
         self.has_typed = false;
         self.has_much = false;
@@ -246,7 +244,7 @@ impl<S: Read + Write + Drop, G: Gate + Drop, J: SessionSeat + Drop> Loop<S, G, J
         }
     }
 
-    /// Lets those go that were waited for long enough, and ends a turn as `Peers::end_turn` does.
+    /// Ends a turn as `Peers::end_turn` does, after those went that were waited for long enough.
     pub fn end_turn(&mut self, rt: &impl Wait, holds_draws: bool) -> Writes {
         self.expire();
         self.peers.end_turn(rt, holds_draws);

@@ -14,7 +14,7 @@ pub enum End {
 }
 
 impl End {
-    /// What the peers are told.
+    /// The cause that the peers are told.
     pub fn why(self) -> Why {
         match self {
             End::Quit => Why::Quit,

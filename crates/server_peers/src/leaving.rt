@@ -4,15 +4,15 @@ use crate::end::End;
 use crate::gate::Gate;
 use crate::peers::{Peers, Unanswered};
 use attach_proto::Why;
-use server_connections::{Guest, News, Role, SessionSeat, Stage};
+use server_connections::{Guest, News, Role, SessionSeat, Stage, each_awake};
 use std::io::{Read, Write};
 use std::sync::Wait;
 use std::time::Duration;
 
 impl<S: Read + Write + Drop, G: Gate + Drop, J: SessionSeat + Drop> Peers<S, G, J> {
-    // Tells the session that the connection left it. Without memory it is told in a later turn.
+    // Tells the session that a connection left it. If there is no memory, it is told in a later turn.
     pub(crate) fn tell_leaving(&mut self, rt: &impl Wait, key: usize) -> Result<(), Unanswered> {
-        let Some(peer) = self.peers.get(key) else {
+        let Some(peer) = self.connections.get(key) else {
             return Ok(());
         };
         let Some(event) = peer.leaves.parting() else {
@@ -25,56 +25,52 @@ impl<S: Read + Write + Drop, G: Gate + Drop, J: SessionSeat + Drop> Peers<S, G, 
             }
             Ok(_) | Err(Unanswered::Over) => {}
         }
-        if let Some(peer) = self.peers.touch(key) {
+        if let Some(peer) = self.connections.touch(key) {
             peer.leaves = Role::Stranger;
         }
         Ok(())
     }
 
     pub(crate) fn tell_all_leaving(&mut self, rt: &impl Wait) {
-        let mut from = 0;
-        for _ in 0..self.peers.end() {
-            let Some(key) = self.peers.next_awake(from) else {
-                return;
-            };
-            let _ = self.tell_leaving(rt, key);
-            from = key.saturating_add(1);
-        }
+        each_awake(self, |peers, key| {
+            let _ = peers.tell_leaving(rt, key);
+        });
     }
 
-    // The connection is told to go, behind all that was put into it.
+    // A connection is told to go, after all that was put for it.
     pub(crate) fn expel(&mut self, rt: &impl Wait, key: usize, why: Why) {
-        if let Some(peer) = self.peers.touch(key) {
+        if let Some(peer) = self.connections.touch(key) {
             peer.end(why);
             peer.leave();
         }
         let _ = self.tell_leaving(rt, key);
     }
 
-    /// A connection that is nobody's is told to go, unless it was.
+    /// A connection that is no guest is told to go, unless it was told before.
     pub fn dismiss(&mut self, key: usize, why: Why) {
-        if let Some(peer) = self.peers.touch(key) {
+        if let Some(peer) = self.connections.touch(key) {
             if peer.listens() {
                 peer.end(why);
             }
         }
     }
 
-    /// The connection sent what it mustn't: it is told to go, behind all that came of what it sent
+    /// A connection sent what it mustn't: it is told to go, after all that came of what it sent
     /// before.
     pub fn fault(&mut self, rt: &impl Wait, key: usize) {
         self.hand_out(rt);
-        if self.is_open(key) {
-            if self.role_of(key) == Role::Stranger {
+        let peer = self.connections.get(key);
+        if peer.is_some_and(|peer| peer.stage.is_open()) {
+            if self.role_of(key).is_stranger() {
                 self.tell(News::Misfit);
             }
             self.expel(rt, key, Why::Fault);
         }
     }
 
-    /// The connection asked to go: its GONE comes from the session.
+    /// A connection asked to go. The session answers with the effect that ends it.
     pub fn detach(&mut self, rt: &impl Wait, key: usize) {
-        if let Some(peer) = self.peers.touch(key) {
+        if let Some(peer) = self.connections.touch(key) {
             peer.stage = Stage::Leaving;
             peer.leaves = peer.role;
         }
@@ -83,21 +79,21 @@ impl<S: Read + Write + Drop, G: Gate + Drop, J: SessionSeat + Drop> Peers<S, G, 
         }
     }
 
-    /// The connection ended or failed: what it wasn't sent is given up.
+    /// A connection ended or failed: what still waits for it is given up.
     pub fn lose(&mut self, rt: &impl Wait, key: usize) {
-        if let Some(peer) = self.peers.touch(key) {
+        if let Some(peer) = self.connections.touch(key) {
             peer.close();
         }
         let _ = self.tell_leaving(rt, key);
     }
 
-    /// Of the connections whose first message isn't done, the one that came first is told to go, if
-    /// there are so many or more.
+    /// If the first message of `most` connections or more isn't done, the one that came first is told
+    /// to go, and closed.
     pub fn let_oldest_go(&mut self, rt: &impl Wait, most: usize) {
         let mut count = 0usize;
         let mut oldest: Option<(u64, usize)> = None;
-        for key in 0..self.peers.end() {
-            let Some(peer) = self.peers.get(key) else {
+        for key in 0..self.connections.end() {
+            let Some(peer) = self.connections.get(key) else {
                 continue;
             };
             if peer.is_new() {
@@ -115,64 +111,53 @@ impl<S: Read + Write + Drop, G: Gate + Drop, J: SessionSeat + Drop> Peers<S, G, 
         }
     }
 
-    // Writes what the connection takes, and closes it.
+    // Writes what a connection takes, and closes it.
     fn close_at_once(&mut self, rt: &impl Wait, key: usize) {
-        if let Some(peer) = self.peers.touch(key) {
+        if let Some(peer) = self.connections.touch(key) {
             peer.write();
             peer.close();
         }
         self.sweep(rt);
     }
 
-    /// Those whose first message didn't come in time are told to go, and those that were told so
-    /// and didn't read it are closed.
+    /// Connections whose first message didn't come in time are told to go, and those that were told
+    /// so and didn't read it in time are closed.
     pub fn expire(&mut self, now: Duration) {
-        let mut from = 0;
-        for _ in 0..self.peers.end() {
-            let Some(key) = self.peers.next_awake(from) else {
-                return;
-            };
-            if let Some(peer) = self.peers.touch(key) {
-                if peer.is_overdue(now) {
-                    match peer.stage {
-                        Stage::Ending => peer.close(),
-                        _ => peer.end(Why::Fault),
-                    }
-                }
+        each_awake(self, |peers, key| {
+            if let Some(peer) = peers.connections.touch(key) {
+                peer.expire(now);
             }
-            from = key.saturating_add(1);
-        }
+        });
     }
 
-    // A guest left: its user may bring another one.
+    // A guest left: its user may have another one.
     fn part(&mut self, rt: &impl Wait, guest: Guest, why: Option<Why>) {
         let (user, kind) = guest.owner();
         self.seat.remove(rt, user, kind);
         self.tell(News::Went(guest, why));
     }
 
-    pub(crate) fn sweep(&mut self, rt: &impl Wait) {
-        let mut from = 0;
-        for _ in 0..self.peers.end() {
-            let Some(key) = self.peers.next_awake(from) else {
-                return;
-            };
-            if let Some((guest, why)) = self.peers.touch(key).and_then(|peer| peer.farewell()) {
-                self.part(rt, guest, why);
-            }
-            self.peers.settle(key);
-            from = key.saturating_add(1);
+    // What is closed goes, and what has nothing to do rests.
+    fn settle(&mut self, rt: &impl Wait, key: usize) {
+        let gone = self.connections.touch(key).and_then(|peer| peer.farewell());
+        if let Some((guest, why)) = gone {
+            self.part(rt, guest, why);
         }
+        self.connections.settle(key);
     }
 
-    /// The server ends: all peers are told so, and those that were nobody's are closed.
+    pub(crate) fn sweep(&mut self, rt: &impl Wait) {
+        each_awake(self, |peers, key| peers.settle(rt, key));
+    }
+
+    /// The server ends: guests are told so, and strangers are closed.
     pub fn finish(&mut self, rt: &impl Wait, end: End) {
         self.hand_out(rt);
-        for key in 0..self.peers.end() {
-            if let Some(peer) = self.peers.touch(key) {
+        for key in 0..self.connections.end() {
+            if let Some(peer) = self.connections.touch(key) {
                 match peer.role {
                     Role::Client(_) | Role::Window(_) => peer.end(end.why()),
-                    Role::Stranger if peer.stage == Stage::Open => peer.close(),
+                    Role::Stranger if peer.stage.is_open() => peer.close(),
                     Role::Stranger => {}
                 }
                 peer.role = Role::Stranger;

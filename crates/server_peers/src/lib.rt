@@ -1,5 +1,5 @@
-//! The part that a loop's connections have in the session: what they are sent, when they are drawn,
-//! and how they leave.
+//! A loop's connections and its seat in the session: what peers are sent, when they are drawn, and how
+//! they leave.
 #![tactic(auto)]
 
 mod end;
@@ -12,5 +12,6 @@ pub use end::End;
 pub use gate::{Gate, Open};
 pub use peers::{Peers, Pending, Submitted, Unanswered};
 pub use server_connections::{
-    Answer, Asked, Came, Guest, GuestKind, News, Role, SeatFault, Sending, SessionSeat,
+    Answer, Asked, Came, Connections, Guest, GuestKind, HasConnections, News, Role, SeatFault,
+    Sending, SessionSeat, each_awake,
 };

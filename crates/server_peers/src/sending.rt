@@ -4,14 +4,16 @@ use crate::end::End;
 use crate::gate::Gate;
 use crate::peers::{Peers, Unanswered};
 use attach_proto::Why;
-use server_connections::{Peer, Role, Sending, SessionSeat, Stage, put, why_of};
+use server_connections::{Peer, Role, Sending, SessionSeat, Stage, each_awake, put, why_of};
 use session_model::{Effect, Event, Reason};
 use std::io::{Read, Write};
 use std::sync::Wait;
 
+// A connection for which more bytes wait is told to go.
 const MOST_UNSENT: usize = 1_048_576;
 
-// So many draws are asked for in a turn; the others in the next ones, between which keys are read.
+// At most this many draws are asked for in a turn. The others follow in the next turns, and keys are
+// read between.
 const DRAWS: usize = 16;
 
 fn is_laggard<S: Drop>(peer: &Peer<S>) -> bool {
@@ -19,11 +21,10 @@ fn is_laggard<S: Drop>(peer: &Peer<S>) -> bool {
 }
 
 impl<S: Read + Write + Drop, G: Gate + Drop, J: SessionSeat + Drop> Peers<S, G, J> {
-    /// Puts something behind what waits for a connection. Where it can't be had, the connection
-    /// goes.
+    /// Puts something after what waits for a connection, which is told to go if that can't be done.
     pub fn send(&mut self, rt: &impl Wait, key: usize, sending: Sending) {
         let alloc = self.alloc;
-        let Some(peer) = self.peers.touch(key) else {
+        let Some(peer) = self.connections.touch(key) else {
             return;
         };
         if peer.listens() && put(alloc, &mut peer.turn, sending).is_err() {
@@ -31,27 +32,27 @@ impl<S: Read + Write + Drop, G: Gate + Drop, J: SessionSeat + Drop> Peers<S, G, 
         }
     }
 
-    // The session let a peer go.
+    // The session ended a client or a window: its connection is told to go.
     fn let_go(&mut self, role: Role, reason: Reason) {
         if reason == Reason::Quit {
             self.end = Some(End::Quit);
         }
-        let Some(key) = self.peers.key_of(role) else {
+        let Some(key) = self.connections.key_of(role) else {
             return;
         };
-        if let Some(peer) = self.peers.touch(key) {
+        if let Some(peer) = self.connections.touch(key) {
             peer.end(why_of(reason));
             peer.role = Role::Stranger;
         }
     }
 
     fn hand(&mut self, rt: &impl Wait, role: Role, sending: Sending) {
-        if let Some(key) = self.peers.key_of(role) {
+        if let Some(key) = self.connections.key_of(role) {
             self.send(rt, key, sending);
         }
     }
 
-    /// Takes what waits for the loop's peers, and puts it into their connections.
+    /// Takes the effects that wait for the loop's peers, and puts them into their connections.
     pub(crate) fn hand_out(&mut self, rt: &impl Wait) {
         self.is_behind = false;
         let (effects, is_told) = self.seat.take(rt);
@@ -86,7 +87,7 @@ impl<S: Read + Write + Drop, G: Gate + Drop, J: SessionSeat + Drop> Peers<S, G, 
 
     /// Writes what waits for a connection, until it takes no more for now.
     pub fn write_to(&mut self, rt: &impl Wait, key: usize) {
-        if let Some(peer) = self.peers.touch(key) {
+        if let Some(peer) = self.connections.touch(key) {
             peer.write();
             if peer.stage == Stage::Closed {
                 let _ = self.tell_leaving(rt, key);
@@ -95,20 +96,13 @@ impl<S: Read + Write + Drop, G: Gate + Drop, J: SessionSeat + Drop> Peers<S, G, 
     }
 
     fn write_all(&mut self, rt: &impl Wait) {
-        let mut from = 0;
-        for _ in 0..self.peers.end() {
-            let Some(key) = self.peers.next_awake(from) else {
-                return;
-            };
-            self.write_to(rt, key);
-            from = key.saturating_add(1);
-        }
+        each_awake(self, |peers, key| peers.write_to(rt, key));
     }
 
     // The client of this key, if a draw is to be asked for.
     fn wants_draw(&self, key: usize) -> Option<u32> {
-        match self.peers.get(key) {
-            Some(peer) if peer.stage == Stage::Open && peer.turn.wants_draw() => match peer.role {
+        match self.connections.get(key) {
+            Some(peer) if peer.stage.is_open() && peer.turn.wants_draw() => match peer.role {
                 Role::Client(client) => Some(client),
                 Role::Stranger | Role::Window(_) => None,
             },
@@ -116,11 +110,11 @@ impl<S: Read + Write + Drop, G: Gate + Drop, J: SessionSeat + Drop> Peers<S, G, 
         }
     }
 
-    // Asks for a client's draw. One that is refused for want of memory is asked in a later turn.
+    // Asks for a client's draw. If there is no memory for it, it is asked for in a later turn.
     fn draw(&mut self, rt: &impl Wait, key: usize, client: u32) {
         match self.submit(rt, Event::Draw { client }) {
             Ok(_) => {
-                if let Some(peer) = self.peers.touch(key) {
+                if let Some(peer) = self.connections.touch(key) {
                     peer.turn.drawn();
                 }
                 self.drawn = self.drawn.saturating_add(1);
@@ -130,11 +124,11 @@ impl<S: Read + Write + Drop, G: Gate + Drop, J: SessionSeat + Drop> Peers<S, G, 
         }
     }
 
-    // Asks for draws of the clients that wait for one, from a key on: the key from which it is to
-    // go on in the next turn, if some are left.
+    // Asks for draws of the clients that wait for one, from a key on. Returns the key from which it
+    // is to go on in the next turn, if some are left.
     fn draw_some(&mut self, rt: &impl Wait, from: usize) -> Option<usize> {
         let mut left = DRAWS;
-        for key in from..self.peers.end() {
+        for key in from..self.connections.end() {
             let Some(client) = self.wants_draw(key) else {
                 continue;
             };
@@ -147,7 +141,7 @@ impl<S: Read + Write + Drop, G: Gate + Drop, J: SessionSeat + Drop> Peers<S, G, 
         None
     }
 
-    // Asks for draws, or goes on with it, and hands them out.
+    // Asks for draws unless they are held, or goes on with those that were begun, and hands them out.
     fn draw_all(&mut self, rt: &impl Wait, holds_draws: bool) {
         let from = match self.draws_from {
             Some(from) => from,
@@ -156,11 +150,11 @@ impl<S: Read + Write + Drop, G: Gate + Drop, J: SessionSeat + Drop> Peers<S, G, 
         };
         if self.is_told {
             self.is_told = false;
-            self.peers.tell();
+            self.connections.tell();
         }
         self.draws_from = match self.draw_some(rt, from) {
             Some(next) => Some(next),
-            // Clients before that key may wait again.
+            // Clients before that key may wait for one again.
             None if 0 < from && !holds_draws => Some(0),
             None => None,
         };
@@ -170,26 +164,24 @@ impl<S: Read + Write + Drop, G: Gate + Drop, J: SessionSeat + Drop> Peers<S, G, 
         }
     }
 
-    // Those for whom too much waits are told so, and closed once they take no more.
-    fn drop_laggards(&mut self, rt: &impl Wait) {
-        let mut from = 0;
-        for _ in 0..self.peers.end() {
-            let Some(key) = self.peers.next_awake(from) else {
-                return;
-            };
-            if self.peers.get(key).is_some_and(|peer| is_laggard(peer)) {
-                self.expel(rt, key, Why::TooFarBehind);
-                if let Some(peer) = self.peers.touch(key) {
-                    peer.stage = Stage::Cut;
-                }
-                self.write_to(rt, key);
+    // A connection for which too much waits is told so, and closed once it takes no more.
+    fn drop_laggard(&mut self, rt: &impl Wait, key: usize) {
+        let peer = self.connections.get(key);
+        if peer.is_some_and(|peer| is_laggard(peer)) {
+            self.expel(rt, key, Why::TooFarBehind);
+            if let Some(peer) = self.connections.touch(key) {
+                peer.stage = Stage::Cut;
             }
-            from = key.saturating_add(1);
+            self.write_to(rt, key);
         }
     }
 
-    /// Ends a turn: hands out what came of it, writes, asks for draws unless they are held, and
-    /// lets go what is closed. Where draws of a crowd were begun, it goes on with them.
+    fn drop_laggards(&mut self, rt: &impl Wait) {
+        each_awake(self, |peers, key| peers.drop_laggard(rt, key));
+    }
+
+    /// Ends a turn: hands out what came of it, writes, asks for draws unless they are held, and lets
+    /// go what is closed. It goes on with a crowd's draws that were begun, even if draws are held.
     pub fn end_turn(&mut self, rt: &impl Wait, holds_draws: bool) {
         self.has_waiting = false;
         self.tell_all_leaving(rt);

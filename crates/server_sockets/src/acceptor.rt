@@ -1,4 +1,4 @@
-//! Who takes connections in.
+//! How connections are taken in.
 
 use crate::loop_handle::{Handed, LoopHandle};
 use mio::Registry;
@@ -8,11 +8,11 @@ use std::io;
 use std::io::ErrorKind;
 use std::sync::Wait;
 
-// So many descriptors are kept for connections that don't stay, so that a command finds its way
-// where the system grants no more.
+// This many descriptors are kept for connections that don't stay, so that commands still work when
+// the system grants no more.
 const SPARES: usize = 8;
 
-// So many connections are taken in before those that are there have their turn.
+// At most this many connections are taken in before those that are there have their turn.
 const MOST: usize = 16;
 
 /// Takes connections in as they come, and hands the kth to loop k modulo the number of loops.
@@ -20,7 +20,7 @@ const MOST: usize = 16;
 pub struct Acceptor {
     listener: UnixListener,
     count: usize,
-    // Other owners of the loop's registry: what is let go is the descriptor.
+    // Cloned to keep a descriptor: to let go of a clone frees its descriptor.
     registry: Registry,
     spares: Vec<Registry>,
     /// More connections may wait.
@@ -45,7 +45,7 @@ impl Acceptor {
         })
     }
 
-    // Keeps as many descriptors as it is to, where the system grants them.
+    // Keeps as many descriptors as it should, if the system grants them.
     fn keep_spares(&mut self) {
         for _ in self.spares.len()..SPARES {
             let Ok(spare) = self.registry.try_clone() else {
@@ -55,8 +55,8 @@ impl Acceptor {
         }
     }
 
-    /// Takes in those that wait, at most so many that others have their turn. Where the system
-    /// refuses, a kept descriptor serves; where none is left, it tries again later.
+    /// Takes in connections that wait, 16 at most. If the system refuses a descriptor, a kept one is
+    /// used; if none is left, it tries again later.
     pub fn accept(&mut self, rt: &impl Wait, loops: &[LoopHandle]) -> io::Result<()> {
         self.has_more = false;
         self.is_stuck = false;
@@ -80,7 +80,7 @@ impl Acceptor {
         Ok(())
     }
 
-    // Without memory the connection is closed.
+    // Hands a connection to its loop. Without memory it is closed.
     fn hand(
         &mut self,
         rt: &impl Wait,

@@ -1,5 +1,5 @@
-//! A server's loops over sockets: who takes connections in, how a loop waits and is woken, its turns,
-//! and how it ends.
+//! A server's loops over sockets: how connections are taken in, how a loop waits and is woken, its
+//! turns, and how it ends.
 #![tactic(auto)]
 
 mod acceptor;

@@ -29,7 +29,7 @@ pub struct LoopHandle {
     pub handed: Mutex<VecDeque<Handed>>,
     is_asleep: AtomicBool,
     has_news: AtomicBool,
-    // It waits for a look at who may connect.
+    // It waits for a look at the users' file.
     awaits_look: AtomicBool,
 }
 
@@ -44,12 +44,12 @@ impl LoopHandle {
         }
     }
 
-    /// The loop is to be woken behind the next look at who may connect.
+    /// The loop is to be woken after the next look at the users' file.
     pub fn await_look(&self) {
         self.awaits_look.store(true, Ordering::SeqCst);
     }
 
-    // Such a look is done.
+    // Such a look is done: wakes the loop if it waits for one.
     fn tell_look(&self) -> io::Result<()> {
         if self.awaits_look.swap(false, Ordering::SeqCst) {
             self.wake()
@@ -68,8 +68,8 @@ impl LoopHandle {
         }
     }
 
-    /// The loop is about to sleep, and is woken by news from now on. Whether it may: there is no
-    /// news yet.
+    /// The loop is about to sleep, and is woken by news from now on. Returns whether it may sleep: no
+    /// news came before.
     pub fn may_sleep(&self) -> bool {
         self.is_asleep.store(true, Ordering::SeqCst);
         !self.has_news.load(Ordering::SeqCst)
@@ -79,7 +79,7 @@ impl LoopHandle {
         self.is_asleep.store(false, Ordering::SeqCst);
     }
 
-    /// What is new so far is looked at behind this.
+    /// Takes the news that came before this; what it tells of is looked at after this.
     pub fn take_news(&self) {
         self.has_news.store(false, Ordering::SeqCst);
     }
@@ -90,13 +90,13 @@ impl LoopHandle {
 pub struct Shared {
     pub loop_handles: Arc<Vec<LoopHandle>, Global>,
     pub over: OnceLock<End>,
-    /// To how many loops much comes.
+    /// How many loops much comes to.
     pub busy: AtomicU64,
     pub watched: Arc<Watched, Global>,
-    /// How many had a wrong token.
+    /// How many connections had a wrong token.
     pub wrong_tokens: AtomicU64,
     pub log: Log,
-    /// Whether it is told who comes and goes.
+    /// Whether news are written to the log.
     pub tells: bool,
 }
 
@@ -104,16 +104,16 @@ pub struct Shared {
 #[derive(Drop)]
 pub struct Common<G> {
     pub shared: Shared,
-    /// Is told of each call that a loop submits.
+    /// Is called around each event that a loop submits.
     pub gate: G,
 }
 
-/// What a loop is begun with.
+/// What a loop begins with.
 #[derive(Drop)]
 pub struct LoopStart {
     pub me: usize,
     pub poll: Poll,
-    /// The poll's. It has its descriptor before anybody connects.
+    /// The registry of the poll, whose descriptor is there before anybody connects.
     pub registry: Registry,
     pub acceptor: Option<Acceptor>,
 }
@@ -156,7 +156,7 @@ impl Shared {
     }
 }
 
-// Looks at who may connect whenever that is asked for, until nobody asks any more.
+// Looks at the users' file whenever that is asked for, until nobody can ask any more.
 fn watch<R: Clock + Wait>(rt: &R, watched: &Watched, seen: Seen, loop_handles: &[LoopHandle]) {
     let mut seen = seen;
     for _ in rt.forever() {
@@ -169,7 +169,7 @@ fn watch<R: Clock + Wait>(rt: &R, watched: &Watched, seen: Seen, loop_handles: &
     }
 }
 
-/// Starts the thread that looks at who may connect. Nobody waits for its end: the file's disk may
+/// Starts the thread that looks at the users' file. Nobody waits for its end, as the file's disk may
 /// hang.
 pub fn start_watching<R: Threads + Clock + Wait + Copy + Send + 'static>(
     rt: &R,

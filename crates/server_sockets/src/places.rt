@@ -26,7 +26,7 @@ pub struct Places {
 }
 
 impl Places {
-    /// No loop so far.
+    /// No loop yet.
     pub fn new(alloc: Global) -> Places {
         Places {
             alloc,
@@ -35,7 +35,7 @@ impl Places {
         }
     }
 
-    // One more loop, which waits at this poll.
+    // Adds a loop that waits at this poll.
     fn push(&mut self, poll: Poll) -> io::Result<()> {
         let waker = Waker::new(poll.registry(), WAKE)?;
         let registry = poll.registry().try_clone()?;
@@ -50,7 +50,7 @@ impl Places {
         Ok(self.starts.push(start)?)
     }
 
-    /// So many loops, of which the first has the listener.
+    /// Adds this many loops, of which the first has the listener.
     pub fn fill<R: Net>(&mut self, rt: &R, loops: usize, listener: UnixListener) -> io::Result<()> {
         for _ in 0..loops {
             self.push(Poll::new(rt)?)?;

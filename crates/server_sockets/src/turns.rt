@@ -22,16 +22,16 @@ pub const LISTEN: Token = Token(1);
 // The connection under key k has the token k + FIRST.
 const FIRST: usize = 2;
 
-// What was refused for want of memory is tried again after so many milliseconds.
+// What was refused for want of memory is tried again after this many milliseconds.
 const PAUSE: u64 = 20;
 
-// Connections that are waited for are looked at after so many milliseconds.
+// Connections with a time limit are looked at after this many milliseconds.
 const LOOK: u64 = 1_000;
 
-// So many connections at most wait for their first message, by all loops together.
+// At most this many connections wait for their first message, by all loops together.
 const MOST_NEW: usize = 256;
 
-/// What a loop tells the others, and whether its draws wait.
+/// When a loop wakes the others, and when its draws wait.
 #[derive(Drop)]
 struct Pacing<'a> {
     shared: &'a Shared,
@@ -40,8 +40,8 @@ struct Pacing<'a> {
 }
 
 impl Pacing<'_> {
-    // Wakes the other loops where they may have something to do. While much comes to this one,
-    // draws wait, and so does the news that there is output to draw.
+    // Wakes the other loops if they may have something to do. While much comes to this one it doesn't
+    // wake them for output: they look by themselves.
     fn tell_others(&self, submitted: Submitted, is_news: bool) -> io::Result<()> {
         if is_news || submitted.has_acted || (submitted.is_some && !self.pace.is_busy()) {
             self.shared.wake_others(self.me)?;
@@ -49,12 +49,12 @@ impl Pacing<'_> {
         Ok(())
     }
 
-    // How long the loop sleeps at most, though nothing is to be done.
+    // How long the loop sleeps at most if nothing is to be done.
     fn longest_sleep(&self) -> Option<Duration> {
         self.pace.longest_sleep(&self.shared.busy)
     }
 
-    // A turn's reads are done. Whether its draws wait.
+    // A turn's reads are done. Returns whether its draws wait.
     fn read(&mut self, now: Option<Duration>, reads: Reads) -> io::Result<bool> {
         let is_news = self.pace.note(&self.shared.busy, now, reads.is_much);
         self.tell_others(reads.submitted, is_news)?;
@@ -68,7 +68,7 @@ impl Pacing<'_> {
     }
 }
 
-/// What a loop minds beside its connections: the events that came, news, and who is to be taken in.
+/// What a loop watches beside its connections: events, news, and connections to be taken in.
 #[derive(Drop)]
 pub struct Watch<'a> {
     poll: Poll,
@@ -80,7 +80,7 @@ pub struct Watch<'a> {
 }
 
 impl Watch<'_> {
-    // Whether connections wait, to be taken in at once.
+    // Whether more connections may wait to be taken in.
     fn has_more(&self) -> bool {
         self.acceptor.as_ref().is_some_and(|it| it.has_more)
     }
@@ -90,7 +90,7 @@ impl Watch<'_> {
         self.acceptor.as_ref().is_some_and(|it| it.is_stuck)
     }
 
-    // How long to wait for events, where the loop itself has this to do.
+    // How long to wait for events if the loop itself has this to do.
     fn timeout(&self, pending: Pending) -> Option<Duration> {
         if pending == Pending::Work || self.has_more() {
             Some(Duration::ZERO)
@@ -105,7 +105,7 @@ impl Watch<'_> {
         }
     }
 
-    // Waits until the loop has something to do. It is woken by news only while it sleeps.
+    // Waits until the loop has something to do. News wake it only while it sleeps.
     fn sleep(&mut self, pending: Pending) -> io::Result<()> {
         let mut longest = self.timeout(pending);
         if longest != Some(Duration::ZERO) && !self.loop_handle.may_sleep() {
@@ -116,12 +116,13 @@ impl Watch<'_> {
         waited
     }
 
-    // So many connections of this loop may wait for their first message.
+    // How many connections of this loop may wait for their first message.
     fn share(&self) -> usize {
         MOST_NEW / self.pacing.shared.loop_handles.len().clamp(1, MOST_NEW)
     }
 
-    // Hands those who wait to loops, where this one does so. Behind it what is new so far is looked at.
+    // Hands the connections that wait to the loops, if this loop does so. News that came before this
+    // ends is looked at in this turn.
     fn accept(&mut self, rt: &impl Wait, is_asked: bool) -> io::Result<()> {
         let is_asked = is_asked || self.has_more() || self.is_stuck();
         if let Some(acceptor) = &mut self.acceptor {
@@ -133,12 +134,12 @@ impl Watch<'_> {
         Ok(())
     }
 
-    /// Nobody is taken in any more.
+    /// No connection is taken in any more.
     pub fn close(&mut self) {
         self.acceptor = None;
     }
 
-    /// Waits for events, at most so long. An interrupted wait has none.
+    /// Waits for events, at most this long. An interrupted wait has none.
     pub fn wait(&mut self, timeout: Option<Duration>) -> io::Result<()> {
         match self.poll.poll(&mut self.events, timeout) {
             Err(error) if error.kind() == ErrorKind::Interrupted => {
@@ -150,8 +151,8 @@ impl Watch<'_> {
     }
 }
 
-// Takes in the connections that were handed to the loop. One that can't be taken in is closed. Where
-// the system grants no more, the one that waits for its first message longest makes room.
+// Takes in the connections that were handed to the loop. One that can't be taken in is closed. If the
+// system grants no more descriptors, the connection whose first message is waited for longest goes.
 fn admit<'a, J: SessionSeat + Drop, G: Gate + Drop>(
     rt: &impl Wait,
     watch: &Watch<'a>,
@@ -167,14 +168,15 @@ fn admit<'a, J: SessionSeat + Drop, G: Gate + Drop>(
         };
         let most = if handed.is_extra { 1 } else { share };
         peers.let_oldest_go(rt, most);
-        let token = Token(peers.next_key().saturating_add(FIRST));
+        let token = Token(peers.connections.vacant_key().saturating_add(FIRST));
         if let Ok(wired) = Wired::new(watch.registry, token, handed.stream) {
-            let _ = peers.admit(wired, handed.is_extra);
+            let _ = peers.connections.admit(wired, handed.is_extra);
         }
     }
 }
 
-// Marks the connections that have something to read. Whether somebody may wait to be taken in.
+// Marks the connections that have something to read. Returns whether a connection may wait to be
+// taken in.
 fn sort<J: SessionSeat + Drop, G: Gate + Drop>(
     events: &Events,
     peers: &mut Peers<Wired, G, J>,
@@ -195,7 +197,7 @@ fn sort<J: SessionSeat + Drop, G: Gate + Drop>(
     is_asked
 }
 
-/// Tells what happened.
+/// Writes news to the log.
 pub fn tell_news<R: Clock + Wait>(rt: &R, shared: &Shared, happened: Vec<News>) {
     for news in happened {
         let before = match news {
@@ -208,31 +210,33 @@ pub fn tell_news<R: Clock + Wait>(rt: &R, shared: &Shared, happened: Vec<News>) 
     }
 }
 
-// A turn begins when the loop has something to do: who has something to say, and who is new.
+// Waits until the loop has something to do, and begins a turn: marks what is to be read, and takes
+// connections in. Returns the turn's time, if there is a clock.
 fn begin_turn<'a, J: SessionSeat + Drop, G: Gate + Drop, R: Clock + Wait>(
     rt: &R,
     watch: &mut Watch<'a>,
     own: &mut Loop<Wired<'a>, G, J>,
-) -> io::Result<()> {
+) -> io::Result<Option<Duration>> {
     watch.sleep(own.peers.pending())?;
-    if let Ok(now) = rt.monotonic() {
+    let now = rt.monotonic().ok();
+    if let Some(now) = now {
         own.now = now;
     }
     let is_asked = sort(&watch.events, &mut own.peers);
     watch.accept(rt, is_asked)?;
     admit(rt, watch, &mut own.peers);
-    Ok(())
+    Ok(now)
 }
 
-// One turn: what came is read and done, and what comes of it is written.
+// One turn at this time: what came is read and done, and what comes of it is written.
 fn turn<J: SessionSeat + Drop, G: Gate + Drop, R: Clock + Wait>(
     rt: &R,
     loop_handle: &LoopHandle,
     pacing: &mut Pacing,
     own: &mut Loop<Wired, G, J>,
+    now: Option<Duration>,
 ) -> io::Result<()> {
-    let now = rt.monotonic().ok();
-    own.peers.set_time(rt);
+    own.peers.seat.set_time(rt);
     let reads = own.read_all(rt);
     if own.peers.awaits_look() {
         loop_handle.await_look();
@@ -248,7 +252,7 @@ fn turn<J: SessionSeat + Drop, G: Gate + Drop, R: Clock + Wait>(
     }
 }
 
-// Who may connect may have changed since the users of this count.
+// Takes the users who may connect, if the file was looked at since this count.
 fn look_at_users<S: Read + Write + Drop, J: SessionSeat + Drop, G: Gate + Drop, R: Clock + Wait>(
     rt: &R,
     shared: &Shared,
@@ -273,13 +277,13 @@ fn take_turns<'a, J: SessionSeat + Drop, G: Gate + Drop, R: Clock + Wait>(
     let mut count = 0;
     own.looked = Some(0);
     for _ in rt.forever() {
-        begin_turn(rt, watch, own)?;
+        let now = begin_turn(rt, watch, own)?;
         if own.peers.has_held() {
-            // A look that ends behind this wakes the loop.
+            // A look that ends after this wakes the loop.
             watch.loop_handle.await_look();
             look_at_users(rt, shared, &mut count, own);
         }
-        turn(rt, watch.loop_handle, &mut watch.pacing, own)?;
+        turn(rt, watch.loop_handle, &mut watch.pacing, own, now)?;
         if let Some(end) = shared.over.get() {
             return wind_up(rt, shared, watch, &mut own.peers, *end);
         }
@@ -287,7 +291,7 @@ fn take_turns<'a, J: SessionSeat + Drop, G: Gate + Drop, R: Clock + Wait>(
     Ok(())
 }
 
-// A loop with this seat, until the server ends: its seat.
+// Runs a loop with this seat until the server ends, and returns the seat.
 fn run_seat<J: SessionSeat + Drop, G: Gate + Copy + Drop, R: Clock + Wait>(
     rt: &R,
     alloc: Global,
@@ -310,7 +314,7 @@ fn run_seat<J: SessionSeat + Drop, G: Gate + Copy + Drop, R: Clock + Wait>(
     }
 }
 
-/// One loop, until the server ends: its seat.
+/// Runs one loop until the server ends, and returns its seat.
 pub fn run_loop<J: SessionSeat + Drop, G: Gate + Copy + Drop, R: Clock + Wait>(
     rt: &R,
     alloc: Global,

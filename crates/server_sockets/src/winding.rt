@@ -8,13 +8,13 @@ use std::io;
 use std::sync::Wait;
 use std::time::{Clock, Duration};
 
-// The peers have so many milliseconds to read that the server ends.
+// The peers have this many milliseconds to read that the server ends.
 const TIME: u64 = 2_000;
 
-// They are looked at after so many milliseconds, or when something comes.
+// They are looked at after this many milliseconds, or when something comes.
 const PAUSE: u64 = 20;
 
-// Without a clock they are looked at so often.
+// Without a clock they are looked at this many times.
 const PAUSES: u64 = 100;
 
 fn is_late<R: Clock>(rt: &R, began: Option<Duration>, pauses: u64) -> bool {
@@ -24,8 +24,8 @@ fn is_late<R: Clock>(rt: &R, began: Option<Duration>, pauses: u64) -> bool {
     }
 }
 
-/// The peers are told of the end, and get some time to read it, whatever comes meanwhile. What
-/// happened is told.
+/// Tells the peers that the server ends, gives them two seconds to read it whatever else comes, and
+/// writes the last news to the log.
 pub fn wind_up<J: SessionSeat + Drop, G: Gate + Drop, R: Clock + Wait>(
     rt: &R,
     shared: &Shared,
@@ -37,7 +37,7 @@ pub fn wind_up<J: SessionSeat + Drop, G: Gate + Drop, R: Clock + Wait>(
     let began = rt.monotonic().ok();
     peers.finish(rt, end);
     for pauses in 0..u64::MAX {
-        if peers.is_empty() || is_late(rt, began, pauses) {
+        if peers.connections.len() == 0 || is_late(rt, began, pauses) {
             break;
         }
         watch.wait(Some(Duration::from_millis(PAUSE)))?;

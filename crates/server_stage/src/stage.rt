@@ -30,11 +30,11 @@ fn users(alloc: Global) -> Result<Users, Stop> {
     }
 }
 
-// So many turns at most.
+// At most this many turns.
 #[derive(Clone, Copy)]
 struct Turns {
     most: usize,
-    // Nothing comes, and they end where nothing is to be done.
+    // Nothing comes, and the turns end when nothing is to be done.
     are_quiet: bool,
 }
 
@@ -76,7 +76,7 @@ fn take<G: Gate + Drop, J: SessionSeat + Drop>(
 
 fn standing<G: Gate + Drop, J: SessionSeat + Drop>(own: &Loop<Near, G, J>) -> Standing {
     Standing {
-        len: own.peers.len(),
+        len: own.peers.connections.len(),
         is_due: own.peers.is_due(),
         has_waiting: own.peers.has_waiting(),
         end: own.peers.end(),
@@ -92,11 +92,11 @@ fn perform_one<G: Gate + Drop, J: SessionSeat + Drop>(
     match act {
         Act::Connect(habit, bytes) => {
             let near = outside.connect(habit, bytes)?;
-            let _ = own.peers.admit(near, false);
+            let _ = own.peers.connections.admit(near, false);
         }
         Act::ConnectExtra(bytes) => {
             let near = outside.connect(Habit::Whole, bytes)?;
-            let _ = own.peers.admit(near, true);
+            let _ = own.peers.connections.admit(near, true);
         }
         Act::Turns(most) => take(rt, own, outside.tick, Turns::ready(most)),
         Act::QuietTurns(most) => take(rt, own, outside.tick, Turns::quiet(most)),
@@ -220,7 +220,7 @@ impl<R: Clock + Wait> LoopBody<usize, R> for Playing<'_> {
     }
 }
 
-// What is seen of those who played, of whose answers the trail has all, or not.
+// What was seen of the loops. `agrees` says whether the trail has all their answers.
 fn seen_of(playing: Playing, agrees: bool) -> Result<Seen, Stop> {
     let Playing {
         loops,
@@ -245,14 +245,14 @@ fn seen_of(playing: Playing, agrees: bool) -> Result<Seen, Stop> {
     Ok(seen)
 }
 
-/// What a stage takes of the system.
+/// What a stage uses of the system.
 pub trait System: AllocGlobal + Clock + Threads + Wait + Sync {}
 
 impl<R: AllocGlobal + Clock + Threads + Wait + Sync> System for R {}
 
-/// Performs the acts on a loop over a new session, or on each of two that run at once, where the
-/// call that comes first is held until one of the other loop was answered: what is seen of one
-/// loop, or of both one after the other.
+/// Performs the acts on a loop over a new session, or on each of two that run at once; then the call
+/// that comes first is held until one of the other loop was answered. Returns what is seen of the
+/// loop, or of both, one after the other.
 pub fn perform(rt: &impl System, loops: usize, acts: &[Act]) -> Result<Seen, Stop> {
     let alloc = rt.alloc();
     let mut places = Vec::new(alloc);

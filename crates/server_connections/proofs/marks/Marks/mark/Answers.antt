@@ -1,8 +1,8 @@
-use Rattle.std.proofs.Common.{arith, subst, List, ℕ}
+use Rattle.std.proofs.Common.{arith, subst, ap, ◌∙◌, List, ℕ}
 use Rattle.std.specs.Prelude.{slice_set, bit_or, ◌*◌, ◌/◌, ◌%◌}
 use Rattle.std.proofs.Common.{◌^◌}
-use Rattle.server_connections.specs.Marked.{IsSameBut}
-use Rattle.server_connections.proofs.Marking.{marked, marked_alone}
+use Rattle.server_connections.specs.Marked.{IsSameBut, with_mark}
+use Rattle.server_connections.proofs.Marking.{marked, marked_alone, as_marked}
 use Rattle.server_connections.proofs.marks.Marks.mark.Goals as goal
 
 pub returns-clause-marked : goal.returns-clause-marked
@@ -16,3 +16,9 @@ returns-clause-others c =
     (bit_or c.index_mut.result.now (1 * 2 ^ (c.args.key % 64) % 2 ^ 64)))) c.self.view_is
     (marked_alone c.self.inside.words.items c.args.key c.index_mut.result.now
     (omega (arith, c.if-place-len.false, c.len.ensures)) c.index_mut.ensures.value)
+
+pub returns-clause-words : goal.returns-clause-words
+returns-clause-words c =
+    as_marked c.self.inside.words.items c.args.key c.index_mut.result.now
+    (omega (arith, c.if-place-len.false, c.len.ensures)) c.index_mut.ensures.value
+    ∙ ap (λ (ws : List ℕ). with_mark ws c.args.key) c.self.view_is
