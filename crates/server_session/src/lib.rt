@@ -1,5 +1,5 @@
-//! The session that the loops of a server share, and its users. It is made and taken down here, so
-//! that what is above proves nothing of what a session holds.
+//! The session that the loops of a server share, and its users. It is made and closed here, so that no
+//! crate above has to prove anything of what a session holds.
 #![tactic(auto)]
 
 mod accounts;

@@ -1,4 +1,4 @@
-//! The loops that share a session, each in a thread.
+//! The loops that share a session, each in a thread of its own.
 
 ghost use Rattle.std.specs.Prelude.{◌≡◌, ◌<◌, ◌≤◌, IfOk};
 ghost use Rattle.acl.specs.declared.edition.Edition.TheVariants.{Second};
@@ -21,7 +21,7 @@ use std::thread::Threads;
 use std::time::Clock;
 use std::{io, thread};
 
-/// How many loops share a session at most.
+/// The most loops that share a session.
 const MOST: usize = 8;
 
 /// Why no loops were run.
@@ -30,9 +30,9 @@ pub enum LoopsFault {
     NoMemory,
     /// A line of the setup can be no command.
     Setup(SetupFault),
-    /// The setup's line of this number was refused, with this text.
+    /// The setup's line of this number was refused with this text.
     Refused(usize, Vec<u8>),
-    /// It couldn't be told that they begin.
+    /// The caller couldn't tell that the session begins.
     Untold(io::Error),
 }
 
@@ -48,9 +48,9 @@ impl From<SetupFault> for LoopsFault {
     }
 }
 
-/// Runs the loops. A place is what one of them is begun with.
+/// Runs the loops. Each is given a place of type `P` to begin with.
 pub trait LoopBody<P: Drop, R> {
-    /// Runs one loop to its end. One that ended well gives its seat back.
+    /// Runs one loop to its end, and gives its seat back if it ended well.
     fn run<L: Roll>(
         &self,
         rt: &R,
@@ -60,26 +60,26 @@ pub trait LoopBody<P: Drop, R> {
         place: P,
     ) -> Option<Seat<L>>;
 
-    /// The file of what the owner commands before anybody connects.
+    /// The file with the owner's commands that are given before anybody connects.
     fn setup(&self) -> &[u8] {
         &[]
     }
 
-    /// A loop has no thread.
+    /// The system refused a loop its thread.
     fn fail(&self, rt: &R);
 
-    /// What the thread that began the loops does meanwhile, until they have ended.
+    /// Runs in the thread that began the loops, until they have ended.
     fn stand_by(&self, _rt: &R) {}
 
-    /// Where so many loops put the session's trail down: nowhere.
+    /// What takes the trail's lines from this number of loops; None if no file is written.
     fn recorder(&self, _alloc: Global, _loops: usize) -> Option<Recorder> {
         None
     }
 
-    /// Writes what is put down, in a thread of its own, until the loops have ended.
+    /// Writes the trail's lines, in a thread of its own, until the loops have ended.
     fn write_trail(&self, _rt: &R, _recorder: &Recorder) {}
 
-    /// The session is over, and this is its trail.
+    /// Takes the trail of the session, which is over.
     fn compare(&self, _rt: &R, _trail: &Trail) {}
 }
 
@@ -91,7 +91,7 @@ pub struct Start<P: Drop> {
     pub places: Vec<P>,
 }
 
-// A session while its loops run, and the seats of those that ended well.
+// A session while its loops run, and the seats of the loops that ended well.
 #[derive(Drop)]
 struct Kept<L: Roll> {
     shared: SharedSession<L>,
@@ -99,7 +99,7 @@ struct Kept<L: Roll> {
 }
 
 impl<L: Roll> Kept<L> {
-    // A loop has ended, and well where it gives its seat back.
+    // Takes note that a loop has ended. One that ended well gives its seat back.
     fn leave(&self, rt: &impl Wait, seat: Option<Seat<L>>) {
         if let Some(seat) = seat {
             let _ = self.left.lock(rt).push(seat);
@@ -108,7 +108,7 @@ impl<L: Roll> Kept<L> {
     }
 }
 
-// What the loops are begun with: each takes a seat and a place.
+// What the loops begin with: each takes a seat and a place.
 #[derive(Drop)]
 struct Starts<L: Roll, P: Drop> {
     alloc: Global,
@@ -116,7 +116,7 @@ struct Starts<L: Roll, P: Drop> {
     places: Vec<P>,
 }
 
-// Runs every loop to its end, each in a thread.
+// Runs every loop to its end, each in a thread of its own.
 fn run_all<L, P, K, R>(rt: &R, kept: &Kept<L>, starts: Starts<L, P>, loop_body: &K)
 where
     L: Roll + Send + Sync,
@@ -172,7 +172,7 @@ fn begin<L: Roll>(
         × (0 < loops) × (loops ≤ 8) }
     requires begun { (L.edition ≡ Second) × (L.owner ≡ owner) }
 {
-    // A new session and a new hub are refused for want of memory alone.
+    // A new session and a new hub are refused only if there is no memory.
     let Ok(session) = new_session::<L>(alloc, owner) else {
         return Err(LoopsFault::NoMemory);
     };
@@ -182,8 +182,8 @@ fn begin<L: Roll>(
     }
 }
 
-// Where the session's trail is put down, if it is. The answers of these seats have entries in any case:
-// by these is known what came of a step.
+// What writes the session's trail to a file, if there is one. The seats ask for entries in any case,
+// since an entry tells what came of a step.
 fn recorder<L, P, K, R>(
     rt: &R,
     alloc: Global,
@@ -205,7 +205,7 @@ where
     Some(recorder)
 }
 
-// For which owner and how many loops a session is made: a blank of as many parts.
+// The owner and the number of loops of a new session, and a blank of as many parts.
 #[derive(Drop)]
 struct Parts {
     blank: Blank,
@@ -270,9 +270,9 @@ where
     Ok(wrong.is_none())
 }
 
-/// Keeps a new session: tells that it begins, and runs a loop for each of 1 to 8 places, each in a
-/// thread, until all have ended. The answer is whether each answer that a loop was given stands in
-/// the session's trail.
+/// Keeps a new session: calls `begun`, and runs a loop for each of 1 to 8 places, each in a thread of
+/// its own, until all have ended. The answer is whether every answer that a loop was given stands in the
+/// session's trail.
 pub fn keep<P, K, R, B>(
     rt: &R,
     start: Start<P>,

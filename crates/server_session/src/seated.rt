@@ -10,10 +10,10 @@ use session_model::{Effect, Event, Refusal, Reply, Verdict};
 use std::sync::Wait;
 use std::time::{Clock, Duration};
 
-// At so many hundredths of the trail's most entries there is news.
+// The percentages of the trail's most entries that are news.
 const MARKS: [u8; 4] = [50, 75, 90, 99];
 
-// The mark that the entry of this place reaches.
+// The percentage that the trail reaches with the entry at this place, if that is news.
 fn mark_at(place: usize) -> Option<u8> {
     for mark in MARKS {
         if place == FULL * usize::from(mark) / 100 {
@@ -31,7 +31,7 @@ fn is_passed(verdict: &Verdict) -> bool {
     }
 }
 
-// What came of a step that was answered so, behind these checks.
+// What came of a step, from its reply and the checks that were made for it.
 fn outcome_of(reply: &Reply, verdicts: &[Verdict]) -> Outcome {
     match reply {
         Err(Refusal::NoMemory) => Outcome::Untaken,
@@ -42,7 +42,7 @@ fn outcome_of(reply: &Reply, verdicts: &[Verdict]) -> Outcome {
     }
 }
 
-/// A seat, the session that it is in, and its users' accounts.
+/// A seat in a session, with the session and its users' accounts.
 #[derive(Drop)]
 pub struct Seated<'a, L: Roll> {
     shared: &'a SharedSession<L>,
@@ -81,7 +81,7 @@ impl<L: Roll> SessionSeat for Seated<'_, L> {
                     Some(place) => mark_at(place),
                     None => None,
                 };
-                // An entry lacks where memory for its copy was refused.
+                // There is no entry if memory for its copy was refused.
                 let outcome = match answer.entry() {
                     Some(entry) => outcome_of(answer.reply(), entry.verdicts()),
                     None => Outcome::Granted,

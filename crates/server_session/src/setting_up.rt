@@ -8,7 +8,7 @@ use setup_lines::{SetupLine, read_setup};
 use std::alloc::Global;
 use std::sync::Wait;
 
-// Submits a line as a Command of the owner. There is no peer to which it could do something.
+// Submits a line as a command of the owner. There is no peer yet that it could act on.
 fn give<L: Roll, R: Wait>(
     rt: &R,
     alloc: Global,
@@ -21,7 +21,7 @@ fn give<L: Roll, R: Wait>(
         window: None,
         line: line.text.as_bytes(),
     };
-    // Memory may lack, or the trail is full: it takes some four million lines.
+    // Memory was refused. (The trail can't be full: that takes some four million lines.)
     let answer = match shared.submit(rt, seat, event) {
         Ok(answer) => answer,
         Err(_) => return Err(LoopsFault::NoMemory),

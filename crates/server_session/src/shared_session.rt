@@ -6,17 +6,17 @@ use server_users::Users;
 use session_model::Event;
 use std::sync::Wait;
 
-/// The session that the loops share, who may connect, and where its trail is written down.
+/// The session that the loops share, who may connect, and what writes its trail to a file.
 #[derive(Drop)]
 pub struct SharedSession<L: Roll> {
     pub hub: Hub<L>,
     pub users: Users,
-    /// None where no file is written.
+    /// None if no file is written.
     pub recorder: Option<Recorder>,
 }
 
 impl<L: Roll> SharedSession<L> {
-    /// Submits an event to the session. An entry that it writes is put down for the trail's file.
+    /// Submits an event to the session. If that makes an entry, its line goes to the trail's file.
     pub fn submit<'a>(
         &self,
         rt: &impl Wait,
@@ -30,7 +30,7 @@ impl<L: Roll> SharedSession<L> {
         Ok(answer)
     }
 
-    // Whether there is a file of the trail, and nothing is written to it any more.
+    // Whether the trail has a file to which nothing is written any more.
     pub(crate) fn has_stopped(&self) -> bool {
         match &self.recorder {
             Some(recorder) => recorder.stopped().is_some(),
