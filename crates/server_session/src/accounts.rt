@@ -1,13 +1,13 @@
-//! What each user has spent, and how many clients and windows they have, by all loops.
+//! What each user may still try, and how many clients and windows they have, shared by all loops.
 
 use acl::UserId;
 use server_connections::GuestKind;
-use server_users::{Allowance, Outcome};
-use std::alloc::{AllocError, Global};
+use server_users::{Allowances, Outcome, Tally};
+use std::alloc::Global;
 use std::sync::{Mutex, Wait};
 use std::time::Duration;
 
-/// How many clients and windows one user may have; None where only the session bounds them.
+/// How many clients and windows one user may have; None if only the session bounds them.
 #[derive(Clone, Copy, Debug, PartialEq, Eq)]
 pub struct Limits {
     pub clients: Option<u8>,
@@ -22,118 +22,53 @@ impl Limits {
             windows: None,
         }
     }
-
-    fn of(&self, kind: GuestKind) -> Option<u8> {
-        match kind {
-            GuestKind::Client => self.clients,
-            GuestKind::Window => self.windows,
-        }
-    }
 }
 
-// What is known of one user.
-#[derive(Drop)]
-struct Account {
-    user: UserId,
-    allowance: Allowance,
-    clients: u8,
-    windows: u8,
-}
-
-impl Account {
-    fn new(user: UserId) -> Account {
-        Account {
-            user,
-            allowance: Allowance::new(),
-            clients: 0,
-            windows: 0,
-        }
-    }
-
-    // How many clients or windows the user has.
-    fn count(&mut self, kind: GuestKind) -> &mut u8 {
-        match kind {
-            GuestKind::Client => &mut self.clients,
-            GuestKind::Window => &mut self.windows,
-        }
-    }
-}
-
-/// The accounts of those users who tried something.
+/// What each user may still try in vain, and how many clients and windows they have. The loops share
+/// it, so a lock is around each part. What a call does to it is said by the part's own contract.
 #[derive(Drop)]
 pub struct Accounts {
-    owner: UserId,
-    limits: Limits,
-    list: Mutex<Vec<Account>>,
-}
-
-// The account of a user, which is made if there is none.
-fn find(list: &mut Vec<Account>, user: UserId) -> Result<&mut Account, AllocError> {
-    let place = match list.iter().position(|account| account.user == user) {
-        Some(place) => place,
-        None => {
-            list.push(Account::new(user))?;
-            list.len().saturating_sub(1)
-        }
-    };
-    list.get_mut(place).ok_or(AllocError)
+    allowances: Mutex<Allowances>,
+    clients: Mutex<Tally>,
+    windows: Mutex<Tally>,
 }
 
 impl Accounts {
-    /// Nobody has tried anything yet.
+    /// Nobody has tried or opened anything yet in the session of this owner.
     pub fn new(alloc: Global, owner: UserId, limits: Limits) -> Accounts {
         Accounts {
-            owner,
-            limits,
-            list: Mutex::new(Vec::new(alloc)),
+            allowances: Mutex::new(Allowances::new(alloc, owner)),
+            clients: Mutex::new(Tally::new(alloc, limits.clients)),
+            windows: Mutex::new(Tally::new(alloc, limits.windows)),
         }
     }
 
-    /// Pays for a step that a user is about to try, unless all that the user may spend is spent.
-    /// Whether it did. Where there is no memory for an account, nothing is counted.
+    /// Pays for a step that a user is about to try at this time, as `Allowances::pay` does. The answer
+    /// is false if the user has to wait.
     pub fn pay(&self, rt: &impl Wait, user: UserId, now: Duration, cost: u32) -> bool {
         let now = u64::try_from(now.as_millis()).unwrap_or(u64::MAX);
-        let mut list = self.list.lock(rt);
-        match find(&mut *list, user) {
-            Ok(account) => account.allowance.pay(now, cost),
-            Err(_) => true,
-        }
+        self.allowances.lock(rt).pay(user, now, cost)
     }
 
-    /// A step that was paid for so came to this. The session's owner has all rights, so nothing need
-    /// be checked for what the owner does.
+    /// Settles what came of a step that a user paid for, as `Allowances::settle` does.
     pub fn settle(&self, rt: &impl Wait, user: UserId, cost: u32, outcome: Outcome) {
-        let outcome = match outcome {
-            Outcome::Unchecked if user == self.owner => Outcome::Granted,
-            outcome => outcome,
-        };
-        let mut list = self.list.lock(rt);
-        if let Ok(account) = find(&mut *list, user) {
-            account.allowance.settle(cost, outcome);
-        }
+        self.allowances.lock(rt).settle(user, cost, outcome);
     }
 
-    /// Counts one more client or window of a user, unless they have as many as a user may have.
-    /// Then the answer is how many that is.
+    /// Counts one more client or window of a user, as `Tally::add` does. If it can't be counted, the
+    /// answer is how many a user may have.
     pub fn add(&self, rt: &impl Wait, user: UserId, kind: GuestKind) -> Option<u8> {
-        let most = self.limits.of(kind)?;
-        let mut list = self.list.lock(rt);
-        let count = find(&mut *list, user).ok()?.count(kind);
-        if *count >= most {
-            return Some(most);
+        match kind {
+            GuestKind::Client => self.clients.lock(rt).add(user),
+            GuestKind::Window => self.windows.lock(rt).add(user),
         }
-        *count = count.saturating_add(1);
-        None
     }
 
     /// Counts one client or window less of a user.
     pub fn remove(&self, rt: &impl Wait, user: UserId, kind: GuestKind) {
-        if self.limits.of(kind).is_some() {
-            let mut list = self.list.lock(rt);
-            if let Ok(account) = find(&mut *list, user) {
-                let count = account.count(kind);
-                *count = count.saturating_sub(1);
-            }
+        match kind {
+            GuestKind::Client => self.clients.lock(rt).remove(user),
+            GuestKind::Window => self.windows.lock(rt).remove(user),
         }
     }
 }
