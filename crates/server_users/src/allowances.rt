@@ -1,7 +1,7 @@
 //! What each user may still try in vain.
 
 ghost use Rattle.std.specs.Prelude.{◌≡◌, ◌<◌, ◌≤◌, IfSome, IfOk, OnErr, Some, None, length, true, false};
-ghost use Rattle.std.specs.Prelude.{option_map, unwrap_or};
+ghost use Rattle.std.specs.Prelude.{option_map, unwrap_or, IsOk, vec_len, vec_capacity};
 ghost use Rattle.std.specs.List.{position};
 ghost use Rattle.acl.specs.Same.{same_user};
 ghost use Rattle.acl.specs.declared.user_id.UserId.{UserId};
@@ -48,7 +48,7 @@ fn judged(owner: UserId, user: UserId, outcome: Outcome) -> Outcome
 }
 
 impl Allowances {
-    /// Nobody has tried anything yet in the session of this owner.
+    /// The allowances in a session of this owner in which nobody has tried anything yet.
     pub fn new(alloc: Global, owner: UserId) -> Allowances
         ensures none { (u : UserId) → account_of result.accounts.items u ≡ None }
         ensures owner { result.owner ≡ owner }
@@ -71,6 +71,7 @@ impl Allowances {
         ensures owner { self.new.owner ≡ self.old.owner }
         ensures err { OnErr result ((self.new.accounts.items ≡ self.old.accounts.items)
             × (account_of self.old.accounts.items user ≡ None)) }
+        ensures room { vec_len self.old.accounts < vec_capacity self.old.accounts → IsOk result }
     {
         if let Some(place) = place_of(&self.accounts, user) {
             return Ok(place);
@@ -95,6 +96,9 @@ impl Allowances {
             ≡ option_map (stands_at now) (account_of self.old.accounts.items user) }
         ensures may { result ≡ true
             → (stands_at now (unwrap_or (account_of self.old.accounts.items user) fresh)).spent < 1000000 }
+        // A user without an account pays if there is room for one more account in memory.
+        ensures room { account_of self.old.accounts.items user ≡ None
+            → vec_len self.old.accounts < vec_capacity self.old.accounts → result ≡ true }
         ensures waits { result ≡ false → IfSome (account_of self.old.accounts.items user)
             (λ purse. 1000000 ≤ (stands_at now purse).spent) }
         ensures owner { self.new.owner ≡ self.old.owner }

@@ -1,6 +1,7 @@
 //! How many clients or windows each user has.
 
-ghost use Rattle.std.specs.Prelude.{◌≡◌, ◌<◌, ◌++◌, ◌∷◌, [], IfSome, Some, None, ℕ, length};
+ghost use Rattle.std.specs.Prelude.{◌≡◌, ◌<◌, ◌≤◌, ◌++◌, ◌∷◌, [], IfSome, Some, None, ℕ, length};
+ghost use Rattle.std.specs.Prelude.{vec_len, vec_capacity};
 ghost use Rattle.std.specs.List.{position};
 ghost use Rattle.acl.specs.Same.{same_user};
 ghost use Rattle.acl.specs.History.{without_user};
@@ -33,7 +34,8 @@ fn place_of(guests: &[UserId], user: UserId) -> Option<usize>
 }
 
 impl Tally {
-    /// Nobody has one yet. One user may have at most this number.
+    /// A tally of a session in which nobody has a client or window yet, of which one user may have at
+    /// most this number.
     pub fn new(alloc: Global, most: Option<u8>) -> Tally
         ensures none { result.guests.items ≡ [] }
         ensures most { result.most ≡ most }
@@ -55,6 +57,9 @@ impl Tally {
             × (self.new.guests.items ≡ self.old.guests.items ++ user ∷ []) }
         ensures refused { IfSome result (λ most. (self.old.most ≡ Some most)
             × (self.new.guests.items ≡ self.old.guests.items)) }
+        // If there is room for one more in memory, the user has as many as a user may have.
+        ensures full { IfSome result (λ most. vec_len self.old.guests < vec_capacity self.old.guests
+            → most ≤ guests_of self.old.guests.items user) }
     {
         let Some(most) = self.most else {
             return None;

@@ -1,5 +1,6 @@
-use Rattle.std.proofs.Common.{◌<◌, Some, ap, subst, ◌∙◌}
-use Rattle.server_users.specs.Allowances.{Purse, paid, stands_at}
+use Rattle.std.proofs.Common.{◌<◌, Some, Option, ap, sym, subst, ◌∙◌, arith}
+use Rattle.std.specs.Prelude.{unwrap_or}
+use Rattle.server_users.specs.Allowances.{Purse, fresh, paid, stands_at}
 use Rattle.server_users.proofs.Paying.{own_is, other_is, held_is, not_true, unpaid_is, waits_is}
 use Rattle.server_users.proofs.allowances.Allowances.pay.Goals as goal
 
@@ -37,3 +38,11 @@ returns-in-Ok-clause-waits c = λ not.
     (held_is c.open.new.self.accounts.items c.args.user c.in-Ok.place c.index_mut.result.now c.in-Ok.ensures.place
     c.index_mut.ensures.value _ c.in-Ok.ensures.own)
     (λ less. not_true c.pay.result not (c.pay.ensures.answer.1 less))
+
+pub returns-in-Ok-clause-room : goal.returns-in-Ok-clause-room
+returns-in-Ok-clause-room c = λ none room.
+    c.pay.ensures.answer.1
+    (subst (λ (p : Purse). (stands_at c.args.now p).spent < 1000000)
+    (sym (held_is c.open.new.self.accounts.items c.args.user c.in-Ok.place c.index_mut.result.now c.in-Ok.ensures.place
+    c.index_mut.ensures.value _ c.in-Ok.ensures.own ∙ ap (λ (o : Option Purse). unwrap_or o fresh) none))
+    (omega arith))
