@@ -167,8 +167,9 @@ fn write_diary<R: BufRead, W: Write>(
     let alloc = diary.alloc;
     let mut line = Vec::new(alloc);
     let mut text = Vec::new(alloc);
-    let halt = diary.write_entries(reader, &mut line, &mut text, output)?;
+    let halt = diary.write_entries(reader, &mut line, &mut text, output);
     diary.write_held(&mut text, output)?;
+    let halt = halt?;
     let count = diary.log.count();
     let finish = if diary.follows {
         finish_at(alloc, count, halt, reader, &mut line)?

@@ -30,7 +30,7 @@ impl Fault {
             Fault::Io(error) => writeln!(output, "can't go on: {path}: {error}"),
             Fault::NoHeader(line) => writeln!(
                 output,
-                "line {line} isn't the first line of a trail: {path}: name a file of muxd --trail"
+                "line {line} isn't the first line of a trail: {path}: give a file that muxd --trail wrote"
             ),
             Fault::NoLine(line) => writeln!(
                 output,
