@@ -433,10 +433,14 @@ def commands():
     with Server() as server:
         words = ["command", "--socket", server.path, "--user", "own", "--token", token_of(server)]
         check("a refusal is on standard output, what its number means on standard error",
-              run([*words, "windows x"])[:3] == (1, b"line: 3 at 8\n", b"mux: line: 3 at 8 (a word too many: x)\n"),
+              run([*words, "windows x"])[:3]
+              == (1, b"line: 3 at 8\n", b"mux: line: 3 at 8 (a word too many: x): windows x\n"),
               str(run([*words, "windows x"])))
-        check("one without a number, too", run([*words, "kill"])[:3] == (1, b"no window\n", b"mux: no window\n"),
+        check("one without a number, too", run([*words, "kill"])[:3] == (1, b"no window\n", b"mux: no window: kill\n"),
               str(run([*words, "kill"])))
+        said = run([*words, "windows \u00e9"])[2]
+        check("in place of a line with other characters, it has the user and the socket",
+              said.endswith(f": own at {server.path}\n".encode()), str(said))
         check("a command that is done", run([*words, "multiuser on"])[:3] == (0, b"", b""))
         said = run([*words, "displays"])
         check("one that says something", said[:3] == (0, b"\n", b""), str(said))
