@@ -98,13 +98,15 @@ sum_in (Some l) next = joined l next
 abbrev pub grown : ℕ → ℕ → LogLine → LogLine
 grown last bytes l = record l { last = last; bytes = Some bytes }
 
--- after the next line: the line before with the bytes of both, if they are joined, else the next line
+-- the line before with the bytes of both, if they are joined, else the next line
 abbrev pub held_by : Option LogLine → LogLine → Option ℕ → Option LogLine
 held_by held next None = Some next
 held_by held next (Some bytes) = option_map (grown next.last bytes) held
 
-abbrev pub held_with : Option LogLine → LogLine → Option LogLine
-held_with held next = held_by held next (sum_in held next)
+-- after the next line, if there is one
+abbrev pub held_with : Option LogLine → Option LogLine → Option LogLine
+held_with held None = held
+held_with held (Some next) = held_by held next (sum_in held next)
 
 abbrev pub held_text : Option LogLine → List ℕ
 held_text None = []
@@ -125,19 +127,24 @@ abbrev pub ms_by : Option LogLine → Option ℕ → Option ℕ
 ms_by held None = held_ms held
 ms_by held (Some bytes) = None
 
-abbrev pub text_before : Option LogLine → LogLine → List ℕ
-text_before held next = text_by held (sum_in held next)
+abbrev pub text_before : Option LogLine → Option LogLine → List ℕ
+text_before held None = []
+text_before held (Some next) = text_by held (sum_in held next)
 
-abbrev pub ms_before : Option LogLine → LogLine → Option ℕ
-ms_before held next = ms_by held (sum_in held next)
+abbrev pub ms_before : Option LogLine → Option LogLine → Option ℕ
+ms_before held None = None
+ms_before held (Some next) = ms_by held (sum_in held next)
 
 -- ---- after an entry: one that isn't asked for changes nothing
 
+abbrev pub chosen_line : Choice → Names → Said → Option LogLine
+chosen_line c n x = if is_chosen c n x then Some (line_of n x) else None
+
 abbrev pub next_held : Choice → Option LogLine → Names → Said → Option LogLine
-next_held c held n x = if is_chosen c n x then held_with held (line_of n x) else held
+next_held c held n x = held_with held (chosen_line c n x)
 
 abbrev pub next_text : Choice → Option LogLine → Names → Said → List ℕ
-next_text c held n x = if is_chosen c n x then text_before held (line_of n x) else []
+next_text c held n x = text_before held (chosen_line c n x)
 
 abbrev pub next_ms : Choice → Option LogLine → Names → Said → Option ℕ
-next_ms c held n x = if is_chosen c n x then ms_before held (line_of n x) else None
+next_ms c held n x = ms_before held (chosen_line c n x)

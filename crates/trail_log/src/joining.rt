@@ -1,14 +1,14 @@
 //! The line of a log that is held until it is known whether the next line is joined to it.
 
-ghost use Rattle.std.specs.Prelude.{◌≡◌, ◌++◌, IfOk, OnOk, option_map};
+ghost use Rattle.std.specs.Prelude.{◌≡◌, ◌++◌, IfErr, IfOk, OnOk, option_map};
 ghost use Rattle.trail_lines.specs.Entries.{said};
-ghost use Rattle.trail_log.specs.Joining.{goes_on, grown, held_ms, held_text, held_with, joined, ms_before};
-ghost use Rattle.trail_log.specs.Joining.{next_held, next_ms, next_text, sum_in, sum_of, text_before};
+ghost use Rattle.trail_log.specs.Joining.{chosen_line, goes_on, grown, held_ms, held_text, held_with};
+ghost use Rattle.trail_log.specs.Joining.{joined, ms_before, sum_in, sum_of, text_before};
 
 use crate::choice::Choice;
 use crate::log_line::{LogLine, line_of, push_line};
 use crate::names::Names;
-use std::alloc::AllocError;
+use std::alloc::{AllocError, Global};
 use std::mem;
 use trail_lines::Line;
 
@@ -94,17 +94,38 @@ fn grown(held: Option<LogLine>, last: u64, bytes: u64) -> Option<LogLine>
     }
 }
 
+/// The line of an entry, if the entry is asked for.
+pub fn chosen_line(
+    alloc: Global,
+    choice: &Choice,
+    names: &Names,
+    line: &Line,
+) -> Result<Option<LogLine>, AllocError>
+    ensures { IfOk result
+        (λ next. next ≡ chosen_line choice.now names.now (said line.now)) }
+{
+    if !choice.is_chosen(names, line) {
+        return Ok(None);
+    }
+    let next = line_of(alloc, names, line)?;
+    Ok(Some(next))
+}
+
 /// Joins the next line to the one that is held; or appends the line that was held, returns its time,
-/// and holds the next one.
-fn hold(
+/// and holds the next one. Does nothing if there is no next line.
+pub fn hold(
     held: &mut Option<LogLine>,
-    next: LogLine,
+    next: Option<LogLine>,
     out: &mut Vec<u8>,
 ) -> Result<Option<u64>, AllocError>
     ensures text { OnOk result (out.new.items ≡ out.old.items ++ text_before held.old next) }
     ensures ms { IfOk result (λ ms. ms ≡ ms_before held.old next) }
     ensures held { OnOk result (held.new ≡ held_with held.old next) }
+    ensures stays { IfErr result (λ refused. held.new ≡ held.old) }
 {
+    let Some(next) = next else {
+        return Ok(None);
+    };
     match sum_in(held, &next) {
         Some(bytes) => {
             let before = mem::replace(held, None);
@@ -117,27 +138,4 @@ fn hold(
             Ok(ms)
         }
     }
-}
-
-/// Holds the line of an entry, if it is asked for, in place of the line that was held, which is
-/// appended and its time returned; or joins the two.
-pub fn tell(
-    held: &mut Option<LogLine>,
-    choice: &Choice,
-    names: &Names,
-    line: &Line,
-    out: &mut Vec<u8>,
-) -> Result<Option<u64>, AllocError>
-    ensures text { OnOk result (out.new.items
-        ≡ out.old.items ++ next_text choice.now held.old names.now (said line.now)) }
-    ensures ms { IfOk result
-        (λ ms. ms ≡ next_ms choice.now held.old names.now (said line.now)) }
-    ensures held { OnOk result
-        (held.new ≡ next_held choice.now held.old names.now (said line.now)) }
-{
-    if !choice.is_chosen(names, line) {
-        return Ok(None);
-    }
-    let next = line_of(*out.allocator(), names, line)?;
-    hold(held, next, out)
 }

@@ -1,15 +1,14 @@
 //! The log of a file's entries, one after another.
 
-ghost use Rattle.std.specs.Prelude.{◌≡◌, ◌≢◌, ◌++◌, List, [], None, IfErr, IfOk, OnOk};
+ghost use Rattle.std.specs.Prelude.{◌≡◌, ◌++◌, List, [], None, IfErr, IfOk, OnOk};
 ghost use Rattle.acl.specs.declared.edition.Edition.{Edition};
 ghost use Rattle.acl.specs.declared.user_id.UserId.{UserId};
-ghost use Rattle.trail_audit.specs.declared.fault.Wrong.TheVariants.{NoMemory};
 ghost use Rattle.trail_lines.specs.Entries.{Said};
 ghost use Rattle.trail_log.specs.Joining.{held_ms, held_text};
 ghost use Rattle.trail_log.specs.Logging.{HasLogged, PrintsNext};
 
 use crate::choice::Choice;
-use crate::joining::{push_held, tell};
+use crate::joining::{chosen_line, hold, push_held};
 use crate::log_line::LogLine;
 use crate::names::Names;
 use acl::{Edition, UserId};
@@ -55,7 +54,7 @@ impl Log {
 
     /// Takes the line of the next entry, without its line feed. If the entry is asked for, its line is
     /// held, and the line that was held is appended and its time returned; or the two are joined.
-    /// After an `Err` the log takes no line, but the line that is held can still be printed.
+    /// After an `Err` the log takes no line; the line that was held before is held, and can be printed.
     pub fn take(
         &mut self,
         line: &[u8],
@@ -66,11 +65,12 @@ impl Log {
             HasLogged self.old edition owner said →
             PrintsNext result self.old self.new choice.now line.now out.old.items out.new.items
             edition owner said }
-        ensures held { IfErr result (λ wrong. wrong ≢ NoMemory → self.new.held ≡ self.old.held) }
+        ensures held { IfErr result (λ wrong. self.new.held ≡ self.old.held) }
     {
         let said = self.audit.take(line)?;
-        let ms = tell(&mut self.held, choice, &self.names, &said, out)?;
+        let next = chosen_line(*out.allocator(), choice, &self.names, &said)?;
         self.names.take(&said)?;
+        let ms = hold(&mut self.held, next, out)?;
         Ok(ms)
     }
 

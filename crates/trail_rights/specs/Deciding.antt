@@ -73,6 +73,22 @@ decider_after m a d = record d {
   found = if decides d a then Some (m, a) else d.found;
 }
 
+-- a decider before the first act
+abbrev pub first_decider : UserId → UserId → Bit → Object → Decider
+first_decider owner u bit object = record {
+  owner = owner;
+  user = u;
+  bit = bit;
+  object = object;
+  listed = false;
+  there = there [] object;
+  found = None;
+}
+
+-- whose bit on which object a decider looks for
+abbrev pub sought_by : Decider → UserId × Bit × Object
+sought_by d = (d.user, d.bit, d.object)
+
 -- what was found after these acts is the latest that decides
 pub record HasDecided (owner : UserId) (marked : Marked) (d : Decider) : Type 0 where
   pub owner_is : d.owner ≡ owner

@@ -1,12 +1,15 @@
 -- What is seen of acts.
-use Rattle.std.specs.Prelude.{◌≡◌}
+use Rattle.std.specs.Prelude.{◌≡◌, List, map}
 use Rattle.std.specs.List.{AllByRecursion}
+use Rattle.acl.specs.declared.act.Object.{Object}
+use Rattle.acl.specs.declared.bits.Bit.{Bit}
 use Rattle.acl.specs.declared.user_id.UserId.{UserId}
 use Rattle.writelock.specs.Holding.{clients_of}
+use Rattle.trail_rights.specs.declared.settler.Setting.{Setting}
 use Rattle.trail_rights.specs.declared.sight.Sight.{Sight}
 use Rattle.trail_rights.specs.Marks.{Marked, acts_in}
-use Rattle.trail_rights.specs.Deciding.{HasDecided}
-use Rattle.trail_rights.specs.Settling.{HasSettled}
+use Rattle.trail_rights.specs.Deciding.{HasDecided, sought_by}
+use Rattle.trail_rights.specs.Settling.{HasSettled, setting_by}
 use Rattle.trail_rights.specs.Windows.{windows_of}
 
 -- clients, windows, what decides and what is set, after these acts
@@ -20,3 +23,7 @@ pub record HasSeen (s : Sight) (owner : UserId) (marked : Marked) : Type 0 where
 abbrev pub Sees : Sight → Sight → (Marked → Marked) → Type 0
 Sees old new more =
     (owner : UserId) (marked : Marked) → HasSeen old owner marked → HasSeen new owner (more marked)
+
+-- what a sight looks for: each user's bit on an object, and each setting, in the order in which they were given
+abbrev pub sought : Sight → List (UserId × Bit × Object) × List Setting
+sought s = (map sought_by s.deciders.items, map setting_by s.settlers.items)

@@ -77,6 +77,10 @@ pub record HasSettled (marked : Marked) (s : Settler) : Type 0 where
   pub value : s.value ≡ value_of s.setting (acts_in marked)
   pub found : s.found ≡ settling marked s.setting
 
+-- the setting that a settler looks for
+abbrev pub setting_by : Settler → Setting
+setting_by s = s.setting
+
 -- the first settler that looks for a setting
 abbrev pub settler_in : List Settler → Setting → Option Settler
 settler_in [] s = None

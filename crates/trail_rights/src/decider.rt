@@ -3,7 +3,7 @@
 ghost use Rattle.std.specs.Prelude.{◌≡◌, ◌||◌, ◌&&◌, []};
 ghost use Rattle.acl.specs.Same.{same_user, same_bit, same_object};
 ghost use Rattle.acl.specs.History.{decides_known, decides_open};
-ghost use Rattle.trail_rights.specs.Deciding.{HasDecided, decides, decider_after, found_in};
+ghost use Rattle.trail_rights.specs.Deciding.{HasDecided, decides, decider_after, first_decider, found_in};
 ghost use Rattle.trail_rights.specs.Deciding.{there_after};
 
 use crate::mark::Mark;
@@ -71,6 +71,7 @@ impl Decider {
     /// Before the first act.
     pub fn new(owner: UserId, user: UserId, bit: Bit, object: Object) -> Decider
         ensures decided { HasDecided owner [] result }
+        ensures is { result ≡ first_decider owner user bit object }
         ensures user { result.user ≡ user }
         ensures bit { result.bit ≡ bit }
         ensures object { result.object ≡ object }

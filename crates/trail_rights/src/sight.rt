@@ -8,7 +8,7 @@ ghost use Rattle.trail_rights.specs.Marks.{marked_by, marked_with};
 ghost use Rattle.trail_rights.specs.Deciding.{HasDecided, decider_after};
 ghost use Rattle.trail_rights.specs.Settling.{HasSettled};
 ghost use Rattle.trail_rights.specs.Windows.{windows_after, without_window};
-ghost use Rattle.trail_rights.specs.Seeing.{HasSeen, Sees};
+ghost use Rattle.trail_rights.specs.Seeing.{HasSeen, Sees, sought};
 
 use crate::decider::Decider;
 use crate::mark::{Mark, mark_among};
@@ -63,8 +63,10 @@ impl Sight {
     /// Before the first act. It looks for what decides the bits of these deciders, and for what gives
     /// the settings of these settlers their values.
     pub fn new(alloc: Global, deciders: Vec<Decider>, settlers: Vec<Settler>) -> Sight
-        ensures { (owner : UserId) → AllByRecursion (HasDecided owner []) deciders.items →
+        ensures seen { (owner : UserId) → AllByRecursion (HasDecided owner []) deciders.items →
             AllByRecursion (HasSettled []) settlers.items → HasSeen result owner [] }
+        ensures deciders { result.deciders.items ≡ deciders.items }
+        ensures settlers { result.settlers.items ≡ settlers.items }
     {
         Sight {
             clients: Vec::new(alloc),
@@ -76,7 +78,8 @@ impl Sight {
 
     /// Follows one act.
     fn follow(&mut self, mark: Mark, act: &Act) -> Result<(), AllocError>
-        ensures { OnOk result (Sees self.old self.new (λ marked. (mark, act.now) ∷ marked)) }
+        ensures sees { OnOk result (Sees self.old self.new (λ marked. (mark, act.now) ∷ marked)) }
+        ensures sought { sought self.new ≡ sought self.old }
     {
         follow_clients(&mut self.clients, act)?;
         follow_windows(&mut self.windows, act)?;
@@ -87,7 +90,8 @@ impl Sight {
 
     /// Follows acts in order.
     fn follow_all(&mut self, mark: Mark, acts: &[Act]) -> Result<(), AllocError>
-        ensures { OnOk result (Sees self.old self.new (λ marked. marked_by mark marked acts.now)) }
+        ensures sees { OnOk result (Sees self.old self.new (λ marked. marked_by mark marked acts.now)) }
+        ensures sought { sought self.new ≡ sought self.old }
     {
         for act in acts {
             self.follow(mark, act)?;
@@ -95,9 +99,10 @@ impl Sight {
         Ok(())
     }
 
-    /// Follows the acts of the next entry.
+    /// Follows the acts of the next entry. What it looks for stays as it is, also after an `Err`.
     pub fn take(&mut self, line: &Line) -> Result<(), AllocError>
-        ensures { OnOk result (Sees self.old self.new (λ marked. marked_with marked (said line.now))) }
+        ensures sees { OnOk result (Sees self.old self.new (λ marked. marked_with marked (said line.now))) }
+        ensures sought { sought self.new ≡ sought self.old }
     {
         let mark = mark_among(&self.clients, line);
         self.follow_all(mark, line.entry.acts())?;

@@ -5,7 +5,7 @@ ghost use Rattle.acl.specs.declared.edition.Edition.{Edition};
 ghost use Rattle.acl.specs.declared.user_id.UserId.{UserId};
 ghost use Rattle.trail_lines.specs.Entries.{Said};
 ghost use Rattle.trail_audit.specs.Reading.{HasRead};
-ghost use Rattle.trail_rights.specs.Seeing.{HasSeen};
+ghost use Rattle.trail_rights.specs.Seeing.{HasSeen, sought};
 ghost use Rattle.trail_rights.specs.Watching.{HasWatched, IsWatched, TellsNext};
 
 use crate::sight::Sight;
@@ -23,8 +23,9 @@ pub struct Watch {
 impl Watch {
     /// Before the first line.
     pub fn new(audit: Audit, sight: Sight) -> Watch
-        ensures { (edition : Edition) (owner : UserId) → HasRead audit edition owner [] →
+        ensures watched { (edition : Edition) (owner : UserId) → HasRead audit edition owner [] →
             HasSeen sight owner [] → HasWatched result edition owner [] }
+        ensures sight { result.sight ≡ sight }
     {
         Watch { audit, sight }
     }
@@ -46,9 +47,10 @@ impl Watch {
     /// Takes the line of the next entry, without its line feed. After an `Err` the watch must not be
     /// used again.
     pub fn take(&mut self, line: &[u8]) -> Result<(), Wrong>
-        ensures { (edition : Edition) (owner : UserId) (said : List Said) →
+        ensures tells { (edition : Edition) (owner : UserId) (said : List Said) →
             HasWatched self.old edition owner said →
             TellsNext result self.new line.now edition owner said }
+        ensures sought { sought self.new.sight ≡ sought self.old.sight }
     {
         let said = self.audit.take(line)?;
         self.sight.take(&said)?;
@@ -64,9 +66,10 @@ pub fn watch_entries<R: BufRead>(
     line: &mut Vec<u8>,
     last: u64,
 ) -> io::Result<Halt>
-    ensures { (edition : Edition) (owner : UserId) → HasWatched watch.old edition owner [] →
+    ensures watched { (edition : Edition) (owner : UserId) → HasWatched watch.old edition owner [] →
         IfOk result (λ halt. IsWatched halt watch.new line.new.items last edition owner
         (R.remaining reader.old) (R.remaining reader.new)) }
+    ensures sought { sought watch.new.sight ≡ sought watch.old.sight }
 {
     for number in 2..u64::MAX {
         if watch.audit.count() > last {

@@ -34,9 +34,9 @@ halted h last said line None new few a = tt
 halted h last said line (Some bytes) None few a = absurd a
 halted h last said line (Some bytes) (Some rest) few a = inr (few, a)
 
-pub returns-then-count-last : goal.returns-then-count-last
-returns-then-count-last g c = λ edition owner fresh.
-    let come = c.loop-number.invariant edition owner fresh in
+pub returns-then-count-last-clause-watched : goal.returns-then-count-last-clause-watched
+returns-then-count-last-clause-watched g c = λ edition owner fresh.
+    let come = c.loop-number.invariant.0 edition owner fresh in
     let counted : c.loop-number.watch.audit.next ≡ length come.0 = come.1.read.next ∙ count_in come.0 in
     let all : length come.0 ≡ c.args.last + 1 =
     omega (arith, come.3, counted, c.count.ensures, c.if-count-last.true) in
@@ -47,9 +47,9 @@ returns-then-count-last g c = λ edition owner fresh.
       from = all_watched c.args.last come.0 c.loop-number.line.items _ _ all come.4;
     }
 
-pub returns-in-Some : goal.returns-in-Some
-returns-in-Some g c = λ edition owner fresh.
-    let come = c.loop-number.invariant edition owner fresh in
+pub returns-in-Some-clause-watched : goal.returns-in-Some-clause-watched
+returns-in-Some-clause-watched g c = λ edition owner fresh.
+    let come = c.loop-number.invariant.0 edition owner fresh in
     let counted : c.loop-number.watch.audit.next ≡ length come.0 = come.1.read.next ∙ count_in come.0 in
     let less : length come.0 ≤ c.args.last = omega (arith, counted, c.count.ensures, c.if-count-last.false) in
     let is_end = subst (λ (h : Option Halt). IfSome h IsEnd) c.in-Some.is c.in_ok-halt.ensures.end in
@@ -66,15 +66,15 @@ returns-in-Some g c = λ edition owner fresh.
           come.4 halts);
     }
 
-pub returns-in-Err : goal.returns-in-Err
-returns-in-Err g c = λ edition owner fresh.
-    let come = c.loop-number.invariant edition owner fresh in
+pub returns-in-Err-clause-watched : goal.returns-in-Err-clause-watched
+returns-in-Err-clause-watched g c = λ edition owner fresh.
+    let come = c.loop-number.invariant.0 edition owner fresh in
     let counted : c.loop-number.watch.audit.next ≡ length come.0 = come.1.read.next ∙ count_in come.0 in
     let less : length come.0 ≤ c.args.last = omega (arith, counted, c.count.ensures, c.if-count-last.false) in
     let next = subst (λ (h : Option Halt). OfKnown (g.R.Read.remaining c.loop-number.reader)
     (g.R.Read.remaining c.next_entry.new.reader) (NextIs h c.loop-number.number c.next_entry.new.line.items))
     c.in_default.is c.in_ok-halt.ensures.next in
-    let wrong = c.in-Err.ensures edition owner come.0 come.1 in
+    let wrong = c.in-Err.ensures.tells edition owner come.0 come.1 in
     record {
       said = come.0;
       tells = (
@@ -91,18 +91,21 @@ returns-in-Err g c = λ edition owner fresh.
     }
 
 pub loop-number-preserved : goal.loop-number-preserved
-loop-number-preserved g c = λ edition owner fresh.
-    let come = c.loop-number.invariant edition owner fresh in
-    let counted : c.loop-number.watch.audit.next ≡ length come.0 = come.1.read.next ∙ count_in come.0 in
-    let next = subst (λ (h : Option Halt). OfKnown (g.R.Read.remaining c.loop-number.reader)
-    (g.R.Read.remaining c.next_entry.new.reader) (NextIs h c.loop-number.number c.next_entry.new.line.items))
-    c.in_default.is c.in_ok-halt.ensures.next in
-    let takes = c.in_default-take.ensures edition owner come.0 come.1 in
-    let x = takes.next in
-    let is = subst (λ (line : List ℕ). read_line line ≡ Some x) c.as_slice.ensures.value takes.is in (
-      come.0 ++ x ∷ [],
-      takes.watched,
-      omega (arith, come.2, count_more come.0 x),
-      omega (arith, counted, c.count.ensures, c.if-count-last.false, count_more come.0 x),
-      read_more come.0 x c.next_entry.new.line.items c.loop-number.number _ _ _ come.4 next is,
-    )
+loop-number-preserved g c = (
+  λ edition owner fresh.
+      let come = c.loop-number.invariant.0 edition owner fresh in
+      let counted : c.loop-number.watch.audit.next ≡ length come.0 = come.1.read.next ∙ count_in come.0 in
+      let next = subst (λ (h : Option Halt). OfKnown (g.R.Read.remaining c.loop-number.reader)
+      (g.R.Read.remaining c.next_entry.new.reader) (NextIs h c.loop-number.number c.next_entry.new.line.items))
+      c.in_default.is c.in_ok-halt.ensures.next in
+      let takes = c.in_default-take.ensures.tells edition owner come.0 come.1 in
+      let x = takes.next in
+      let is = subst (λ (line : List ℕ). read_line line ≡ Some x) c.as_slice.ensures.value takes.is in (
+        come.0 ++ x ∷ [],
+        takes.watched,
+        omega (arith, come.2, count_more come.0 x),
+        omega (arith, counted, c.count.ensures, c.if-count-last.false, count_more come.0 x),
+        read_more come.0 x c.next_entry.new.line.items c.loop-number.number _ _ _ come.4 next is,
+      ),
+  c.in_default-take.ensures.sought ∙ c.loop-number.invariant.1,
+)

@@ -4,12 +4,15 @@ use Rattle.acl.specs.declared.user_id.UserId.{UserId}
 use Rattle.trail_lines.specs.Entries.{Said}
 use Rattle.trail_audit.specs.Lines.{OfKnown}
 use Rattle.trail_audit.specs.Halting.{AreRead}
+use Rattle.trail_rights.specs.Seeing.{sought}
 use Rattle.trail_rights.specs.Watching.{HasWatched}
 use Rattle.trail_rights.proofs.watch.watch_entries.Given as goal
 
--- the entries so far were read, up to the line of this number
+-- the entries before the line of this number were read; and what is looked for
 abbrev pub invariant-loop-number : goal.invariant-loop-number
-invariant-loop-number g l = (edition : Edition) (owner : UserId) → HasWatched l.fn.watch edition owner []
+invariant-loop-number g l =
+    ((edition : Edition) (owner : UserId) → HasWatched l.fn.watch edition owner []
     → (said : List Said) × HasWatched l.watch edition owner said × (l.number ≡ length said + 2)
     × (length said ≤ l.last + 1)
-    × OfKnown (g.R.Read.remaining l.fn.reader) (g.R.Read.remaining l.reader) (AreRead said)
+    × OfKnown (g.R.Read.remaining l.fn.reader) (g.R.Read.remaining l.reader) (AreRead said))
+    × (sought l.watch.sight ≡ sought l.fn.watch.sight)

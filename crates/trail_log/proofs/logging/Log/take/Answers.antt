@@ -1,7 +1,7 @@
 use Rattle.std.proofs.Common.{◌∙◌, ◌++◌, sym, subst, ap}
 use Rattle.trail_lines.specs.Entries.{said}
 use Rattle.trail_audit.specs.Reading.{HasRead}
-use Rattle.trail_log.specs.Joining.{next_held, next_ms, next_text}
+use Rattle.trail_log.specs.Joining.{chosen_line, held_with, ms_before, text_before}
 use Rattle.trail_log.specs.Logging.{entries_in}
 use Rattle.trail_log.specs.Naming.{names_with, nobody}
 use Rattle.trail_log.proofs.Logged.{entries_more, names_more}
@@ -12,7 +12,8 @@ returns-clause-tells c = λ edition owner xs w.
     let t = c.in_ok-said.ensures.tells edition owner (entries_in xs) w.read in
     let next = said c.in_ok-said.said in
     let choice = c.args.choice.now in
-    let held = c.args.self.now.held in record {
+    let held = c.args.self.now.held in
+    let line = c.in_ok-next.ensures ∙ ap (λ n. chosen_line choice n next) w.named in record {
       next = next;
       is = t.is;
       place_is = t.place_is;
@@ -21,7 +22,7 @@ returns-clause-tells c = λ edition owner xs w.
         named = c.in_ok-take.ensures ∙ (ap (λ n. names_with n next) w.named ∙ sym (names_more nobody xs next));
       };
       text =
-          c.in_ok-ms.ensures.text ∙ ap (λ n. c.args.out.now.items ++ next_text choice held n next) w.named;
-      ms_is = c.in_ok-ms.ensures.ms ∙ ap (λ n. next_ms choice held n next) w.named;
-      held = c.in_ok-ms.ensures.held ∙ ap (λ n. next_held choice held n next) w.named;
+          c.in_ok-ms.ensures.text ∙ ap (λ l. c.args.out.now.items ++ text_before held l) line;
+      ms_is = c.in_ok-ms.ensures.ms ∙ ap (ms_before held) line;
+      held = c.in_ok-ms.ensures.held ∙ ap (held_with held) line;
     }

@@ -1,15 +1,16 @@
-use Rattle.std.proofs.Common.{◌∙◌, ◌∷◌, ap, sym, subst}
+use Rattle.std.proofs.Common.{◌∙◌, ◌∷◌, ap, ap₂, sym, subst}
+use Rattle.std.specs.Prelude.{map}
 use Rattle.std.specs.List.{AllByRecursion}
 use Rattle.writelock.specs.Holding.{clients_after}
-use Rattle.trail_rights.specs.Deciding.{HasDecided}
+use Rattle.trail_rights.specs.Deciding.{HasDecided, sought_by}
 use Rattle.trail_rights.specs.Windows.{windows_after}
-use Rattle.trail_rights.specs.Settling.{HasSettled}
-use Rattle.trail_rights.proofs.Seen.{all_decided}
+use Rattle.trail_rights.specs.Settling.{HasSettled, setting_by}
+use Rattle.trail_rights.proofs.Seen.{all_decided, settings_stay, sought_stays}
 use Rattle.trail_rights.proofs.Settled.{all_settled}
 use Rattle.trail_rights.proofs.sight.Sight.follow.Goals as goal
 
-pub returns : goal.returns
-returns c = λ owner marked s. record {
+pub returns-clause-sees : goal.returns-clause-sees
+returns-clause-sees c = λ owner marked s. record {
   clients = c.in_ok-follow_clients.ensures ∙ ap (clients_after c.args.act.now) s.clients;
   windows = c.in_ok-follow_windows.ensures ∙ ap (windows_after c.args.act.now) s.windows;
   deciders =
@@ -19,3 +20,11 @@ returns c = λ owner marked s. record {
       subst (AllByRecursion (HasSettled ((c.args.mark, c.args.act.now) ∷ marked))) (sym c.settle_all.ensures)
       (all_settled marked c.args.mark c.args.act.now c.args.self.now.settlers.items s.settlers);
 }
+
+pub returns-clause-sought : goal.returns-clause-sought
+returns-clause-sought c =
+    ap₂ (λ ds ss. (ds, ss))
+    (ap (map sought_by) c.decide_all.ensures
+    ∙ sought_stays c.args.mark c.args.act.now c.args.self.now.deciders.items)
+    (ap (map setting_by) c.settle_all.ensures
+    ∙ settings_stay c.args.mark c.args.act.now c.args.self.now.settlers.items)
