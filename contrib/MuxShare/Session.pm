@@ -43,8 +43,9 @@ sub give {
     waitpid($process, 0);
     my $is_done = $? == 0;
     chomp $said;
-    # mux prints a refusal on both streams: the line with its meaning is enough.
+    # mux prints a refusal on both streams: the line with its meaning is enough, without the command at its end.
     $said = $1 if !$is_done && $said =~ /.*^mux: (.*)/ms;
+    $said =~ s/: \Q$line\E\z// unless $is_done;
     log_line("$line: $said") unless $is_done;
     return ($is_done, $said);
 }
