@@ -119,7 +119,7 @@ const REFUSED: Run<'static> = Run {
     script: b"",
     status: 1,
     output: "opened 0 0\n",
-    errors: "muxsim: not an event: line 3 of the script: see muxsim(1)\n",
+    errors: "muxsim: line 3: not understood\n",
 };
 
 /// Whether the lines before an invalid line are played, and no line after it.

@@ -12,7 +12,7 @@ use thiserror::Error;
 #[derive(Debug, Drop, Error)]
 pub enum Fault {
     /// The line of this number, counted from 1, is no event.
-    #[error("not an event: line {0} of the script: see muxsim(1)")]
+    #[error("line {0}: not understood")]
     NotUnderstood(u64),
     /// A read or a write failed, or memory ran out for it.
     #[error("can't play the script: {0}")]
