@@ -115,7 +115,7 @@ failing_of edition owner h users =
 
 -- ---- as the code has it
 
--- whether a mask is looked for; who is known and has x is always told
+-- whether it can be told if a premise holds: for a mask, only if the mask is looked for
 abbrev pub is_asked : List Settler → Premise → Bool
 is_asked settlers (premise.Masks opener user bit) =
     is_some (settler_in settlers (setting.Mask opener user bit))

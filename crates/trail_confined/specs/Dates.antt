@@ -1,5 +1,5 @@
 -- Times in the form of RFC 3339, as 2025-11-24T16:00:02.74Z.
-use Rattle.std.specs.Prelude.{ℕ, ◌+◌, ◌-◌, ◌*◌, ◌/◌, ◌%◌, ◌==◌, nat_lt, if◌then◌else◌}
+use Rattle.std.specs.Prelude.{ℕ, ◌≡◌, ◌+◌, ◌-◌, ◌*◌, ◌/◌, ◌%◌, ◌==◌, nat_lt, if◌then◌else◌}
 use Rattle.std.specs.Prelude.{List, [], ◌∷◌, ◌++◌, codes, decimal}
 
 -- ---- the date of a day, counted from 1970-01-01: a year begins on 1 March, and 400 years are an era
@@ -76,3 +76,16 @@ day_text ms = if nat_lt ms 253402300800000 then date_text (ms / 86400000) else d
 -- words and a time; nothing if its year has more than four digits
 abbrev pub when_text : List ℕ → ℕ → List ℕ
 when_text words ms = if nat_lt ms 253402300800000 then words ++ time_text ms else []
+
+-- ---- worked rows: times as another calendar has them
+
+abbrev pub TimesWorked : Type 0
+TimesWorked =
+    (when_text [] 0 ≡ codes "1970-01-01T00:00:00Z")
+    × (when_text [] 951782400000 ≡ codes "2000-02-29T00:00:00Z")
+    × (when_text [] 951868800000 ≡ codes "2000-03-01T00:00:00Z")
+    × (when_text [] 4107456000000 ≡ codes "2100-02-28T00:00:00Z")
+    × (when_text [] 4107542400000 ≡ codes "2100-03-01T00:00:00Z")
+    × (when_text [] 1764000002740 ≡ codes "2025-11-24T16:00:02.74Z")
+    × (when_text [] 253402300799999 ≡ codes "9999-12-31T23:59:59.999Z")
+    × (when_text [] 253402300800000 ≡ [])

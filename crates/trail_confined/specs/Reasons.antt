@@ -25,7 +25,7 @@ abbrev pub mark_text : Mark → List ℕ
 mark_text m =
     codes "entry " ++ (decimal m.place ++ (when_text (codes " at ") m.ms ++ giver_text m.giver))
 
--- the act that was found to decide for a user, and whence it came
+-- the act that was found to decide for a user, after the entry that has it
 abbrev pub cause_text : Option (Mark × Act) → List ℕ
 cause_text None = codes "no act decides\n"
 cause_text (Some p) = mark_text p.0 ++ (act_text p.1 ++ 0x0A ∷ [])

@@ -22,22 +22,33 @@ use Rattle.trail_rights.specs.declared.settler.Setting.{Setting}
 use Rattle.trail_rights.specs.declared.settler.Setting.TheVariants as setting
 use Rattle.trail_rights.specs.declared.settler.Settler.{Settler}
 use Rattle.trail_rights.specs.declared.sight.Sight.{Sight}
-use Rattle.trail_rights.specs.Deciding.{found_in}
+use Rattle.trail_rights.specs.Deciding.{first_decider, found_in}
 use Rattle.trail_rights.specs.Settling.{settler_in}
 use Rattle.trail_confined.specs.declared.premises.Premise.{Premise}
 use Rattle.trail_confined.specs.declared.premises.Premise.TheVariants as premise
 use Rattle.trail_confined.specs.Confining.{circle, concerns}
 use Rattle.trail_confined.specs.Reasons.{found_text, is_owner_text}
 
+-- ---- what is looked for: who may open windows, or change rights
+
+abbrev pub power_decider : UserId → UserId → CommandName → Decider
+power_decider owner user c = first_decider owner user Execute (object.Command c)
+
+abbrev pub deciders_of_one : UserId → UserId → List Decider
+deciders_of_one owner user =
+    power_decider owner user name.Screen ∷ power_decider owner user name.Acladd
+    ∷ power_decider owner user name.Aclchg ∷ power_decider owner user name.Acldel
+    ∷ power_decider owner user name.Aclgrp ∷ power_decider owner user name.Aclumask ∷ []
+
 -- ---- bits
 
-abbrev pub yes_text : Bool → List ℕ
-yes_text is = if is then codes " yes\n" else codes " no\n"
+abbrev pub confined_text : Bool → List ℕ
+confined_text is = if is then codes " yes\n" else codes " no\n"
 
 -- `confined r yes`
 abbrev pub bit_text : List Premise → Bit → List ℕ
 bit_text failing bit =
-    codes "confined " ++ (letter bit ++ yes_text (not (list_any (concerns bit) failing)))
+    codes "confined " ++ (letter bit ++ confined_text (not (list_any (concerns bit) failing)))
 
 abbrev pub bits_text : List Premise → List ℕ
 bits_text failing = bit_text failing Read ++ (bit_text failing Write ++ bit_text failing Execute)
@@ -75,8 +86,8 @@ gives (Some p) by_preset = may_give p.1 by_preset
 abbrev pub found_of : List Decider → CommandName → UserId → Option (Mark × Act)
 found_of deciders c user = found_in deciders user Execute (object.Command c)
 
-abbrev pub giver_text : List Decider → CommandName → Bool → UserId → List ℕ
-giver_text deciders c by_preset user =
+abbrev pub act_giver_text : List Decider → CommandName → Bool → UserId → List ℕ
+act_giver_text deciders c by_preset user =
     if gives (found_of deciders c user) by_preset
     then codes "  " ++ found_text user (found_of deciders c user)
     else []
@@ -86,14 +97,14 @@ any_gives deciders c users = list_any (λ user. gives (found_of deciders c user)
 
 abbrev pub givers_text : List Decider → CommandName → List UserId → List ℕ
 givers_text deciders c users =
-    flat_map (giver_text deciders c (not (any_gives deciders c users))) users
+    flat_map (act_giver_text deciders c (not (any_gives deciders c users))) users
 
-abbrev pub owner_text : UserId → List ℕ
-owner_text owner = codes "  " ++ is_owner_text owner
+abbrev pub indented_owner_text : UserId → List ℕ
+indented_owner_text owner = codes "  " ++ is_owner_text owner
 
 abbrev pub power_text : Edition → UserId → History → List Decider → UserId → CommandName → List ℕ
 power_text edition owner h deciders user c =
-    if same_user user owner then owner_text owner
+    if same_user user owner then indented_owner_text owner
     else givers_text deciders c (circle edition h user)
 
 -- ---- the act that gave a setting its value

@@ -1,20 +1,22 @@
 //! How it is told whether users are confined on windows to come, and why they aren't.
 
-ghost use Rattle.std.specs.Prelude.{◌≡◌, ◌++◌, OnOk, false};
+ghost use Rattle.std.specs.Prelude.{◌≡◌, ◌++◌, IfOk, OnOk, false};
 ghost use Rattle.std.specs.List.{flat_map, list_any};
 ghost use Rattle.acl.specs.declared.edition.Edition.{Edition};
 ghost use Rattle.acl.specs.declared.user_id.UserId.{UserId};
 ghost use Rattle.acl.specs.History.{History};
 ghost use Rattle.hub_check.specs.Following.{StandsAfter};
 ghost use Rattle.trail_confined.specs.Confining.{circle};
-ghost use Rattle.trail_confined.specs.Telling.{any_gives, bit_text, bits_text, causes_text};
-ghost use Rattle.trail_confined.specs.Telling.{concerned_text, confinement_text, contrary_text};
-ghost use Rattle.trail_confined.specs.Telling.{failing_text, found_of, giver_text, givers_text};
-ghost use Rattle.trail_confined.specs.Telling.{gives, letter_if, may_give, owner_text, power_text};
-ghost use Rattle.trail_confined.specs.Telling.{setting_text, settled_by, yes_text};
+ghost use Rattle.trail_confined.specs.Telling.{act_giver_text, any_gives, bit_text, bits_text};
+ghost use Rattle.trail_confined.specs.Telling.{causes_text, concerned_text, confined_text};
+ghost use Rattle.trail_confined.specs.Telling.{confinement_text, contrary_text, deciders_of_one};
+ghost use Rattle.trail_confined.specs.Telling.{failing_text, found_of, givers_text, gives};
+ghost use Rattle.trail_confined.specs.Telling.{indented_owner_text, letter_if, may_give};
+ghost use Rattle.trail_confined.specs.Telling.{power_decider, power_text, setting_text};
+ghost use Rattle.trail_confined.specs.Telling.{settled_by};
 
 use crate::confined::is_confined;
-use crate::premises::{CHANGERS, Premise, push_circle};
+use crate::premises::{Premise, push_circle};
 use crate::why::{push_found, push_is_owner};
 use acl::{Act, Bit, CommandName, Object, UserId};
 use command_lang::name_text;
@@ -22,38 +24,50 @@ use hub_check::Replay;
 use std::alloc::{AllocError, Global};
 use trail_rights::{Decider, Mark, Setting, Settler, Sight, found_in, letter, settler_in};
 
-/// What decides whether a user may open windows, or change rights, before the first act.
-fn push_commands(
+/// What decides whether a user has x on a command, before the first act.
+fn power_decider(owner: UserId, user: UserId, command: CommandName) -> Decider
+    ensures { result ≡ power_decider owner user command }
+{
+    Decider::new(owner, user, Bit::Execute, Object::Command(command))
+}
+
+/// Appends what decides whether a user may open windows, or change rights, before the first act.
+fn push_power_deciders(
     owner: UserId,
     user: UserId,
     deciders: &mut Vec<Decider>,
-) -> Result<(), AllocError> {
-    let bit = Bit::Execute;
-    let screen = Object::Command(CommandName::Screen);
-    deciders.push(Decider::new(owner, user, bit, screen))?;
-    for command in &CHANGERS {
-        let object = Object::Command(*command);
-        deciders.push(Decider::new(owner, user, bit, object))?;
-    }
-    Ok(())
+) -> Result<(), AllocError>
+    ensures { OnOk result
+        (deciders.new.items ≡ deciders.old.items ++ deciders_of_one owner user) }
+{
+    deciders.extend_from_slice(&[
+        power_decider(owner, user, CommandName::Screen),
+        power_decider(owner, user, CommandName::Acladd),
+        power_decider(owner, user, CommandName::Aclchg),
+        power_decider(owner, user, CommandName::Acldel),
+        power_decider(owner, user, CommandName::Aclgrp),
+        power_decider(owner, user, CommandName::Aclumask),
+    ])
 }
 
 /// What decides which of these users may open windows, or change rights, before the first act.
-pub fn powers_of(
+pub fn power_deciders(
     alloc: Global,
     owner: UserId,
     users: &[UserId],
-) -> Result<Vec<Decider>, AllocError> {
+) -> Result<Vec<Decider>, AllocError>
+    ensures { IfOk result (λ deciders. deciders.items ≡ flat_map (deciders_of_one owner) users.now) }
+{
     let mut deciders = Vec::new(alloc);
     for user in users {
-        push_commands(owner, *user, &mut deciders)?;
+        push_power_deciders(owner, *user, &mut deciders)?;
     }
     Ok(deciders)
 }
 
 /// Appends whether users are confined for a bit.
-fn push_yes(is: bool, out: &mut Vec<u8>) -> Result<(), AllocError>
-    ensures { OnOk result (out.new.items ≡ out.old.items ++ yes_text is) }
+fn push_confined(is: bool, out: &mut Vec<u8>) -> Result<(), AllocError>
+    ensures { OnOk result (out.new.items ≡ out.old.items ++ confined_text is) }
 {
     if is {
         out.extend_from_slice(b" yes\n")
@@ -68,7 +82,7 @@ fn push_bit(failing: &[Premise], bit: Bit, out: &mut Vec<u8>) -> Result<(), Allo
 {
     out.extend_from_slice(b"confined ")?;
     out.extend_from_slice(letter(bit))?;
-    push_yes(is_confined(failing, bit), out)
+    push_confined(is_confined(failing, bit), out)
 }
 
 /// Appends each bit, and whether users are confined for it, if these premises fail.
@@ -160,7 +174,7 @@ fn found_of(deciders: &[Decider], command: CommandName, user: UserId) -> Option<
 }
 
 /// Appends the act by which a user has x on a command, if it may be why.
-fn push_giver(
+fn push_act_giver(
     deciders: &[Decider],
     command: CommandName,
     by_preset: bool,
@@ -168,7 +182,7 @@ fn push_giver(
     out: &mut Vec<u8>,
 ) -> Result<(), AllocError>
     ensures { OnOk result
-        (out.new.items ≡ out.old.items ++ giver_text deciders.now command by_preset user) }
+        (out.new.items ≡ out.old.items ++ act_giver_text deciders.now command by_preset user) }
 {
     let found = found_of(deciders, command, user);
     if gives(found, by_preset) {
@@ -200,10 +214,10 @@ fn push_each_giver(
     out: &mut Vec<u8>,
 ) -> Result<(), AllocError>
     ensures { OnOk result (out.new.items
-        ≡ out.old.items ++ flat_map (giver_text deciders.now command by_preset) users.now) }
+        ≡ out.old.items ++ flat_map (act_giver_text deciders.now command by_preset) users.now) }
 {
     for user in users {
-        push_giver(deciders, command, by_preset, *user, out)?;
+        push_act_giver(deciders, command, by_preset, *user, out)?;
     }
     Ok(())
 }
@@ -224,8 +238,8 @@ fn push_givers(
 }
 
 /// Appends that the owner has each right.
-fn push_owner(owner: UserId, out: &mut Vec<u8>) -> Result<(), AllocError>
-    ensures { OnOk result (out.new.items ≡ out.old.items ++ owner_text owner) }
+fn push_indented_owner(owner: UserId, out: &mut Vec<u8>) -> Result<(), AllocError>
+    ensures { OnOk result (out.new.items ≡ out.old.items ++ indented_owner_text owner) }
 {
     out.extend_from_slice(b"  ")?;
     push_is_owner(owner, out)
@@ -262,7 +276,7 @@ fn push_power(
 {
     let (user, command) = power;
     if user == owner {
-        push_owner(owner, out)
+        push_indented_owner(owner, out)
     } else {
         push_circle_givers(replay, sight.deciders(), user, command, out)
     }
@@ -363,7 +377,7 @@ fn push_each_failing(
 }
 
 /// Appends for each bit whether users are confined, and then each premise that fails, and the acts by
-/// which it does. The sight has looked for `powers_of` and `settings_of` the users and their leaders.
+/// which it does. The sight has looked for `power_deciders` and `settings_of` the users and their leaders.
 pub fn push_confinement(
     owner: UserId,
     replay: &Replay,

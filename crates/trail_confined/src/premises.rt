@@ -15,15 +15,6 @@ use hub_check::Replay;
 use std::alloc::{AllocError, Global};
 use trail_rights::{may, users_of};
 
-/// The commands that change users, rights, leaders, masks and presets.
-pub const CHANGERS: [CommandName; 5] = [
-    CommandName::Acladd,
-    CommandName::Aclchg,
-    CommandName::Acldel,
-    CommandName::Aclgrp,
-    CommandName::Aclumask,
-];
-
 /// A premise of the law on windows to come.
 #[derive(Clone, Copy)]
 pub enum Premise {

@@ -7,7 +7,7 @@ use acl::{Edition, Leaders, UserId};
 use std::alloc::Global;
 use std::io::{self, BufRead, BufReader, Read};
 use trail_audit::Audit;
-use trail_confined::{Question, powers_of};
+use trail_confined::{Question, power_deciders};
 use trail_rights::{Decider, Settler, Sight, Watch, settings_of, watch_entries};
 
 /// What a pass looks for besides rights, locks and leaders.
@@ -72,7 +72,7 @@ fn deciders_of(
 /// What decides who may open windows or change rights, if a search looks for that.
 fn powers_in(alloc: Global, owner: UserId, search: &Search<'_>) -> io::Result<Vec<Decider>> {
     match search.looks {
-        Looks::Confinement => Ok(powers_of(alloc, owner, search.users)?),
+        Looks::Confinement => Ok(power_deciders(alloc, owner, search.users)?),
         Looks::Nothing | Looks::Settings => Ok(Vec::new(alloc)),
     }
 }

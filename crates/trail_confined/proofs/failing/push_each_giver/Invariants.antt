@@ -1,9 +1,9 @@
 use Rattle.std.proofs.Common.{◌≡◌, ◌++◌, take}
 use Rattle.std.specs.List.{flat_map}
-use Rattle.trail_confined.specs.Telling.{giver_text}
+use Rattle.trail_confined.specs.Telling.{act_giver_text}
 use Rattle.trail_confined.proofs.failing.push_each_giver.Given as goal
 
 abbrev pub invariant-loop-user : goal.invariant-loop-user
 invariant-loop-user l =
     l.out.items
-    ≡ l.fn.out.items ++ flat_map (giver_text l.deciders l.command l.by_preset) (take l.user-index l.users)
+    ≡ l.fn.out.items ++ flat_map (act_giver_text l.deciders l.command l.by_preset) (take l.user-index l.users)
