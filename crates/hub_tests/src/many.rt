@@ -2,7 +2,7 @@
 //! seat takes what the session made for its own clients and windows, each answer has the session's
 //! reply, and each step but a Draw marks both seats.
 
-ghost use Rattle.std.specs.Prelude.{◌≡◌, ◌≤◌};
+ghost use Rattle.std.specs.Prelude.{◌≡◌};
 ghost use Rattle.session_model.specs.Trace.{begun};
 ghost use Rattle.hub_ledger.specs.Seats.{StandsFor};
 

@@ -1,7 +1,6 @@
-//! Steps of a ledger whose memory is refused once. Run as it stands the test here meets no refusal;
-//! `tools/refusals` runs it once for each of its allocations, which is refused then. So at most one
-//! is refused in a run, and a second try never is: a refused step has changed nothing, and the
-//! effects of both ledgers are the same.
+//! Steps of a ledger whose memory is refused once. `tools/refusals` runs the test once for each of
+//! its allocations, which is refused then: a refused step has changed nothing, a second try is done,
+//! and the effects of both ledgers are the same.
 
 ghost use Rattle.std.specs.Prelude.{◌≡◌};
 ghost use Rattle.session_model.specs.Trace.{begun};
@@ -12,7 +11,7 @@ use crate::turns::{STEPS, Turn, seat_of};
 use acl::UserId;
 use hub::{Begun, Seat, Session};
 use hub_ledger::{HubFault, Ledger};
-use session_model::{Effect, Event, Refusal};
+use session_model::{Effect, Event};
 use std::alloc::Global;
 use std::marker::Brand;
 use std::sync::ledger::Blank;
@@ -93,7 +92,7 @@ fn is_played<L: Begun>(
     true
 }
 
-/// What two seats take over a turn, or none if a step isn't done or a receipt is wrong. Refused if
+/// What two seats take over a turn, or none if a step isn't done or a receipt is wrong. An error if
 /// there is no memory for the ledger.
 fn played<L: Begun>(
     alloc: Global,

@@ -1,5 +1,6 @@
-//! A turn of 23 steps of all kinds, over two seats: windows are opened and printed into, two
-//! clients attach, type, draw, change their size and leave, and rights change.
+//! A turn of 23 steps of all kinds, over two seats.
+
+ghost use Rattle.std.specs.Prelude.{◌≤◌};
 
 use acl::UserId;
 use session_model::Event;
