@@ -22,7 +22,6 @@ const TRIES: u32 = 40;
 /// How many times effects are taken: of both seats after each step.
 const TAKES: usize = 46;
 
-/// The effects that each take handed out, in order.
 type Taken = Vec<Vec<Effect>>;
 
 /// How many bytes of an event a step took; none if it was refused.
@@ -63,7 +62,6 @@ fn is_taken<L: Begun>(ledger: &mut Ledger<L>, seat: &mut Seat<L>, event: Event<'
     false
 }
 
-/// Takes what waits for each seat.
 fn take_all<L: Begun>(ledger: &mut Ledger<L>, seats: &[Seat<L>], taken: &mut Taken) -> bool {
     for seat in seats {
         let (effects, _mark) = ledger.take(seat);
@@ -119,7 +117,6 @@ fn played<L: Begun>(
     })
 }
 
-/// Plays a turn by a ledger of its own.
 fn play(alloc: Global, owner: UserId, bob: UserId) -> Result<Option<Taken>, HubFault> {
     let Ok(session) = Session::new(alloc, owner) else {
         return Err(HubFault::NoMemory);

@@ -18,7 +18,6 @@ pub(crate) struct Turn {
     other: u32,
 }
 
-/// A line of a user.
 fn told(user: UserId, line: &'static [u8]) -> Event<'static> {
     Event::Command {
         user,
