@@ -36,7 +36,7 @@ check:
 	@cd crates/$(CRATE) && $(RT) check
 
 # The gate: every proof from nothing, the must-fail edits, the tests and the programs, and then the tests of refused
-# memory with each of their allocations refused in turn.  So many crates at a time as there are processors, each with one
+# memory with each of their allocations refused in turn.  As many crates at a time as there are processors, each with one
 # job, but no more than four: a proof takes up to 4 GB.  RT_JOBS=2 make test: two.
 LANES = $(shell n=$$(nproc); test $$n -le 4 || n=4; echo $$n)
 test:
@@ -47,7 +47,7 @@ test:
 edits:
 	@tools/edits $(CRATE)
 
-# Plays the scripts of examples/ with a muxsim that is built, and those of contrib/policies behind their setups, and
+# Plays the scripts of examples/ with a muxsim that is built, and those of contrib/policies after their setups, and
 # compares what they print, and the pictures of docs/TEACHING.md.
 MUXSIM ?= bin/muxsim
 export MUXSIM

@@ -24,7 +24,7 @@ TOP = os.path.dirname(os.path.dirname(os.path.realpath(__file__)))
 # What a draw has beside the page's text is none of these.
 LETTERS = b"jkqvwyz"
 PASTE = 1_000_000
-# The window's program echoes until C-d, takes so many pastes and answers each by q or z, and then prints without end
+# The window's program echoes until C-d, takes N pastes and answers each by q or z, and then prints without end
 # lines that differ in each column from those before.
 PROGRAM = """
 cat >/dev/null
@@ -51,7 +51,7 @@ class Client(server.Peer):
             raise SystemExit("door.py: a terminal isn't let in")
 
     def settle(self, quiet=0.05):
-        """Reads until nothing comes for so many seconds."""
+        """Reads until nothing comes for this number of seconds."""
         self.rest = b""
         while select.select([self.socket], [], [], quiet)[0]:
             self.socket.recv(1 << 20)

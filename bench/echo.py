@@ -1,7 +1,7 @@
 """Prints how long a typed key takes to its echo, at a user's own terminal, of several servers measured in turn.
 
 python3 bench/echo.py [--keys N] FOLDER:LOOPS.. starts for each word a session with the programs and scripts of FOLDER
-and a server of so many loops, with `cat` in a window and mux-attach on a pseudo-terminal. Each key is typed to each
+and a server of LOOPS loops, with `cat` in a window and mux-attach on a pseudo-terminal. Each key is typed to each
 session in turn, so that all of them have the same weather. Prints the quarters in microseconds, and each median beside
 the first one's.
 """
@@ -50,7 +50,7 @@ class Session:
         self.settle(1)
 
     def settle(self, quiet):
-        """Reads until nothing comes for so many seconds."""
+        """Reads until nothing comes for this number of seconds."""
         while select.select([self.terminal], [], [], quiet)[0]:
             os.read(self.terminal, 65536)
 

@@ -21,7 +21,7 @@ from pathlib import Path
 
 ROWS, COLS = 24, 80
 TOP = Path(__file__).resolve().parent.parent
-# A recording has so many bytes at most, and takes so many seconds.
+# The most bytes of a recording, and its seconds.
 MOST, LONGEST = 2_000_000, 20.0
 
 ALPHABETS = {

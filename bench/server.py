@@ -110,7 +110,7 @@ def key_times(words, rounds=2000):
 
 
 def lines(size, width=79):
-    """So many bytes of words in lines."""
+    """This number of bytes, of words in lines."""
     words = b"the quick brown fox jumps over the lazy dog and runs on through the long wet grass "
     whole = words * (width // len(words) + 2)
     made = [whole[place % len(words):][:width - place % 40] + b"\r\n" for place in range(size // 40)]
@@ -267,7 +267,7 @@ def type_once(server):
 
 
 def bytes_kept(words, once, steps=5000):
-    """By how many bytes a step the server's memory grows, behind as many steps that came before."""
+    """By how many bytes a step the server's memory grows, after as many steps before."""
     with Server(words, 1) as server:
         for _ in range(steps):
             once(server)

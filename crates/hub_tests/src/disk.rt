@@ -15,7 +15,7 @@ pub struct Disk<'r, R: Clock> {
     pub most: usize,
     /// How long each write takes, in milliseconds.
     pub pause: u64,
-    /// How many writes are refused from now on, each behind one that took some.
+    /// How many writes are refused from now on, each after one that took some.
     pub refused: u32,
     /// The last write took some.
     has_taken: bool,

@@ -25,7 +25,7 @@ const TYPED: Event<'static> = Event::Keys {
 };
 
 /// On window 0 bob and ann lose w and eve keeps it. Bob's leader is ann, then eve, then ann again: in
-/// the first edition ann alone, in the second both. Then he types.
+/// the first edition ann alone, in the second both. Then bob types.
 fn events(owner: UserId, bob: UserId) -> [Event<'static>; 9] {
     let open = Event::Open {
         user: owner,

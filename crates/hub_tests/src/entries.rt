@@ -44,7 +44,7 @@ pub fn entry_with(
     Ok(made.into_entry())
 }
 
-/// A trail of so many keys.
+/// A trail of `count` keys.
 pub fn trail(alloc: Global, count: usize) -> Result<Roll, AllocError> {
     let mut roll = Roll::new(alloc)?;
     for place in 0..count.min(10_000) {

@@ -49,13 +49,13 @@ fn record<R: Threads + Wait + Clock + Sync>(
     })
 }
 
-// Whether a file is the trail of so many keys, with this first line.
+// Whether a file is the trail of this number of keys, with this first line.
 fn is_of(alloc: Global, file: &[u8], header: &Header, count: usize) -> Option<bool> {
     let entries = trail(alloc, count).ok()?;
     is_trail(alloc, &mut &*file, header, &entries).ok()
 }
 
-// Whether the file, which refuses so many writes behind its first line, is whole.
+// Whether the file, which refuses this number of writes after its first line, is whole.
 fn is_recorded<R: Threads + Wait + Clock + Sync>(
     rt: &R,
     alloc: Global,

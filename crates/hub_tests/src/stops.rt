@@ -21,7 +21,7 @@ fn long_entry(alloc: Global) -> Option<Filed> {
     entry(alloc, event).ok()
 }
 
-// Why the file can't go on behind 2,000 long lines, and behind 60 more.
+// Why the file can't go on after 2,000 long lines, and after 60 more.
 fn stops(rt: &impl Wait, alloc: Global) -> Option<(Option<Stopped>, Option<Stopped>)> {
     let entry = long_entry(alloc)?;
     let recorder = Recorder::new(alloc, 1);
@@ -55,7 +55,7 @@ fn stopped<R: Wait + Clock>(rt: &R, alloc: Global, disk: &mut Disk<'_, R>) -> Op
     Some(recorder.end(rt, disk, written, Cause::Memory) && is_two)
 }
 
-// Whether nothing is taken behind a refusal: two lines and the last one are written.
+// Whether nothing is taken after a refusal: two lines and the last one are written.
 fn is_stopped<R: Wait + Clock>(rt: &R, alloc: Global) -> Option<bool> {
     let mut disk = Disk::new(rt, alloc);
     let is_two = stopped(rt, alloc, &mut disk)?;

@@ -16,7 +16,7 @@ use std::thread::{Threads, join};
 /// How many commands each thread submits.
 const EACH: usize = 500;
 
-/// Submits so many commands, and takes what waits. Whether each was answered as it should.
+/// Submits `EACH` commands, and takes what waits. Whether each was answered as it should.
 fn work<L: Begun, R: Wait>(rt: &R, hub: &Hub<L>, seat: &mut Seat<L>, user: UserId) -> bool {
     for i in 0..EACH {
         let event = Event::Command {
