@@ -22,21 +22,21 @@ use Rattle.acl.specs.declared.act.LockMode.TheVariants as lock_mode
 use Rattle.acl.specs.declared.bits.Bit.{Bit}
 use Rattle.acl.specs.declared.bits.Bit.TheVariants.{Read, Write, Execute}
 use Rattle.acl.specs.declared.bits.BitChange.{BitChange}
-use Rattle.command_lang_table.specs.declared.command.Coding.{Coding}
-use Rattle.command_lang_table.specs.declared.command.Coding.TheVariants as coding
-use Rattle.command_lang_table.specs.declared.command.Users.TheVariants as users
-use Rattle.command_lang_table.specs.declared.command.Leader.TheVariants as leader
-use Rattle.command_lang_table.specs.declared.fault.FaultKind.TheVariants as faults
-use Rattle.command_lang_table.specs.MaskFaults.{mask_fault}
-use Rattle.command_lang_table.specs.Values.{is_digit, number_after, is_number, number_in, lock_mode_in, switch_in}
-use Rattle.command_lang_table.specs.Values.{coding_in, is_vertical, items_of, is_empty_text, has_empty_item, users_of}
-use Rattle.command_lang_table.specs.Values.{leader_of, is_sign, bit_of, goes_on, is_bits, change_of, value_after}
-use Rattle.command_lang_table.specs.Values.{bits_after, bits_of, sign_place, mask_users, mask_of}
-use Rattle.command_lang_printing.specs.Printing.{items_word, users_word, leader_word, letter, sign, sign_before}
-use Rattle.command_lang_printing.specs.Printing.{change_behind, bits_behind, bits_word, mask_users_word, mask_word}
-use Rattle.command_lang_printing.specs.Printing.{lock_mode_word, switch_word, coding_word}
+use Rattle.command_lang.specs.declared.command.Coding.{Coding}
+use Rattle.command_lang.specs.declared.command.Coding.TheVariants as coding
+use Rattle.command_lang.specs.declared.command.Users.TheVariants as users
+use Rattle.command_lang.specs.declared.command.Leader.TheVariants as leader
+use Rattle.command_lang.specs.declared.fault.FaultKind.TheVariants as faults
+use Rattle.command_lang.specs.MaskFaults.{mask_fault}
+use Rattle.command_lang.specs.Values.{is_digit, number_after, is_number, number_in, lock_mode_in, switch_in}
+use Rattle.command_lang.specs.Values.{coding_in, is_vertical, items_of, is_empty_text, has_empty_item, users_of}
+use Rattle.command_lang.specs.Values.{leader_of, is_sign, bit_of, goes_on, is_bits, change_of, value_after}
+use Rattle.command_lang.specs.Values.{bits_after, bits_of, sign_place, mask_users, mask_of}
+use Rattle.command_lang.specs.Printing.{items_word, users_word, leader_word, letter, sign, sign_before}
+use Rattle.command_lang.specs.Printing.{change_behind, bits_behind, bits_word, mask_users_word, mask_word}
+use Rattle.command_lang.specs.Printing.{lock_mode_word, switch_word, coding_word}
 use Rattle.command_lang.proofs.Scalars.{and-parts, and-both}
-use Rattle.command_lang_table.proofs.Signs.{sign_cut}
+use Rattle.command_lang.proofs.Signs.{sign_cut}
 
 pub some-same : {A : Type 0} (a b : A) → Some a ≡ Some b → a ≡ b
 some-same a b h = ap (λ o. unwrap_or o a) h

@@ -8,3 +8,8 @@ pub mod ReadBack
 pub mod Places
 pub mod OneReading
 pub mod Numbers
+pub mod Digits
+pub mod Signs
+pub mod WordFaults
+pub mod Fits
+pub mod Appends

@@ -6,13 +6,13 @@ use Rattle.std.specs.Option.{option_map, option_map_or, option_and_then}
 use Rattle.std.proofs.lemmas.Bool.Decides.{nat_tests}
 use Rattle.acl.specs.declared.command_name.CommandName.{CommandName}
 use Rattle.acl.specs.declared.command_name.CommandName.TheVariants as name
-use Rattle.command_lang_words.specs.declared.word.Word.{Word}
-use Rattle.command_lang_table.specs.declared.command.Command.{Command}
-use Rattle.command_lang_table.specs.declared.command.Command.TheVariants as command
-use Rattle.command_lang_table.specs.Names.{command_named}
-use Rattle.command_lang_table.specs.Values.{number_in, number_after, is_number, is_vertical, lock_mode_in, switch_in}
-use Rattle.command_lang_table.specs.Values.{coding_in}
-use Rattle.command_lang_table.specs.Meaning.{bare, with_word, with_words, command_of, texts_of, line_command}
+use Rattle.strings.specs.declared.word.Word.{Word}
+use Rattle.command_lang.specs.declared.command.Command.{Command}
+use Rattle.command_lang.specs.declared.command.Command.TheVariants as command
+use Rattle.command_lang.specs.Names.{command_named}
+use Rattle.command_lang.specs.Values.{number_in, number_after, is_number, is_vertical, lock_mode_in, switch_in}
+use Rattle.command_lang.specs.Values.{coding_in}
+use Rattle.command_lang.specs.Meaning.{bare, with_word, with_words, command_of, texts_of, line_command}
 use Rattle.command_lang.specs.Relation.{Relates}
 
 abbrev pub is_small : Command → Bool

@@ -6,18 +6,18 @@ use Rattle.std.proofs.lemmas.Bool.Decides.{nat_tests}
 use Rattle.std.specs.Option.{is_some, option_and_then}
 use Rattle.std.specs.Str.{chars, is_utf8}
 use Rattle.acl.specs.declared.command_name.CommandName.{CommandName}
-use Rattle.command_lang_words.specs.declared.word.Word.{Word}
-use Rattle.command_lang_words.specs.Lines.{words}
-use Rattle.command_lang_words.proofs.Readings.{words-are, words-cut}
-use Rattle.command_lang_table.specs.declared.command.Command.{Command}
-use Rattle.command_lang_table.specs.declared.fault.FaultKind.TheVariants as faults
-use Rattle.command_lang_table.specs.declared.fault.ParseFault.{ParseFault}
-use Rattle.command_lang_table.specs.Names.{command_named}
-use Rattle.command_lang_table.specs.Rows.{takes}
-use Rattle.command_lang_table.specs.Table.{at, first_of}
-use Rattle.command_lang_table.specs.Meaning.{command_of, texts_of, line_command}
-use Rattle.command_lang_table.specs.LineFaults.{named_faults, line_faults}
-use Rattle.command_lang_table.proofs.Fits.{fits, means_one}
+use Rattle.strings.specs.declared.word.Word.{Word}
+use Rattle.strings.specs.Lines.{words}
+use Rattle.strings.proofs.Readings.{words-are, words-cut}
+use Rattle.command_lang.specs.declared.command.Command.{Command}
+use Rattle.command_lang.specs.declared.fault.FaultKind.TheVariants as faults
+use Rattle.command_lang.specs.declared.fault.ParseFault.{ParseFault}
+use Rattle.command_lang.specs.Names.{command_named}
+use Rattle.command_lang.specs.Rows.{takes}
+use Rattle.command_lang.specs.Table.{at, first_of}
+use Rattle.command_lang.specs.Meaning.{command_of, texts_of, line_command}
+use Rattle.command_lang.specs.LineFaults.{named_faults, line_faults}
+use Rattle.command_lang.proofs.Fits.{fits, means_one}
 use Rattle.command_lang.specs.Relation.{HasWords, Relates, Refuses, faults_of, command_or, read_line}
 
 -- what is computed for such a line

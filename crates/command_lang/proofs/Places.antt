@@ -7,20 +7,20 @@ use Rattle.std.specs.Option.{is_some}
 use Rattle.std.specs.Str.{chars}
 use Rattle.std.proofs.lemmas.Str.{encodes-chars, IsUtf8-from_is_utf8}
 use Rattle.acl.specs.declared.command_name.CommandName.{CommandName}
-use Rattle.command_lang_words.specs.declared.word.Word.{Word}
-use Rattle.command_lang_table.specs.declared.rows.Words.{Words}
-use Rattle.command_lang_table.specs.declared.fault.FaultKind.{FaultKind}
-use Rattle.command_lang_table.specs.declared.fault.FaultKind.TheVariants as faults
-use Rattle.command_lang_table.specs.declared.fault.ParseFault.{ParseFault}
-use Rattle.command_lang_table.specs.Names.{command_named}
-use Rattle.command_lang_words.specs.Grammar.{Line, IsCut, size}
-use Rattle.command_lang_words.proofs.Suffixes.{smaller, word-behind}
-use Rattle.command_lang_words.proofs.Cutting.{size-cons}
-use Rattle.command_lang_words.proofs.Readings.{one_cut}
-use Rattle.command_lang_table.specs.Rows.{takes}
-use Rattle.command_lang_table.specs.Table.{least, kind_at, at, at_place, judged, words_faults, first_of}
+use Rattle.strings.specs.declared.word.Word.{Word}
+use Rattle.command_lang.specs.declared.rows.Words.{Words}
+use Rattle.command_lang.specs.declared.fault.FaultKind.{FaultKind}
+use Rattle.command_lang.specs.declared.fault.FaultKind.TheVariants as faults
+use Rattle.command_lang.specs.declared.fault.ParseFault.{ParseFault}
+use Rattle.command_lang.specs.Names.{command_named}
+use Rattle.strings.specs.Grammar.{Line, IsCut, size}
+use Rattle.strings.proofs.Suffixes.{smaller, word-behind}
+use Rattle.strings.proofs.Cutting.{size-cons}
+use Rattle.strings.proofs.Readings.{one_cut}
+use Rattle.command_lang.specs.Rows.{takes}
+use Rattle.command_lang.specs.Table.{least, kind_at, at, at_place, judged, words_faults, first_of}
 use Rattle.command_lang.specs.Relation.{HasWords, Refuses, NoneBefore}
-use Rattle.command_lang_table.specs.LineFaults.{named_faults, line_faults}
+use Rattle.command_lang.specs.LineFaults.{named_faults, line_faults}
 
 -- words at rising places, all of them from the first place to the end
 abbrev Rising : ℕ → ℕ → List Word → Type 0

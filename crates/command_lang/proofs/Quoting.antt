@@ -3,8 +3,8 @@ use Rattle.std.proofs.Common.{◌≡◌, ◌≢◌, ℕ, ◌+◌, ◌-◌, ◌*�
 use Rattle.std.proofs.Common.{◌∷◌, ◌++◌, refl, ap, ◌∙◌, arith, Option, Some, None}
 use Rattle.std.specs.Prelude.{nat_lt, ◌==◌}
 use Rattle.std.proofs.lemmas.Bool.Decides.{nat_tests}
-use Rattle.command_lang_words.specs.Grammar.{is_octal, octal_front, Escaped, Character, Double}
-use Rattle.command_lang_printing.specs.Printing.{octal, quoted}
+use Rattle.strings.specs.Grammar.{is_octal, octal_front, Escaped, Character, Double}
+use Rattle.command_lang.specs.Printing.{octal, quoted}
 
 backslash_apart : ◌≢◌ {A = ℕ} 0x5C 0x22
 backslash_apart h = omega (arith, h)

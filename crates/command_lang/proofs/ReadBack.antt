@@ -6,21 +6,21 @@ use Rattle.std.specs.Str.{chars, IsUtf8}
 use Rattle.std.proofs.lemmas.Str.{IsUtf8-from_is_utf8, chars-encodes, scalars-chars}
 use Rattle.acl.specs.declared.command_name.CommandName.{CommandName}
 use Rattle.acl.specs.declared.command_name.CommandName.TheVariants as name
-use Rattle.command_lang_table.specs.declared.command.Command.{Command}
-use Rattle.command_lang_words.specs.declared.word.Word.{Word}
-use Rattle.command_lang_table.specs.declared.fault.FaultKind.TheVariants as faults
-use Rattle.command_lang_table.specs.declared.fault.ParseFault.{ParseFault}
-use Rattle.command_lang_table.specs.Names.{name_text, command_named}
-use Rattle.command_lang_table.specs.Rows.{takes}
-use Rattle.command_lang_table.specs.Table.{at, words_faults, first_of}
-use Rattle.command_lang_words.specs.Grammar.{IsCut}
-use Rattle.command_lang_table.specs.Meaning.{command_of, texts_of, line_command}
+use Rattle.command_lang.specs.declared.command.Command.{Command}
+use Rattle.strings.specs.declared.word.Word.{Word}
+use Rattle.command_lang.specs.declared.fault.FaultKind.TheVariants as faults
+use Rattle.command_lang.specs.declared.fault.ParseFault.{ParseFault}
+use Rattle.command_lang.specs.Names.{name_text, command_named}
+use Rattle.command_lang.specs.Rows.{takes}
+use Rattle.command_lang.specs.Table.{at, words_faults, first_of}
+use Rattle.strings.specs.Grammar.{IsCut}
+use Rattle.command_lang.specs.Meaning.{command_of, texts_of, line_command}
 use Rattle.command_lang.specs.Relation.{Relates, Refuses}
-use Rattle.command_lang_table.specs.LineFaults.{named_faults, line_faults}
+use Rattle.command_lang.specs.LineFaults.{named_faults, line_faults}
 use Rattle.command_lang.specs.ReadsBack.{ReadsBack}
-use Rattle.command_lang_table.specs.Names.{name_of}
-use Rattle.command_lang_printing.specs.Printing.{words_of, printed_chars, printed}
-use Rattle.command_lang_table.proofs.Fits.{Fits, fits, no_faults}
+use Rattle.command_lang.specs.Names.{name_of}
+use Rattle.command_lang.specs.Printing.{words_of, printed_chars, printed}
+use Rattle.command_lang.proofs.Fits.{Fits, fits, no_faults}
 use Rattle.command_lang.proofs.Scalars.{AllText, of-cut}
 use Rattle.command_lang.proofs.Sound.{Sound, sound}
 use Rattle.command_lang.proofs.Spelled.{line-spells, line-scalars}

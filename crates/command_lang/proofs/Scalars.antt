@@ -6,11 +6,11 @@ use Rattle.std.proofs.lemmas.Bool.Decides.{nat_tests}
 use Rattle.std.proofs.Math.Utf8.{scalars, scalar}
 use Rattle.std.specs.Str.{IsUtf8}
 use Rattle.std.specs.Option.{is_some}
-use Rattle.command_lang_words.specs.declared.word.Word.{Word}
-use Rattle.command_lang_words.specs.Grammar.{is_octal, octal_front, Escaped, Character, Single, Double, Part, Parts}
-use Rattle.command_lang_words.specs.Grammar.{Line, IsCut, size}
-use Rattle.command_lang_words.proofs.Suffixes.{Behind, character-behind, part-behind, parts-behind}
-use Rattle.command_lang_table.specs.Meaning.{texts_of}
+use Rattle.strings.specs.declared.word.Word.{Word}
+use Rattle.strings.specs.Grammar.{is_octal, octal_front, Escaped, Character, Single, Double, Part, Parts}
+use Rattle.strings.specs.Grammar.{Line, IsCut, size}
+use Rattle.strings.proofs.Suffixes.{Behind, character-behind, part-behind, parts-behind}
+use Rattle.command_lang.specs.Meaning.{texts_of}
 
 pub and-parts : (a b : Bool) → (a && b) ≡ true → (a ≡ true) × (b ≡ true)
 and-parts true b h = (refl, h)

@@ -7,19 +7,19 @@ use Rattle.std.specs.Str.{IsUtf8}
 use Rattle.std.specs.Fmt.{decimal}
 use Rattle.acl.specs.declared.command_name.CommandName.{CommandName}
 use Rattle.acl.specs.declared.command_name.CommandName.TheVariants as name
-use Rattle.command_lang_table.specs.declared.command.Command.{Command}
-use Rattle.command_lang_table.specs.declared.command.Command.TheVariants as command
-use Rattle.command_lang_table.specs.declared.command.Mask.{Mask}
-use Rattle.command_lang_table.specs.declared.rows.Kind.TheVariants as kind
-use Rattle.command_lang_table.specs.declared.fault.FaultKind.TheVariants as faults
-use Rattle.command_lang_table.specs.MaskFaults.{unless}
-use Rattle.command_lang_table.specs.Values.{number_in, number_after, is_vertical, lock_mode_in, switch_in, coding_in}
-use Rattle.command_lang_table.specs.Values.{users_of, items_of, leader_of, bits_of, mask_of}
-use Rattle.command_lang_table.specs.Rows.{takes}
-use Rattle.command_lang_table.specs.Meaning.{bare, with_word, with_words, command_of}
-use Rattle.command_lang_table.specs.Names.{name_of}
-use Rattle.command_lang_printing.specs.Printing.{words_of, mask_word, bits_word}
-use Rattle.command_lang_table.proofs.Fits.{Fits, AllFit, passes}
+use Rattle.command_lang.specs.declared.command.Command.{Command}
+use Rattle.command_lang.specs.declared.command.Command.TheVariants as command
+use Rattle.command_lang.specs.declared.command.Mask.{Mask}
+use Rattle.command_lang.specs.declared.rows.Kind.TheVariants as kind
+use Rattle.command_lang.specs.declared.fault.FaultKind.TheVariants as faults
+use Rattle.command_lang.specs.MaskFaults.{unless}
+use Rattle.command_lang.specs.Values.{number_in, number_after, is_vertical, lock_mode_in, switch_in, coding_in}
+use Rattle.command_lang.specs.Values.{users_of, items_of, leader_of, bits_of, mask_of}
+use Rattle.command_lang.specs.Rows.{takes}
+use Rattle.command_lang.specs.Meaning.{bare, with_word, with_words, command_of}
+use Rattle.command_lang.specs.Names.{name_of}
+use Rattle.command_lang.specs.Printing.{words_of, mask_word, bits_word}
+use Rattle.command_lang.proofs.Fits.{Fits, AllFit, passes}
 use Rattle.command_lang.proofs.Scalars.{AllText}
 use Rattle.command_lang.proofs.Canonical.{some-same, items_again, users_again, leader_again, lock_mode_again}
 use Rattle.command_lang.proofs.Canonical.{switch_again, coding_again, vertical_again, Again, number_again, bits_again}

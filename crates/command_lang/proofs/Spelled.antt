@@ -10,16 +10,16 @@ use Rattle.std.proofs.lemmas.Str.{encodes-chars, scalars-chars}
 use Rattle.std.proofs.Math.Utf8.{scalars, scalar}
 use Rattle.acl.specs.declared.command_name.CommandName.{CommandName}
 use Rattle.acl.specs.declared.command_name.CommandName.TheVariants as name
-use Rattle.command_lang_words.specs.declared.word.Word.{Word}
-use Rattle.command_lang_table.specs.Names.{name_text}
-use Rattle.command_lang_table.specs.Values.{is_empty_text}
-use Rattle.command_lang_words.specs.Grammar.{Character, Double, Part, Parts, Line, IsCut, size}
-use Rattle.command_lang_table.specs.Meaning.{texts_of}
-use Rattle.command_lang_printing.specs.Printing.{is_plain, octal, escaped, quoted, needs_no_quotes, printed_word}
-use Rattle.command_lang_printing.specs.Printing.{printed_words}
+use Rattle.strings.specs.declared.word.Word.{Word}
+use Rattle.command_lang.specs.Names.{name_text}
+use Rattle.command_lang.specs.Values.{is_empty_text}
+use Rattle.strings.specs.Grammar.{Character, Double, Part, Parts, Line, IsCut, size}
+use Rattle.command_lang.specs.Meaning.{texts_of}
+use Rattle.command_lang.specs.Printing.{is_plain, octal, escaped, quoted, needs_no_quotes, printed_word}
+use Rattle.command_lang.specs.Printing.{printed_words}
 use Rattle.command_lang.proofs.Quoting.{quoted_reads}
-use Rattle.command_lang_printing.proofs.Appends.{name-encoded}
-use Rattle.command_lang_table.proofs.Fits.{AllWhole}
+use Rattle.command_lang.proofs.Appends.{name-encoded}
+use Rattle.command_lang.proofs.Fits.{AllWhole}
 use Rattle.command_lang.proofs.Scalars.{and-parts, and-both, scalars-append, small-scalar, AllText}
 
 -- what may follow a word: nothing, or a blank

@@ -2,13 +2,13 @@
 use Rattle.std.proofs.Common.{◌≡◌, ℕ, ◌≤◌, Bool, true, false, List, [], length, refl, Some, inl, inr, ◌⊎◌}
 use Rattle.std.specs.Str.{chars, is_utf8, IsUtf8}
 use Rattle.std.proofs.lemmas.Str.{is_utf8-from_IsUtf8, IsUtf8-from_is_utf8}
-use Rattle.command_lang_words.specs.declared.word.Word.{Word}
-use Rattle.command_lang_words.specs.Grammar.{IsCut}
-use Rattle.command_lang_table.specs.declared.command.Command.{Command}
-use Rattle.command_lang_table.specs.declared.fault.ParseFault.{ParseFault}
-use Rattle.command_lang_table.specs.Table.{first_of}
-use Rattle.command_lang_table.specs.Meaning.{line_command}
-use Rattle.command_lang_table.specs.LineFaults.{line_faults, no_memory}
+use Rattle.strings.specs.declared.word.Word.{Word}
+use Rattle.strings.specs.Grammar.{IsCut}
+use Rattle.command_lang.specs.declared.command.Command.{Command}
+use Rattle.command_lang.specs.declared.fault.ParseFault.{ParseFault}
+use Rattle.command_lang.specs.Table.{first_of}
+use Rattle.command_lang.specs.Meaning.{line_command}
+use Rattle.command_lang.specs.LineFaults.{line_faults, no_memory}
 use Rattle.command_lang.specs.Relation.{Relates, Refuses}
 
 pub no_text : (line : List ℕ) → (IsUtf8 line → ⊥) → is_utf8 line ≡ false

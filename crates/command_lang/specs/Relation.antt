@@ -3,15 +3,15 @@ use Rattle.std.specs.Prelude.{◌≡◌, ℕ, ◌<◌, ◌≤◌, true, false, n
 use Rattle.std.specs.Prelude.{length, Option, Some, None, Result, Ok, Err}
 use Rattle.std.specs.List.{AllByRecursion}
 use Rattle.std.specs.Str.{chars, is_utf8}
-use Rattle.command_lang_words.specs.declared.word.Word.{Word}
-use Rattle.command_lang_words.specs.Grammar.{IsCut}
-use Rattle.command_lang_words.specs.Lines.{words}
-use Rattle.command_lang_table.specs.declared.command.Command.{Command}
-use Rattle.command_lang_table.specs.declared.fault.FaultKind.TheVariants as faults
-use Rattle.command_lang_table.specs.declared.fault.ParseFault.{ParseFault}
-use Rattle.command_lang_table.specs.Table.{at, first_of}
-use Rattle.command_lang_table.specs.Meaning.{line_command}
-use Rattle.command_lang_table.specs.LineFaults.{line_faults, no_memory}
+use Rattle.strings.specs.declared.word.Word.{Word}
+use Rattle.strings.specs.Grammar.{IsCut}
+use Rattle.strings.specs.Lines.{words}
+use Rattle.command_lang.specs.declared.command.Command.{Command}
+use Rattle.command_lang.specs.declared.fault.FaultKind.TheVariants as faults
+use Rattle.command_lang.specs.declared.fault.ParseFault.{ParseFault}
+use Rattle.command_lang.specs.Table.{at, first_of}
+use Rattle.command_lang.specs.Meaning.{line_command}
+use Rattle.command_lang.specs.LineFaults.{line_faults, no_memory}
 
 -- The line is text of at most 1,024 bytes, and is cut into these words.
 pub record HasWords (line : List ℕ) (ws : List Word) : Type 0 where

@@ -2,9 +2,9 @@
 
 ghost use Rattle.std.specs.Prelude.{◌≡◌, ◌<◌, ◌⊎◌, ◌↔◌, ℕ, List, Ok, Err};
 ghost use Rattle.acl.specs.limits.TheConstants.{WINDOWS};
-ghost use Rattle.command_lang_table.specs.declared.command.Command.{Command};
-ghost use Rattle.command_lang_table.specs.declared.command.Command.TheVariants as command;
-ghost use Rattle.command_lang_table.specs.declared.fault.ParseFault.{ParseFault};
+ghost use Rattle.command_lang.specs.declared.command.Command.{Command};
+ghost use Rattle.command_lang.specs.declared.command.Command.TheVariants as command;
+ghost use Rattle.command_lang.specs.declared.fault.ParseFault.{ParseFault};
 ghost use Rattle.command_lang.specs.Relation.{Relates, Refuses, read_line};
 
 /// Each line is a command or has a first fault, and not both. `parse` computes that command or that

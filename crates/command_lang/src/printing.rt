@@ -2,12 +2,12 @@
 
 ghost use Rattle.std.specs.Prelude.{◌≡◌, ℕ, List, IfOk};
 ghost use Rattle.std.specs.String.{string_bytes};
-ghost use Rattle.command_lang_printing.specs.Printing.{printed};
+ghost use Rattle.command_lang.specs.Printing.{printed};
 ghost use Rattle.command_lang.specs.Relation.{Relates};
 ghost use Rattle.command_lang.specs.ReadsBack.{ReadsBack};
 
-use command_lang_printing::command_line;
-use command_lang_table::Command;
+use crate::command::Command;
+use crate::spelling::command_line;
 use std::alloc::{AllocError, Global};
 
 /// The line of a command: its name and its words with one blank between them. `AllocError` if

@@ -2,15 +2,17 @@
 
 ghost use Rattle.std.specs.Prelude.{◌≡◌, ◌⊎◌, ◌<◌, ◌≤◌, false, length, IfOk, IfErr, Err};
 ghost use Rattle.std.specs.Str.{is_utf8};
-ghost use Rattle.command_lang_table.specs.declared.fault.FaultKind.TheVariants as faults;
-ghost use Rattle.command_lang_table.specs.Table.{at};
-ghost use Rattle.command_lang_table.specs.LineFaults.{no_memory};
+ghost use Rattle.command_lang.specs.declared.fault.FaultKind.TheVariants as faults;
+ghost use Rattle.command_lang.specs.Table.{at};
+ghost use Rattle.command_lang.specs.LineFaults.{no_memory};
 ghost use Rattle.command_lang.specs.Relation.{NoneBefore, Relates, Refuses};
 
-use command_lang_table::{Command, FaultKind, ParseFault, command_of};
-use command_lang_words::words;
+use crate::command::Command;
+use crate::fault::{FaultKind, ParseFault};
+use crate::line::command_of;
 use std::alloc::Global;
 use std::str;
+use strings::words;
 
 /// The greatest length of a line, in bytes.
 pub const LONGEST_LINE: usize = 1024;

@@ -1,12 +1,21 @@
-//! Tests of commands: the lines and keys that give them, and the rights and locks that they change.
+//! Tests of commands and frames: the lines and keys that give commands, the rights and locks that they
+//! change, and the frames between server and peers, their faults and refused memory.
 #![tactic(auto)]
 
 #[cfg(test)]
 mod bounds;
 #[cfg(test)]
+mod faults;
+#[cfg(test)]
+mod frames;
+#[cfg(test)]
 mod histories;
 #[cfg(test)]
 mod lines;
+#[cfg(test)]
+mod made_up;
+#[cfg(test)]
+mod refused_memory;
 #[cfg(test)]
 mod stage;
 #[cfg(test)]

@@ -1,7 +1,9 @@
-//! Tests of consoles that only the owner opens, with rights from a file: five things happen to them
-//! in every order, and after each command the rights of every user are compared.
+//! Tests of keys: which consoles each user's keys reach after five things in every order, with rights
+//! from a file; and scripts whose input is cut or faulty.
 #![tactic(auto)]
 
+#[cfg(test)]
+mod input;
 #[cfg(test)]
 mod orders;
 #[cfg(test)]

@@ -6,7 +6,7 @@ ghost use Rattle.hub_record.specs.Stored.{kept_lent};
 
 use crate::verdicts::{all_pass, is_granted};
 use acl::Act;
-use hub_acts::from_command;
+use hub_trail::from_command;
 use hub_record::KeptRef;
 use session_model::Verdict;
 

@@ -16,7 +16,7 @@ ghost use Rattle.hub_check.specs.Parts.{HaveActs};
 use crate::replay::Replay;
 use acl::{Act, UserId};
 use command_lang::{Command, Text, Users};
-use hub_acts::has_act_of;
+use hub_trail::has_act_of;
 
 /// Whether the user whom the word names has one of the acts.
 fn has_named(acts: &[Act], word: &Text) -> bool

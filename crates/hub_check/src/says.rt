@@ -11,7 +11,7 @@ ghost use Rattle.hub_check.specs.Parts.{AreSaid};
 use crate::replay::Replay;
 use acl::{Act, UserId};
 use command_lang::{Command, Users};
-use hub_acts::{gives, is_listed, leads, removes};
+use hub_trail::{gives, is_listed, leads, removes};
 
 /// Whether the user is known, and isn't the owner.
 fn is_other(owner: UserId, replay: &Replay, user: UserId) -> bool

@@ -12,7 +12,7 @@ ghost use Rattle.hub_check.specs.Parts.{AreTrue, AsksFor};
 
 use crate::replay::Replay;
 use acl::{Bit, CommandName, Object, UserId};
-use hub_acts::asks_for_command;
+use hub_trail::asks_for_command;
 use session_model::Verdict;
 
 /// Whether the verdict lets its user go on.

@@ -11,7 +11,7 @@ use Rattle.hub_trail.specs.Trails.{Entry}
 use Rattle.hub_record.specs.Receipts.{Receipt}
 use Rattle.hub_ledger.specs.Seats.{AllBelow}
 use Rattle.hub_ledger.specs.Closing.{AreOf, AreThere, AreTold, IsFirstWrong, IsOf, IsThere, times}
-use Rattle.hub_seats.proofs.Rising.{others_below, times_cons, times_none}
+use Rattle.hub_ledger.proofs.Rising.{others_below, times_cons, times_none}
 
 -- ---- how many receipts name a place below one
 

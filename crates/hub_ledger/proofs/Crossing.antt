@@ -8,8 +8,8 @@ use Rattle.hub_ledger.specs.declared.begun.Begun.{Ghosts as Beginnings}
 use Rattle.std.proofs.sync.ledger.Book.TheSendSync as book
 use Rattle.std.proofs.alloc.Global.TheSendSync as global
 use Rattle.session_core.proofs.Crossing.{session_send}
-use Rattle.hub_seats.proofs.peers.Peers.TheSendSync as peers
-use Rattle.hub_seats.proofs.waiting.Waiting.TheSendSync as waiting
+use Rattle.hub_ledger.proofs.peers.Peers.TheSendSync as peers
+use Rattle.hub_ledger.proofs.waiting.Waiting.TheSendSync as waiting
 use Rattle.hub_ledger.proofs.entries.Entries.TheSendSync as entries
 use Rattle.hub_ledger.specs.contracts.filed_session.FiledSession as FiledSession
 use Rattle.hub_ledger.specs.contracts.ledger.Ledger as Ledger

@@ -9,7 +9,7 @@ use Rattle.hub_trail.specs.declared.kept.Kept.{Kept}
 use Rattle.hub_trail.specs.Trails as trails
 use Rattle.hub_trail.specs.Filing as filing
 use Rattle.hub_trail.specs.Filing.{ending_of, filed, kept_of}
-use Rattle.hub_seats.specs.Routing.{is_draw, marked}
+use Rattle.hub_ledger.specs.Routing.{is_draw, marked}
 use Rattle.hub_ledger.specs.States.{State, Takes, entry_of}
 use Rattle.hub_record.specs.Receipts.{Receipt}
 use Rattle.hub_ledger.specs.Seats.{HasReceipt, IsHanded, IsReceived, Sitting, StandsLast, Told, placed}

@@ -5,3 +5,6 @@ pub mod Tellings
 pub mod Standing
 pub mod Filing
 pub mod Crossing
+pub mod Places
+pub mod Queues
+pub mod Rising

@@ -6,7 +6,7 @@ use Rattle.hub_trail.specs.Trails as trails
 use Rattle.hub_trail.specs.Judging.{AreJudgeable}
 use Rattle.hub_trail.specs.Legal.{IsLegal, acts_of}
 use Rattle.hub_trail.proofs.Runs.{acts_run, legal_run}
-use Rattle.hub_laws.proofs.Steps.{judged_run}
+use Rattle.hub_trail.proofs.Steps.{judged_run}
 use Rattle.hub_ledger.specs.States.{State, Stood, IsKept}
 
 pub kept_legal : (s : State) → IsKept s → IsLegal s.trail

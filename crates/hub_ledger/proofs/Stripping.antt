@@ -6,13 +6,13 @@ use Rattle.std.specs.Prelude.{◌↔◌, ◌⊎◌, ◌==◌, ◌&&◌, slice_ge
 use Rattle.std.proofs.lemmas.List.{append-nil, take_all}
 use Rattle.std.proofs.lemmas.Option.{slice_get_within}
 use Rattle.session_laws.proofs.Lists.{all_append, and_first, and_second, both_true, equal}
-use Rattle.hub_seats.proofs.Places.{slice_get-set_other}
+use Rattle.hub_ledger.proofs.Places.{slice_get-set_other}
 use Rattle.hub_trail.specs.Trails.{Entry}
 use Rattle.hub_record.specs.Receipts.{Receipt}
 use Rattle.hub_ledger.specs.Seats.{Sitting}
 use Rattle.hub_ledger.specs.Closing.{AreOf, IsFirstWrong, IsOf, IsTold, before, receipts_of, times}
-use Rattle.hub_seats.proofs.Rising.{all_parts, are_of_before, before_append, before_are_of, before_before, times_append}
-use Rattle.hub_seats.proofs.Rising.{times_before}
+use Rattle.hub_ledger.proofs.Rising.{all_parts, are_of_before, before_append, before_are_of, before_before, times_append}
+use Rattle.hub_ledger.proofs.Rising.{times_before}
 
 -- the first wrong place, from a given one on
 abbrev pub IsWrongFrom : List Entry → List Receipt → ℕ → Option ℕ → Type 0

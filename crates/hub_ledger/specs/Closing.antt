@@ -5,7 +5,7 @@ use Rattle.std.specs.List.{AllByRecursion}
 use Rattle.hub_trail.specs.Trails.{Entry}
 use Rattle.hub_record.specs.Receipts.{Receipt}
 pub use Rattle.hub_record.specs.Receipts.{IsOf}
-pub use Rattle.hub_seats.specs.Rising.{AreOf, before, times}
+pub use Rattle.hub_ledger.specs.Rising.{AreOf, before, times}
 use Rattle.hub_ledger.specs.Seats.{Sitting}
 
 -- all receipts of these seats

@@ -5,3 +5,6 @@ pub mod Faults
 pub mod Seats
 pub mod Closing
 pub mod Laws
+pub mod Peers
+pub mod Routing
+pub mod Rising

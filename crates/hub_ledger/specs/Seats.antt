@@ -8,7 +8,7 @@ use Rattle.hub_trail.specs.declared.kept.Kept.{Kept}
 use Rattle.hub_trail.specs.Trails.{Entry}
 use Rattle.hub_trail.specs.Filing.{kept_of, ending_of}
 use Rattle.hub_record.specs.Receipts.{Receipt}
-pub use Rattle.hub_seats.specs.Rising.{AllBelow, Rise}
+pub use Rattle.hub_ledger.specs.Rising.{AllBelow, Rise}
 
 -- an answer: the event, the reply, the place of the entry if there is one, and the entry if it is
 -- handed out

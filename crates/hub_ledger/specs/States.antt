@@ -10,8 +10,8 @@ use Rattle.session_core.specs.Noted.{Noted}
 pub use Rattle.session_core.specs.Stands.{StandsFor, entry_of}
 use Rattle.hub_trail.specs.Trails.{Trail}
 use Rattle.hub_trail.specs.Filing.{filed, trail_of}
-use Rattle.hub_seats.specs.Peers.{Owners, AreSeats, owners_of, with_peers}
-use Rattle.hub_seats.specs.Routing.{views, AreRouted, marked}
+use Rattle.hub_ledger.specs.Peers.{Owners, AreSeats, owners_of, with_peers}
+use Rattle.hub_ledger.specs.Routing.{views, AreRouted, marked}
 use Rattle.hub_ledger.specs.declared.entries.Entries.{Entries}
 use Rattle.hub_ledger.specs.declared.filed_session.FiledSession.{FiledSession}
 use Rattle.hub_ledger.specs.Slips.{with_entries}

@@ -10,9 +10,12 @@ mod entries;
 mod filed_session;
 mod laws;
 mod ledger;
+mod peers;
 mod prepared;
+mod receipt;
 mod seat;
 mod trail;
+mod waiting;
 
 pub use answer::{Answer, HubFault};
 pub use begun::Begun;

@@ -3,8 +3,8 @@
 ghost use Rattle.std.specs.Prelude.{◌≡◌, ◌↔◌, ◌+◌, ◌≤◌, ◌<◌, true, length};
 ghost use Rattle.hub_ledger.specs.Closing.{AreOf, before, times};
 
+use crate::receipt::strip;
 use hub_record::{Filed, Receipts};
-use hub_seats::strip;
 use std::marker::Model;
 use std::sync::ledger::{Book, Ledger as ShareLedger, Share};
 

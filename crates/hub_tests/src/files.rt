@@ -10,7 +10,7 @@ use std::sync::Wait;
 use std::thread;
 use std::thread::Threads;
 use std::time::Clock;
-use trail_audit::{Cause, Header};
+use trail_lines::{Cause, Header};
 
 /// How many loops put lines down.
 const LOOPS: usize = 3;

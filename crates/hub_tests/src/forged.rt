@@ -3,7 +3,7 @@
 
 use acl::{Edition, UserId};
 use std::alloc::Global;
-use trail_audit::{Audit, Wrong};
+use trail_lines::{Audit, Wrong};
 
 /// What a session files: own opens a window and makes bob and ann known, who attach.
 static BEFORE: [&[u8]; 5] = [

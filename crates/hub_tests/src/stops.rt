@@ -9,7 +9,7 @@ use session_model::Event;
 use std::alloc::Global;
 use std::sync::Wait;
 use std::time::Clock;
-use trail_audit::Cause;
+use trail_lines::Cause;
 
 // An entry whose line is long.
 fn long_entry(alloc: Global) -> Option<Filed> {

@@ -12,3 +12,8 @@ pub mod Saying
 pub mod Knowing
 pub mod Runs
 pub mod Coming
+pub mod Following
+pub mod Naming
+pub mod Seeing
+pub mod Rows
+pub mod Steps

@@ -6,3 +6,4 @@ pub mod Filing
 pub mod Judging
 pub mod Laws
 pub mod Peers
+pub mod Steps

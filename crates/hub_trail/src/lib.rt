@@ -1,16 +1,28 @@
 //! The trail of a session: what is kept of each step, and when a trail is legal. What a legal trail
 //! says of rights and locks can be judged by the acts of its own entries. The definitions are in
-//! `specs/`; this crate holds the plain types that code and definitions share, and the laws of the
-//! trails of runs.
+//! `specs/`; this crate holds the plain types that code and definitions share, which acts an event and
+//! its reply can make, and the laws of the trails of runs.
 #![tactic(auto)]
-
-mod kept;
 
 ghost use Rattle.hub_trail.specs.Laws.{EntriesAreLegal, TrailsAreLegal, TrailsHaveTheActs};
 ghost use Rattle.hub_trail.specs.Laws.{LegalInParts, VerdictsAreDecided};
 ghost use Rattle.hub_trail.specs.Peers.{EffectsHavePeers, SerialsAreGiven};
 
+mod asked;
+mod fits;
+mod has;
+mod kept;
+mod laws;
+mod makes;
+mod says;
+
+pub use asked::{asks_for_command, from_command};
+pub use fits::{all_shut, attaches_one, opens_one};
+pub use has::{has_act_of, has_closed, has_come, has_gone, has_opened};
 pub use kept::{Ending, Finished, Kept, ending_of};
+pub use laws::{entries_are_judgeable, trails_are_judgeable};
+pub use makes::made_by;
+pub use says::{gives, is_listed, leads, removes};
 
 /// A step on the tables of a run writes one entry, which is legal after the acts of the tables, or
 /// it has no acts.

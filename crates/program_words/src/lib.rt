@@ -1,4 +1,5 @@
-//! The programs' arguments, with their help, and what the numbers of refusals mean.
+//! The programs' arguments, with their help; what the numbers of refusals mean; and the lines of a setup
+//! file: the commands with which its owner begins a session.
 #![tactic(auto)]
 
 mod arguments;
@@ -6,6 +7,7 @@ mod mux;
 mod mux_trail;
 mod muxd;
 mod refusals;
+mod setup;
 mod table;
 mod vtcat;
 
@@ -14,5 +16,6 @@ pub use mux::of_client;
 pub use mux_trail::of_trail;
 pub use muxd::of_server;
 pub use refusals::{RefusedLine, explain};
+pub use setup::{SetupFault, SetupLine, read_setup};
 pub use table::tell;
 pub use vtcat::of_cat;

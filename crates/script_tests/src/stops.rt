@@ -6,8 +6,7 @@ use crate::judging::are_lines;
 use crate::rows::{DRAWN, FOUR_CLIENTS, put_windows};
 use crate::{draws, several_users, splits, views};
 use acl::UserId;
-use session::{Effect, Event, Reply, Session};
-use session_lines::{print_effect, print_reply, read_event};
+use session::{Effect, Event, Reply, Session, print_effect, print_reply, read_event};
 use std::alloc::{AllocError, Global};
 
 /// The event without this many of its first keys.

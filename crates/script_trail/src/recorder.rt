@@ -4,8 +4,7 @@ use acl::{Edition, UserId};
 use hub_record::{Filed, KeptEvent, KeptReply};
 use session::{Bytes, Event, Notes, Refusal, Reply, Session};
 use std::alloc::{AllocError, Global};
-use trail_audit::{Cause, Ended, Header, print_end, print_header};
-use trail_lines::print_line;
+use trail_lines::{Cause, Ended, Header, print_end, print_header, print_line};
 
 /// The version in the file's first line.
 const VERSION: &[u8] = b"0.1.0";

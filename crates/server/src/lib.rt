@@ -1,10 +1,15 @@
 //! What `muxd` does: loops over one listener that share a session.
 #![tactic(auto)]
 
+mod acceptor;
+mod loop_handle;
 mod loops;
+mod places;
 mod serving;
+mod turns;
+mod winding;
 
+pub use server_connections::Turn;
 pub use server_loop::{Gate, Loop, Open};
-pub use server_turn::Turn;
 pub use server_users::{AuthFault, Users, UsersFault, authenticate};
 pub use serving::{Host, serve, serve_through};

@@ -1,10 +1,11 @@
 //! The loops of a server, each in a thread of its own.
 
+use crate::loop_handle::{Common, LoopStart};
+use crate::turns::run_loop;
 use server_loop::{End, Gate};
 use server_session::{
     Accounts, Begun as Roll, LoopBody, Recorder, Seat, Seated, SharedSession, Trail,
 };
-use server_sockets::{Common, LoopStart, run_loop};
 use server_system::{Place, Setup};
 use server_trail::{Cause, Journal};
 use std::alloc::Global;

@@ -1,13 +1,14 @@
 //! `muxd`: the session, its listener and its loops.
 
+use crate::loop_handle::{Common, LoopHandle, LoopStart, Shared, start_watching};
 use crate::loops::Server;
+use crate::places::Places;
 use acl::UserId;
 use clap::ArgMatches;
 use mio::net::UnixListener;
 use program_words::{of_server, tell};
 use server_loop::{End, Gate, Open};
 use server_session::{Accounts, Limits, LoopsFault, Start, keep};
-use server_sockets::{Common, LoopHandle, LoopStart, Places, Shared, start_watching};
 use server_system::{Place, Seen, ServeFault, Setup, Stamp, UsersFile, Watched};
 use server_trail::Journal;
 use server_users::Users;

@@ -5,7 +5,7 @@ use Rattle.std.proofs.lemmas.List.Concat.{flat_map-append}
 use Rattle.std.proofs.lemmas.List.Elements.{All-nil, All-push}
 use Rattle.attach_proto.specs.Spelling.{frame}
 use Rattle.attach_proto.specs.declared.kind.Kind.{Kind}
-use Rattle.server_turn.specs.Written.{Waiting}
+use Rattle.server_connections.specs.Written.{Waiting}
 use Rattle.server_connections.specs.Frames.{IsPiece, PutsFrames}
 
 joined : (pieces : List (List ℕ)) (piece : List ℕ) → concat (pieces ++ piece ∷ []) ≡ concat pieces ++ piece

@@ -1,4 +1,5 @@
 pub mod Framing
+pub mod Writing
 mod Looking
 mod Marking
 mod Walking

@@ -6,7 +6,7 @@ use Rattle.attach_proto.specs.declared.kind.Kind.{Kind}
 use Rattle.attach_proto.specs.declared.kind.Kind.TheVariants as kind
 use Rattle.attach_proto.specs.declared.message.Message.{Message}
 use Rattle.attach_proto.specs.declared.message.Message.TheVariants as message
-use Rattle.server_turn.specs.Written.{Waiting}
+use Rattle.server_connections.specs.Written.{Waiting}
 use Rattle.server_connections.specs.declared.frames.Sending.{Sending}
 use Rattle.server_connections.specs.declared.frames.Sending.TheVariants as sending
 

@@ -4,3 +4,4 @@ pub mod Marked
 pub mod Peers
 pub mod Telling
 pub mod Walking
+pub mod Written

@@ -6,8 +6,8 @@ ghost use Rattle.attach_proto.specs.declared.message.Message.TheVariants as mess
 ghost use Rattle.server_connections.specs.Frames.{IsUnspellable, PutsFrames, PutsFront, PutsMessage};
 ghost use Rattle.server_connections.specs.Frames.{Sends, SendsFront};
 
+use crate::turn::Turn;
 use attach_proto::{Kind, LONGEST, Message, Text, Why, WriteFault, head_of, write_message};
-use server_turn::Turn;
 use session_model::Reason;
 use std::alloc::{AllocError, Global};
 

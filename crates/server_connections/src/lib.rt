@@ -1,5 +1,5 @@
-//! The connections of one loop of the server: what each is to the session, what was read from it
-//! and what it is sent.
+//! The connections of one loop of the server: what each is to the session, what was read from it and
+//! what it is sent, in turn.
 #![tactic(auto)]
 
 mod connections;
@@ -10,6 +10,7 @@ mod news;
 mod peer;
 mod seat;
 mod stream;
+mod turn;
 mod walk;
 
 pub use connections::Connections;
@@ -19,4 +20,5 @@ pub use news::{Guest, News};
 pub use peer::{Awaits, Peer, Role, Stage};
 pub use seat::{Answer, GuestKind, SeatFault, SessionSeat};
 pub use stream::Came;
+pub use turn::Turn;
 pub use walk::{HasConnections, each_awake};

@@ -12,7 +12,7 @@ use hub::{Begun as Roll, Hub, Seat, Session, Trail};
 use server_trail::Recorder;
 use server_users::Users;
 use session_model::Refusal;
-use setup_lines::SetupFault;
+use program_words::SetupFault;
 use std::alloc::{AllocError, Global};
 use std::marker::Brand;
 use std::sync::ledger::Blank;

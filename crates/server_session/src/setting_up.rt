@@ -4,7 +4,7 @@ use crate::loop_body::LoopsFault;
 use crate::shared_session::SharedSession;
 use hub::{Begun as Roll, Seat};
 use session_model::Event;
-use setup_lines::{SetupLine, read_setup};
+use program_words::{SetupLine, read_setup};
 use std::alloc::Global;
 use std::sync::Wait;
 

@@ -1,8 +1,9 @@
-//! What a server takes from the system: its users' file, its setup, its socket, and the connections
-//! that a loop waits for.
+//! What a server takes from the system: its users' file, its setup, its socket, its log, and the
+//! connections that a loop waits for.
 #![tactic(auto)]
 
 mod fault;
+mod log;
 mod setup_file;
 mod socket;
 mod users_file;
@@ -10,6 +11,7 @@ mod watched;
 mod wired;
 
 pub use fault::ServeFault;
+pub use log::Log;
 pub use setup_file::Setup;
 pub use socket::Place;
 pub use users_file::{Seen, Stamp, UsersFile};

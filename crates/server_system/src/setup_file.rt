@@ -1,8 +1,7 @@
 //! The file of the owner's first commands, and its faults.
 
 use crate::fault::{ServeFault, SystemError};
-use program_words::RefusedLine;
-use setup_lines::{SetupFault, SetupLine, read_setup};
+use program_words::{RefusedLine, SetupFault, SetupLine, read_setup};
 use std::alloc::Global;
 use std::fs::Files;
 use std::{fs, str};

@@ -1,9 +1,9 @@
 //! The users' file while a server runs.
 
 use crate::fault::ServeFault;
+use crate::log::Log;
 use crate::users_file::{Seen, UsersFile};
 use acl::UserId;
-use server_log::Log;
 use server_users::Users;
 use std::alloc::{AllocError, Global};
 use std::fmt::{Display, Formatter};

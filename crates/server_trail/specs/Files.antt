@@ -6,10 +6,10 @@ use Rattle.acl.specs.declared.edition.Edition.TheVariants as edition
 use Rattle.acl.specs.declared.user_id.UserId.{UserId}
 use Rattle.hub_trail.specs.Trails.{Entry}
 use Rattle.trail_lines.specs.Entries.{line_of}
-use Rattle.trail_audit.specs.declared.ending.Cause.{Cause}
-use Rattle.trail_audit.specs.declared.ending.Ended.{Ended}
-use Rattle.trail_audit.specs.declared.header.Header.{Header}
-use Rattle.trail_audit.specs.Heading.{end_text, header_text, read_end}
+use Rattle.trail_lines.specs.declared.ending.Cause.{Cause}
+use Rattle.trail_lines.specs.declared.ending.Ended.{Ended}
+use Rattle.trail_lines.specs.declared.header.Header.{Header}
+use Rattle.trail_lines.specs.Heading.{end_text, header_text, read_end}
 
 -- ---- writing
 

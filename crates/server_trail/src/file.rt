@@ -2,7 +2,7 @@
 
 ghost use Rattle.std.specs.Prelude.{◌≡◌, ◌++◌, ◌∷◌, [], OnOk, IfOk};
 ghost use Rattle.std.specs.Io.KnownBytes.{Appends, Keeps};
-ghost use Rattle.trail_audit.specs.Heading.{header_text};
+ghost use Rattle.trail_lines.specs.Heading.{header_text};
 ghost use Rattle.server_trail.specs.Files.{Begins};
 
 use acl::{Edition, UserId};
@@ -11,7 +11,7 @@ use std::alloc::{AllocError, Global};
 use std::fs::File;
 use std::io::{self, Write};
 use std::time::Clock;
-use trail_audit::{Header, print_header};
+use trail_lines::{Header, print_header};
 
 /// A file to which a trail is written.
 pub trait TrailFile: Write {

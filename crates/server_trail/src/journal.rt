@@ -19,7 +19,7 @@ use std::sync::{Mutex, Wait};
 use std::time::Clock;
 use std::{fs, io};
 use thiserror::Error;
-use trail_audit::{Cause, Header};
+use trail_lines::{Cause, Header};
 
 // The version that the file's first line names.
 const VERSION: &[u8] = b"0.1.0";

@@ -15,5 +15,5 @@ pub use merge::Merge;
 pub use reading::is_trail;
 pub use recorder::Recorder;
 pub use stop::Stopped;
-pub use trail_audit::Cause;
+pub use trail_lines::Cause;
 pub use writing::Written;

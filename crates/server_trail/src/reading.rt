@@ -2,15 +2,14 @@
 
 ghost use Rattle.std.specs.Prelude.{◌≡◌, ◌∷◌, ◌++◌, [], ℕ, List, Some, true, IfOk, take};
 ghost use Rattle.trail_lines.specs.Entries.{line_of};
-ghost use Rattle.trail_audit.specs.Heading.{header_text};
+ghost use Rattle.trail_lines.specs.Heading.{header_text};
 ghost use Rattle.server_trail.specs.Files.{Reads, Cuts, ReadsLines, IsTrailOf, IsLastOf};
 
 use hub_record::{Filed, Roll};
 use line_fields::u64_at;
 use std::alloc::{AllocError, Global};
 use std::io::{self, BufRead};
-use trail_audit::{Came, Header, next_line, print_header, read_end};
-use trail_lines::{Unread, print_line};
+use trail_lines::{Came, Header, Unread, next_line, print_header, print_line, read_end};
 
 // Reads the next line into `line`, without its line feed. The answer is whether there was a whole line.
 fn has_line<R: BufRead>(reader: &mut R, line: &mut Vec<u8>) -> io::Result<bool>

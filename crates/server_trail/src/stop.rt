@@ -1,6 +1,6 @@
 //! Why a file can't go on.
 
-use trail_audit::Cause;
+use trail_lines::Cause;
 
 /// Why a trail's file can't go on.
 #[derive(Clone, Copy, PartialEq, Eq, Debug)]

@@ -3,7 +3,7 @@
 ghost use Rattle.std.specs.Prelude.{◌≡◌, ◌≤◌, ◌+◌, ◌++◌, ◌∷◌, [], ℕ, List, true, false, length, take};
 ghost use Rattle.std.specs.Prelude.{◌==◌, ◌&&◌, ◌||◌, IfOk, is_some, vec_len};
 ghost use Rattle.std.specs.Io.KnownBytes.{Appends, Keeps};
-ghost use Rattle.trail_audit.specs.Heading.{end_text};
+ghost use Rattle.trail_lines.specs.Heading.{end_text};
 ghost use Rattle.server_trail.specs.Files.{HasWritten, end_line};
 ghost use Rattle.server_trail.specs.Merging.{Placed, HasMerged, early_bytes};
 
@@ -17,7 +17,7 @@ use std::sync::Wait;
 use std::sync::atomic::Ordering;
 use std::thread;
 use std::time::{Clock, Duration};
-use trail_audit::{Cause, Ended, print_end};
+use trail_lines::{Cause, Ended, print_end};
 
 // How many milliseconds the writer waits for more if few bytes are ready.
 const PAUSE: u64 = 100;

@@ -5,3 +5,10 @@ pub mod Texts
 pub mod Serials
 pub mod Rising
 pub mod Parts
+pub mod Giving
+mod Cutting
+mod Events
+mod Lines
+mod ReadBack
+mod Texts
+mod Words

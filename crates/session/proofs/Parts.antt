@@ -16,7 +16,7 @@ use Rattle.session_model.specs.Trace.{EventValue, Reply, Trace, begun}
 use Rattle.session_core.specs.Stands.{StandsFor}
 use Rattle.session_core.specs.Headline.{with_steps, AllSteps, Keeps as KeepsPromise, Serves, SomeRun, untaken_events}
 use Rattle.session_core.specs.Headline.{without_keys, effects_of, replies_of}
-use Rattle.session_lines.specs.Printed.{effect_line, reply_line}
+use Rattle.session.specs.Printed.{effect_line, reply_line}
 use Rattle.session.specs.declared.fault.Fault.{Fault}
 use Rattle.session.specs.declared.fault.Fault.TheVariants.{NotUnderstood, Io, NoMemory}
 use Rattle.session.specs.Lines.{lines_of}
@@ -26,8 +26,8 @@ use Rattle.session.specs.Played.{printed, views, views_if, IfNotUnderstood, IsBa
 use Rattle.session.specs.Played.{Played, PlayedPart}
 use Rattle.acl.specs.declared.edition.Edition.{Edition}
 use Rattle.acl.specs.declared.user_id.UserId.{UserId}
-use Rattle.setup_lines.specs.Lines.{Line}
-use Rattle.session_setup.specs.Setup.{Behind, SetsUp}
+use Rattle.program_words.specs.SetupLines.{Line}
+use Rattle.session.specs.Setup.{Behind, SetsUp}
 use Rattle.session.proofs.Lines.{first_line}
 use Rattle.session.proofs.Playing.{keeps_on, appends_on, played_on}
 use Rattle.session.proofs.Texts.{one_event}

@@ -9,7 +9,7 @@ use Rattle.session_core.specs.Stands.{StandsFor}
 use Rattle.session_core.specs.Headline.{with_steps, AllSteps, Keeps as KeepsPromise}
 use Rattle.session.proofs.Steps.{with_steps-append, serves_before, serves_on}
 use Rattle.session_core.specs.declared.session.Session.{Session}
-use Rattle.session_lines.specs.Script.{event_of}
+use Rattle.session.specs.Script.{event_of}
 use Rattle.session.specs.Played.{filled, Plays, IsBad, step_lines, printed, Runs, Played}
 
 -- ---- known bytes

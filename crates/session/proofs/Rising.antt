@@ -13,7 +13,7 @@ use Rattle.session_model.specs.Granted.{granted_view}
 use Rattle.session_model.specs.Run.{tables_of}
 use Rattle.session_model.specs.Sound.{Rises, client_serials}
 use Rattle.session_laws.proofs.Lists.{row_serial}
-use Rattle.session_lines.specs.Printed.{view_lines}
+use Rattle.session.specs.Printed.{view_lines}
 use Rattle.session_core.specs.Least.{least_from}
 use Rattle.session_core.specs.Headline.{IsViewOf}
 use Rattle.session.specs.Played.{client_lines, views}

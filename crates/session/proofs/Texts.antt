@@ -7,7 +7,7 @@ use Rattle.std.proofs.lemmas.Grind.{flat_map-append}
 use Rattle.std.proofs.lemmas.List.{append-nil}
 use Rattle.session_model.specs.Trace.{EventValue, Keys, Reply, Entry}
 use Rattle.session_core.specs.Headline.{Serves, untaken_keys, last_reply, replies_of, effects_of}
-use Rattle.session_lines.specs.Printed.{effect_line, reply_line}
+use Rattle.session.specs.Printed.{effect_line, reply_line}
 use Rattle.session.specs.Played.{printed}
 
 -- nothing is left of an event, or an event with the same lines for replies

@@ -7,8 +7,8 @@ use Rattle.session_model.specs.Trace.{EventValue, Entry, Trace}
 use Rattle.session_model.specs.Tables.{Client, Tables}
 use Rattle.session_model.specs.Granted.{granted_view}
 use Rattle.session_model.specs.Run.{tables_of}
-use Rattle.session_lines.specs.Script.{event_of}
-use Rattle.session_lines.specs.Printed.{effect_line, reply_line, view_lines}
+use Rattle.session.specs.Script.{event_of}
+use Rattle.session.specs.Printed.{effect_line, reply_line, view_lines}
 use Rattle.session_core.specs.Headline.{with_steps, AllSteps, Keeps, Serves, untaken_keys, last_reply}
 use Rattle.session_core.specs.Stands.{StandsFor}
 use Rattle.session_core.specs.declared.session.Session.{Session}

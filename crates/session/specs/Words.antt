@@ -10,11 +10,11 @@ use Rattle.clap.specs.Words.{first_of, one_of}
 use Rattle.clap.specs.declared.builder.ArgAction.TheVariants.{SetTrue}
 use Rattle.clap.specs.declared.builder.value_parser.ValueParser.TheVariants.{Signed}
 use Rattle.session_model.specs.Trace.{begun}
-use Rattle.setup_lines.specs.Lines.{commands_in, first_fault}
-use Rattle.setup_lines.specs.declared.SetupLine.{SetupLine}
+use Rattle.program_words.specs.SetupLines.{commands_in, first_fault}
+use Rattle.program_words.specs.declared.setup.SetupLine.{SetupLine}
 use Rattle.session.specs.Played.{PlaysAll}
-use Rattle.session_setup.specs.declared.Beginning.{Beginning}
-use Rattle.session_setup.specs.Setup.{Behind}
+use Rattle.session.specs.declared.setup_file.Beginning.{Beginning}
+use Rattle.session.specs.Setup.{Behind}
 
 -- ---- muxsim [--edition N] [--setup FILE] [--show] [--trail FILE] OWNER
 

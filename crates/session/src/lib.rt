@@ -1,19 +1,26 @@
 //! The session of a multiuser terminal multiplexer, and the simulator, which plays scripts of events
-//! over a session.
+//! over a session, after the setup file of its owner.
 #![tactic(auto)]
 
 mod fault;
+mod fields;
+mod kind;
 mod player;
+mod printing;
+mod script;
 mod setup;
+mod setup_file;
 mod simulator;
 mod words;
 
+pub use printing::{print_effect, print_reply};
+pub use script::{read_event, reads_printed};
 pub use session_core::{Notes, Session};
 pub use session_model::{
     Bytes, Denied, Done, Effect, EntryDenied, Event, LockDenied, Ran, Reason, Refusal, Reply,
     Verdict, WindowsFault,
 };
-pub use session_setup::Beginning;
 pub use setup::{SetupUnread, setup_of};
+pub use setup_file::Beginning;
 pub use simulator::{Asked, simulate, simulate_behind};
 pub use words::{beginning_of, path_of};

@@ -8,15 +8,16 @@ ghost use Rattle.std.specs.String.{string_bytes};
 ghost use Rattle.std.specs.Io.KnownBytes.{Appends, Keeps};
 ghost use Rattle.session_model.specs.Trace.{Trace, happening};
 ghost use Rattle.session_model.specs.Run.{tables_of};
-ghost use Rattle.session_lines.specs.Printed.{effect_line, reply_line};
+ghost use Rattle.session.specs.Printed.{effect_line, reply_line};
 ghost use Rattle.session_core.specs.Stands.{StandsFor};
 ghost use Rattle.session.specs.Lines.{lines_of};
 ghost use Rattle.session.specs.Played.{PlaysAll, PlaysUntil, Played, Runs, IsBad, OfScript};
 ghost use Rattle.session.specs.Played.{IfNotUnderstood, views};
 
 use crate::fault::Fault;
+use crate::printing::{print_effect, print_reply, print_view};
+use crate::script::read_event;
 use session_core::{Effect, Event, Reply, Session};
-use session_lines::{print_effect, print_reply, print_view, read_event};
 use std::alloc::{AllocError, Global};
 use std::io;
 use std::io::{BufRead, BufReader, Read, Write};

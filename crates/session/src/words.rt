@@ -11,11 +11,11 @@ ghost use Rattle.clap.specs.Words.{one_text, rule_of};
 ghost use Rattle.session.specs.Words.{muxsim, edition, setup, show, trail, owner, edition_text};
 ghost use Rattle.session.specs.Words.{Asks, IsBeginning};
 
+use crate::setup_file::Beginning;
 use acl::{Edition, UserId};
 use clap::error::ErrorKind;
 use clap::{Arg, ArgAction, ArgMatches, Command, Error};
-use session_setup::Beginning;
-use setup_lines::SetupLine;
+use program_words::SetupLine;
 use std::alloc::{AllocError, Global};
 
 /// `--edition`: the edition of groups.

@@ -17,7 +17,7 @@ use Rattle.session_model.specs.Tables.{Tables, window_at, client_at, known_users
 use Rattle.session_model.specs.Lines as model_lines
 use Rattle.session_model.specs.Deeds.{Answer, given, unless, closes, parts, removes}
 use Rattle.session_model.specs.Commands.{does}
-use Rattle.serial_rows.proofs.Serials.{serial_is}
+use Rattle.windows_model.proofs.Serials.{serial_is}
 use Rattle.session_state.specs.declared.caller.Caller.{Caller}
 use Rattle.session_state.specs.Doing.{caller_in}
 use Rattle.session_access.specs.Closing.{closing}

@@ -28,7 +28,7 @@ use Rattle.session_model.specs.Tables as model
 use Rattle.session_model.specs.Tables.{Tables, window_at, row_of}
 use Rattle.session_model.specs.Sound.{Rises, window_serials}
 use Rattle.session_model.specs.Deeds.{Deed, is_of, removes, closes, parts, both, without_window, without_windows}
-use Rattle.serial_rows.proofs.Serials.{is_equal, serial_is}
+use Rattle.windows_model.proofs.Serials.{is_equal, serial_is}
 use Rattle.windows.specs.declared.window.Window.{Window}
 use Rattle.windows.specs.Standing.{StandFor, closed, without}
 use Rattle.session_clients.specs.declared.client.Client.{Client}

@@ -6,3 +6,7 @@ pub mod Pushed
 pub mod Parting
 pub mod Answering
 pub mod Ending
+pub mod Checking
+pub mod Places
+pub mod Standing
+pub mod Listing

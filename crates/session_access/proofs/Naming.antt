@@ -22,8 +22,8 @@ use Rattle.session_model.specs.Tables as model
 use Rattle.session_model.specs.Tables.{Tables, others}
 use Rattle.session_model.specs.Naming.{is_wide, item_objects, objects_of, every_window, every_command, scopes_of}
 use Rattle.session_model.specs.Naming.{word_scope}
-use Rattle.serial_rows.proofs.Serials.{if_true, if_false}
-use Rattle.serial_rows.proofs.Matching.{mapped_match}
+use Rattle.windows_model.proofs.Serials.{if_true, if_false}
+use Rattle.windows_model.proofs.Matching.{mapped_match}
 use Rattle.windows.specs.Standing.{WindowStands, StandFor}
 use Rattle.windows.specs.declared.window.Window.{Window}
 use Rattle.session_access.specs.Asked.{other_names, window_object, wide, object_named, NamesNothing, lone_word}

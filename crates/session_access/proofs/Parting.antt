@@ -30,7 +30,7 @@ use Rattle.session_model.specs.Tables as model
 use Rattle.session_model.specs.Tables.{Tables}
 use Rattle.session_model.specs.Deeds.{parts}
 use Rattle.session_model.specs.Sound.{Rises, client_serials}
-use Rattle.serial_rows.proofs.Serials.{same_number}
+use Rattle.windows_model.proofs.Serials.{same_number}
 use Rattle.session_clients.specs.declared.client.Client.{Client}
 use Rattle.session_clients.specs.Stands.{ClientStands, AreClients, Keeps}
 use Rattle.session_state.specs.declared.state.State.{State}

@@ -16,7 +16,7 @@ use Rattle.session_model.specs.Tables.{Window, Tables, row_of}
 use Rattle.session_model.specs.Naming.{has_number, with_number, lower, lowest, window_named, is_wide, wide_objects}
 use Rattle.session_model.specs.Naming.{item_objects, objects_of, every_window, every_command}
 use Rattle.session_model.specs.Sound.{ActsAgree}
-use Rattle.serial_rows.proofs.Serials.{if_true, by_if, same_number}
+use Rattle.windows_model.proofs.Serials.{if_true, by_if, same_number}
 
 -- ---- rows that are there
 

@@ -3,3 +3,4 @@ pub mod Leaders
 pub mod Going
 pub mod Closing
 pub mod Settling
+pub mod Checked

@@ -2,13 +2,13 @@
 use Rattle.std.proofs.Common.{◌≡◌, ℕ, List, Some, None, sym, subst, ◌∙◌, ap, Option, MutBor, Bool, filter, map}
 use Rattle.std.proofs.Common.{◌≤◌, ◌++◌, length, take, drop, append-nil}
 use Rattle.std.proofs.lemmas.List.{take_all, drop_all}
-use Rattle.serial_rows.proofs.Lending.{over_same}
-use Rattle.serial_rows.specs.Lending.{written_over}
+use Rattle.windows_model.proofs.Lending.{over_same}
+use Rattle.windows_model.specs.Lending.{written_over}
 use Rattle.std.specs.Option.{OnSome, option_copied_mut}
 use Rattle.session_model.specs.Tables as model
 use Rattle.session_model.specs.Tables.{row_of, with_row}
-use Rattle.serial_rows.proofs.Matching.{row_there, with_match, filter_match, map_match}
-use Rattle.serial_rows.proofs.Serials.{with_back}
+use Rattle.windows_model.proofs.Matching.{row_there, with_match, filter_match, map_match}
+use Rattle.windows_model.proofs.Serials.{with_back}
 use Rattle.session_clients.specs.declared.client.Client.{Client}
 use Rattle.session_clients.specs.Stands.{ClientStands, AreClients, Changes, ChangesAll, Keeps, Finds}
 

@@ -10,7 +10,7 @@ use Rattle.redraw.proofs.shadow.Shadow.TheSendSync as shadow
 use Rattle.regions.proofs.Crossing.{layout_send}
 use Rattle.view.proofs.view.View.TheSendSync as view
 use Rattle.view.specs.contracts.view.View as View
-use Rattle.serial_rows.proofs.rows.Rows.TheSendSync as rows
+use Rattle.windows_model.proofs.rows.Rows.TheSendSync as rows
 use Rattle.session_clients.specs.contracts.client.Client as Client
 use Rattle.session_clients.specs.contracts.clients.Clients as Clients
 use Rattle.session_clients.specs.contracts.clients.Clients.TheInside as inside

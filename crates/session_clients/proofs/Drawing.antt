@@ -19,7 +19,7 @@ use Rattle.session_model.specs.Tables.{row_of, with_row}
 use Rattle.session_clients.specs.declared.client.Client.{Client}
 use Rattle.session_clients.specs.Stands.{AreClients, ClientStands, IsScreen, Finds}
 use Rattle.session_clients.specs.Draws.{ShowsAlready, Draws, LeadsFrom}
-use Rattle.serial_rows.specs.Matched.{BothOrNone}
+use Rattle.windows_model.specs.Matched.{BothOrNone}
 use Rattle.session_clients.proofs.Changing.{model_serial, serial_of, lent_at, found, found_none, changed}
 use Rattle.session_clients.proofs.Frames.{frame_behind, then_delivered}
 

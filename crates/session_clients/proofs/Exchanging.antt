@@ -6,7 +6,7 @@ use Rattle.session_model.specs.declared.message.Message.TheVariants.{Silence}
 use Rattle.session_model.specs.Tables as model
 use Rattle.session_model.specs.Tables.{row_of, with_row}
 use Rattle.session_model.specs.Answering.{reading}
-use Rattle.serial_rows.proofs.Serials.{serial_is, with_same, with_twice, with_back}
+use Rattle.windows_model.proofs.Serials.{serial_is, with_same, with_twice, with_back}
 use Rattle.session_clients.specs.declared.client.Client.{Client}
 use Rattle.session_clients.specs.Stands.{ClientStands}
 use Rattle.session_clients.proofs.Changing.{serial_of}

@@ -5,7 +5,7 @@ use Rattle.std.proofs.lemmas.List.{map_more, take_all}
 use Rattle.session_model.specs.declared.event.Effect.{Effect}
 use Rattle.session_model.specs.declared.event.Effect.TheVariants.{Say}
 use Rattle.session_model.specs.Tables as model
-use Rattle.serial_rows.proofs.Matching.{mapped_match}
+use Rattle.windows_model.proofs.Matching.{mapped_match}
 use Rattle.session_clients.specs.declared.client.Client.{Client}
 use Rattle.session_clients.specs.Moves.{said}
 use Rattle.session_clients.specs.Stands.{ClientStands, AreClients}

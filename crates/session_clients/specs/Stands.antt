@@ -9,7 +9,7 @@ use Rattle.keys.specs.Kept as keys
 use Rattle.session_model.specs.Tables as model
 use Rattle.session_model.specs.Tables.{row_of, with_row}
 use Rattle.session_model.specs.Comings.{is_client_size}
-use Rattle.serial_rows.specs.Matched.{Matched}
+use Rattle.windows_model.specs.Matched.{Matched}
 use Rattle.session_clients.specs.declared.client.Client.{Client}
 
 -- a view was drawn exactly where something was delivered

@@ -7,7 +7,7 @@ use acl::UserId;
 use keys::KeyReader;
 use redraw::Shadow;
 use regions::{Layout, Shown};
-use serial_rows::Serial;
+use windows_model::Serial;
 use session_model::Message;
 use std::alloc::{AllocError, Global};
 use std::mem;

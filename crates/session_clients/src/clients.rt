@@ -22,7 +22,7 @@ use acl::UserId;
 use keys::KeyReader;
 use redraw::{Frame, Shadow, SharedView};
 use regions::{Layout, RegionFault};
-use serial_rows::Rows;
+use windows_model::Rows;
 use session_model::{Bytes, Effect, Message};
 use std::alloc::{AllocError, Global};
 use std::marker::Model;
@@ -62,7 +62,7 @@ impl Clients {
     ghost use Rattle.session_clients.specs.Stands.{Attaches, Keeps, Changes, ChangesAll, Finds};
     ghost use Rattle.session_clients.specs.Stands.{AreClients, ClientStands};
     ghost use Rattle.session_clients.specs.Moves.{moved_to, tried};
-    ghost use Rattle.serial_rows.specs.Matched.{BothOrNone};
+    ghost use Rattle.windows_model.specs.Matched.{BothOrNone};
 
     /// No client.
     pub fn new(alloc: Global) -> Clients

@@ -11,8 +11,8 @@ use Rattle.session_model.specs.Tables as model
 use Rattle.session_model.specs.Tables.{Tables, window_at}
 use Rattle.session_model.specs.Deeds.{Deed, Answer, given, unless, refused_if, selects}
 use Rattle.session_model.specs.Commands.{caller_client, on_client}
-use Rattle.serial_rows.specs.Matched.{BothOrNone}
-use Rattle.serial_rows.proofs.Matching.{both_back, none_back}
+use Rattle.windows_model.specs.Matched.{BothOrNone}
+use Rattle.windows_model.proofs.Matching.{both_back, none_back}
 use Rattle.windows.specs.declared.window.Window.{Window}
 use Rattle.windows.specs.Standing.{WindowStands}
 use Rattle.session_state.specs.declared.caller.Caller.{Caller}

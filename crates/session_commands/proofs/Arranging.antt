@@ -5,8 +5,8 @@ use Rattle.regions.specs.Layouts.{Arrangement, split_focused, split_fault}
 use Rattle.regions.specs.Pages.{has_room}
 use Rattle.session_model.specs.Tables as model
 use Rattle.session_model.specs.Tables.{row_of, with_row, with_layout}
-use Rattle.serial_rows.proofs.Matching.{row_there}
-use Rattle.serial_rows.proofs.Serials.{with_back}
+use Rattle.windows_model.proofs.Matching.{row_there}
+use Rattle.windows_model.proofs.Serials.{with_back}
 use Rattle.session_clients.specs.declared.client.Client.{Client}
 use Rattle.session_clients.specs.Moves.{moved_to}
 use Rattle.session_clients.specs.Stands.{ClientStands, Changes}

@@ -9,7 +9,7 @@ use Rattle.session_model.specs.Tables.{Tables, Window}
 use Rattle.session_model.specs.Lines as model
 use Rattle.session_model.specs.Deeds.{Answer, changing, given, input_of}
 use Rattle.session_model.specs.Commands.{does, on_window}
-use Rattle.serial_rows.proofs.Serials.{if_true, if_false}
+use Rattle.windows_model.proofs.Serials.{if_true, if_false}
 use Rattle.session_state.specs.declared.caller.Caller.{Caller}
 use Rattle.session_state.specs.Doing.{caller_in}
 use Rattle.session_commands.proofs.Passing.{IsOn}

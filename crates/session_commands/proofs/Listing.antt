@@ -9,8 +9,8 @@ use Rattle.session_model.specs.Tables as model
 use Rattle.session_model.specs.Tables.{Tables, row_of, window_at, focused}
 use Rattle.session_model.specs.Texts as model_texts
 use Rattle.session_model.specs.Texts.{separated, focus_text, clients_text}
-use Rattle.serial_rows.specs.Matched.{BothOrNone}
-use Rattle.serial_rows.proofs.Matching.{rows_match, mapped_match}
+use Rattle.windows_model.specs.Matched.{BothOrNone}
+use Rattle.windows_model.proofs.Matching.{rows_match, mapped_match}
 use Rattle.session_commands.specs.Items.{number_or_dash, number_of_window, client_line, client_line_is}
 use Rattle.windows.specs.declared.window.Window.{Window}
 use Rattle.windows.specs.Standing.{WindowStands, StandFor}

@@ -7,8 +7,8 @@ use Rattle.std.specs.Option.{option_or, option_and_then}
 use Rattle.session_model.specs.Tables.{Window, Tables, row_of, window_at}
 use Rattle.session_model.specs.Naming.{lower, higher, lowest, highest, with_number, window_named, window_after}
 use Rattle.session_model.specs.Naming.{window_before}
-use Rattle.serial_rows.specs.Matched.{BothOrNone}
-use Rattle.serial_rows.proofs.Serials.{same_number, serial_is}
+use Rattle.windows_model.specs.Matched.{BothOrNone}
+use Rattle.windows_model.proofs.Serials.{same_number, serial_is}
 use Rattle.windows.specs.declared.window.Window as code
 use Rattle.windows.specs.Standing.{WindowStands}
 

@@ -6,9 +6,9 @@ use Rattle.session_model.specs.Tables as model
 use Rattle.session_model.specs.Tables.{Tables, row_of, with_row, client_at, focused, with_client, with_layout}
 use Rattle.session_model.specs.Deeds.{arranges, enters}
 use Rattle.session_model.specs.Commands.{caller_client}
-use Rattle.serial_rows.specs.Matched.{BothOrNone}
-use Rattle.serial_rows.proofs.Matching.{none_back}
-use Rattle.serial_rows.proofs.Serials.{serial_is, with_same}
+use Rattle.windows_model.specs.Matched.{BothOrNone}
+use Rattle.windows_model.proofs.Matching.{none_back}
+use Rattle.windows_model.proofs.Serials.{serial_is, with_same}
 use Rattle.session_clients.specs.declared.client.Client.{Client}
 use Rattle.session_clients.specs.Stands.{ClientStands, AreClients, Changes}
 use Rattle.session_state.specs.declared.caller.Caller.{Caller}

@@ -21,7 +21,7 @@ use Rattle.session_model.specs.Lines as model
 use Rattle.command_lang.specs.Needs.{needs}
 use Rattle.session_model.specs.Checks.{passes, refusal_of, first_fault, checks, checks_by}
 use Rattle.session_model.specs.Checks.{window_checks, where_needed}
-use Rattle.serial_rows.proofs.Serials.{serial_is}
+use Rattle.windows_model.proofs.Serials.{serial_is}
 use Rattle.session_state.specs.declared.caller.Caller.{Caller}
 use Rattle.session_state.specs.Doing.{caller_in}
 

@@ -21,7 +21,7 @@ use Rattle.session_model.specs.Tables.{Window, Tables, window_at, with_row}
 use Rattle.session_model.specs.Deeds.{Deed, Answer, focused_box, fits, given, writes}
 use Rattle.session_model.specs.Commands.{on_client, on_window}
 use Rattle.session_model.specs.Comings.{is_client_size, is_window_size}
-use Rattle.serial_rows.proofs.Serials.{if_true, serial_is}
+use Rattle.windows_model.proofs.Serials.{if_true, serial_is}
 use Rattle.windows.specs.declared.window.Window as code
 use Rattle.windows.specs.Standing.{StandFor, Answered, serial, resized, resized_in, written_to}
 use Rattle.windows.proofs.Callers.{row_done, row_refused_as}

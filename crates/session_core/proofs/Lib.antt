@@ -14,3 +14,4 @@ pub mod Settled
 pub mod Shared
 pub mod Staying
 pub mod Still
+pub mod Guarding

@@ -7,8 +7,8 @@ use Rattle.std.proofs.lemmas.Bool.Decides.{nat_tests}
 use Rattle.std.proofs.lemmas.List.Quantifiers.{position-Some}
 use Rattle.std.proofs.lemmas.List.Sums.{fails_before_first}
 use Rattle.std.proofs.lemmas.Grind.{common_steps}
-use Rattle.serial_rows.proofs.Serials.{if_true, if_false}
-use Rattle.serial_rows.proofs.Matching.{mapped_match}
+use Rattle.windows_model.proofs.Serials.{if_true, if_false}
+use Rattle.windows_model.proofs.Matching.{mapped_match}
 use Rattle.session_clients.specs.declared.client.Client.{Client}
 use Rattle.session_clients.specs.Stands.{ClientStands}
 use Rattle.session_model.specs.Trace.{Trace}

@@ -20,7 +20,7 @@ use Rattle.session_model.specs.Deeds.{changing}
 use Rattle.session_model.specs.Outcomes.{Outcome, finished, refused, done}
 use Rattle.session_model.specs.Events.{outcome}
 use Rattle.session_model.specs.Run.{IsDraw, IsStep, HasEffects, drawn, drawn_on, after, deliveries}
-use Rattle.serial_rows.proofs.Serials.{serial_is, with_back, with_same, with_other, is_equal, same_number}
+use Rattle.windows_model.proofs.Serials.{serial_is, with_back, with_same, with_other, is_equal, same_number}
 use Rattle.session_laws.proofs.Leaving.{none_left}
 use Rattle.session_laws.proofs.Lists.{all_append, all_weaken}
 use Rattle.session_laws.proofs.Outcomes as outcomes

@@ -16,7 +16,7 @@ use Rattle.session_model.specs.Events.{outcome}
 use Rattle.session_model.specs.Answering.{keys_outcome}
 use Rattle.session_model.specs.Outcomes.{reply_of}
 use Rattle.session_laws.proofs.Outcomes.{found}
-use Rattle.serial_rows.proofs.Serials.{if_true, if_false}
+use Rattle.windows_model.proofs.Serials.{if_true, if_false}
 use Rattle.session_core.specs.Headline.{untaken_keys, read_by}
 
 -- no keys complete nothing

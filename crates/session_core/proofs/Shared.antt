@@ -9,7 +9,7 @@ use Rattle.session_model.specs.declared.event.Effect.{Effect}
 use Rattle.session_model.specs.Tables.{Tables, Client, client_at}
 use Rattle.session_model.specs.Granted.{granted_view}
 use Rattle.session_model.specs.Run.{drawn_on, deliveries}
-use Rattle.serial_rows.proofs.Serials.{serial_is, with_same, with_other, is_equal, same_number}
+use Rattle.windows_model.proofs.Serials.{serial_is, with_same, with_other, is_equal, same_number}
 use Rattle.session_laws.proofs.Lists.{all_append}
 use Rattle.session_view.specs.declared.following.Lead.{Lead}
 use Rattle.session_view.specs.Viewed.{IsGranted}

@@ -8,7 +8,7 @@ use Rattle.acl.specs.declared.act.Act.TheVariants.{Left}
 use Rattle.acl.proofs.StandsForLemmas.{same_user-refl}
 use Rattle.session_model.specs.Tables.{Client, focused, is_window, is_in_focus, shows}
 use Rattle.session_model.specs.Outcomes.{left_acts_of, left_acts}
-use Rattle.serial_rows.proofs.Serials.{if_true, same_number}
+use Rattle.windows_model.proofs.Serials.{if_true, same_number}
 
 or_true : (a b : Bool) → b ≡ true → (a || b) ≡ true
 or_true true b is = refl

@@ -17,7 +17,7 @@ use Rattle.session_model.specs.Comings.{outputs}
 use Rattle.windows.specs.declared.window.Window.{Window as Row}
 use Rattle.windows.specs.Standing.{StandFor, AnsweredIfRoom, serial, written, written_to, fed_in}
 use Rattle.windows.proofs.Callers.{row_done, row_refused_as}
-use Rattle.serial_rows.proofs.Serials.{serial_is, if_true, if_false}
+use Rattle.windows_model.proofs.Serials.{serial_is, if_true, if_false}
 use Rattle.session_state.specs.declared.step_output.StepOutput.{StepOutput}
 use Rattle.session_state.specs.declared.state.State.{State}
 use Rattle.session_state.specs.Stands.{Stands}

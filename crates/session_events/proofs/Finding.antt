@@ -7,7 +7,7 @@ use Rattle.acl.specs.History.{is_open}
 use Rattle.session_model.specs.Tables.{Tables, Window, row_of}
 use Rattle.session_model.specs.Naming.{lower, lowest}
 use Rattle.session_model.specs.Sound.{Rises, window_serials}
-use Rattle.serial_rows.proofs.Serials.{if_true, if_false, same_number, other_number}
+use Rattle.windows_model.proofs.Serials.{if_true, if_false, same_number, other_number}
 use Rattle.session_model.specs.Sound.{AreFit}
 use Rattle.session_events.specs.Events.{IsOpenIn}
 

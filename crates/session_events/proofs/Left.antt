@@ -23,7 +23,7 @@ use Rattle.session_model.specs.Tables as model
 use Rattle.session_model.specs.Tables.{Tables, focused, is_window, shows, is_in_focus}
 use Rattle.session_model.specs.Deeds.{Deed}
 use Rattle.session_model.specs.Outcomes.{left_acts_of, left_acts}
-use Rattle.serial_rows.proofs.Matching.{length_match}
+use Rattle.windows_model.proofs.Matching.{length_match}
 use Rattle.session_clients.specs.declared.client.Client.{Client}
 use Rattle.session_clients.specs.Moves.{in_focus}
 use Rattle.session_clients.specs.Stands.{ClientStands, AreClients}

@@ -21,7 +21,7 @@ use Rattle.session_model.specs.Comings.{is_window_size, has_place, open_checks, 
 use Rattle.session_model.specs.Sound.{AreFit, Rises, window_serials}
 use Rattle.windows.specs.declared.window.Window.{Window as Row}
 use Rattle.windows.specs.Standing.{StandFor, AnsweredIfRoom, is_above, opened, new_row, numbered}
-use Rattle.serial_rows.proofs.Serials.{if_true}
+use Rattle.windows_model.proofs.Serials.{if_true}
 use Rattle.session_state.specs.declared.step_output.StepOutput.{StepOutput}
 use Rattle.session_state.specs.declared.state.State.{State}
 use Rattle.session_state.specs.Stands.{Stands}

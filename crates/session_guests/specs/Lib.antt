@@ -5,3 +5,9 @@ pub mod Locking
 pub mod Gates
 pub mod Naming
 pub mod Seeing
+pub mod Confined
+pub mod Keeping
+pub mod Hidden
+pub mod Observed
+pub mod Unseen
+pub mod Watching

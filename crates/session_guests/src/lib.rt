@@ -1,6 +1,6 @@
-//! What a user of a session can't do and can't see, in every step and in every run. Each function
-//! here is a law, which follows from the definitions alone: it does nothing, and its contract says
-//! what holds.
+//! What a user of a session can't do, can't see and can't get later, in every step and in every run.
+//! Each function here is a law, which follows from the definitions alone: it does nothing, and its
+//! contract says what holds.
 #![tactic(auto)]
 
 ghost use Rattle.session_guests.specs.Changing.{RightsGate};
@@ -11,6 +11,12 @@ ghost use Rattle.session_guests.specs.Locking.{HoldersStay};
 ghost use Rattle.session_guests.specs.Naming.{WindowsStay};
 ghost use Rattle.session_guests.specs.Opening.{NewWindowsAreMasked};
 ghost use Rattle.session_guests.specs.Seeing.{PagesShowWhatIsRead};
+
+mod confined;
+mod unseen;
+
+pub use confined::{guests_are_confined, locks_stay};
+pub use unseen::{hidden_output_is_unseen, spectators_leave_others};
 
 /// Rights change only by a granted list command. A step leaves unchanged who is known, who leads
 /// whom, masks, presets, and what everyone may do, except on a window that it opens. Or it gives

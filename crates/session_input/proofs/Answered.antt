@@ -22,7 +22,7 @@ use Rattle.session_model.specs.Deeds.{Deed, Answer}
 use Rattle.session_model.specs.Outcomes.{Outcome, refused, reply_of}
 use Rattle.session_model.specs.Events.{outcome}
 use Rattle.session_model.specs.Answering.{answered, commanded, line_ruling, keys_outcome}
-use Rattle.serial_rows.proofs.Serials.{if_true, if_false}
+use Rattle.windows_model.proofs.Serials.{if_true, if_false}
 use Rattle.session_state.specs.declared.step_output.StepOutput.{StepOutput}
 use Rattle.session_state.specs.declared.state.State.{State}
 use Rattle.session_state.specs.Stands.{Stands}

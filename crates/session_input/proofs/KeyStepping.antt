@@ -31,7 +31,7 @@ use Rattle.session_model.specs.Outcomes.{left_acts}
 use Rattle.session_model.specs.Texts.{text_of}
 use Rattle.session_laws.proofs.Unread.{client_read, nobody_left}
 use Rattle.session_events.specs.Leaving.{HasLeft}
-use Rattle.serial_rows.proofs.Serials.{serial_is, with_same, with_twice}
+use Rattle.windows_model.proofs.Serials.{serial_is, with_same, with_twice}
 use Rattle.session_clients.specs.declared.client.Client.{Client as Row}
 use Rattle.session_clients.specs.Stands.{ClientStands}
 use Rattle.session_state.specs.declared.caller.Caller.{Caller}

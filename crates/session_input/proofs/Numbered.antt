@@ -8,8 +8,8 @@ use Rattle.session_model.specs.Tables as model
 use Rattle.session_model.specs.Tables.{Tables, row_of, window_at}
 use Rattle.session_model.specs.Naming.{with_number}
 use Rattle.session_model.specs.Sound.{Rises, window_serials}
-use Rattle.serial_rows.proofs.Matching.{both_back, none_back}
-use Rattle.serial_rows.proofs.Serials.{if_true, if_false, same_number}
+use Rattle.windows_model.proofs.Matching.{both_back, none_back}
+use Rattle.windows_model.proofs.Serials.{if_true, if_false, same_number}
 use Rattle.windows.specs.Standing.{WindowStands, Finds}
 use Rattle.windows.specs.declared.window.Window.{Window}
 use Rattle.session_state.specs.declared.state.State.{State}

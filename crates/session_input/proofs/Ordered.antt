@@ -14,7 +14,7 @@ use Rattle.session_model.specs.Commands.{Ruling, ruling}
 use Rattle.session_model.specs.Answering.{says, keyed, with_listed, message_of}
 use Rattle.session_model.specs.Texts.{text_of}
 use Rattle.session_clients.specs.Stands.{ClientStands}
-use Rattle.serial_rows.proofs.Matching.{rows_match, both_there, both_back}
+use Rattle.windows_model.proofs.Matching.{rows_match, both_there, both_back}
 use Rattle.session_clients.proofs.Changing.{serials}
 use Rattle.session_clients.specs.declared.client.Client.{Client as Row}
 use Rattle.session_state.specs.declared.step_output.StepOutput.{StepOutput}

@@ -17,7 +17,7 @@ use Rattle.session_state.specs.declared.step_output.StepOutput.{StepOutput}
 use Rattle.session_state.specs.declared.state.State.{State}
 use Rattle.session_state.specs.Stands.{Stands}
 use Rattle.session_state.specs.Doing.{HasDone, IsAsBefore, did}
-use Rattle.session_checks.specs.Checked.{Failed}
+use Rattle.session_access.specs.Checked.{Failed}
 use Rattle.session_events.specs.Leaving.{HasLeft}
 use Rattle.session_input.specs.Stepping.{HasHappened, Stepped}
 

@@ -10,8 +10,8 @@ use Rattle.keys.specs.Kept.{Keeping, StandsFor}
 use Rattle.session_model.specs.declared.message.Message.{Message}
 use Rattle.session_model.specs.Tables.{Tables, Client, client_at, row_of, with_row, with_client}
 use Rattle.session_model.specs.Sound.{Rises}
-use Rattle.serial_rows.proofs.Serials.{serial_is}
-use Rattle.serial_rows.proofs.Matching.{with_match, row_there}
+use Rattle.windows_model.proofs.Serials.{serial_is}
+use Rattle.windows_model.proofs.Matching.{with_match, row_there}
 use Rattle.session_clients.specs.declared.client.Client.{Client as Row}
 use Rattle.session_clients.specs.Stands.{ClientStands, AreClients}
 use Rattle.session_clients.specs.Exchanges.{Exchanged}

@@ -7,7 +7,7 @@ use Rattle.session_model.specs.Tables as model
 use Rattle.session_model.specs.Tables.{Tables, client_at, with_client, row_of, with_row}
 use Rattle.session_model.specs.Deeds.{Deed, changing, hearing}
 use Rattle.session_model.specs.Answering.{told, says}
-use Rattle.serial_rows.proofs.Serials.{serial_is}
+use Rattle.windows_model.proofs.Serials.{serial_is}
 use Rattle.session_clients.specs.declared.client.Client.{Client}
 use Rattle.session_clients.specs.Stands.{AreClients, Changes}
 use Rattle.session_state.specs.declared.step_output.StepOutput.{StepOutput}

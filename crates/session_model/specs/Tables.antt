@@ -9,7 +9,7 @@ use Rattle.acl.specs.History as acl
 use Rattle.regions.specs.declared.shown.Shown.{Shown}
 use Rattle.regions.specs.Layouts.{Arrangement}
 use Rattle.terminal_model.specs.Shows.{View}
-pub use Rattle.serial_rows.specs.Finding.{row_of, with_row}
+pub use Rattle.windows_model.specs.Finding.{row_of, with_row}
 pub use Rattle.windows_model.specs.Table.{Window}
 use Rattle.session_model.specs.declared.message.Message.{Message}
 use Rattle.acl.specs.declared.edition.Edition.{Edition}

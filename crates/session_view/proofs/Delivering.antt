@@ -9,7 +9,7 @@ use Rattle.session_model.specs.Run.{deliveries, drawn_on}
 use Rattle.session_model.specs.Tables as model
 use Rattle.session_model.specs.Tables.{Tables, client_at, row_of, with_row}
 use Rattle.session_model.specs.Sound.{AreFit}
-use Rattle.serial_rows.proofs.Serials.{if_true, equal_number, serial_is, with_back}
+use Rattle.windows_model.proofs.Serials.{if_true, equal_number, serial_is, with_back}
 use Rattle.session_clients.specs.declared.client.Client.{Client}
 use Rattle.session_clients.specs.Stands.{AreClients}
 use Rattle.session_clients.specs.Draws.{ShowsAlready, Draw}
@@ -18,8 +18,8 @@ use Rattle.session_state.specs.declared.step_output.StepOutput.{StepOutput}
 use Rattle.session_state.specs.Stands.{Stands}
 use Rattle.redraw.specs.Shadow.{Knowledge, knowledge_of}
 use Rattle.redraw.specs.Frames.{Made}
-use Rattle.serial_rows.specs.Matched.{BothOrNone}
-use Rattle.serial_rows.proofs.Matching.{row_there, both_back}
+use Rattle.windows_model.specs.Matched.{BothOrNone}
+use Rattle.windows_model.proofs.Matching.{row_there, both_back}
 use Rattle.session_clients.specs.Stands.{ClientStands, Finds}
 use Rattle.session_clients.specs.Draws.{LeadsFrom}
 use Rattle.session_clients.proofs.Changing.{serials}

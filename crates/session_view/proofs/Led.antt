@@ -6,7 +6,7 @@ use Rattle.view.specs.View.{HasSize}
 use Rattle.session_model.specs.Tables as model
 use Rattle.session_model.specs.Tables.{Tables, client_at}
 use Rattle.session_model.specs.Granted.{granted_view}
-use Rattle.serial_rows.proofs.Matching.{row_there}
+use Rattle.windows_model.proofs.Matching.{row_there}
 use Rattle.session_clients.specs.Stands.{ClientStands}
 use Rattle.session_clients.specs.declared.client.Client.{Client}
 use Rattle.session_clients.specs.Draws.{LeadsFrom, FitsIn}

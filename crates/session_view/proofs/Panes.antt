@@ -17,9 +17,9 @@ use Rattle.session_model.specs.Tables.{Tables, window_at}
 use Rattle.session_model.specs.Rights.{may_in}
 use Rattle.session_model.specs.Terminals.{terminal_of}
 use Rattle.session_model.specs.Granted.{window_read, part_of_window, part_shown}
-use Rattle.serial_rows.specs.Matched.{Matched}
-use Rattle.serial_rows.proofs.Matching.{push_match, row_there, length_match}
-use Rattle.serial_rows.proofs.Serials.{serial_is, by_if, if_true, if_false}
+use Rattle.windows_model.specs.Matched.{Matched}
+use Rattle.windows_model.proofs.Matching.{push_match, row_there, length_match}
+use Rattle.windows_model.proofs.Serials.{serial_is, by_if, if_true, if_false}
 use Rattle.windows.specs.declared.window.Window.{Window}
 use Rattle.windows.specs.Standing.{WindowStands, StandFor}
 use Rattle.session_model.specs.Sound.{AreFit}

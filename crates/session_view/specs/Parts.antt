@@ -11,7 +11,7 @@ use Rattle.session_model.specs.Tables.{Tables}
 use Rattle.session_model.specs.Terminals.{terminal_of}
 use Rattle.terminal_model.specs.Scrollback.{moved_back}
 use Rattle.session_model.specs.Granted.{window_read, part_shown}
-use Rattle.serial_rows.specs.Matched.{Matched}
+use Rattle.windows_model.specs.Matched.{Matched}
 use Rattle.windows.specs.declared.window.Window.{Window}
 use Rattle.windows.specs.Standing.{WindowStands}
 use Rattle.windows.specs.Showing.{cells_of}

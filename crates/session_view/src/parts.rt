@@ -5,7 +5,7 @@ ghost use Rattle.acl.specs.declared.user_id.UserId.{UserId};
 ghost use Rattle.regions.specs.declared.shown.Shown.{Shown};
 ghost use Rattle.session_model.specs.Tables.{Tables};
 ghost use Rattle.session_model.specs.Granted.{part_shown};
-ghost use Rattle.serial_rows.specs.Matched.{Matched};
+ghost use Rattle.windows_model.specs.Matched.{Matched};
 ghost use Rattle.view.specs.Granted.{part_of};
 ghost use Rattle.session_view.specs.Parts.{IsPart, AreParts, ShowsPart};
 

@@ -2,3 +2,14 @@ pub mod EntriesComputed
 pub mod LockingComputed
 pub mod OpeningComputed
 pub mod Drawn
+pub mod PoliciesComputed
+pub mod TrapsComputed
+pub mod Knowing
+pub mod Shutting
+pub mod GuestsComputed
+pub mod HidingComputed
+pub mod WatchingComputed
+pub mod OperatorsComputed
+pub mod ConsolesComputed
+pub mod LateComersComputed
+pub mod LocksComputed

@@ -3,3 +3,13 @@ pub mod Entries
 pub mod Locking
 pub mod Opening
 pub mod Drawing
+pub mod Policies
+pub mod Traps
+pub mod Among
+pub mod Guests
+pub mod Hiding
+pub mod Watching
+pub mod Operators
+pub mod Consoles
+pub mod LateComers
+pub mod Locks

@@ -1,12 +1,24 @@
 //! Worked rows of a session, computed from its definitions: what four users get who type, change
-//! access lists, take locks and open windows. Each function here does nothing; its contract states
-//! the rows.
+//! access lists, take locks and open windows; what policies and traps do; and whom the laws of guests
+//! hold. Each function here does nothing; its contract states the rows.
 #![tactic(auto)]
 
 ghost use Rattle.session_worked.specs.Drawing as drawing;
 ghost use Rattle.session_worked.specs.Entries as entries;
 ghost use Rattle.session_worked.specs.Locking as locking;
 ghost use Rattle.session_worked.specs.Opening as opening;
+
+mod guests;
+mod policies;
+
+pub use guests::{
+    consoles, guests_and_others, hidden_output, late_guests, locks_that_stay, several_openers,
+    spectators,
+};
+pub use policies::{
+    class, late_comers, locks, openers, ops, presets, removed_users, roles, single_user_mode,
+    support,
+};
 
 /// Who may type and give commands: entries, leaders in both editions, masks and presets.
 pub fn rights_of_users()

@@ -2,3 +2,8 @@ pub mod Printing
 pub mod Reading
 pub mod Replied
 pub mod Told
+pub mod Headed
+pub mod Unbroken
+pub mod Coming
+pub mod Halted
+pub mod Cut

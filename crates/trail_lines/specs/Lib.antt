@@ -3,3 +3,9 @@ pub mod Events
 pub mod Entries
 pub mod Sayable
 pub mod Unreadable
+pub mod Heading
+pub mod Lines
+pub mod Times
+pub mod Reading
+pub mod Halting
+pub mod Files

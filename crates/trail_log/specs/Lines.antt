@@ -9,8 +9,8 @@ use Rattle.hub_trail.specs.declared.kept.Kept.{Kept}
 use Rattle.hub_trail.specs.declared.kept.Kept.TheVariants as kept
 use Rattle.hub_trail.specs.Legal.{failed, from_command}
 use Rattle.hub_trail.specs.Trails.{Ending}
-use Rattle.trail_audit.specs.declared.ending.Ended.{Ended}
-use Rattle.trail_audit.specs.Heading as heading
+use Rattle.trail_lines.specs.declared.ending.Ended.{Ended}
+use Rattle.trail_lines.specs.Heading as heading
 use Rattle.trail_log.specs.declared.titles.Titled.{Titled}
 use Rattle.trail_log.specs.Naming.{Names, title_in}
 use Rattle.trail_log.specs.Causes.{cause_text, check_cause, refused_verb}

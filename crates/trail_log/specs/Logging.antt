@@ -4,8 +4,8 @@ use Rattle.acl.specs.declared.edition.Edition.{Edition}
 use Rattle.acl.specs.declared.user_id.UserId.{UserId}
 use Rattle.hub_trail.specs.Trails.{Entry}
 use Rattle.trail_lines.specs.Entries.{Said, read_line}
-use Rattle.trail_audit.specs.declared.fault.Wrong.{Wrong}
-use Rattle.trail_audit.specs.Reading.{HasRead, IsWrong}
+use Rattle.trail_lines.specs.declared.fault.Wrong.{Wrong}
+use Rattle.trail_lines.specs.Reading.{HasRead, IsWrong}
 use Rattle.trail_log.specs.declared.choice.Choice.{Choice}
 use Rattle.trail_log.specs.declared.logging.Log.{Log}
 use Rattle.trail_log.specs.Joining.{next_held, next_ms, next_text}

@@ -6,7 +6,7 @@ ghost use Rattle.trail_log.specs.Checks.{window_of};
 
 use acl::{CommandName, Object};
 use command_lang::name_text;
-use hub_acts::asks_for_command;
+use hub_trail::asks_for_command;
 use session_model::Verdict;
 
 /// The checks before the first that asks for x on a command.

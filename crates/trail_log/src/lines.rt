@@ -4,7 +4,7 @@ ghost use Rattle.std.specs.Prelude.{◌≡◌, ◌++◌, ◌<◌, ◌∷◌, [],
 ghost use Rattle.trail_log.specs.Lines.{clock_text, end_line, end_text, two};
 
 use std::alloc::AllocError;
-use trail_audit::Ended;
+use trail_lines::Ended;
 
 /// Appends bytes.
 pub fn push_text(text: &[u8], out: &mut Vec<u8>) -> Result<(), AllocError>

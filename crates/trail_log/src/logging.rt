@@ -13,7 +13,7 @@ use crate::log_line::LogLine;
 use crate::names::Names;
 use acl::{Edition, UserId};
 use std::alloc::{AllocError, Global};
-use trail_audit::{Audit, Wrong};
+use trail_lines::{Audit, Wrong};
 
 /// Reads the lines of entries, judges the entries, and prints them for people. The last line is held
 /// until the next one comes, since typed bytes are joined.

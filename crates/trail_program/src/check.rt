@@ -2,8 +2,7 @@
 
 use std::alloc::{AllocError, Global};
 use std::io::{self, BufRead};
-use trail_audit::{Audit, Came, Ended, Halt, Wrong, next_line, read_end, read_entries};
-use trail_lines::Unread;
+use trail_lines::{Audit, Came, Ended, Halt, Unread, Wrong, next_line, read_end, read_entries};
 
 /// How a file ends.
 #[derive(Clone, Copy)]

@@ -4,8 +4,7 @@ use crate::fault::Fault;
 use acl::{Edition, UserId};
 use std::alloc::{AllocError, Global};
 use std::io::{self, BufRead};
-use trail_audit::{Came, next_line, read_header};
-use trail_lines::Unread;
+use trail_lines::{Came, Unread, next_line, read_header};
 
 /// What the first line of a file says of its trail.
 #[derive(Clone, Copy)]

@@ -6,7 +6,7 @@ use crate::heading::heading_of;
 use acl::{Edition, Leaders, UserId};
 use std::alloc::Global;
 use std::io::{self, BufRead, BufReader, Read};
-use trail_audit::Audit;
+use trail_lines::Audit;
 use trail_confined::{Question, power_deciders};
 use trail_rights::{Decider, Settler, Sight, Watch, settings_of, watch_entries};
 

@@ -15,8 +15,8 @@ use std::fs;
 use std::io::{self, BufRead, BufReader, Read, Write};
 use std::rt::Files;
 use std::time::Clock;
-use trail_audit::Audit;
-use trail_show::{Form, show_lines};
+use trail_lines::Audit;
+use trail_rights::{Form, show_lines};
 
 /// Judges the entries of a reader.
 fn judge<R: BufRead, W: Write>(

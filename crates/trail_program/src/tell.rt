@@ -6,7 +6,7 @@ use acl::UserId;
 use std::alloc::AllocError;
 use std::io::{self, Write};
 use std::str;
-use trail_audit::{Ended, Wrong};
+use trail_lines::{Ended, Wrong};
 use trail_rights::{When, text_of};
 
 /// The file is legal and whole.

@@ -4,12 +4,12 @@ use Rattle.std.specs.Prelude.{Result, Ok, Err, Option, Some}
 use Rattle.acl.specs.declared.edition.Edition.{Edition}
 use Rattle.acl.specs.declared.user_id.UserId.{UserId}
 use Rattle.trail_lines.specs.Entries.{Said, read_line}
-use Rattle.trail_audit.specs.declared.fault.Wrong.{Wrong}
-use Rattle.trail_audit.specs.declared.halt.Halt.{Halt}
-use Rattle.trail_audit.specs.declared.halt.Halt.TheVariants as halt
-use Rattle.trail_audit.specs.Lines.{OfKnown}
-use Rattle.trail_audit.specs.Reading.{HasRead, IsWrong}
-use Rattle.trail_audit.specs.Halting.{AreRead, IsReadTo}
+use Rattle.trail_lines.specs.declared.fault.Wrong.{Wrong}
+use Rattle.trail_lines.specs.declared.halt.Halt.{Halt}
+use Rattle.trail_lines.specs.declared.halt.Halt.TheVariants as halt
+use Rattle.trail_lines.specs.Lines.{OfKnown}
+use Rattle.trail_lines.specs.Reading.{HasRead, IsWrong}
+use Rattle.trail_lines.specs.Halting.{AreRead, IsReadTo}
 use Rattle.trail_rights.specs.declared.watch.Watch.{Watch}
 use Rattle.trail_rights.specs.Marks.{marked_after, entries_in}
 use Rattle.trail_rights.specs.Seeing.{HasSeen}

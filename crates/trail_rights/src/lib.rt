@@ -1,12 +1,16 @@
-//! Who may do what after the entries of a trail's file, which acts decide it, and how `who` is told.
+//! Who may do what after the entries of a trail's file, which acts decide it, and how `who` and
+//! `show` tell it.
 #![tactic(auto)]
 
 mod decider;
+mod json;
 mod laws;
+mod lines;
 mod mark;
 mod masks;
 mod rights;
 mod settler;
+mod shown_texts;
 mod sight;
 mod texts;
 mod watch;
@@ -14,6 +18,7 @@ mod who;
 
 pub use decider::{Decider, found_in};
 pub use laws::{latest_decides, latest_settles, open_are_listed};
+pub use lines::{Form, show_lines};
 pub use mark::Mark;
 pub use masks::{letter, settings_of};
 pub use rights::{holder, may, users_of};

@@ -4,14 +4,14 @@ ghost use Rattle.std.specs.Prelude.{◌≡◌, List, [], IfOk};
 ghost use Rattle.acl.specs.declared.edition.Edition.{Edition};
 ghost use Rattle.acl.specs.declared.user_id.UserId.{UserId};
 ghost use Rattle.trail_lines.specs.Entries.{Said};
-ghost use Rattle.trail_audit.specs.Reading.{HasRead};
+ghost use Rattle.trail_lines.specs.Reading.{HasRead};
 ghost use Rattle.trail_rights.specs.Seeing.{HasSeen, sought};
 ghost use Rattle.trail_rights.specs.Watching.{HasWatched, IsWatched, TellsNext};
 
 use crate::sight::Sight;
 use std::alloc::AllocError;
 use std::io::{self, BufRead};
-use trail_audit::{Audit, Halt, Wrong, next_entry};
+use trail_lines::{Audit, Halt, Wrong, next_entry};
 
 /// Reads the lines of entries, judges the entries, and sees their acts.
 #[derive(Drop)]

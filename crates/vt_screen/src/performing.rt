@@ -3,15 +3,15 @@
 ghost use Rattle.std.specs.Prelude.{◌≡◌, ◌≤◌, [], None, false, length, IfSome, IsTrue};
 ghost use Rattle.terminal_model.specs.Functions.{alone, control_action, each, sequence_actions};
 ghost use Rattle.terminal_model.specs.Reports.{all_answered};
-ghost use Rattle.vt_screen_actions.specs.Acting.{actions_in};
-ghost use Rattle.vt_screen_actions.specs.Counted.{AreCounted, IsCounted};
-ghost use Rattle.vt_screen_actions.specs.Meanings.{meaning};
-ghost use Rattle.vt_screen_actions.specs.Silent.{IsSilent};
+ghost use Rattle.vt_screen_state.specs.Acting.{actions_in};
+ghost use Rattle.vt_screen_state.specs.Counted.{AreCounted, IsCounted};
+ghost use Rattle.vt_screen_state.specs.Meanings.{meaning};
+ghost use Rattle.vt_screen_state.specs.Silent.{IsSilent};
 ghost use Rattle.vt_screen_rows.specs.Acting.{ActsByAll, AreUnanswered, MovesLinesByAll};
 ghost use Rattle.vt_screen_rows.specs.Displays.{IsFit, screen_of};
 
 use terminal_model::{Action, Report};
-use vt_screen_actions::{Acts, Setting, control_action, sequence_acts};
+use vt_screen_state::{Acts, Setting, control_action, sequence_acts};
 use vt_screen_rows::Display;
 
 /// Performs the actions of a control function, in turn, and returns the answer.

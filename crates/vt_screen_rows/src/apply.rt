@@ -5,7 +5,7 @@ ghost use Rattle.terminal_model.specs.Table.{acted};
 ghost use Rattle.terminal_model.specs.Reports.{answer};
 ghost use Rattle.vt_screen_rows.specs.Acting.{MovesLinesBy};
 ghost use Rattle.vt_screen_rows.specs.Displays.{IsFit, screen_of};
-ghost use Rattle.vt_screen_actions.specs.Counted.{IsCounted};
+ghost use Rattle.vt_screen_state.specs.Counted.{IsCounted};
 
 use crate::display::Display;
 use terminal_model::{Action, Report};

@@ -1,1 +1,5 @@
 pub mod Fitted
+pub mod Meanings
+pub mod Acting
+pub mod Counted
+pub mod Silent

@@ -1,10 +1,12 @@
 //! `vtcat --rows N --cols N [--keep N]`: prints the page of a VT220 that has read standard input.
 #![tactic(auto)]
 
+mod cat;
+
+use crate::cat::cat;
 use program_words::{given, not_given};
 use std::io;
 use std::process::ExitCode;
-use vtcat_core::cat;
 
 fn main(rt: HostRuntime) -> ExitCode {
     let words = match given(&rt, "vtcat") {

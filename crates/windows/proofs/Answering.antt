@@ -6,12 +6,12 @@ use Rattle.std.specs.Option.{option_copied_mut}
 use Rattle.windows_model.specs.declared.windows_fault.WindowsFault.{WindowsFault}
 use Rattle.windows_model.specs.declared.windows_fault.WindowsFault.TheVariants.{NoSuchWindow, NumberTaken, NoMemory}
 use Rattle.windows_model.specs.Table as model
-use Rattle.serial_rows.specs.Finding.{row_of, with_row}
+use Rattle.windows_model.specs.Finding.{row_of, with_row}
 use Rattle.windows_model.specs.Naming.{is_title}
 use Rattle.terminal_model.specs.Writing.{Output}
-use Rattle.serial_rows.proofs.Serials.{if_true, if_false, with_back, serial_is}
-use Rattle.serial_rows.proofs.Matching.{none_back, rows_match, with_match, row_back, row_there, without_match}
-use Rattle.serial_rows.proofs.Matching.{push_match}
+use Rattle.windows_model.proofs.Serials.{if_true, if_false, with_back, serial_is}
+use Rattle.windows_model.proofs.Matching.{none_back, rows_match, with_match, row_back, row_there, without_match}
+use Rattle.windows_model.proofs.Matching.{push_match}
 use Rattle.windows.specs.declared.window.Window.{Window}
 use Rattle.windows.specs.Among.{taken_by_other}
 use Rattle.windows.specs.Asking.{AnswersReports}

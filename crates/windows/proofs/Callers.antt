@@ -3,7 +3,7 @@ use Rattle.std.proofs.Common.{◌≡◌, ℕ, List, Some, Ok, Err, refl, ap, sym
 use Rattle.std.specs.Prelude.{Result}
 use Rattle.windows_model.specs.declared.windows_fault.WindowsFault.{WindowsFault}
 use Rattle.windows_model.specs.Table as model
-use Rattle.serial_rows.specs.Finding.{with_row}
+use Rattle.windows_model.specs.Finding.{with_row}
 use Rattle.windows.specs.declared.window.Window.{Window}
 use Rattle.windows.specs.Standing.{StandFor, Answered, Change, serial, at_serial, in_place, in_row, changed}
 

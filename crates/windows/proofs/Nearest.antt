@@ -12,9 +12,9 @@ use Rattle.windows_model.specs.Table as model
 use Rattle.windows_model.specs.Naming as naming
 use Rattle.windows_model.specs.Naming.{lower, higher, lowest, highest, with_number, window_after, window_before}
 use Rattle.windows_model.specs.Naming.{free_number}
-use Rattle.serial_rows.specs.Matched.{BothOrNone}
-use Rattle.serial_rows.proofs.Serials.{if_true, if_false}
-use Rattle.serial_rows.proofs.Matching.{filter_match, find_match}
+use Rattle.windows_model.specs.Matched.{BothOrNone}
+use Rattle.windows_model.proofs.Serials.{if_true, if_false}
+use Rattle.windows_model.proofs.Matching.{filter_match, find_match}
 use Rattle.windows.specs.declared.window.Window.{Window}
 use Rattle.windows.specs.declared.among.Among.{Among}
 use Rattle.windows.specs.declared.among.Among.TheVariants.{All, Above, Below, Titled}

@@ -9,8 +9,8 @@ use Rattle.std.proofs.lemmas.List.{get_or-map, length-map}
 use Rattle.std.proofs.lemmas.List.Kept.{AllPairs-filter}
 use Rattle.std.proofs.lemmas.List.Quantifiers.{all_pairs_push}
 use Rattle.windows_model.specs.declared.limits.TheConstants.{WINDOWS}
-use Rattle.serial_rows.specs.Finding.{row_of, with_row}
-use Rattle.serial_rows.proofs.Serials.{serials_stay, serial_is, with_other, is_equal, equal_number}
+use Rattle.windows_model.specs.Finding.{row_of, with_row}
+use Rattle.windows_model.proofs.Serials.{serials_stay, serial_is, with_other, is_equal, equal_number}
 use Rattle.windows.specs.declared.window.Window.{Window}
 use Rattle.windows.specs.Among.{is_above, has_number, taken_by_other, first_free}
 use Rattle.windows.specs.Rows.{serial_of, number_of, AreRows, KeepsName, ChangesRow, WritesRow, LosesRow}

@@ -14,7 +14,7 @@ use Rattle.windows_model.specs.Table as model
 use Rattle.windows_model.specs.Terminals.{terminal_of}
 use Rattle.windows_model.specs.Naming.{is_title}
 use Rattle.windows_model.specs.declared.windows_fault.WindowsFault.TheVariants.{BadTitle}
-use Rattle.serial_rows.proofs.Serials.{if_true, if_false}
+use Rattle.windows_model.proofs.Serials.{if_true, if_false}
 use Rattle.windows.specs.declared.window.Window.{Window}
 use Rattle.windows.specs.Standing.{WindowStands, written_to, retitled, new_row}
 use Rattle.windows.specs.Writing.{HasFed}

@@ -6,7 +6,7 @@ use Rattle.windows_model.specs.Table as model
 use Rattle.windows_model.specs.declared.windows_fault.WindowsFault.{WindowsFault}
 use Rattle.windows_model.specs.Naming.{window_after, window_before, free_number}
 use Rattle.windows_model.specs.Terminals.{terminal_of}
-use Rattle.serial_rows.specs.Matched.{BothOrNone}
+use Rattle.windows_model.specs.Matched.{BothOrNone}
 use Rattle.windows.specs.declared.window.Window.{Window}
 use Rattle.windows.specs.Standing.{WindowStands, StandFor, AnswersIfRoom, at_serial, number_for, opened}
 

@@ -2,7 +2,7 @@
 use Rattle.std.specs.Prelude.{ℕ, ◌≡◌, ◌≢◌, ◌<◌, ◌==◌, not, ◌++◌, ◌∷◌, [], List, AllPairs, map}
 use Rattle.std.specs.Prelude.{filter}
 use Rattle.windows_model.specs.declared.limits.TheConstants.{WINDOWS}
-use Rattle.serial_rows.specs.Finding.{row_of}
+use Rattle.windows_model.specs.Finding.{row_of}
 use Rattle.windows.specs.declared.window.Window.{Window}
 
 abbrev pub serial_of : Window → ℕ

@@ -12,10 +12,10 @@ use Rattle.windows_model.specs.declared.windows_fault.WindowsFault.{WindowsFault
 use Rattle.windows_model.specs.declared.windows_fault.WindowsFault.TheVariants.{Full, NoSuchWindow}
 use Rattle.windows_model.specs.declared.windows_fault.WindowsFault.TheVariants.{NumberTaken, BadTitle, NoMemory}
 use Rattle.windows_model.specs.Table as model
-use Rattle.serial_rows.specs.Finding.{row_of, with_row}
+use Rattle.windows_model.specs.Finding.{row_of, with_row}
 use Rattle.windows_model.specs.Naming.{with_number, free_number, is_title}
 use Rattle.windows_model.specs.Terminals.{terminal_of}
-use Rattle.serial_rows.specs.Matched.{Matched, BothOrNone}
+use Rattle.windows_model.specs.Matched.{Matched, BothOrNone}
 use Rattle.windows.specs.declared.window.Window.{Window}
 
 -- the window has the serial, number and title of its definition, and a terminal that has read

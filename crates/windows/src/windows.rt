@@ -9,10 +9,9 @@ use crate::numbers::{first_free, is_above, is_taken, numbered, numbered_by};
 use crate::titles::is_title;
 use crate::window::{Window, WindowSize};
 use charsets::Coding;
-use serial_rows::Rows;
+use windows_model::{Rows, WindowsFault};
 use std::alloc::Global;
 use std::marker::Model;
-use windows_model::WindowsFault;
 
 /// The open windows, in the order of rising serials. No two of them have the same number.
 pub struct Windows {
@@ -40,7 +39,7 @@ impl Model for Windows {
 
 impl Windows {
     ghost use Rattle.windows_model.specs.Table as model;
-    ghost use Rattle.serial_rows.specs.Finding.{row_of};
+    ghost use Rattle.windows_model.specs.Finding.{row_of};
     ghost use Rattle.windows_model.specs.Naming.{with_number, window_named, lowest, free_number};
     ghost use Rattle.windows.specs.declared.window.Window.{Window};
     ghost use Rattle.windows.specs.Standing.{StandFor, Finds, Answers, AnswersIfRoom, at_serial};

@@ -1,10 +1,12 @@
 //! The definition of a table of windows: what a window has, how it is named, and what its terminal
-//! has read. The definitions are in `specs/`; this crate holds the plain types that code and
-//! definitions share.
+//! has read. Also rows in the order of rising serial numbers, which the tables of windows and of
+//! clients have in common.
 #![tactic(auto)]
 
 mod limits;
+mod rows;
 mod windows_fault;
 
 pub use limits::WINDOWS;
+pub use rows::{Rows, Serial};
 pub use windows_fault::WindowsFault;

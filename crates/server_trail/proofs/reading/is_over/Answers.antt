@@ -1,6 +1,6 @@
 use Rattle.std.proofs.Common.{subst}
-use Rattle.trail_audit.specs.declared.lines.Came.{Came}
-use Rattle.trail_audit.specs.Lines.{ComesAs, OfKnown}
+use Rattle.trail_lines.specs.declared.lines.Came.{Came}
+use Rattle.trail_lines.specs.Lines.{ComesAs, OfKnown}
 use Rattle.server_trail.proofs.Files.{over}
 use Rattle.server_trail.proofs.reading.is_over.Goals as goal
 

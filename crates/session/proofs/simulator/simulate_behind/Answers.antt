@@ -6,7 +6,7 @@ use Rattle.clap.specs.Words.{Text, found_of, rows_of, matches_of, first_of, one_
 use Rattle.clap.proofs.WalkLemmas.{one_text-rows}
 use Rattle.acl.specs.declared.edition.Edition.{Edition}
 use Rattle.acl.specs.declared.user_id.UserId.{UserId}
-use Rattle.setup_lines.specs.Lines.{line_of, commands_in}
+use Rattle.program_words.specs.SetupLines.{line_of, commands_in}
 use Rattle.session.specs.Words.{muxsim, edition_text, flag_text, Simulates}
 use Rattle.session.proofs.Parts.{plays_behind}
 use Rattle.session.proofs.simulator.simulate_behind.Goals as goal

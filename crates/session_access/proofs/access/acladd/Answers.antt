@@ -6,7 +6,7 @@ use Rattle.session_model.specs.Tables.{known_users}
 use Rattle.session_model.specs.Naming.{names_of, every_window, every_command}
 use Rattle.session_model.specs.Rights.{add_acts_in}
 use Rattle.session_model.specs.Deeds.{changes}
-use Rattle.serial_rows.proofs.Serials.{on_ok}
+use Rattle.windows_model.proofs.Serials.{on_ok}
 use Rattle.session_access.proofs.There.{all_there}
 use Rattle.session_access.proofs.Doing.{acted, says_nothing, change_done, change_refused}
 use Rattle.session_access.proofs.access.acladd.Goals as goal

@@ -6,7 +6,7 @@ use Rattle.session_model.specs.Tables.{known_users}
 use Rattle.session_model.specs.Naming.{names_of, objects_of}
 use Rattle.session_model.specs.Commands.{changing_bits}
 use Rattle.session_model.specs.Deeds.{acting, changes}
-use Rattle.serial_rows.proofs.Serials.{on_ok}
+use Rattle.windows_model.proofs.Serials.{on_ok}
 use Rattle.session_access.proofs.There.{objects_there}
 use Rattle.session_access.proofs.Naming.{nothing_named}
 use Rattle.session_access.proofs.Doing.{acted, says_nothing, change_done, change_refused, change_without}

@@ -7,7 +7,7 @@ use Rattle.session_model.specs.declared.refusal.Refusal.TheVariants.{Acl}
 use Rattle.session_model.specs.Naming.{new_leader_of}
 use Rattle.session_model.specs.Rights.{group_fault_in}
 use Rattle.session_model.specs.Deeds.{Answer, acting, unless}
-use Rattle.serial_rows.proofs.Serials.{on_ok}
+use Rattle.windows_model.proofs.Serials.{on_ok}
 use Rattle.session_access.proofs.Doing.{acted, says_nothing, unless_none, unless_some}
 use Rattle.session_access.proofs.access.aclgrp.Goals as goal
 

@@ -4,7 +4,7 @@ use Rattle.session_model.specs.declared.event.Reason.TheVariants as reason
 use Rattle.session_model.specs.declared.refusal.Refusal.TheVariants.{NoWindow}
 use Rattle.session_model.specs.Tables.{client_at}
 use Rattle.session_model.specs.Deeds.{parts}
-use Rattle.serial_rows.proofs.Matching.{both_back, none_back}
+use Rattle.windows_model.proofs.Matching.{both_back, none_back}
 use Rattle.session_clients.specs.Stands.{ClientStands}
 use Rattle.session_access.proofs.Answering.{given_some, given_none}
 use Rattle.session_access.proofs.leaving.detach_client.Goals as goal

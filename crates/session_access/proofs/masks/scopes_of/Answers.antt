@@ -1,7 +1,7 @@
 use Rattle.std.proofs.Common.{◌∙◌, ap, sym, map, List, Option, option_copied}
 use Rattle.acl.specs.declared.user_id.UserId.{UserId}
 use Rattle.acl.specs.declared.entries.MaskScope.TheVariants.{User}
-use Rattle.serial_rows.proofs.Serials.{if_ok}
+use Rattle.windows_model.proofs.Serials.{if_ok}
 use Rattle.session_access.proofs.Naming.{other_scopes}
 use Rattle.session_access.proofs.masks.scopes_of.Goals as goal
 

@@ -10,7 +10,7 @@ use Rattle.session_model.specs.Tables.{row_of}
 use Rattle.session_clients.specs.declared.client.Client.{Client}
 use Rattle.session_clients.proofs.Changing.{serial_of}
 use Rattle.session_clients.proofs.Keeping.{still_roomy}
-use Rattle.serial_rows.proofs.Serials.{equal_number, other_number}
+use Rattle.windows_model.proofs.Serials.{equal_number, other_number}
 use Rattle.session_commands.proofs.Answering.{done_on, on_giver, refused, not_refused}
 use Rattle.session_commands.proofs.Arranging.{found_arranged}
 use Rattle.session_commands.proofs.Paging.{giver_there, row_stands, row_there, done_entering}

@@ -1,7 +1,7 @@
 use Rattle.std.proofs.Common.{◌≡◌, ◌∙◌, ◌+◌, ℕ, List, ap, Bool, refl, sym, subst, map, arith, Some, None}
 use Rattle.session_model.specs.Naming.{with_number}
 use Rattle.session_model.specs.Texts.{window_item}
-use Rattle.serial_rows.proofs.Matching.{both_back, none_back}
+use Rattle.windows_model.proofs.Matching.{both_back, none_back}
 use Rattle.session_commands.specs.Orders.{numbered}
 use Rattle.windows.specs.Standing.{WindowStands}
 use Rattle.session_commands.specs.Growing.{IsList}

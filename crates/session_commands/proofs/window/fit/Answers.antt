@@ -2,7 +2,7 @@ use Rattle.std.proofs.Common.{ap, sym, true, false, ◌≡◌, inl, inr, ◌-◌
 use Rattle.std.specs.Prelude.{option_copied, is_ok}
 use Rattle.std.proofs.lemmas.Result.{err_from_is_err_and}
 use Rattle.session_model.specs.declared.event.Effect.TheVariants.{Size}
-use Rattle.serial_rows.proofs.Serials.{if_true}
+use Rattle.windows_model.proofs.Serials.{if_true}
 use Rattle.session_commands.proofs.Paging.{giver_there, row_stands, row_there}
 use Rattle.session_commands.proofs.Sizes.{window_there, too_small, good, for_memory, fits_there}
 use Rattle.session_commands.proofs.window.fit.Goals as goal

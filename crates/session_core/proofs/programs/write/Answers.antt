@@ -5,7 +5,7 @@ use Rattle.session_model.specs.Tables.{Window, window_at}
 use Rattle.session_model.specs.Events.{outcome}
 use Rattle.session_model.specs.Outcomes.{done, finished}
 use Rattle.session_model.specs.Comings.{outputs}
-use Rattle.serial_rows.proofs.Matching.{both_back}
+use Rattle.windows_model.proofs.Matching.{both_back}
 use Rattle.windows.specs.Standing.{WindowStands, at_serial}
 use Rattle.session_state.specs.declared.step_output.StepOutput.{StepOutput}
 use Rattle.session_laws.proofs.Leaving.{none_left}

@@ -2,8 +2,8 @@ use Rattle.std.proofs.Common.{ℕ, List, ap, sym, subst, ◌∙◌}
 use Rattle.std.specs.Prelude.{option_copied}
 use Rattle.keys.specs.Kept.{Keeping, StandsFor}
 use Rattle.session_model.specs.Tables.{Client, client_at}
-use Rattle.serial_rows.proofs.Serials.{serial_is}
-use Rattle.serial_rows.proofs.Matching.{both_back}
+use Rattle.windows_model.proofs.Serials.{serial_is}
+use Rattle.windows_model.proofs.Matching.{both_back}
 use Rattle.session_clients.specs.Stands.{ClientStands}
 use Rattle.session_input.specs.Reads.{read_of}
 use Rattle.session_input.proofs.Putting.{serial}

@@ -8,7 +8,7 @@ use Rattle.session_model.specs.declared.refusal.Refusal.{Refusal}
 use Rattle.session_model.specs.declared.refusal.Refusal.TheVariants.{Line}
 use Rattle.session_model.specs.Answering.{says}
 use Rattle.session_model.specs.Texts.{text_of}
-use Rattle.serial_rows.proofs.Serials.{on_ok}
+use Rattle.windows_model.proofs.Serials.{on_ok}
 use Rattle.session_state.specs.Doing.{HasDone}
 use Rattle.session_input.specs.Obeying.{Obeys}
 use Rattle.session_input.proofs.Ordered.{kept_on}

@@ -3,7 +3,7 @@ use Rattle.std.specs.Prelude.{vec_len, vec_capacity}
 use Rattle.std.specs.Option.{is_some}
 use Rattle.session_model.specs.declared.message.Message.{Message}
 use Rattle.session_model.specs.Commands.{ruling}
-use Rattle.serial_rows.proofs.Serials.{on_ok, on_error}
+use Rattle.windows_model.proofs.Serials.{on_ok, on_error}
 use Rattle.session_state.specs.declared.caller.Caller.{Caller}
 use Rattle.session_state.specs.declared.state.State.{State}
 use Rattle.session_state.specs.Stands.{Stands}

@@ -2,7 +2,7 @@ use Rattle.std.proofs.Common.{◌≡◌, ◌∙◌, ◌++◌, ◌∷◌, [], Lis
 use Rattle.std.specs.Prelude.{is_ok}
 use Rattle.session_model.specs.declared.event.Effect.{Effect}
 use Rattle.session_model.specs.declared.event.Effect.TheVariants.{Deliver}
-use Rattle.serial_rows.proofs.Serials.{if_true}
+use Rattle.windows_model.proofs.Serials.{if_true}
 use Rattle.redraw.specs.Frames.{Made}
 use Rattle.session_view.proofs.Delivering.{frame_drawn, leads_from}
 use Rattle.session_view.proofs.drawing.deliver.Goals as goal

@@ -4,7 +4,7 @@ use Rattle.regions.specs.declared.shown.Shown.{Shown}
 use Rattle.view.specs.Granted.{part_of}
 use Rattle.session_model.specs.Tables.{Tables}
 use Rattle.session_model.specs.Granted.{part_shown}
-use Rattle.serial_rows.specs.Matched.{Matched}
+use Rattle.windows_model.specs.Matched.{Matched}
 use Rattle.session_view.specs.Parts.{ShowsPart}
 use Rattle.session_view.proofs.parts.panes.Given as goal
 

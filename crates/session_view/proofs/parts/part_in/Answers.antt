@@ -1,7 +1,7 @@
 use Rattle.std.proofs.Common.{ℕ, Some, refl, sym, ap, ◌∙◌}
 use Rattle.terminal_model.specs.Screen.{Screen}
 use Rattle.view.specs.Granted as view
-use Rattle.serial_rows.proofs.Matching.{both_back}
+use Rattle.windows_model.proofs.Matching.{both_back}
 use Rattle.session_model.specs.Tables.{window_at}
 use Rattle.terminal_model.specs.Scrollback.{moved_back}
 use Rattle.windows.specs.Standing.{WindowStands}

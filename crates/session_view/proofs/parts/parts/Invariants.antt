@@ -1,6 +1,6 @@
 use Rattle.std.proofs.Common.{◌≡◌, length, take}
 use Rattle.session_model.specs.Tables.{Tables}
-use Rattle.serial_rows.specs.Matched.{Matched}
+use Rattle.windows_model.specs.Matched.{Matched}
 use Rattle.session_state.specs.Stands.{Stands}
 use Rattle.session_model.specs.Sound.{AreFit}
 use Rattle.session_view.specs.Parts.{ShowsPart}

@@ -1,6 +1,6 @@
 use Rattle.std.proofs.Common.{◌≡◌, Some, refl, subst}
 use Rattle.session_model.specs.Tables.{client_at}
-use Rattle.serial_rows.proofs.Matching.{both_back}
+use Rattle.windows_model.proofs.Matching.{both_back}
 use Rattle.session_clients.specs.Stands.{ClientStands}
 use Rattle.session_view.specs.Sameness.{AreKnownAlike}
 use Rattle.session_view.proofs.Alike.{see_alike}

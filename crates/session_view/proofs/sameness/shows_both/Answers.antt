@@ -1,5 +1,5 @@
 use Rattle.std.proofs.Common.{◌∙◌, Some, refl}
-use Rattle.serial_rows.proofs.Matching.{both_back}
+use Rattle.windows_model.proofs.Matching.{both_back}
 use Rattle.session_model.specs.Tables.{window_at}
 use Rattle.windows.specs.Standing.{WindowStands}
 use Rattle.session_view.proofs.Panes.{there_by_acts}

@@ -2,7 +2,7 @@ use Rattle.std.proofs.Common.{◌≡◌, ◌∙◌, ap, sym, subst, not, []}
 use Rattle.std.specs.Prelude.{IfOk, IfSome, filter, is_some}
 use Rattle.std.specs.List.{AllByRecursion, list_all}
 use Rattle.hub_check.specs.Following.{StandsAfter}
-use Rattle.trail_audit.specs.Reading.{HasRead}
+use Rattle.trail_lines.specs.Reading.{HasRead}
 use Rattle.trail_confined.specs.Confining.{holds, is_asked}
 use Rattle.trail_rights.specs.Marks.{acts_in, entries_in, marked_after}
 use Rattle.trail_rights.specs.Settling.{HasSettled}

@@ -1,7 +1,7 @@
 use Rattle.std.proofs.Common.{◌≡◌, ◌∙◌, ◌++◌, ap, append_assoc, ℕ, List, Result, Ok, Err}
 use Rattle.std.specs.Prelude.{OnOk, codes, if◌then◌else◌}
 use Rattle.std.specs.Result.{is_ok}
-use Rattle.trail_audit.specs.Heading.{cause_text}
+use Rattle.trail_lines.specs.Heading.{cause_text}
 use Rattle.trail_log.proofs.lines.push_why.Goals as goal
 
 -- what a list is where something was appended

@@ -4,12 +4,12 @@ use Rattle.std.specs.Prelude.{IfSome}
 use Rattle.acl.specs.declared.edition.Edition.{Edition}
 use Rattle.acl.specs.declared.user_id.UserId.{UserId}
 use Rattle.trail_lines.specs.Entries.{Said, read_line}
-use Rattle.trail_audit.specs.declared.halt.Halt.{Halt}
-use Rattle.trail_audit.specs.declared.halt.Halt.TheVariants as halt
-use Rattle.trail_audit.specs.Lines.{OfKnown}
-use Rattle.trail_audit.specs.Reading.{IsWrong}
-use Rattle.trail_audit.specs.Halting.{IsEnd, AreRead, IsReadTo, NextIs}
-use Rattle.trail_audit.proofs.Halted.{count_in, count_more, read_more, read_none, read_to, stops_at}
+use Rattle.trail_lines.specs.declared.halt.Halt.{Halt}
+use Rattle.trail_lines.specs.declared.halt.Halt.TheVariants as halt
+use Rattle.trail_lines.specs.Lines.{OfKnown}
+use Rattle.trail_lines.specs.Reading.{IsWrong}
+use Rattle.trail_lines.specs.Halting.{IsEnd, AreRead, IsReadTo, NextIs}
+use Rattle.trail_lines.proofs.Halted.{count_in, count_more, read_more, read_none, read_to, stops_at}
 use Rattle.trail_rights.specs.declared.watch.Watch.{Watch}
 use Rattle.trail_rights.specs.Marks.{entries_in}
 use Rattle.trail_rights.specs.Watching.{HasWatched, IsWatchedTo, TellsAll}

@@ -2,8 +2,8 @@ use Rattle.std.proofs.Common.{◌≡◌, ◌+◌, ◌≤◌, [], List, length}
 use Rattle.acl.specs.declared.edition.Edition.{Edition}
 use Rattle.acl.specs.declared.user_id.UserId.{UserId}
 use Rattle.trail_lines.specs.Entries.{Said}
-use Rattle.trail_audit.specs.Lines.{OfKnown}
-use Rattle.trail_audit.specs.Halting.{AreRead}
+use Rattle.trail_lines.specs.Lines.{OfKnown}
+use Rattle.trail_lines.specs.Halting.{AreRead}
 use Rattle.trail_rights.specs.Seeing.{sought}
 use Rattle.trail_rights.specs.Watching.{HasWatched}
 use Rattle.trail_rights.proofs.watch.watch_entries.Given as goal

@@ -2,7 +2,7 @@ use Rattle.std.proofs.Common.{◌≡◌, drop}
 use Rattle.terminal_model.specs.Functions.{each}
 use Rattle.terminal_model.specs.Reports.{all_answered}
 use Rattle.terminal_model.specs.Table.{all_acted}
-use Rattle.vt_screen_actions.specs.Meanings.{meaning}
+use Rattle.vt_screen_state.specs.Meanings.{meaning}
 use Rattle.vt_screen_rows.specs.Displays.{IsFit, screen_of}
 use Rattle.vt_screen_rows.specs.Places.{all_acted_places}
 use Rattle.vt_screen.proofs.performing.set_each.Given as goal

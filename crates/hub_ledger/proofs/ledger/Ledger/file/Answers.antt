@@ -8,7 +8,7 @@ use Rattle.hub_trail.specs.Filing.{kept_of}
 use Rattle.hub_ledger.specs.States.{State, state_of}
 use Rattle.hub_ledger.specs.Seats.{Answers, Sitting, StandsLast, Told}
 use Rattle.hub_ledger.proofs.Filing.{answered, begins_stay, handed, one_more, seats_stay, stands_last}
-use Rattle.hub_seats.proofs.Rising.{rise_pushed}
+use Rattle.hub_ledger.proofs.Rising.{rise_pushed}
 use Rattle.hub_ledger.proofs.ledger.Ledger.file.Goals as goal
 
 pub copied-entry-requires : goal.copied-entry-requires

@@ -3,7 +3,7 @@ use Rattle.std.specs.Prelude.{◌↔◌}
 use Rattle.hub_record.specs.Receipts.{Receipt}
 use Rattle.hub_ledger.specs.Seats.{Sitting}
 use Rattle.hub_ledger.specs.Closing.{AreOf, before, times}
-use Rattle.hub_seats.proofs.Rising.{before_le}
+use Rattle.hub_ledger.proofs.Rising.{before_le}
 use Rattle.hub_ledger.proofs.seat.Seat.strip.Goals as goal
 
 pub overflow_sub-had : goal.overflow_sub-had

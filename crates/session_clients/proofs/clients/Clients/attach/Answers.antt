@@ -1,7 +1,7 @@
 use Rattle.std.proofs.Common.{◌++◌, ◌∷◌, [], ◌∙◌, ap, sym, subst, List}
 use Rattle.session_model.specs.Tables as model
-use Rattle.serial_rows.proofs.Serials.{on_ok}
-use Rattle.serial_rows.proofs.Matching.{push_match}
+use Rattle.windows_model.proofs.Serials.{on_ok}
+use Rattle.windows_model.proofs.Matching.{push_match}
 use Rattle.session_clients.specs.declared.client.Client.{Client}
 use Rattle.session_model.specs.Comings.{attached}
 use Rattle.session_clients.specs.Stands.{ClientStands, AreClients}

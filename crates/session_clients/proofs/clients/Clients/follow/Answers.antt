@@ -1,6 +1,6 @@
 use Rattle.std.proofs.Common.{◌∙◌, ap}
 use Rattle.redraw.specs.Shadow.{Knowledge}
-use Rattle.serial_rows.proofs.Serials.{on_ok, on_error}
+use Rattle.windows_model.proofs.Serials.{on_ok, on_error}
 use Rattle.session_clients.specs.declared.client.Client.{Client}
 use Rattle.session_clients.proofs.Changing.{lent_back}
 use Rattle.session_clients.proofs.Drawing.{drawn_row, nobody_drawn}

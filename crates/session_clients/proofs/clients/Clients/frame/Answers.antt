@@ -1,5 +1,5 @@
 use Rattle.std.proofs.Common.{sym}
-use Rattle.serial_rows.proofs.Serials.{if_ok}
+use Rattle.windows_model.proofs.Serials.{if_ok}
 use Rattle.session_clients.proofs.Drawing.{found_shows, none_then}
 use Rattle.session_clients.proofs.clients.Clients.frame.Goals as goal
 

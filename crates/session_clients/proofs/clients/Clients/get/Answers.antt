@@ -1,7 +1,7 @@
 use Rattle.std.proofs.Common.{◌∙◌, ap, sym, subst, List}
 use Rattle.session_model.specs.Tables.{row_of}
-use Rattle.serial_rows.specs.Matched.{BothOrNone}
-use Rattle.serial_rows.proofs.Matching.{rows_match}
+use Rattle.windows_model.specs.Matched.{BothOrNone}
+use Rattle.windows_model.proofs.Matching.{rows_match}
 use Rattle.session_clients.specs.declared.client.Client.{Client}
 use Rattle.session_clients.specs.Stands.{ClientStands}
 use Rattle.session_clients.proofs.Changing.{model_serial, serial_of, serials}

@@ -3,7 +3,7 @@ use Rattle.std.proofs.lemmas.List.{append-nil, length-map}
 use Rattle.std.specs.Prelude.{is_ok, map}
 use Rattle.session_model.specs.declared.event.Event.TheVariants.{Attach}
 use Rattle.session_model.specs.Trace.{happening}
-use Rattle.serial_rows.proofs.Serials.{if_true}
+use Rattle.windows_model.proofs.Serials.{if_true}
 use Rattle.session_core.proofs.Runs.{promised, then_steps, at_end, without_none, stops_in, came_to, rest_at}
 use Rattle.session_core.proofs.session.Session.run.Goals as goal
 

@@ -1,6 +1,6 @@
 use Rattle.std.proofs.Common.{◌∙◌, ◌++◌, sym, subst, ap}
 use Rattle.trail_lines.specs.Entries.{said}
-use Rattle.trail_audit.specs.Reading.{HasRead}
+use Rattle.trail_lines.specs.Reading.{HasRead}
 use Rattle.trail_log.specs.Joining.{chosen_line, held_with, ms_before, text_before}
 use Rattle.trail_log.specs.Logging.{entries_in}
 use Rattle.trail_log.specs.Naming.{names_with, nobody}

@@ -1,6 +1,6 @@
 use Rattle.std.proofs.Common.{[], sym, subst}
 use Rattle.trail_lines.specs.Entries.{said}
-use Rattle.trail_audit.specs.Reading.{HasRead}
+use Rattle.trail_lines.specs.Reading.{HasRead}
 use Rattle.trail_rights.specs.Marks.{entries_in, marked_after}
 use Rattle.trail_rights.specs.Seeing.{HasSeen}
 use Rattle.trail_rights.proofs.Seen.{entries_more, marked_more}

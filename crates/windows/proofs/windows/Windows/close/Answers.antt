@@ -1,6 +1,6 @@
 use Rattle.std.proofs.Common.{◌≡◌, ◌∙◌, sym, ap, subst, List, Some, None, filter, not}
 use Rattle.std.specs.Prelude.{◌==◌, option_copied}
-use Rattle.serial_rows.specs.Finding.{row_of}
+use Rattle.windows_model.specs.Finding.{row_of}
 use Rattle.windows.specs.declared.window.Window.{Window}
 use Rattle.windows.specs.Rows.{AreRows}
 use Rattle.windows.proofs.Rows.{rows_kept, row_lost, none_lost}

@@ -1,5 +1,5 @@
-use Rattle.serial_rows.specs.Finding.{row_of}
-use Rattle.serial_rows.proofs.Matching.{rows_match}
+use Rattle.windows_model.specs.Finding.{row_of}
+use Rattle.windows_model.proofs.Matching.{rows_match}
 use Rattle.windows.specs.Standing.{WindowStands, serial}
 use Rattle.windows.proofs.Answering.{own, same}
 use Rattle.windows.proofs.Nearest.{seen}

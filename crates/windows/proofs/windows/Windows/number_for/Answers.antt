@@ -6,7 +6,7 @@ use Rattle.windows.specs.Standing.{StandFor}
 use Rattle.windows.specs.declared.window.Window.{Window}
 use Rattle.std.specs.Prelude.{IfSome}
 use Rattle.windows.specs.Asking.{IsFree}
-use Rattle.serial_rows.proofs.Serials.{if_true, if_false}
+use Rattle.windows_model.proofs.Serials.{if_true, if_false}
 use Rattle.windows.proofs.Nearest.{above_both, free_both}
 use Rattle.windows.proofs.windows.Windows.number_for.Goals as goal
 

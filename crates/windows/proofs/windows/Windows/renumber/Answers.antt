@@ -1,5 +1,5 @@
 use Rattle.std.proofs.Common.{◌≡◌, ◌∙◌, true, false, sym, ap, subst, refl, List}
-use Rattle.serial_rows.proofs.Serials.{with_back}
+use Rattle.windows_model.proofs.Serials.{with_back}
 use Rattle.windows.specs.Among.{taken_by_other}
 use Rattle.windows.specs.declared.window.Window.{Window}
 use Rattle.windows.specs.Rows.{AreRows, ChangesRow}

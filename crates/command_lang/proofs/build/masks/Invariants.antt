@@ -1,0 +1,7 @@
+use Rattle.std.proofs.Common.{◌≡◌, map, take}
+use Rattle.command_lang.specs.Values.{mask_of}
+use Rattle.command_lang.specs.Meaning.{texts_of}
+use Rattle.command_lang.proofs.build.masks.Given as goal
+
+abbrev pub invariant-loop-word : goal.invariant-loop-word
+invariant-loop-word l = l.masks ≡ map mask_of (texts_of (take l.word-index l.words))

@@ -1,7 +1,0 @@
-//! A command is printed as a line.
-#![tactic(auto)]
-
-mod command_words;
-mod printing;
-
-pub use printing::command_line;

@@ -1,4 +1,0 @@
-pub mod Digits
-pub mod Signs
-pub mod WordFaults
-pub mod Fits

@@ -1,6 +1,0 @@
-use Rattle.std.proofs.Common.{◌≡◌, drop, true}
-use Rattle.command_lang_table.specs.Values.{goes_on}
-use Rattle.command_lang_table.proofs.values.goes_on.Given as goal
-
-abbrev pub invariant-loop-c : goal.invariant-loop-c
-invariant-loop-c l = goes_on true l.text ≡ goes_on l.wanting (drop l.c-index l.text)

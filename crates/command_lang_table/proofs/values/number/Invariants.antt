@@ -1,8 +1,0 @@
-use Rattle.std.proofs.Common.{◌≡◌, ◌<◌, ◌^◌, true, take}
-use Rattle.std.specs.List.{list_all}
-use Rattle.command_lang_table.specs.Values.{is_digit, number_after}
-use Rattle.command_lang_table.proofs.values.number.Given as goal
-
-abbrev pub invariant-loop-c : goal.invariant-loop-c
-invariant-loop-c l = (number_after 0 (take l.c-index l.text) ≡ l.n) × (list_all is_digit (take l.c-index l.text) ≡ true)
-    × (l.n < 10 ^ l.c-index)

@@ -1,9 +1,0 @@
-pub mod Knowing
-pub mod Shutting
-pub mod GuestsComputed
-pub mod HidingComputed
-pub mod WatchingComputed
-pub mod OperatorsComputed
-pub mod ConsolesComputed
-pub mod LateComersComputed
-pub mod LocksComputed

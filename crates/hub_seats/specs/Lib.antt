@@ -1,3 +1,0 @@
-pub mod Peers
-pub mod Routing
-pub mod Rising

@@ -1,2 +1,0 @@
-pub mod PoliciesComputed
-pub mod TrapsComputed

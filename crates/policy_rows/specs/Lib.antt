@@ -1,2 +1,0 @@
-pub mod Policies
-pub mod Traps

@@ -1,0 +1,189 @@
+//! How connections and news come to a loop.
+
+use crate::acceptor::Acceptor;
+use mio::net::UnixStream;
+use mio::{Poll, Registry, Waker};
+use server_loop::End;
+use server_system::{Log, Seen, Watched};
+use std::alloc::{AllocError, Global};
+use std::collections::VecDeque;
+use std::sync::atomic::{AtomicBool, AtomicU64, Ordering};
+use std::sync::{Arc, Mutex, OnceLock, Wait};
+use std::thread::Threads;
+use std::time::Clock;
+use std::{io, thread};
+
+/// A connection on its way to its loop.
+#[derive(Drop)]
+pub struct Handed {
+    pub stream: UnixStream,
+    /// It was taken in though no more are to stay.
+    pub is_extra: bool,
+}
+
+/// How others reach a loop.
+#[derive(Drop)]
+pub struct LoopHandle {
+    waker: Waker,
+    pub handed: Mutex<VecDeque<Handed>>,
+    is_asleep: AtomicBool,
+    has_news: AtomicBool,
+    // It waits for a look at the users' file.
+    awaits_look: AtomicBool,
+}
+
+impl LoopHandle {
+    pub fn new(waker: Waker, handed: VecDeque<Handed>) -> LoopHandle {
+        LoopHandle {
+            waker,
+            handed: Mutex::new(handed),
+            is_asleep: AtomicBool::new(false),
+            has_news: AtomicBool::new(false),
+            awaits_look: AtomicBool::new(false),
+        }
+    }
+
+    /// The loop is to be woken after the next look at the users' file.
+    pub fn await_look(&self) {
+        self.awaits_look.store(true, Ordering::SeqCst);
+    }
+
+    // Such a look is done: wakes the loop if it waits for one.
+    fn tell_look(&self) -> io::Result<()> {
+        if self.awaits_look.swap(false, Ordering::SeqCst) {
+            self.wake()
+        } else {
+            Ok(())
+        }
+    }
+
+    /// Tells the loop that there is news. One that is awake finds it before it sleeps.
+    pub fn wake(&self) -> io::Result<()> {
+        self.has_news.store(true, Ordering::SeqCst);
+        if self.is_asleep.swap(false, Ordering::SeqCst) {
+            self.waker.wake()
+        } else {
+            Ok(())
+        }
+    }
+
+    /// The loop is about to sleep, and is woken by news from now on. Returns whether it may sleep: no
+    /// news came before.
+    pub fn may_sleep(&self) -> bool {
+        self.is_asleep.store(true, Ordering::SeqCst);
+        !self.has_news.load(Ordering::SeqCst)
+    }
+
+    pub fn is_awake(&self) {
+        self.is_asleep.store(false, Ordering::SeqCst);
+    }
+
+    /// Takes the news that came before this; what it tells of is looked at after this.
+    pub fn take_news(&self) {
+        self.has_news.store(false, Ordering::SeqCst);
+    }
+}
+
+/// What the loops share beside their session.
+#[derive(Drop)]
+pub struct Shared {
+    pub loop_handles: Arc<Vec<LoopHandle>, Global>,
+    pub over: OnceLock<End>,
+    /// How many loops much comes to.
+    pub busy: AtomicU64,
+    pub watched: Arc<Watched, Global>,
+    /// How many connections had a wrong token.
+    pub wrong_tokens: AtomicU64,
+    pub log: Log,
+    /// Whether news are written to the log.
+    pub tells: bool,
+}
+
+/// What the loops of a server stand on.
+#[derive(Drop)]
+pub struct Common<G> {
+    pub shared: Shared,
+    /// Is called around each event that a loop submits.
+    pub gate: G,
+}
+
+/// What a loop begins with.
+#[derive(Drop)]
+pub struct LoopStart {
+    pub me: usize,
+    pub poll: Poll,
+    /// The registry of the poll, whose descriptor is there before anybody connects.
+    pub registry: Registry,
+    pub acceptor: Option<Acceptor>,
+}
+
+impl Shared {
+    pub fn new(
+        alloc: Global,
+        loop_handles: Arc<Vec<LoopHandle>, Global>,
+        watched: Arc<Watched, Global>,
+        tells: bool,
+    ) -> Shared {
+        let log = Log::new(alloc, loop_handles.len());
+        Shared {
+            loop_handles,
+            over: OnceLock::new(),
+            busy: AtomicU64::new(0),
+            watched,
+            wrong_tokens: AtomicU64::new(0),
+            log,
+            tells,
+        }
+    }
+
+    pub fn wake_others(&self, me: usize) -> io::Result<()> {
+        for (place, loop_handle) in self.loop_handles.iter().enumerate() {
+            if place != me {
+                loop_handle.wake()?;
+            }
+        }
+        Ok(())
+    }
+
+    /// The server ends: the first cause holds. All loops are woken.
+    pub fn end(&self, end: End) -> io::Result<()> {
+        let _ = self.over.try_set(end);
+        for loop_handle in self.loop_handles.iter() {
+            loop_handle.wake()?;
+        }
+        Ok(())
+    }
+}
+
+// Looks at the users' file whenever that is asked for, until nobody can ask any more.
+fn watch<R: Clock + Wait>(rt: &R, watched: &Watched, seen: Seen, loop_handles: &[LoopHandle]) {
+    let mut seen = seen;
+    for _ in rt.forever() {
+        if !watched.look(rt, &mut seen) {
+            return;
+        }
+        for loop_handle in loop_handles {
+            let _ = loop_handle.tell_look();
+        }
+    }
+}
+
+/// Starts the thread that looks at the users' file. Nobody waits for its end, as the file's disk may
+/// hang.
+pub fn start_watching<R: Threads + Clock + Wait + Copy + Send + 'static>(
+    rt: &R,
+    shared: &Shared,
+    seen: Seen,
+) -> io::Result<()> {
+    let watched = Arc::try_clone(&shared.watched)?;
+    let loop_handles = Arc::try_clone(&shared.loop_handles)?;
+    let rt_there = *rt;
+    let started = thread::spawn(rt, move || {
+        let rt = rt_there;
+        watch(&rt, &watched, seen, &loop_handles);
+    });
+    match started {
+        Ok(_) => Ok(()),
+        Err(error) => Err(io::Error::from(AllocError::from(error))),
+    }
+}

@@ -1,0 +1,125 @@
+//! How a session begins, with the commands of its owner's setup.
+
+ghost use Rattle.std.specs.Prelude.{◌≡◌, ◌∷◌, [], IfOk, IfErr, OnOk, map};
+ghost use Rattle.program_words.specs.SetupLines.{line_of};
+ghost use Rattle.session_model.specs.Trace.{Trace, begun};
+ghost use Rattle.session_model.specs.Texts.{text_of};
+ghost use Rattle.session_core.specs.Stands.{StandsFor, wants_memory};
+ghost use Rattle.session.specs.Setup.{Behind, Begins, Refuses, StopsAt, IfRefused};
+
+use acl::{Edition, UserId};
+use program_words::SetupLine;
+use session_core::{Notes, Session};
+use session_model::{Event, Refusal, Reply};
+use std::alloc::Global;
+
+/// How a session begins.
+#[derive(Clone, Copy, Debug)]
+pub struct Beginning<'a> {
+    pub edition: Edition,
+    pub owner: UserId,
+    /// The commands that the owner gives before anything else.
+    pub setup: &'a [SetupLine<'a>],
+}
+
+/// Why a session doesn't begin.
+#[derive(Debug, Drop)]
+pub enum Unbegun {
+    NoMemory,
+    /// The setup's line of this number was refused, with this text.
+    Refused(usize, Vec<u8>),
+}
+
+/// A new session of an edition.
+fn new_session(alloc: Global, edition: Edition, owner: UserId) -> Result<Session, Refusal>
+    ensures { IfOk result (λ session. StandsFor (begun edition owner) session) }
+{
+    match edition {
+        Edition::First => Session::first_edition(alloc, owner),
+        Edition::Second => Session::new(alloc, owner),
+    }
+}
+
+/// Whether a step was refused because memory ran out.
+fn wants_memory(reply: &Reply) -> bool
+    ensures { result ≡ wants_memory reply.now }
+{
+    matches!(reply, Err(Refusal::NoMemory))
+}
+
+/// Says that the line of this number was refused.
+fn refused(alloc: Global, number: usize, refusal: &Refusal) -> Unbegun
+    ensures { IfRefused result (λ line said. (line ≡ number) × (said ≡ text_of refusal.now)) }
+{
+    let mut said = Vec::new(alloc);
+    match refusal.text(&mut said) {
+        Ok(()) => Unbegun::Refused(number, said),
+        Err(_) => Unbegun::NoMemory,
+    }
+}
+
+/// Gives a session a line as a Command of its owner. There is no client and no window that it could
+/// act on.
+fn give(
+    alloc: Global,
+    session: &mut Session,
+    owner: UserId,
+    line: &SetupLine,
+) -> Result<(), Unbegun>
+    ensures done { OnOk result ((h : Trace) → StandsFor h session.old
+        → Behind (λ now. StandsFor now session.new) h owner (line_of line.now ∷ [])) }
+    ensures refused { IfErr result (λ fault. IfRefused fault (λ number said.
+        (number ≡ line.now.number) × ((h : Trace) → StandsFor h session.old
+        → Refuses h owner (line_of line.now) said))) }
+{
+    let event = Event::Command {
+        user: owner,
+        window: None,
+        line: line.text.as_bytes(),
+    };
+    let mut effects = Vec::new(alloc);
+    let mut notes = Notes::new(alloc);
+    let reply = session.step(event, &mut effects, &mut notes);
+    if wants_memory(&reply) {
+        return Err(Unbegun::NoMemory);
+    }
+    match reply {
+        Ok(_done) => Ok(()),
+        Err(refusal) => Err(refused(alloc, line.number, &refusal)),
+    }
+}
+
+/// Gives a session the lines of a setup, up to the first one that is refused.
+fn set_up(
+    alloc: Global,
+    session: &mut Session,
+    owner: UserId,
+    setup: &[SetupLine],
+) -> Result<(), Unbegun>
+    ensures done { OnOk result ((h : Trace) → StandsFor h session.old
+        → Behind (λ now. StandsFor now session.new) h owner (map line_of setup.now)) }
+    ensures refused { IfErr result (λ fault. IfRefused fault (λ number said. (h : Trace)
+        → StandsFor h session.old → StopsAt number said h owner (map line_of setup.now))) }
+{
+    for line in setup {
+        give(alloc, session, owner, line)?;
+    }
+    Ok(())
+}
+
+impl Beginning<'_> {
+    /// A session that has taken the commands of the setup.
+    pub fn session(&self, alloc: Global) -> Result<Session, Unbegun>
+        ensures ok { IfOk result (λ session. Begins self.now (λ h. StandsFor h session)) }
+        // The first line that is refused is named, with the refusal's text.
+        ensures refused { IfErr result (λ fault. IfRefused fault (λ number said.
+            StopsAt number said (begun self.now.edition self.now.owner) self.now.owner
+            (map line_of self.now.setup.now))) }
+    {
+        let Ok(mut session) = new_session(alloc, self.edition, self.owner) else {
+            return Err(Unbegun::NoMemory);
+        };
+        set_up(alloc, &mut session, self.owner, self.setup)?;
+        Ok(session)
+    }
+}

@@ -1,4 +1,0 @@
-pub mod Checking
-pub mod Places
-pub mod Standing
-pub mod Listing

@@ -1,2 +1,0 @@
-pub mod Confined
-pub mod Keeping

@@ -1,0 +1,32 @@
+//! The laws of guests for what `Session::run` did. Each function here is a law: it does nothing, and
+//! its contract says what holds.
+
+ghost use Rattle.session_core.specs.Guarded.{CallsAreGuarded, NewRunsAreGuarded};
+ghost use Rattle.session_core.specs.Unseen.{SessionsHideOutput};
+
+/// The steps that `Session::run` promises of a call, and those of a new session's run, change rights,
+/// locks, the mode, others' clients and windows only as the laws of guests say. A step of a user who
+/// only watches leaves others all that they have. If nobody else changes rights in the call, users who
+/// may not change them before it may not after it.
+pub fn calls_are_guarded()
+    ensures call { CallsAreGuarded }
+    ensures new { NewRunsAreGuarded }
+{
+    session_guests::rights_are_gated();
+    session_guests::guests_are_contained();
+    session_guests::new_windows_are_masked();
+    session_guests::locks_are_taken();
+    session_guests::holders_stay();
+    session_guests::others_are_gated();
+    session_guests::spectators_leave_others();
+    session_laws::tables_stay_fit();
+}
+
+/// If two sessions of one edition and owner stand for runs that differ only in output that is hidden
+/// from a user, that user observed the same of both. (Each call of `Session::run` says for which run
+/// the session stands after it.)
+pub fn sessions_hide_output()
+    ensures { SessionsHideOutput }
+{
+    session_guests::hidden_output_is_unseen();
+}

@@ -1,6 +1,0 @@
-mod Cutting
-mod Events
-mod Lines
-mod ReadBack
-mod Texts
-mod Words

@@ -1,4 +1,0 @@
-pub mod Fields
-pub mod Printed
-pub mod ReadBack
-pub mod Script

@@ -1,4 +1,0 @@
-pub mod Hidden
-pub mod Observed
-pub mod Unseen
-pub mod Watching

@@ -1,8 +1,0 @@
-use Rattle.std.proofs.Common.{◌≡◌, map, drop}
-use Rattle.setup_lines.specs.Lines.{line_of}
-use Rattle.setup_lines.proofs.Reading.{HaveRead}
-use Rattle.setup_lines.proofs.read_setup.Given as goal
-
-abbrev pub invariant-loop-part : goal.invariant-loop-part
-invariant-loop-part l = (l.number ≡ l.part-index)
-    × HaveRead l.file (map line_of l.lines.items) l.part-index (map (λ x. x.now) (drop l.part-index l.part-items))

@@ -1,5 +1,0 @@
-pub mod Headed
-pub mod Unbroken
-pub mod Coming
-pub mod Halted
-pub mod Cut

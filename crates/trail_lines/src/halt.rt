@@ -1,0 +1,73 @@
+//! Reads a file's entries in one pass, with memory for the tables and one line.
+
+ghost use Rattle.std.specs.Prelude.{[], IfOk, IfSome};
+ghost use Rattle.acl.specs.declared.edition.Edition.{Edition};
+ghost use Rattle.acl.specs.declared.user_id.UserId.{UserId};
+ghost use Rattle.trail_lines.specs.Reading.{HasRead};
+ghost use Rattle.trail_lines.specs.Halting.{IsEnd, IsRead, NextIs};
+ghost use Rattle.trail_lines.specs.Lines.{OfKnown};
+
+use crate::audit::Audit;
+use crate::fault::Wrong;
+use crate::lines::{Came, next_line};
+use std::alloc::AllocError;
+use std::io::{self, BufRead};
+
+/// Why the reading of a file's entries halts.
+#[derive(Clone, Copy)]
+pub enum Halt {
+    /// The file ends after a whole line.
+    Nothing,
+    /// The file ends in bytes without a line feed.
+    Torn,
+    /// This line begins as a last line does.
+    Last { line: u64 },
+    /// Something is wrong in this line.
+    Stopped { line: u64, wrong: Wrong },
+}
+
+/// Reads the line of the next entry into `line`, without its line feed. It is the line of this number
+/// in the file. If there is no such line, the answer is why the reading halts.
+pub fn next_entry<R: BufRead>(
+    reader: &mut R,
+    line: &mut Vec<u8>,
+    number: u64,
+) -> io::Result<Option<Halt>>
+    ensures end { IfOk result (λ halt. IfSome halt (λ h. IsEnd h)) }
+    ensures next { IfOk result (λ halt. OfKnown (R.remaining reader.old) (R.remaining reader.new)
+        (NextIs halt number line.new.items)) }
+{
+    let halt = match next_line(reader, line)? {
+        Came::Nothing => Halt::Nothing,
+        Came::Torn => Halt::Torn,
+        Came::Whole if line.starts_with(b"end ") => Halt::Last { line: number },
+        Came::Whole => return Ok(None),
+    };
+    Ok(Some(halt))
+}
+
+/// Reads the entries of a reader, from the file's line 2 on. The line that halts the reading is left in
+/// `line`.
+pub fn read_entries<R: BufRead>(
+    audit: &mut Audit,
+    reader: &mut R,
+    line: &mut Vec<u8>,
+) -> io::Result<Halt>
+    ensures { (edition : Edition) (owner : UserId) → HasRead audit.old edition owner [] →
+        IfOk result (λ halt. IsRead halt audit.old.times audit.new line.new.items edition owner
+        (R.remaining reader.old) (R.remaining reader.new)) }
+{
+    for number in 2..u64::MAX {
+        if let Some(halt) = next_entry(reader, line, number)? {
+            return Ok(halt);
+        }
+        if let Err(wrong) = audit.take(line.as_slice()) {
+            return Ok(Halt::Stopped {
+                line: number,
+                wrong,
+            });
+        }
+    }
+    // No file has so many lines.
+    Err(io::Error::from(AllocError))
+}

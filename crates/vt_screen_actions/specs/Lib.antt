@@ -1,4 +1,0 @@
-pub mod Meanings
-pub mod Acting
-pub mod Counted
-pub mod Silent
