@@ -8,10 +8,10 @@ use Rattle.std.proofs.lemmas.Bool.{false≢true}
 use Rattle.acl.specs.declared.act.Act.{Act}
 use Rattle.acl.specs.declared.user_id.UserId.{UserId}
 use Rattle.acl.specs.Same.{same_user}
-use Rattle.command_lang.specs.command.Command.{Command}
+use Rattle.command_lang.specs.declared.command.Command.{Command}
 use Rattle.command_lang.specs.Relation.{Relates}
 use Rattle.command_lang.proofs.OneReading.{relates-reads}
-use Rattle.command_lang.specs.fault.ParseFault.{ParseFault}
+use Rattle.command_lang.specs.declared.fault.ParseFault.{ParseFault}
 use Rattle.hub_trail.specs.Legal.{has_act_of}
 
 -- ---- tests of lists

@@ -6,7 +6,7 @@ use Rattle.std.specs.List.{AllByRecursion}
 use Rattle.acl.specs.declared.edition.Edition.{Edition}
 use Rattle.acl.specs.declared.user_id.UserId.{UserId}
 use Rattle.acl.specs.History.{History, followed_by}
-use Rattle.command_lang.specs.command.Command.{Command}
+use Rattle.command_lang.specs.declared.command.Command.{Command}
 use Rattle.command_lang.specs.Names.{name_of}
 use Rattle.session_model.specs.declared.verdict.Verdict.{Verdict}
 use Rattle.hub_trail.specs.declared.kept.Kept.{Kept}

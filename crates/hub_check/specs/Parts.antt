@@ -8,7 +8,7 @@ use Rattle.acl.specs.declared.command_name.CommandName.{CommandName}
 use Rattle.acl.specs.declared.edition.Edition.{Edition}
 use Rattle.acl.specs.declared.user_id.UserId.{UserId}
 use Rattle.acl.specs.History.{History, followed_by, is_known}
-use Rattle.command_lang.specs.command.Command.{Command}
+use Rattle.command_lang.specs.declared.command.Command.{Command}
 use Rattle.command_lang.specs.Names.{name_of}
 use Rattle.command_lang.specs.Relation.{Relates}
 use Rattle.session_model.specs.declared.verdict.Verdict.{Verdict}

@@ -6,8 +6,8 @@ ghost use Rattle.hub_record.specs.Stored.{kept_lent};
 
 use crate::verdicts::{all_pass, is_granted};
 use acl::Act;
-use hub_trail::from_command;
 use hub_record::KeptRef;
+use hub_trail::from_command;
 use session_model::Verdict;
 
 /// Whether the verdicts let the event change anything.

@@ -16,8 +16,8 @@ use crate::says::all_said;
 use crate::verdicts::asks_first;
 use acl::UserId;
 use command_lang::{Command, FaultKind, parse};
-use hub_trail::{has_closed, has_come, has_gone, has_opened};
 use hub_record::{Filed, KeptRef};
+use hub_trail::{has_closed, has_come, has_gone, has_opened};
 use session_model::Verdict;
 use std::alloc::{AllocError, Global};
 

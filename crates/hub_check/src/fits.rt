@@ -12,8 +12,8 @@ ghost use Rattle.hub_check.specs.Following.{StandsAfter};
 
 use crate::replay::Replay;
 use acl::{Act, UserId};
-use hub_trail::{Ending, Finished, all_shut, attaches_one, from_command, made_by, opens_one};
 use hub_record::{Filed, KeptRef};
+use hub_trail::{Ending, Finished, all_shut, attaches_one, from_command, made_by, opens_one};
 use session_model::Verdict;
 
 /// Whether the act is that this client goes, or that its user leaves a window.

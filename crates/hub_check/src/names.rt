@@ -10,7 +10,7 @@ ghost use Rattle.acl.specs.Names.{named_by};
 ghost use Rattle.acl.specs.Same.{same_user};
 ghost use Rattle.hub_trail.specs.Legal.{has_act_of};
 ghost use Rattle.hub_check.specs.Following.{StandsAfter};
-ghost use Rattle.command_lang.specs.command.Command.TheVariants as command;
+ghost use Rattle.command_lang.specs.declared.command.Command.TheVariants as command;
 ghost use Rattle.hub_check.specs.Parts.{HaveActs};
 
 use crate::replay::Replay;

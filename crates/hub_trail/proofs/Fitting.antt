@@ -13,8 +13,8 @@ use Rattle.acl.specs.declared.command_name.CommandName.{CommandName}
 use Rattle.acl.specs.History.{History}
 use Rattle.acl.specs.Same.{same_user}
 use Rattle.acl.proofs.StandsForLemmas.{same_user-refl}
-use Rattle.command_lang.specs.command.Command.{Command as Order}
-use Rattle.command_lang.specs.fault.ParseFault.{ParseFault}
+use Rattle.command_lang.specs.declared.command.Command.{Command as Order}
+use Rattle.command_lang.specs.declared.fault.ParseFault.{ParseFault}
 use Rattle.command_lang.specs.Names.{name_of}
 use Rattle.keys.specs.Grammar.{Item, typed, bound, line}
 use Rattle.session_model.specs.declared.event.Effect.{Effect}

@@ -11,8 +11,8 @@ use Rattle.acl.specs.Same.{same_user}
 use Rattle.acl.specs.Names.{named_by}
 use Rattle.acl.specs.Commands.{change_fault, mask_fault}
 use Rattle.acl.proofs.StandsForLemmas.{same_user-refl}
-use Rattle.command_lang.specs.command.Command.{Command as Order}
-use Rattle.command_lang.specs.command.Command.TheVariants as command
+use Rattle.command_lang.specs.declared.command.Command.{Command as Order}
+use Rattle.command_lang.specs.declared.command.Command.TheVariants as command
 use Rattle.command_lang.specs.Names.{name_of}
 use Rattle.regions.specs.Layouts.{Arrangement, kept_alone, split_focused, remove_focused, next_focus}
 use Rattle.session_model.specs.declared.event.Reason.TheVariants.{Detached, Quit}

@@ -14,9 +14,9 @@ use Rattle.acl.specs.Names.{named_by}
 use Rattle.acl.specs.Commands.{added, sets, change_fault, new_name_fault, with_name, known_name_fault, group_acts}
 use Rattle.acl.specs.Commands.{known_acts, names_sets}
 use Rattle.acl.proofs.StandsForLemmas.{same_user-refl}
-use Rattle.command_lang.specs.command.Command.{Command}
-use Rattle.command_lang.specs.command.Command.TheVariants as command
-use Rattle.command_lang.specs.command.Users.TheVariants as users
+use Rattle.command_lang.specs.declared.command.Command.{Command}
+use Rattle.command_lang.specs.declared.command.Command.TheVariants as command
+use Rattle.command_lang.specs.declared.command.Users.TheVariants as users
 use Rattle.session_model.specs.declared.refusal.Refusal.{Refusal}
 use Rattle.session_model.specs.declared.refusal.Refusal.TheVariants.{Acl, Windows}
 use Rattle.session_model.specs.windows_fault.WindowsFault.TheVariants.{NoSuchWindow}

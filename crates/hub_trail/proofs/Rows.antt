@@ -17,8 +17,8 @@ use Rattle.acl.specs.History.{History, followed_by, is_open}
 use Rattle.acl.specs.Names.{named_by}
 use Rattle.acl.specs.Commands.{known_name_fault}
 use Rattle.writelock.specs.Holding.{is_off}
-use Rattle.command_lang.specs.command.Command.{Command}
-use Rattle.command_lang.specs.command.Command.TheVariants as command
+use Rattle.command_lang.specs.declared.command.Command.{Command}
+use Rattle.command_lang.specs.declared.command.Command.TheVariants as command
 use Rattle.command_lang.specs.Names.{name_of}
 use Rattle.regions.specs.Layouts.{Arrangement}
 use Rattle.session_model.specs.declared.check.Check.{Check}

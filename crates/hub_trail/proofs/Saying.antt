@@ -21,11 +21,11 @@ use Rattle.acl.specs.Commands.{change_acts, name_acts, user_acts, sets_on, with_
 use Rattle.acl.specs.Commands.{names_sets, name_sets, added, group_acts, mask_acts, names_user, chosen_leader}
 use Rattle.acl.specs.Commands as acl
 use Rattle.acl.proofs.StandsForLemmas.{same_user-refl}
-use Rattle.command_lang.specs.command.Command.{Command as Order}
-use Rattle.command_lang.specs.command.Command.TheVariants as command
-use Rattle.command_lang.specs.command.Users.{Users}
-use Rattle.command_lang.specs.command.Users.TheVariants as users
-use Rattle.command_lang.specs.fault.ParseFault.{ParseFault}
+use Rattle.command_lang.specs.declared.command.Command.{Command as Order}
+use Rattle.command_lang.specs.declared.command.Command.TheVariants as command
+use Rattle.command_lang.specs.declared.command.Users.{Users}
+use Rattle.command_lang.specs.declared.command.Users.TheVariants as users
+use Rattle.command_lang.specs.declared.fault.ParseFault.{ParseFault}
 use Rattle.command_lang.specs.Names.{command_named, all_names}
 use Rattle.command_lang.specs.Relation.{read_line}
 use Rattle.command_lang.proofs.OneReading.{reads-relates}
@@ -306,7 +306,7 @@ module _ (v : Tables) (k : Caller) where
   leader_itself None = refl
   leader_itself (Some u) = same_user-refl u
 
-  grouped : (word : List ℕ) (leader : Rattle.command_lang.specs.command.Leader.Leader)
+  grouped : (word : List ℕ) (leader : Rattle.command_lang.specs.declared.command.Leader.Leader)
       → AllByRecursion (Said (command.Aclgrp word (Some leader))) (group_acts (named_by word) (new_leader_of leader))
   grouped word leader = on (named_by word) refl where
     on : (o : Option UserId) → named_by word ≡ o

@@ -6,10 +6,10 @@ use Rattle.std.specs.Option.{option_map}
 use Rattle.acl.specs.declared.user_id.UserId.{UserId}
 use Rattle.acl.specs.declared.bits.Bit.TheVariants.{Write}
 use Rattle.acl.specs.declared.act.Object.TheVariants as object
-use Rattle.command_lang.specs.command.Command.{Command}
+use Rattle.command_lang.specs.declared.command.Command.{Command}
 use Rattle.session_model.specs.declared.check.Check.{Check}
 use Rattle.session_model.specs.declared.check.Check.TheVariants.{Right as right, Unlocked as unlocked}
-use Rattle.command_lang.specs.needs.Needs.{Needs}
+use Rattle.command_lang.specs.declared.needs.Needs.{Needs}
 use Rattle.session_model.specs.declared.verdict.Verdict.{Verdict}
 use Rattle.session_model.specs.Tables.{Tables, Window, Client, focused, focused_window}
 use Rattle.session_model.specs.Lines.{Caller}

@@ -1,7 +1,7 @@
 -- Each step leaves the owner and the edition, and gives the next serials to what it attaches and
 -- opens.
 use Rattle.std.proofs.Common.{◌≡◌, ◌∙◌, List, [], Option, Some, None, Ok, refl, ap, subst, sym, take}
-use Rattle.command_lang.specs.command.Command.{Command as Order}
+use Rattle.command_lang.specs.declared.command.Command.{Command as Order}
 use Rattle.session_model.specs.declared.event.Effect.{Effect}
 use Rattle.session_model.specs.declared.refusal.Refusal.{Refusal}
 use Rattle.session_model.specs.Trace.{EventValue, Attach, Open, Draw, Reply, Entry}

@@ -12,10 +12,10 @@ use Rattle.acl.specs.declared.act.Object.TheVariants as object
 use Rattle.acl.specs.Same.{same_user, same_bit, index_of_command}
 use Rattle.acl.proofs.StandsForLemmas.{same_user-refl}
 use Rattle.writelock.specs.LockTable.{stops_nobody_but}
-use Rattle.command_lang.specs.command.Command.{Command}
+use Rattle.command_lang.specs.declared.command.Command.{Command}
 use Rattle.session_model.specs.declared.check.Check.{Check}
 use Rattle.session_model.specs.declared.check.Check.TheVariants.{Right as right, Unlocked as unlocked, Must as must}
-use Rattle.command_lang.specs.needs.Needs.{Needs}
+use Rattle.command_lang.specs.declared.needs.Needs.{Needs}
 use Rattle.session_model.specs.declared.refusal.Refusal.{Refusal}
 use Rattle.session_model.specs.declared.refusal.Refusal.TheVariants.{EntryDenied, LockDenied, NoWindow}
 use Rattle.session_model.specs.declared.verdict.Verdict.{Verdict}

@@ -17,9 +17,9 @@ use Rattle.acl.specs.Names.{named_by}
 use Rattle.acl.specs.Same.{same_user, same_bit, same_command}
 use Rattle.writelock.specs.Holding.{holder, clients_of}
 use Rattle.writelock.specs.LockTable.{stops_nobody_but}
-use Rattle.command_lang.specs.command.Command.{Command}
-use Rattle.command_lang.specs.command.Command.TheVariants as command
-use Rattle.command_lang.specs.command.Users.TheVariants as users
+use Rattle.command_lang.specs.declared.command.Command.{Command}
+use Rattle.command_lang.specs.declared.command.Command.TheVariants as command
+use Rattle.command_lang.specs.declared.command.Users.TheVariants as users
 use Rattle.command_lang.specs.Names.{name_of}
 use Rattle.command_lang.specs.Relation.{Relates}
 use Rattle.session_model.specs.declared.refusal.Denied.{Denied}

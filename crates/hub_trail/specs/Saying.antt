@@ -17,10 +17,10 @@ use Rattle.acl.specs.Commands.{names_user, chosen_leader}
 use Rattle.acl.specs.History.{History, among, users_of}
 use Rattle.acl.specs.Names.{named_by}
 use Rattle.acl.specs.Same.{same_user, same_bit, same_command}
-use Rattle.command_lang.specs.command.Command.{Command}
-use Rattle.command_lang.specs.command.Command.TheVariants as command
-use Rattle.command_lang.specs.command.Users.{Users}
-use Rattle.command_lang.specs.command.Users.TheVariants as users
+use Rattle.command_lang.specs.declared.command.Command.{Command}
+use Rattle.command_lang.specs.declared.command.Command.TheVariants as command
+use Rattle.command_lang.specs.declared.command.Users.{Users}
+use Rattle.command_lang.specs.declared.command.Users.TheVariants as users
 use Rattle.command_lang.specs.Names.{command_named}
 use Rattle.session_model.specs.Naming.{is_wide, new_leader_of}
 

@@ -2,7 +2,7 @@
 use Rattle.std.proofs.Common.{◌≡◌, ℕ, zero, suc, ◌+◌, ◌-◌, ◌<◌, ◌≤◌, [], ◌∷◌, Some, refl, ap, ◌∙◌, arith}
 use Rattle.std.specs.Fmt.{decimal}
 use Rattle.std.proofs.lemmas.Fmt.{decimal_digit}
-use Rattle.command_lang.specs.command.Command.TheVariants.{Select}
+use Rattle.command_lang.specs.declared.command.Command.TheVariants.{Select}
 use Rattle.keys.specs.Grammar.{binding}
 
 digit : (n : ℕ) → n < 10 → Some (Select ((48 + n) ∷ [])) ≡ binding (48 + n)

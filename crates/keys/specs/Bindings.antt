@@ -1,8 +1,8 @@
 -- What the code's bindings stand for.
 use Rattle.std.specs.Prelude.{true, false}
 use Rattle.std.specs.Fmt.{decimal}
-use Rattle.command_lang.specs.command.Command.{Command}
-use Rattle.command_lang.specs.command.Command.TheVariants as command
+use Rattle.command_lang.specs.declared.command.Command.{Command}
+use Rattle.command_lang.specs.declared.command.Command.TheVariants as command
 use Rattle.keys.specs.declared.binding.Binding.{Binding}
 use Rattle.keys.specs.declared.binding.Binding.TheVariants as bound
 

@@ -6,10 +6,10 @@ use Rattle.std.specs.Prelude.{if◌then◌else◌, List, [], ◌∷◌, ◌++◌
 use Rattle.std.specs.Prelude.{None, codes, get_or}
 use Rattle.std.specs.Option.{option_map}
 use Rattle.std.specs.List.{list_all}
-use Rattle.command_lang.specs.command.Command.{Command}
-use Rattle.command_lang.specs.command.Command.TheVariants.{Next, Prev, Detach, Kill, Split, Focus}
-use Rattle.command_lang.specs.command.Command.TheVariants.{Remove, Only, Windows, Displays, Select}
-use Rattle.command_lang.specs.command.Command.TheVariants.{Other}
+use Rattle.command_lang.specs.declared.command.Command.{Command}
+use Rattle.command_lang.specs.declared.command.Command.TheVariants.{Next, Prev, Detach, Kill, Split, Focus}
+use Rattle.command_lang.specs.declared.command.Command.TheVariants.{Remove, Only, Windows, Displays, Select}
+use Rattle.command_lang.specs.declared.command.Command.TheVariants.{Other}
 
 -- A typed byte, the command of a bound key, or a line of the prompt.
 pub data Item : Type 0 where

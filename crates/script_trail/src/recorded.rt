@@ -1,8 +1,8 @@
 //! The trail of a script's session, as a file has it.
 
 use crate::recorder::Recorder;
-use session::{Beginning, Event, beginning_of, read_event};
 use program_words::read_setup;
+use session::{Beginning, Event, beginning_of, read_event};
 use std::alloc::{AllocError, Global};
 
 /// The contents of the trail's file, for a session that begins so and takes the events of a script, one

@@ -3,8 +3,8 @@
 use crate::loop_body::LoopsFault;
 use crate::shared_session::SharedSession;
 use hub::{Begun as Roll, Seat};
-use session_model::Event;
 use program_words::{SetupLine, read_setup};
+use session_model::Event;
 use std::alloc::Global;
 use std::sync::Wait;
 

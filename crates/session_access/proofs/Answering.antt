@@ -8,7 +8,7 @@ use Rattle.acl.specs.declared.faults.AclFault.TheVariants as fault
 use Rattle.acl.specs.Names.{named_by}
 use Rattle.acl.specs.Commands.{known_name_fault}
 use Rattle.acl.specs.Commands as acl
-use Rattle.command_lang.specs.command.Command.TheVariants as command
+use Rattle.command_lang.specs.declared.command.Command.TheVariants as command
 use Rattle.session_model.specs.declared.event.Reason.TheVariants as reason
 use Rattle.session_model.specs.declared.refusal.Refusal.{Refusal}
 use Rattle.session_model.specs.declared.refusal.Refusal.TheVariants.{NoWindow, NoMemory, Acl}

@@ -10,7 +10,7 @@ use Rattle.session_model.specs.Lines.{Caller}
 use Rattle.session_model.specs.Commands.{does, known_fault, leaders_named}
 use Rattle.session_model.specs.Deeds.{Deed, Answer, listing, unless}
 use Rattle.session_model.specs.declared.refusal.Refusal.TheVariants.{Acl}
-use Rattle.command_lang.specs.command.Command.TheVariants as command
+use Rattle.command_lang.specs.declared.command.Command.TheVariants as command
 use Rattle.acl.specs.declared.user_id.UserId.{UserId}
 use Rattle.acl.specs.declared.faults.AclFault.{AclFault}
 use Rattle.acl.specs.declared.faults.AclFault.TheVariants.{OwnerKept, UnknownUser}

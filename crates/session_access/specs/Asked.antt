@@ -15,8 +15,8 @@ use Rattle.acl.specs.declared.faults.AclFault.TheVariants as fault
 use Rattle.acl.specs.Names.{named_by}
 use Rattle.acl.specs.Same.{same_user}
 use Rattle.acl.specs.Table.{Table, users_in}
-use Rattle.command_lang.specs.command.Users.{Users}
-use Rattle.command_lang.specs.command.Users.TheVariants as users
+use Rattle.command_lang.specs.declared.command.Users.{Users}
+use Rattle.command_lang.specs.declared.command.Users.TheVariants as users
 use Rattle.command_lang.specs.Names.{command_named}
 use Rattle.session_model.specs.declared.refusal.Refusal.{Refusal}
 use Rattle.session_model.specs.declared.refusal.Refusal.TheVariants as refusal

@@ -1,7 +1,7 @@
 //! Commands on the access lists: which users are known, what they may do, and whom they follow.
 
 ghost use Rattle.std.specs.Prelude.{◌≡◌, None, Some};
-ghost use Rattle.command_lang.specs.command.Command.TheVariants as command;
+ghost use Rattle.command_lang.specs.declared.command.Command.TheVariants as command;
 ghost use Rattle.session_model.specs.Tables.{Tables};
 ghost use Rattle.session_state.specs.declared.step_output.StepOutput.{StepOutput};
 ghost use Rattle.session_state.specs.Doing.{Does, DoesForAll, IsSilent};

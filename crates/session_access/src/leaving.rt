@@ -1,7 +1,7 @@
 //! Commands and events by which clients go or windows are closed.
 
 ghost use Rattle.std.specs.Prelude.{◌≡◌, true, IsOk};
-ghost use Rattle.command_lang.specs.command.Command.TheVariants as command;
+ghost use Rattle.command_lang.specs.declared.command.Command.TheVariants as command;
 ghost use Rattle.session_model.specs.declared.event.Reason.TheVariants as reason;
 ghost use Rattle.session_state.specs.Doing.{DoesForAll, DoesBy, DoesOn, HasRoomToLeave};
 ghost use Rattle.session_state.specs.Doing.{IsSilent, IsWhole};

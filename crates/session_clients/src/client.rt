@@ -7,10 +7,10 @@ use acl::UserId;
 use keys::KeyReader;
 use redraw::Shadow;
 use regions::{Layout, Shown};
-use windows_model::Serial;
 use session_model::Message;
 use std::alloc::{AllocError, Global};
 use std::mem;
+use windows_model::Serial;
 
 /// A user's terminal.
 #[derive(Drop)]

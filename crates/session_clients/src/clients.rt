@@ -22,11 +22,11 @@ use acl::UserId;
 use keys::KeyReader;
 use redraw::{Frame, Shadow, SharedView};
 use regions::{Layout, RegionFault};
-use windows_model::Rows;
 use session_model::{Bytes, Effect, Message};
 use std::alloc::{AllocError, Global};
 use std::marker::Model;
 use view::View;
+use windows_model::Rows;
 
 /// The attached clients, in the order of their serials.
 pub struct Clients {

@@ -2,9 +2,9 @@
 use Rattle.std.proofs.Common.{◌≡◌, ℕ, Bool, true, false, List, Some, None, Ok, Err}
 use Rattle.std.proofs.Common.{refl, ap, sym, subst, ◌∙◌, append-nil, ◌⊎◌, inl, inr, not}
 use Rattle.std.specs.Prelude.{Result, if◌then◌else◌}
-use Rattle.command_lang.specs.command.Command.{Command}
-use Rattle.command_lang.specs.command.Command.TheVariants as command
-use Rattle.command_lang.specs.command.Coding.{Coding}
+use Rattle.command_lang.specs.declared.command.Command.{Command}
+use Rattle.command_lang.specs.declared.command.Command.TheVariants as command
+use Rattle.command_lang.specs.declared.command.Coding.{Coding}
 use Rattle.terminal_model.specs.Writing as terminal
 use Rattle.terminal_model.specs.Writing.{Writing}
 use Rattle.session_model.specs.declared.refusal.Refusal.TheVariants.{Windows}

@@ -2,7 +2,7 @@
 use Rattle.std.proofs.Common.{◌≡◌, ℕ, List, [], ◌∷◌, length, true, false, Some, Ok}
 use Rattle.std.proofs.Common.{ap, ◌∙◌, is_ok}
 use Rattle.std.specs.Prelude.{Result, if◌then◌else◌, ◌==◌}
-use Rattle.command_lang.specs.command.Command.TheVariants as command
+use Rattle.command_lang.specs.declared.command.Command.TheVariants as command
 use Rattle.session_model.specs.declared.event.Effect.TheVariants.{Input}
 use Rattle.session_model.specs.declared.refusal.Refusal.TheVariants.{NoWindow}
 use Rattle.session_model.specs.Tables.{Tables, Window}

@@ -1,7 +1,7 @@
 //! Write locks.
 
 ghost use Rattle.std.specs.Prelude.{◌≡◌, Some};
-ghost use Rattle.command_lang.specs.command.Command.TheVariants as command;
+ghost use Rattle.command_lang.specs.declared.command.Command.TheVariants as command;
 ghost use Rattle.session_state.specs.Doing.{Does, DoesForAll, HasRoomToAct, IsSilent};
 
 use acl::{Act, LockMode};

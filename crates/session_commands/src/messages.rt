@@ -2,7 +2,7 @@
 
 ghost use Rattle.std.specs.Prelude.{◌≡◌, ◌++◌, codes, IfOk};
 ghost use Rattle.acl.specs.Names.{name_of};
-ghost use Rattle.command_lang.specs.command.Command.TheVariants as command;
+ghost use Rattle.command_lang.specs.declared.command.Command.TheVariants as command;
 ghost use Rattle.session_state.specs.Doing.{Does, HasRoomToAct, IsSilent};
 
 use acl::UserId;

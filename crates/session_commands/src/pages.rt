@@ -2,7 +2,7 @@
 //! page is split, which region has the focus, and how far that is scrolled back.
 
 ghost use Rattle.std.specs.Prelude.{◌≡◌, ◌≢◌, IfErr};
-ghost use Rattle.command_lang.specs.command.Command.TheVariants as command;
+ghost use Rattle.command_lang.specs.declared.command.Command.TheVariants as command;
 ghost use Rattle.session_model.specs.Commands.{way_of};
 ghost use Rattle.session_model.specs.declared.refusal.Refusal.TheVariants.{NoMemory};
 ghost use Rattle.session_state.specs.Doing.{Does, DoesBy, GivesBy, IsSilent};

@@ -1,7 +1,7 @@
 //! Commands on a window: its title, its number, its size, and what is written or typed to it.
 
 ghost use Rattle.std.specs.Prelude.{◌≡◌, ◌<◌, IfOk};
-ghost use Rattle.command_lang.specs.command.Command.TheVariants as command;
+ghost use Rattle.command_lang.specs.declared.command.Command.TheVariants as command;
 ghost use Rattle.session_model.specs.Commands.{coding_of};
 ghost use Rattle.session_state.specs.Doing.{Does, DoesOn, GivesBy, HasRoomToAct, IsSilent};
 ghost use Rattle.session_commands.specs.Giving.{IsFocusedBox};

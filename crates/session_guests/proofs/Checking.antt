@@ -6,11 +6,11 @@ use Rattle.acl.specs.declared.user_id.UserId.{UserId}
 use Rattle.acl.specs.declared.act.Object.{Object}
 use Rattle.acl.specs.declared.act.Object.TheVariants as object
 use Rattle.acl.specs.declared.bits.Bit.TheVariants.{Execute}
-use Rattle.command_lang.specs.command.Command.{Command as Order}
+use Rattle.command_lang.specs.declared.command.Command.{Command as Order}
 use Rattle.command_lang.specs.Names.{name_of}
 use Rattle.session_model.specs.declared.check.Check.{Check}
 use Rattle.session_model.specs.declared.check.Check.TheVariants.{Right as right, Unlocked as unlocked, Must as must}
-use Rattle.command_lang.specs.needs.Needs.{Needs}
+use Rattle.command_lang.specs.declared.needs.Needs.{Needs}
 use Rattle.session_model.specs.declared.refusal.Refusal.TheVariants.{EntryDenied, LockDenied, NotMultiuser, NoWindow}
 use Rattle.session_model.specs.declared.refusal.Denied.TheVariants as denied
 use Rattle.session_model.specs.Tables.{Tables, Window}

@@ -7,8 +7,8 @@ use Rattle.acl.specs.declared.user_id.UserId.{UserId}
 use Rattle.acl.specs.declared.act.Act.{Act}
 use Rattle.acl.specs.declared.act.Act.TheVariants as act
 use Rattle.acl.specs.Names.{named_by}
-use Rattle.command_lang.specs.command.Command.{Command as Order}
-use Rattle.command_lang.specs.command.Command.TheVariants as command
+use Rattle.command_lang.specs.declared.command.Command.{Command as Order}
+use Rattle.command_lang.specs.declared.command.Command.TheVariants as command
 use Rattle.regions.specs.Layouts.{Arrangement}
 use Rattle.session_model.specs.declared.event.Reason.TheVariants.{Detached, Killed, SingleUser, Quit}
 use Rattle.session_model.specs.Tables.{Tables, Window, Client, with_layout, focused, known_users}

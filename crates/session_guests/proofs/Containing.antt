@@ -9,7 +9,7 @@ use Rattle.acl.specs.declared.act.Act.TheVariants as act
 use Rattle.acl.specs.declared.act.Object.{Object}
 use Rattle.acl.specs.declared.act.Object.TheVariants as object
 use Rattle.command_lang.specs.Names.{name_of}
-use Rattle.command_lang.specs.command.Command.{Command as Order}
+use Rattle.command_lang.specs.declared.command.Command.{Command as Order}
 use Rattle.session_model.specs.Outcomes.{left_acts}
 use Rattle.session_model.specs.Given.{Given, commands_of}
 use Rattle.session_model.specs.Lines.{Caller}

@@ -9,7 +9,7 @@ use Rattle.acl.specs.declared.act.Act.{Act}
 use Rattle.acl.specs.declared.act.Act.TheVariants as act
 use Rattle.acl.specs.Same.{same_user}
 use Rattle.acl.proofs.StandsForLemmas.{same_user-refl, same_user-true}
-use Rattle.command_lang.specs.command.Command.{Command as Order}
+use Rattle.command_lang.specs.declared.command.Command.{Command as Order}
 use Rattle.command_lang.specs.Names.{name_of}
 use Rattle.regions.specs.Layouts.{Arrangement}
 use Rattle.session_model.specs.Tables.{Tables, Client, row_of, with_row, client_at, with_client, with_layout, focused}

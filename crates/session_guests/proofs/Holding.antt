@@ -14,8 +14,8 @@ use Rattle.acl.specs.declared.act.LockMode.TheVariants.{Off, Auto, On}
 use Rattle.acl.specs.declared.act.Object.TheVariants as object
 use Rattle.acl.specs.History.{History, followed_by, may}
 use Rattle.writelock.specs.Holding.{holder, is_off}
-use Rattle.command_lang.specs.command.Command.{Command as Order}
-use Rattle.command_lang.specs.command.Command.TheVariants as command
+use Rattle.command_lang.specs.declared.command.Command.{Command as Order}
+use Rattle.command_lang.specs.declared.command.Command.TheVariants as command
 use Rattle.command_lang.specs.Names.{name_of}
 use Rattle.session_model.specs.declared.check.Check.{Check}
 use Rattle.session_model.specs.Checks.{first_fault, checks_by, window_checks}

@@ -11,8 +11,8 @@ use Rattle.acl.specs.History.{followed_by}
 use Rattle.acl.specs.Same.{same_user}
 use Rattle.acl.proofs.StandsForLemmas.{same_user-true}
 use Rattle.writelock.specs.Holding.{holder}
-use Rattle.command_lang.specs.command.Command.{Command as Order}
-use Rattle.command_lang.specs.command.Command.TheVariants as command
+use Rattle.command_lang.specs.declared.command.Command.{Command as Order}
+use Rattle.command_lang.specs.declared.command.Command.TheVariants as command
 use Rattle.command_lang.specs.Names.{name_of}
 use Rattle.command_lang.specs.Needs.{needs}
 use Rattle.session_model.specs.Checks.{first_fault, checks_by}

@@ -9,7 +9,7 @@ use Rattle.acl.specs.declared.act.Act.{Act}
 use Rattle.acl.specs.declared.bits.Bit.TheVariants.{Execute}
 use Rattle.acl.specs.declared.act.Object.TheVariants as object
 use Rattle.acl.specs.declared.command_name.CommandName.TheVariants as name
-use Rattle.command_lang.specs.command.Command.{Command as Order}
+use Rattle.command_lang.specs.declared.command.Command.{Command as Order}
 use Rattle.terminal_model.specs.Writing as written
 use Rattle.session_model.specs.declared.event.Effect.{Effect}
 use Rattle.session_model.specs.declared.event.Reason.TheVariants as reason

@@ -18,8 +18,8 @@ use Rattle.acl.specs.History.{followed_by}
 use Rattle.acl.proofs.StandsForLemmas.{same_user-true}
 use Rattle.writelock.specs.Holding.{holder, clients_of}
 use Rattle.writelock.specs.LockTable.{stops_nobody_but}
-use Rattle.command_lang.specs.command.Command.{Command as Order}
-use Rattle.command_lang.specs.command.Command.TheVariants as command
+use Rattle.command_lang.specs.declared.command.Command.{Command as Order}
+use Rattle.command_lang.specs.declared.command.Command.TheVariants as command
 use Rattle.command_lang.specs.Names.{name_of}
 use Rattle.session_model.specs.declared.check.Check.TheVariants.{Unlocked as unlocked}
 use Rattle.session_model.specs.declared.event.Reason.TheVariants as reason

@@ -17,13 +17,13 @@ use Rattle.acl.specs.History.{History, followed_by}
 use Rattle.acl.specs.Same.{same_user}
 use Rattle.writelock.specs.Holding.{holder, given, kept, releases, or_else, clients_of}
 use Rattle.writelock.specs.LockTable.{frees}
-use Rattle.command_lang.specs.command.Command.{Command as Order}
-use Rattle.command_lang.specs.command.Command.TheVariants as command
+use Rattle.command_lang.specs.declared.command.Command.{Command as Order}
+use Rattle.command_lang.specs.declared.command.Command.TheVariants as command
 use Rattle.session_model.specs.Promises.{IsOn}
 use Rattle.session_model.specs.declared.check.Check.TheVariants.{Right as right, Unlocked as unlocked}
 use Rattle.session_model.specs.Checks.{first_fault, window_checks, where_needed}
 use Rattle.session_model.specs.Rights.{may_in, holder_in}
-use Rattle.command_lang.specs.needs.Needs.{Needs}
+use Rattle.command_lang.specs.declared.needs.Needs.{Needs}
 use Rattle.std.specs.Option.{option_map}
 use Rattle.acl.specs.declared.act.Object.TheVariants as object
 use Rattle.acl.specs.declared.bits.Bit.TheVariants.{Write, Execute}

@@ -15,8 +15,8 @@ use Rattle.acl.specs.Names.{named_by}
 use Rattle.acl.specs.Same.{same_user}
 use Rattle.acl.proofs.StandsForLemmas.{same_user-true}
 use Rattle.writelock.specs.LockTable.{frees}
-use Rattle.command_lang.specs.command.Command.{Command as Order}
-use Rattle.command_lang.specs.command.Command.TheVariants as command
+use Rattle.command_lang.specs.declared.command.Command.{Command as Order}
+use Rattle.command_lang.specs.declared.command.Command.TheVariants as command
 use Rattle.command_lang.specs.Needs.{needs, of_lock}
 use Rattle.regions.specs.Layouts.{Arrangement}
 use Rattle.session_model.specs.declared.message.Message.{Message}

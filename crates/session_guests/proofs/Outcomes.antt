@@ -10,8 +10,8 @@ use Rattle.acl.specs.declared.bits.Bit.TheVariants.{Execute}
 use Rattle.acl.specs.declared.command_name.CommandName.TheVariants.{Screen}
 use Rattle.acl.specs.declared.act.Act.TheVariants as act
 use Rattle.acl.specs.History.{followed_by}
-use Rattle.command_lang.specs.command.Command.{Command as Order}
-use Rattle.command_lang.specs.fault.ParseFault.{ParseFault}
+use Rattle.command_lang.specs.declared.command.Command.{Command as Order}
+use Rattle.command_lang.specs.declared.fault.ParseFault.{ParseFault}
 use Rattle.regions.specs.Layouts.{one_region}
 use Rattle.terminal_model.specs.Shows.{View}
 use Rattle.session_model.specs.declared.check.Check.{Check}

@@ -11,8 +11,8 @@ use Rattle.acl.specs.declared.act.Object.{Object}
 use Rattle.acl.specs.declared.faults.AclFault.{AclFault}
 use Rattle.acl.specs.Names.{named_by}
 use Rattle.acl.specs.Commands.{change_fault}
-use Rattle.command_lang.specs.command.Command.{Command as Order}
-use Rattle.command_lang.specs.command.Command.TheVariants as command
+use Rattle.command_lang.specs.declared.command.Command.{Command as Order}
+use Rattle.command_lang.specs.declared.command.Command.TheVariants as command
 use Rattle.regions.specs.declared.rect.Rect.{Rect}
 use Rattle.regions.specs.Layouts.{Arrangement}
 use Rattle.terminal_model.specs.Writing.{Writing}

@@ -5,8 +5,8 @@ use Rattle.acl.specs.declared.user_id.UserId.{UserId}
 use Rattle.acl.specs.declared.bits.Bit.TheVariants.{Write, Execute}
 use Rattle.acl.specs.declared.command_name.CommandName.{CommandName}
 use Rattle.acl.specs.declared.act.Object.TheVariants as object
-use Rattle.command_lang.specs.command.Command.{Command as Order}
-use Rattle.command_lang.specs.command.Command.TheVariants as command
+use Rattle.command_lang.specs.declared.command.Command.{Command as Order}
+use Rattle.command_lang.specs.declared.command.Command.TheVariants as command
 use Rattle.session_model.specs.Trace.{EventValue, Attach, Detach, Keys, Command, Resize, Open}
 use Rattle.session_model.specs.Trace.{Output, Closed, Draw, Entry, Trace}
 use Rattle.session_model.specs.Tables.{Tables, Client, client_at}

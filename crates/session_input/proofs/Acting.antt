@@ -2,8 +2,8 @@
 use Rattle.std.proofs.Common.{◌≡◌, true, ℕ, List, Option, Some, None, Ok, Err, ap, sym, ◌∙◌, inr}
 use Rattle.std.specs.Prelude.{Result, IfOk}
 use Rattle.std.specs.Option.{is_some}
-use Rattle.command_lang.specs.command.Command.{Command}
-use Rattle.command_lang.specs.command.Command.TheVariants as command
+use Rattle.command_lang.specs.declared.command.Command.{Command}
+use Rattle.command_lang.specs.declared.command.Command.TheVariants as command
 use Rattle.session_input.specs.Acting.{acts_on_client}
 use Rattle.session_model.specs.declared.refusal.Refusal.{Refusal}
 use Rattle.session_model.specs.declared.refusal.Refusal.TheVariants.{NoWindow}

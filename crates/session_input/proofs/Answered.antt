@@ -2,10 +2,10 @@
 use Rattle.std.proofs.Common.{◌≡◌, ℕ, true, false, List, [], Option, Some, None}
 use Rattle.std.proofs.Common.{Result, Ok, Err, refl, ap, sym, ◌∙◌, append-nil, inl, inr}
 use Rattle.std.specs.Prelude.{◌⊎◌}
-use Rattle.command_lang.specs.command.Command.{Command}
-use Rattle.command_lang.specs.fault.ParseFault.{ParseFault}
-use Rattle.command_lang.specs.fault.FaultKind.{FaultKind}
-use Rattle.command_lang.specs.fault.FaultKind.TheVariants as fault
+use Rattle.command_lang.specs.declared.command.Command.{Command}
+use Rattle.command_lang.specs.declared.fault.ParseFault.{ParseFault}
+use Rattle.command_lang.specs.declared.fault.FaultKind.{FaultKind}
+use Rattle.command_lang.specs.declared.fault.FaultKind.TheVariants as fault
 use Rattle.command_lang.specs.Relation.{Relates, Refuses, read_line}
 use Rattle.command_lang.specs.LineFaults.{no_memory}
 use Rattle.command_lang.proofs.OneReading.{relates-reads, refuses-reads}

@@ -3,8 +3,8 @@ use Rattle.std.proofs.Common.{◌≡◌, ℕ, true, false, List, [], ◌∷◌, 
 use Rattle.std.proofs.Common.{length, inl, inr}
 use Rattle.std.specs.Prelude.{◌⊎◌, ◌==◌, IfOk}
 use Rattle.std.specs.declared.alloc.AllocError.{AllocError}
-use Rattle.command_lang.specs.command.Command.{Command}
-use Rattle.command_lang.specs.fault.ParseFault.{ParseFault}
+use Rattle.command_lang.specs.declared.command.Command.{Command}
+use Rattle.command_lang.specs.declared.fault.ParseFault.{ParseFault}
 use Rattle.command_lang.specs.Relation.{Relates, Refuses, read_line}
 use Rattle.command_lang.specs.LineFaults.{no_memory}
 use Rattle.command_lang.proofs.OneReading.{relates-reads, refuses-reads}

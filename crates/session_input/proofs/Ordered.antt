@@ -2,7 +2,7 @@
 use Rattle.std.proofs.Common.{◌≡◌, ℕ, true, false, List, ◌++◌, Option, Some, None, Result, Ok, Err, ap}
 use Rattle.std.proofs.Common.{sym, subst, ◌∙◌, append-nil, append_assoc, inl, inr}
 use Rattle.std.specs.Prelude.{OnOk}
-use Rattle.command_lang.specs.command.Command.{Command}
+use Rattle.command_lang.specs.declared.command.Command.{Command}
 use Rattle.session_model.specs.declared.event.Effect.{Effect}
 use Rattle.session_model.specs.declared.message.Message.TheVariants.{Text}
 use Rattle.session_model.specs.declared.refusal.Refusal.{Refusal}

@@ -1,7 +1,7 @@
 -- Commands that act on the client that gives them.
 use Rattle.std.specs.Prelude.{Bool, true, false}
-use Rattle.command_lang.specs.command.Command.{Command}
-use Rattle.command_lang.specs.command.Command.TheVariants as command
+use Rattle.command_lang.specs.declared.command.Command.{Command}
+use Rattle.command_lang.specs.declared.command.Command.TheVariants as command
 
 abbrev pub acts_on_client : Command → Bool
 acts_on_client command.Detach = true

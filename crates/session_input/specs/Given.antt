@@ -1,9 +1,9 @@
 -- The command that keys give.
 use Rattle.std.specs.Prelude.{ℕ, Bool, true, false, List, [], ◌∷◌, Option, Some, None, Result, Ok}
-use Rattle.command_lang.specs.fault.FaultKind.{FaultKind}
-use Rattle.command_lang.specs.fault.FaultKind.TheVariants.{NoMemory}
-use Rattle.command_lang.specs.command.Command.{Command}
-use Rattle.command_lang.specs.fault.ParseFault.{ParseFault}
+use Rattle.command_lang.specs.declared.fault.FaultKind.{FaultKind}
+use Rattle.command_lang.specs.declared.fault.FaultKind.TheVariants.{NoMemory}
+use Rattle.command_lang.specs.declared.command.Command.{Command}
+use Rattle.command_lang.specs.declared.fault.ParseFault.{ParseFault}
 use Rattle.keys.specs.Grammar.{Item, bound, line}
 use Rattle.session_model.specs.Lines.{read_line}
 use Rattle.session_model.specs.Tables.{Tables, Client}

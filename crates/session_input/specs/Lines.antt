@@ -1,10 +1,10 @@
 -- Lines that users give, and the windows that they are for.
 use Rattle.std.specs.Prelude.{ℕ, ◌≡◌, ◌⊎◌, List, Option, Result, Ok, Err}
 use Rattle.std.specs.Option.{option_and_then}
-use Rattle.command_lang.specs.command.Command.{Command}
-use Rattle.command_lang.specs.fault.ParseFault.{ParseFault}
-use Rattle.command_lang.specs.fault.FaultKind.{FaultKind}
-use Rattle.command_lang.specs.fault.FaultKind.TheVariants as fault
+use Rattle.command_lang.specs.declared.command.Command.{Command}
+use Rattle.command_lang.specs.declared.fault.ParseFault.{ParseFault}
+use Rattle.command_lang.specs.declared.fault.FaultKind.{FaultKind}
+use Rattle.command_lang.specs.declared.fault.FaultKind.TheVariants as fault
 use Rattle.session_model.specs.declared.refusal.Refusal.{Refusal}
 use Rattle.session_model.specs.declared.refusal.Refusal.TheVariants.{NoMemory, Line}
 use Rattle.session_model.specs.Tables.{Tables, window_at}

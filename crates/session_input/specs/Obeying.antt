@@ -1,7 +1,7 @@
 -- Commands that a client gives by keys.
 use Rattle.std.specs.Prelude.{ℕ, ◌≡◌, ◌++◌, List, Option, Some, Result}
-use Rattle.command_lang.specs.command.Command.{Command}
-use Rattle.command_lang.specs.fault.ParseFault.{ParseFault}
+use Rattle.command_lang.specs.declared.command.Command.{Command}
+use Rattle.command_lang.specs.declared.fault.ParseFault.{ParseFault}
 use Rattle.session_model.specs.declared.verdict.Verdict.{Verdict}
 use Rattle.session_model.specs.Tables.{Tables, Client, client_at}
 use Rattle.session_state.specs.declared.caller.Caller.{Caller}

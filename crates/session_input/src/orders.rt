@@ -9,7 +9,10 @@ ghost use Rattle.session_input.specs.Acting.{acts_on_client};
 ghost use Rattle.session_input.specs.Ruled.{Rules};
 
 use command_lang::Command;
-use session_access::{acladd, aclchg, acldel, aclgrp, aclgrp_of, aclumask, check_command, detach, kill, multiuser, quit};
+use session_access::{
+    acladd, aclchg, acldel, aclgrp, aclgrp_of, aclumask, check_command, detach, kill, multiuser,
+    quit,
+};
 use session_commands::{
     clear, client_of, defwritelock, displays, encoding, fit, focus, next, number, only, other,
     prev, remove, reset, screen, scrollview, select, split, stuff, title, wall, windows, writelock,

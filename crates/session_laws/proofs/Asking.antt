@@ -9,9 +9,9 @@ use Rattle.acl.specs.declared.bits.Bit.TheVariants.{Write, Execute}
 use Rattle.acl.specs.declared.act.Object.{Object}
 use Rattle.acl.specs.declared.act.Object.TheVariants as object
 use Rattle.acl.specs.declared.command_name.CommandName.TheVariants.{Screen}
-use Rattle.command_lang.specs.command.Command.{Command as Order}
+use Rattle.command_lang.specs.declared.command.Command.{Command as Order}
 use Rattle.command_lang.specs.Names.{name_of}
-use Rattle.command_lang.specs.fault.ParseFault.{ParseFault}
+use Rattle.command_lang.specs.declared.fault.ParseFault.{ParseFault}
 use Rattle.session_model.specs.declared.refusal.Refusal.{Refusal}
 use Rattle.session_model.specs.declared.verdict.Verdict.{Verdict}
 use Rattle.session_model.specs.Trace.{EventValue, Keys, Command, Open, Reply}

@@ -9,7 +9,7 @@ use Rattle.acl.specs.declared.user_id.UserId.{UserId}
 use Rattle.acl.specs.declared.act.Act.{Act}
 use Rattle.acl.specs.declared.act.Act.TheVariants as act
 use Rattle.acl.specs.Names.{named_by}
-use Rattle.command_lang.specs.command.Command.{Command as Order}
+use Rattle.command_lang.specs.declared.command.Command.{Command as Order}
 use Rattle.regions.specs.declared.shown.Shown.{Shown}
 use Rattle.regions.specs.Layouts.{Arrangement, emptied}
 use Rattle.session_model.specs.declared.event.Reason.{Reason}

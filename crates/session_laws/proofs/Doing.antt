@@ -4,7 +4,7 @@ use Rattle.std.specs.Option.{option_and_then}
 use Rattle.acl.specs.declared.act.Act.{Act}
 use Rattle.acl.specs.declared.act.Object.{Object}
 use Rattle.acl.specs.declared.faults.AclFault.{AclFault}
-use Rattle.command_lang.specs.command.Command.{Command as Order}
+use Rattle.command_lang.specs.declared.command.Command.{Command as Order}
 use Rattle.session_model.specs.declared.refusal.Refusal.{Refusal}
 use Rattle.session_model.specs.declared.refusal.Refusal.TheVariants.{EntryDenied, LockDenied, Acl, Windows, NoWindow}
 use Rattle.session_model.specs.windows_fault.WindowsFault.TheVariants.{NoSuchWindow}

@@ -6,7 +6,7 @@ use Rattle.std.specs.List.{AllByRecursion}
 use Rattle.std.specs.Option.{option_and_then}
 use Rattle.acl.specs.declared.user_id.UserId.{UserId}
 use Rattle.acl.specs.Names.{named_by}
-use Rattle.command_lang.specs.command.Command.{Command as Order}
+use Rattle.command_lang.specs.declared.command.Command.{Command as Order}
 use Rattle.regions.specs.Layouts.{one_region, empty}
 use Rattle.session_model.specs.declared.message.Message.TheVariants as message
 use Rattle.session_model.specs.Tables.{Tables, Window, Client, with_row, client_at, with_client}

@@ -6,8 +6,8 @@ use Rattle.std.specs.Prelude.{if◌then◌else◌, ◌==◌, take, slice_get, un
 use Rattle.std.specs.List.{AllByRecursion}
 use Rattle.std.specs.Option.{option_and_then}
 use Rattle.acl.specs.declared.user_id.UserId.{UserId}
-use Rattle.command_lang.specs.command.Command.{Command as Order}
-use Rattle.command_lang.specs.fault.ParseFault.{ParseFault}
+use Rattle.command_lang.specs.declared.command.Command.{Command as Order}
+use Rattle.command_lang.specs.declared.fault.ParseFault.{ParseFault}
 use Rattle.keys.specs.Grammar.{Item}
 use Rattle.regions.specs.declared.shown.Shown.{Shown}
 use Rattle.regions.specs.Layouts.{Arrangement, empty, kept_alone}

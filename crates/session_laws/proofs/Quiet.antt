@@ -2,8 +2,8 @@
 use Rattle.std.proofs.Common.{◌≡◌, ℕ, Bool, true, false, not, List, [], ◌∷◌, ◌++◌, Option, Some, None, Ok, Err, map}
 use Rattle.std.proofs.Common.{filter, refl, ap, sym, ◌∙◌, true≢false}
 use Rattle.std.specs.Prelude.{◌==◌, codes}
-use Rattle.command_lang.specs.command.Command.{Command}
-use Rattle.command_lang.specs.command.Command.TheVariants as command
+use Rattle.command_lang.specs.declared.command.Command.{Command}
+use Rattle.command_lang.specs.declared.command.Command.TheVariants as command
 use Rattle.session_model.specs.declared.event.Effect.TheVariants.{Say, GoneWindow, GoneClient}
 use Rattle.session_model.specs.declared.event.Reason.{Reason}
 use Rattle.session_model.specs.declared.event.Reason.TheVariants.{Detached, Killed, Removed, SingleUser, Quit}

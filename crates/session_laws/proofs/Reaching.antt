@@ -10,9 +10,9 @@ use Rattle.acl.specs.declared.bits.Bit.TheVariants.{Write, Execute}
 use Rattle.acl.specs.declared.act.Object.TheVariants as object
 use Rattle.acl.specs.declared.command_name.CommandName.TheVariants as names
 use Rattle.writelock.specs.LockTable.{stops_nobody_but}
-use Rattle.command_lang.specs.command.Command.{Command as Order}
-use Rattle.command_lang.specs.command.Command.TheVariants as command
-use Rattle.command_lang.specs.fault.ParseFault.{ParseFault}
+use Rattle.command_lang.specs.declared.command.Command.{Command as Order}
+use Rattle.command_lang.specs.declared.command.Command.TheVariants as command
+use Rattle.command_lang.specs.declared.fault.ParseFault.{ParseFault}
 use Rattle.keys.specs.Grammar.{Item, typed, bound, line}
 use Rattle.terminal_model.specs.Reading.{reads}
 use Rattle.session_model.specs.declared.event.Effect.{Effect}

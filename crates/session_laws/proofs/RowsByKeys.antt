@@ -4,8 +4,8 @@ use Rattle.std.proofs.Common.{◌∙◌, subst, map, take}
 use Rattle.std.specs.List.{AllByRecursion}
 use Rattle.acl.specs.declared.act.Act.{Act}
 use Rattle.acl.specs.History.{followed_by}
-use Rattle.command_lang.specs.command.Command.{Command as Order}
-use Rattle.command_lang.specs.fault.ParseFault.{ParseFault}
+use Rattle.command_lang.specs.declared.command.Command.{Command as Order}
+use Rattle.command_lang.specs.declared.fault.ParseFault.{ParseFault}
 use Rattle.keys.specs.Grammar.{Item, typed, bound, line}
 use Rattle.session_model.specs.declared.event.Effect.{Effect}
 use Rattle.session_model.specs.declared.event.Effect.TheVariants.{Say}

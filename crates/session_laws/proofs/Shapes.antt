@@ -13,11 +13,11 @@ use Rattle.acl.specs.declared.bits.BitChange.{BitChange}
 use Rattle.acl.specs.declared.user_id.UserId.{UserId}
 use Rattle.acl.specs.Names.{named_by, name_of}
 use Rattle.acl.specs.Commands.{change_fault, known_name_fault, group_acts, mask_fault, mask_acts}
-use Rattle.command_lang.specs.command.Command.{Command as Order}
-use Rattle.command_lang.specs.command.Command.TheVariants as command
-use Rattle.command_lang.specs.command.Leader.{Leader}
-use Rattle.command_lang.specs.command.Mask.{Mask}
-use Rattle.command_lang.specs.command.Users.{Users}
+use Rattle.command_lang.specs.declared.command.Command.{Command as Order}
+use Rattle.command_lang.specs.declared.command.Command.TheVariants as command
+use Rattle.command_lang.specs.declared.command.Leader.{Leader}
+use Rattle.command_lang.specs.declared.command.Mask.{Mask}
+use Rattle.command_lang.specs.declared.command.Users.{Users}
 use Rattle.regions.specs.Layouts.{Arrangement, empty}
 use Rattle.terminal_model.specs.Writing.{Writing}
 use Rattle.terminal_model.specs.Writing as written

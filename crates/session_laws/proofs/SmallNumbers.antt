@@ -5,10 +5,10 @@ use Rattle.std.specs.Prelude.{◌==◌, if◌then◌else◌, find, length}
 use Rattle.std.specs.List.{AllByRecursion, list_all}
 use Rattle.std.specs.Option.{option_map, option_map_or}
 use Rattle.std.specs.Str.{chars}
-use Rattle.command_lang.specs.command.Command.{Command as Order}
+use Rattle.command_lang.specs.declared.command.Command.{Command as Order}
 pub use Rattle.command_lang.proofs.Numbers.{is_small, small_below}
 use Rattle.command_lang.proofs.Numbers.{AreSmall, line_small}
-use Rattle.command_lang.specs.fault.ParseFault.{ParseFault}
+use Rattle.command_lang.specs.declared.fault.ParseFault.{ParseFault}
 use Rattle.command_lang.specs.Lines.{words}
 use Rattle.command_lang.specs.Meaning.{line_command}
 use Rattle.command_lang.specs.Table.{first_of}

@@ -6,8 +6,8 @@ use Rattle.std.specs.List.{AllByRecursion, flat_map}
 use Rattle.std.specs.Option.{option_map_or}
 use Rattle.acl.specs.declared.edition.Edition.{Edition}
 use Rattle.acl.specs.declared.user_id.UserId.{UserId}
-use Rattle.command_lang.specs.command.Command.{Command as Order}
-use Rattle.command_lang.specs.fault.ParseFault.{ParseFault}
+use Rattle.command_lang.specs.declared.command.Command.{Command as Order}
+use Rattle.command_lang.specs.declared.fault.ParseFault.{ParseFault}
 use Rattle.keys.specs.Grammar.{Item, typed, bound, line}
 use Rattle.terminal_model.specs.Reading.{reads}
 use Rattle.terminal_model.specs.Writing.{Writing}

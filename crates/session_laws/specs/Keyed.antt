@@ -2,7 +2,7 @@
 use Rattle.std.specs.Prelude.{◌≡◌, ℕ, true, List, [], ◌∷◌, ◌++◌, Option, Some, None, Ok, Err, take}
 use Rattle.std.specs.List.{AllByRecursion}
 use Rattle.acl.specs.History.{followed_by}
-use Rattle.command_lang.specs.command.Command.{Command as Order}
+use Rattle.command_lang.specs.declared.command.Command.{Command as Order}
 use Rattle.keys.specs.Grammar.{Item, bound, line}
 use Rattle.session_model.specs.declared.event.Effect.{Effect}
 use Rattle.session_model.specs.declared.event.Effect.TheVariants.{Say}

@@ -2,8 +2,8 @@
 use Rattle.std.specs.Prelude.{◌≡◌, ℕ, Bool, false, ◌==◌, List, [], ◌∷◌, ◌++◌}
 use Rattle.std.specs.Prelude.{Option, Some, None, Ok, if◌then◌else◌}
 use Rattle.std.specs.List.{flat_map}
-use Rattle.command_lang.specs.command.Command.{Command as Order}
-use Rattle.command_lang.specs.command.Command.TheVariants as command
+use Rattle.command_lang.specs.declared.command.Command.{Command as Order}
+use Rattle.command_lang.specs.declared.command.Command.TheVariants as command
 use Rattle.terminal_model.specs.Writing.{Writing}
 use Rattle.terminal_model.specs.Writing as written
 use Rattle.session_model.specs.declared.event.Effect.{Effect}

@@ -7,12 +7,12 @@ use Rattle.acl.specs.declared.user_id.UserId.{UserId}
 use Rattle.acl.specs.declared.bits.Bit.TheVariants.{Write, Execute}
 use Rattle.acl.specs.declared.act.Object.TheVariants as object
 use Rattle.writelock.specs.LockTable.{stops_nobody_but}
-use Rattle.command_lang.specs.command.Command.{Command}
+use Rattle.command_lang.specs.declared.command.Command.{Command}
 use Rattle.command_lang.specs.Names.{name_of}
 use Rattle.session_model.specs.declared.check.Check.{Check}
 use Rattle.session_model.specs.declared.check.Check.TheVariants.{Right as right}
 use Rattle.session_model.specs.declared.check.Check.TheVariants.{Unlocked as unlocked, Must as must}
-use Rattle.command_lang.specs.needs.Needs.{Needs}
+use Rattle.command_lang.specs.declared.needs.Needs.{Needs}
 use Rattle.session_model.specs.declared.refusal.Refusal.{Refusal}
 use Rattle.session_model.specs.declared.refusal.Refusal.TheVariants.{NotMultiuser, NoWindow}
 use Rattle.session_model.specs.declared.verdict.Verdict.{Verdict}

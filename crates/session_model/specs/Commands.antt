@@ -16,11 +16,11 @@ use Rattle.acl.specs.declared.faults.AclFault.{AclFault}
 use Rattle.acl.specs.Names.{named_by, name_of}
 use Rattle.acl.specs.Commands.{change_acts}
 use Rattle.acl.specs.Commands.{known_name_fault, group_acts, mask_fault, mask_acts}
-use Rattle.command_lang.specs.command.Command.{Command}
-use Rattle.command_lang.specs.command.Command.TheVariants as command
-use Rattle.command_lang.specs.command.Mask.{Mask}
-use Rattle.command_lang.specs.command.Coding.{Coding}
-use Rattle.command_lang.specs.command.Coding.TheVariants as coding
+use Rattle.command_lang.specs.declared.command.Command.{Command}
+use Rattle.command_lang.specs.declared.command.Command.TheVariants as command
+use Rattle.command_lang.specs.declared.command.Mask.{Mask}
+use Rattle.command_lang.specs.declared.command.Coding.{Coding}
+use Rattle.command_lang.specs.declared.command.Coding.TheVariants as coding
 use Rattle.charsets.specs.declared.unit.Coding as charsets
 use Rattle.charsets.specs.declared.unit.Coding.TheVariants as units
 use Rattle.regions.specs.declared.way.Way.{Way}

@@ -12,8 +12,8 @@ use Rattle.acl.specs.declared.act.Object.TheVariants as object
 use Rattle.acl.specs.declared.command_name.CommandName.TheVariants.{Screen}
 use Rattle.acl.specs.Names.{name_of, named_by}
 use Rattle.acl.specs.Same.{same_user}
-use Rattle.command_lang.specs.command.Command.{Command as Order}
-use Rattle.command_lang.specs.command.Command.TheVariants as command
+use Rattle.command_lang.specs.declared.command.Command.{Command as Order}
+use Rattle.command_lang.specs.declared.command.Command.TheVariants as command
 use Rattle.command_lang.specs.Names as names
 use Rattle.session_model.specs.declared.event.Effect.{Effect}
 use Rattle.session_model.specs.declared.event.Effect.TheVariants.{Say}

@@ -17,11 +17,11 @@ use Rattle.acl.specs.declared.entries.MaskEntry.{MaskEntry}
 use Rattle.acl.specs.declared.entries.MaskScope.{MaskScope}
 use Rattle.acl.specs.declared.entries.MaskScope.TheVariants as scope
 use Rattle.acl.specs.Names.{named_by}
-use Rattle.command_lang.specs.command.Users.{Users}
-use Rattle.command_lang.specs.command.Users.TheVariants as users
-use Rattle.command_lang.specs.command.Leader.{Leader}
-use Rattle.command_lang.specs.command.Leader.TheVariants as leader
-use Rattle.command_lang.specs.command.Mask.{Mask}
+use Rattle.command_lang.specs.declared.command.Users.{Users}
+use Rattle.command_lang.specs.declared.command.Users.TheVariants as users
+use Rattle.command_lang.specs.declared.command.Leader.{Leader}
+use Rattle.command_lang.specs.declared.command.Leader.TheVariants as leader
+use Rattle.command_lang.specs.declared.command.Mask.{Mask}
 use Rattle.command_lang.specs.Names.{all_names, command_named}
 use Rattle.session_model.specs.Tables.{Window, Tables, others}
 pub use Rattle.windows_model.specs.Naming.{has_number, with_number, lower, lowest, higher, highest}

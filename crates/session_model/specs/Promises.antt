@@ -10,8 +10,8 @@ use Rattle.acl.specs.declared.act.Object.TheVariants as object
 use Rattle.acl.specs.Names.{name_of, named_by}
 use Rattle.acl.specs.Same.{same_user}
 use Rattle.writelock.specs.LockTable.{stops_nobody_but}
-use Rattle.command_lang.specs.command.Command.{Command as Order}
-use Rattle.command_lang.specs.command.Command.TheVariants as command
+use Rattle.command_lang.specs.declared.command.Command.{Command as Order}
+use Rattle.command_lang.specs.declared.command.Command.TheVariants as command
 use Rattle.terminal_model.specs.Reading.{reads}
 use Rattle.terminal_model.specs.Shows.{ShowsFromAny}
 use Rattle.session_model.specs.declared.event.Effect.{Effect}

@@ -3,7 +3,7 @@ use Rattle.std.specs.Prelude.{ℕ, ◌≡◌, ◌⊎◌, ◌≤◌, ◌+◌, ◌
 use Rattle.std.specs.Prelude.{vec_len, vec_capacity, Some, IfOk, OnOk, OnErr}
 use Rattle.std.specs.Option.{option_and_then}
 use Rattle.acl.specs.History.{followed_by}
-use Rattle.command_lang.specs.command.Command.{Command}
+use Rattle.command_lang.specs.declared.command.Command.{Command}
 use Rattle.session_model.specs.declared.refusal.Refusal.{Refusal}
 use Rattle.session_model.specs.declared.refusal.Refusal.TheVariants.{NoMemory}
 use Rattle.session_model.specs.Tables.{Tables, Client, window_at, client_at}

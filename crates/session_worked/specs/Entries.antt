@@ -4,15 +4,15 @@ use Rattle.acl.specs.declared.edition.Edition.TheVariants.{First, Second}
 use Rattle.acl.specs.declared.bits.Bit.TheVariants.{Read, Write, Execute}
 use Rattle.acl.specs.declared.act.Object.TheVariants as object
 use Rattle.acl.specs.declared.faults.AclFault.TheVariants as fault
-use Rattle.command_lang.specs.command.Command.TheVariants as command
-use Rattle.command_lang.specs.command.Mask.{Mask}
-use Rattle.command_lang.specs.command.Users.TheVariants.{Listed}
+use Rattle.command_lang.specs.declared.command.Command.TheVariants as command
+use Rattle.command_lang.specs.declared.command.Mask.{Mask}
+use Rattle.command_lang.specs.declared.command.Users.TheVariants.{Listed}
 use Rattle.session_model.specs.declared.event.Effect.TheVariants.{Input, Say, GoneClient}
 use Rattle.session_model.specs.declared.event.Reason.TheVariants as reason
 use Rattle.session_model.specs.declared.refusal.Refusal.TheVariants.{Acl}
 use Rattle.session_model.specs.Trace.{Keys}
 use Rattle.session_model.specs.Outcomes.{Outcome}
-use Rattle.command_lang.specs.command.Command.{Command as Order}
+use Rattle.command_lang.specs.declared.command.Command.{Command as Order}
 use Rattle.session_model.specs.Tables.{Tables}
 use Rattle.session_model.specs.Rights.{may_in}
 use Rattle.session_worked.specs.Setup.{user, own, bob, several, ordered, after, typed, changes, takes}

@@ -6,7 +6,7 @@ use Rattle.acl.specs.declared.command_name.CommandName.TheVariants as name
 use Rattle.acl.specs.declared.act.LockMode.TheVariants.{On}
 use Rattle.acl.specs.declared.act.Object.TheVariants as object
 use Rattle.acl.specs.Same.{same_user}
-use Rattle.command_lang.specs.command.Command.TheVariants as command
+use Rattle.command_lang.specs.declared.command.Command.TheVariants as command
 use Rattle.session_model.specs.Trace.{Keys}
 use Rattle.session_model.specs.Tables.{Tables, client_at}
 use Rattle.session_model.specs.Rights.{may_in, holder_in}

@@ -3,9 +3,9 @@ use Rattle.std.specs.Prelude.{◌≡◌, ℕ, false, List, [], ◌∷◌, Some, 
 use Rattle.acl.specs.declared.edition.Edition.TheVariants.{Second}
 use Rattle.acl.specs.declared.bits.Bit.TheVariants.{Write}
 use Rattle.acl.specs.declared.act.LockMode.TheVariants.{Off, On}
-use Rattle.command_lang.specs.command.Command.{Command as Order}
-use Rattle.command_lang.specs.command.Command.TheVariants as command
-use Rattle.command_lang.specs.command.Leader.TheVariants.{Nobody}
+use Rattle.command_lang.specs.declared.command.Command.{Command as Order}
+use Rattle.command_lang.specs.declared.command.Command.TheVariants as command
+use Rattle.command_lang.specs.declared.command.Leader.TheVariants.{Nobody}
 use Rattle.session_model.specs.Trace.{Closed, Attach, Keys}
 use Rattle.session_model.specs.Tables.{Tables}
 use Rattle.session_model.specs.Rights.{holder_in}

@@ -3,7 +3,7 @@ use Rattle.std.specs.Prelude.{◌≡◌, false, [], ◌∷◌, Some, None}
 use Rattle.std.specs.Prelude.{Err, codes, map}
 use Rattle.std.specs.List.{range_with_len}
 use Rattle.acl.specs.declared.edition.Edition.TheVariants.{Second}
-use Rattle.command_lang.specs.command.Command.TheVariants as command
+use Rattle.command_lang.specs.declared.command.Command.TheVariants as command
 use Rattle.session_model.specs.declared.event.Effect.TheVariants.{Input, Say, GoneWindow}
 use Rattle.session_model.specs.declared.event.Effect.TheVariants.{GoneClient}
 use Rattle.session_model.specs.declared.event.Reason.TheVariants as reason

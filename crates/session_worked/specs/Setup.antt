@@ -9,10 +9,10 @@ use Rattle.acl.specs.declared.act.Act.TheVariants as act
 use Rattle.acl.specs.History.{followed_by}
 use Rattle.acl.specs.declared.bits.Bit.{Bit}
 use Rattle.acl.specs.declared.bits.BitChange.{BitChange}
-use Rattle.command_lang.specs.command.Command.{Command as Order}
-use Rattle.command_lang.specs.command.Command.TheVariants as command
-use Rattle.command_lang.specs.command.Users.TheVariants.{Listed}
-use Rattle.command_lang.specs.command.Leader.TheVariants.{Named}
+use Rattle.command_lang.specs.declared.command.Command.{Command as Order}
+use Rattle.command_lang.specs.declared.command.Command.TheVariants as command
+use Rattle.command_lang.specs.declared.command.Users.TheVariants.{Listed}
+use Rattle.command_lang.specs.declared.command.Leader.TheVariants.{Named}
 use Rattle.regions.specs.Layouts.{one_region}
 use Rattle.session_model.specs.declared.event.Effect.{Effect}
 use Rattle.session_model.specs.declared.message.Message.TheVariants.{Silence}

@@ -7,9 +7,9 @@ use Rattle.acl.specs.declared.act.Act.TheVariants as act
 use Rattle.acl.specs.declared.act.Object.TheVariants as object
 use Rattle.acl.specs.declared.command_name.CommandName.TheVariants as name
 use Rattle.acl.specs.History.{followed_by}
-use Rattle.command_lang.specs.command.Command.TheVariants as command
-use Rattle.command_lang.specs.command.Mask.{Mask}
-use Rattle.command_lang.specs.command.Users.TheVariants.{Listed}
+use Rattle.command_lang.specs.declared.command.Command.TheVariants as command
+use Rattle.command_lang.specs.declared.command.Mask.{Mask}
+use Rattle.command_lang.specs.declared.command.Users.TheVariants.{Listed}
 use Rattle.session_model.specs.Tables.{Tables, fresh}
 use Rattle.session_model.specs.Rights.{may_in}
 use Rattle.session_guests.specs.Watching.{IsSpectator}

@@ -15,8 +15,8 @@ use Rattle.acl.specs.declared.user_id.UserId.{UserId}
 use Rattle.acl.specs.Commands.{number_of_fault}
 use Rattle.acl.specs.History.{among}
 use Rattle.acl.specs.Names.{name_of, named_by}
-use Rattle.command_lang.specs.fault.FaultKind.{FaultKind}
-use Rattle.command_lang.specs.fault.FaultKind.TheVariants as line
+use Rattle.command_lang.specs.declared.fault.FaultKind.{FaultKind}
+use Rattle.command_lang.specs.declared.fault.FaultKind.TheVariants as line
 use Rattle.command_lang.specs.FaultNumbers.{number_of}
 use Rattle.command_lang.specs.Names.{name_text}
 use Rattle.regions.specs.declared.fault.RegionFault.{RegionFault}

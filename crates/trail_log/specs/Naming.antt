@@ -6,9 +6,9 @@ use Rattle.acl.specs.declared.act.Act.{Act}
 use Rattle.acl.specs.declared.act.Act.TheVariants.{Closed}
 use Rattle.acl.specs.declared.user_id.UserId.{UserId}
 use Rattle.writelock.specs.Holding.{clients_after}
-use Rattle.command_lang.specs.command.Command.{Command}
-use Rattle.command_lang.specs.command.Command.TheVariants as command
-use Rattle.command_lang.specs.fault.ParseFault.{ParseFault}
+use Rattle.command_lang.specs.declared.command.Command.{Command}
+use Rattle.command_lang.specs.declared.command.Command.TheVariants as command
+use Rattle.command_lang.specs.declared.fault.ParseFault.{ParseFault}
 use Rattle.command_lang.specs.Relation.{read_line}
 use Rattle.session_model.specs.declared.verdict.Verdict.{Verdict}
 use Rattle.hub_trail.specs.declared.kept.Kept.{Kept}

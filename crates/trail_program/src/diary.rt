@@ -10,8 +10,8 @@ use acl::{Edition, UserId};
 use session_model::Bytes;
 use std::alloc::{AllocError, Global};
 use std::io::{self, BufRead, Write};
-use trail_lines::{Halt, Wrong, next_entry};
 use trail_confined::push_day;
+use trail_lines::{Halt, Wrong, next_entry};
 use trail_log::{Choice, Log, Wanted, push_end};
 
 /// A day, in milliseconds.

@@ -6,8 +6,8 @@ use crate::heading::heading_of;
 use acl::{Edition, Leaders, UserId};
 use std::alloc::Global;
 use std::io::{self, BufRead, BufReader, Read};
-use trail_lines::Audit;
 use trail_confined::{Question, power_deciders};
+use trail_lines::Audit;
 use trail_rights::{Decider, Settler, Sight, Watch, settings_of, watch_entries};
 
 /// What a pass looks for besides rights, locks and leaders.

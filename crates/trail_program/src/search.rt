@@ -6,8 +6,8 @@ use crate::words::{Asked, Titled};
 use acl::Object;
 use std::alloc::Global;
 use std::io::{self, BufRead, BufReader, Read, Write};
-use trail_lines::next_entry;
 use trail_confined::Question;
+use trail_lines::next_entry;
 use trail_log::{Choice, Log, Names};
 
 /// The open window that was given the title last.

@@ -11,8 +11,8 @@ ghost use Rattle.vt_screen_rows.specs.Acting.{ActsByAll, AreUnanswered, MovesLin
 ghost use Rattle.vt_screen_rows.specs.Displays.{IsFit, screen_of};
 
 use terminal_model::{Action, Report};
-use vt_screen_state::{Acts, Setting, control_action, sequence_acts};
 use vt_screen_rows::Display;
+use vt_screen_state::{Acts, Setting, control_action, sequence_acts};
 
 /// Performs the actions of a control function, in turn, and returns the answer.
 #[inline(always)]

@@ -25,8 +25,8 @@ use control_parser::{Func, Numerals, Sequence};
 use std::alloc::Global;
 use std::marker::Model;
 use terminal_model::{MAX_KEEP, Modes, Report};
-use vt_screen_state::{acts_of, escape_action, plain_escape_action};
 use vt_screen_rows::{Display, prints_ascii};
+use vt_screen_state::{acts_of, escape_action, plain_escape_action};
 
 // Wraps `Display`, whose rows are methods of another crate: an invariant there would have to be
 // shown after each field that a row sets.

@@ -8,9 +8,9 @@ use crate::titles::is_title;
 use cells::Cell;
 use charsets::Coding;
 use emulator::Emulator;
-use windows_model::{Serial, WindowsFault};
 use std::alloc::{AllocError, Global};
 use terminal_model::REPORT_BYTES;
+use windows_model::{Serial, WindowsFault};
 
 /// The screen of a program, with its serial, its number and its title.
 #[derive(Drop)]

@@ -9,9 +9,9 @@ use crate::numbers::{first_free, is_above, is_taken, numbered, numbered_by};
 use crate::titles::is_title;
 use crate::window::{Window, WindowSize};
 use charsets::Coding;
-use windows_model::{Rows, WindowsFault};
 use std::alloc::Global;
 use std::marker::Model;
+use windows_model::{Rows, WindowsFault};
 
 /// The open windows, in the order of rising serials. No two of them have the same number.
 pub struct Windows {

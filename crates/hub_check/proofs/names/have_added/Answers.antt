@@ -4,8 +4,8 @@ use Rattle.std.specs.List.{list_all}
 use Rattle.acl.specs.History.{users_of}
 use Rattle.acl.specs.Names.{named_by}
 use Rattle.acl.specs.Same.{same_user}
-use Rattle.command_lang.specs.command.Command.TheVariants as command
-use Rattle.command_lang.specs.command.Users.{Users}
+use Rattle.command_lang.specs.declared.command.Command.TheVariants as command
+use Rattle.command_lang.specs.declared.command.Users.{Users}
 use Rattle.hub_trail.specs.Legal.{has_act_of}
 use Rattle.hub_check.specs.Parts.{HaveActs}
 use Rattle.hub_check.proofs.Folding.{all_tells, all_mapped, others_have}

@@ -1,7 +1,7 @@
 use Rattle.std.proofs.Common.{◌≡◌, ◌∙◌, ◌⊎◌, ◌++◌, Some, None, Err, ap, refl, sym, subst, inr, arith}
 use Rattle.acl.specs.Names.{named_by}
 use Rattle.acl.specs.Commands.{known_name_fault}
-use Rattle.command_lang.specs.command.Command.TheVariants as command
+use Rattle.command_lang.specs.declared.command.Command.TheVariants as command
 use Rattle.session_model.specs.declared.refusal.Refusal.TheVariants.{NoMemory}
 use Rattle.session_model.specs.Tables.{known_users}
 use Rattle.session_model.specs.Deeds.{removes}

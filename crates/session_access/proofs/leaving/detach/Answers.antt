@@ -1,6 +1,6 @@
 use Rattle.std.proofs.Common.{subst, Ok, None}
 use Rattle.std.proofs.lemmas.Result.{err_from_is_err_and}
-use Rattle.command_lang.specs.command.Command.TheVariants as command
+use Rattle.command_lang.specs.declared.command.Command.TheVariants as command
 use Rattle.session_model.specs.Commands.{does}
 use Rattle.session_state.specs.Doing.{Answers, caller_in}
 use Rattle.session_access.specs.Settling.{detaching}

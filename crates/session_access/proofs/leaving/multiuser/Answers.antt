@@ -1,6 +1,6 @@
 use Rattle.std.proofs.Common.{◌≡◌, ◌∙◌, true, false, not, ap, refl, sym, subst, append-nil}
 use Rattle.acl.specs.declared.user_id.UserId.{UserId}
-use Rattle.command_lang.specs.command.Command.TheVariants as command
+use Rattle.command_lang.specs.declared.command.Command.TheVariants as command
 use Rattle.session_model.specs.declared.event.Reason.TheVariants as reason
 use Rattle.session_model.specs.Commands.{does}
 use Rattle.session_model.specs.Deeds.{changing, parts, is_of}

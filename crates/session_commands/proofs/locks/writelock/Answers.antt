@@ -2,7 +2,7 @@ use Rattle.std.proofs.Common.{◌≡◌, ◌∷◌, ◌++◌, [], ℕ, Ok, true,
 use Rattle.std.proofs.Common.{is_some}
 use Rattle.acl.specs.History.{is_open}
 use Rattle.acl.specs.declared.act.Act.TheVariants as act
-use Rattle.command_lang.specs.command.Command.TheVariants as command
+use Rattle.command_lang.specs.declared.command.Command.TheVariants as command
 use Rattle.session_model.specs.Tables.{Window}
 use Rattle.session_model.specs.Deeds.{acting}
 use Rattle.session_state.specs.Doing.{caller_in}

@@ -1,4 +1,4 @@
-use Rattle.command_lang.specs.command.Command.TheVariants as command
+use Rattle.command_lang.specs.declared.command.Command.TheVariants as command
 use Rattle.terminal_model.specs.Writing as terminal
 use Rattle.windows.specs.Standing.{written}
 use Rattle.session_commands.proofs.Changing.{change_done, clear_writes}

@@ -1,5 +1,5 @@
 use Rattle.std.proofs.Common.{Ok, subst}
-use Rattle.command_lang.specs.command.Command.TheVariants as command
+use Rattle.command_lang.specs.declared.command.Command.TheVariants as command
 use Rattle.charsets.specs.declared.unit.Coding.{Coding}
 use Rattle.terminal_model.specs.Writing as terminal
 use Rattle.session_model.specs.Commands.{coding_of}

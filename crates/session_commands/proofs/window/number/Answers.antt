@@ -1,6 +1,6 @@
 use Rattle.std.proofs.Common.{inr}
 use Rattle.std.proofs.lemmas.Result.{err_from_is_err_and}
-use Rattle.command_lang.specs.command.Command.TheVariants as command
+use Rattle.command_lang.specs.declared.command.Command.TheVariants as command
 use Rattle.windows.specs.Standing.{with_new_number}
 use Rattle.session_commands.proofs.Changing.{change_done, change_refused, number_changes}
 use Rattle.session_commands.proofs.window.number.Goals as goal

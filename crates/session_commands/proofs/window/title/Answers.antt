@@ -1,5 +1,5 @@
 use Rattle.std.proofs.lemmas.Result.{err_from_is_err_and}
-use Rattle.command_lang.specs.command.Command.TheVariants as command
+use Rattle.command_lang.specs.declared.command.Command.TheVariants as command
 use Rattle.windows.specs.Standing.{retitled}
 use Rattle.session_commands.proofs.Changing.{change_done, change_refused, title_changes}
 use Rattle.session_commands.proofs.window.title.Goals as goal

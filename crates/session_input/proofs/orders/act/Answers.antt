@@ -1,6 +1,6 @@
 use Rattle.std.proofs.Common.{sym, subst, ◌∙◌}
 use Rattle.std.proofs.lemmas.Result.{err_from_is_err_and}
-use Rattle.command_lang.specs.command.Command.{Command}
+use Rattle.command_lang.specs.declared.command.Command.{Command}
 use Rattle.session_state.specs.Doing.{Does}
 use Rattle.session_input.proofs.Acting.{nobody_gives}
 use Rattle.session_input.proofs.orders.act.Goals as goal
