@@ -2,6 +2,7 @@ pub mod Feeding
 pub mod Writings
 pub mod Backs
 pub mod RunLemmas
+pub mod Sequences
 pub mod LetterRuns
 pub mod Wholes
 pub mod LineRuns

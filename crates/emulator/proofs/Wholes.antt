@@ -10,7 +10,7 @@ use Rattle.control_parser.specs.declared.func.Func.{Func}
 use Rattle.control_parser.specs.declared.func.Func.TheVariants.{Print}
 use Rattle.control_parser.specs.Grammar.{is_graphic, nothing, functions}
 use Rattle.control_parser.specs.Kept.{kept}
-use Rattle.control_parser.specs.Spelling.{ReadsAs}
+use Rattle.control_parser.specs.Spelling.{ReadsAs, ReadsBehindCsi}
 use Rattle.control_parser.proofs.Pieces.{functions-graphic}
 use Rattle.terminal_model.specs.Screen.{Screen}
 use Rattle.terminal_model.specs.Table.{effect}
@@ -131,3 +131,26 @@ front-more (x ∷ y ∷ bytes) a b n h =
 -- the bytes after the first ones
 pub rest-lent : (bytes : List ℕ) (i : ℕ) → take (length bytes - i) (drop i bytes) ≡ drop i bytes
 rest-lent bytes i = take_all (length bytes - i) (drop i bytes) (omega (arith, length-drop i bytes))
+
+-- a control sequence
+pub sequence-taken : (old new : Parts) (x y : Screen) (bytes : List ℕ) (n : ℕ) (f : Func)
+    → ReadsBehindCsi n (take (length bytes - 2) (drop 2 bytes)) f
+    → y ≡ effect x f → y.state.coding ≡ x.state.coding → report x f ≡ []
+    → old.screen ≡ x → new.screen ≡ y → new.decoding ≡ old.decoding → new.parsing ≡ old.parsing
+    → take 2 bytes ≡ 0x1B ∷ 0x5B ∷ [] → IsBetween old → old.decoding.coding ≡ Utf8
+    → 0 < n → n + 2 ≤ length bytes → TakesWhole old bytes (n + 2) new
+sequence-taken old new x y bytes n f read e k r s s' d p begins between coding some room =
+    let whole : take (n + 2) bytes ≡ 0x1B ∷ 0x5B ∷ take n (take (length bytes - 2) (drop 2 bytes)) = front-more bytes 0x1B 0x5B n
+    begins ∙ ap (λ (v : List ℕ). 0x1B ∷ 0x5B ∷ take n v) (sym (rest-lent bytes 2)) in
+    let reads : ReadsAs Utf8 (take (n + 2) bytes) (f ∷ []) = subst (λ (v : List ℕ). ReadsAs Utf8 v (f ∷ [])) (sym whole)
+    (read some) in
+    let keeps : KeepsCoding old.screen f = subst (λ (z : Screen). KeepsCoding z f) (sym s)
+    (ap (λ (z : Screen). z.state.coding) (sym e) ∙ k) in
+    record {
+      taken = λ said t h.
+          quiet-has-read old new t (take (n + 2) bytes) said f between coding keeps reads
+          (s' ∙ e ∙ ap (λ (z : Screen). effect z f) (sym s)) d p (ap (λ (z : Screen). report z f) s ∙ r) h;
+      few = room;
+      decoding = d;
+      parsing = p;
+    }

@@ -17,7 +17,7 @@ ghost use Rattle.terminal_model.specs.Scrollback.{moved_back};
 use crate::moved_page::MovedPage;
 use cells::GridFault;
 use charsets::{Coding, Decoder, Unit, Units};
-use control_parser::{Parser, Sequence};
+use control_parser::Parser;
 use std::alloc::{AllocError, Global};
 use std::marker::Model;
 use terminal_model::{Modes, REPORT_BYTES, Report};
@@ -36,8 +36,6 @@ pub struct Emulator {
     pub(crate) decoder: Decoder,
     pub(crate) parser: Parser,
     pub(crate) screen: Screen,
-    /// Holds the control sequences that are read at once.
-    pub(crate) sequence: Sequence,
 }
 
 impl Drop for Emulator {
@@ -46,7 +44,6 @@ impl Drop for Emulator {
             decoder: _,
             parser: _,
             screen: _,
-            sequence: _,
         } = self;
     }
 }
@@ -79,7 +76,6 @@ impl Emulator {
             decoder: Decoder::new(),
             parser: Parser::new(),
             screen,
-            sequence: Sequence::new(),
         })
     }
 

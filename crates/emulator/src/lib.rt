@@ -4,6 +4,7 @@
 mod emulator;
 mod laws;
 mod moved_page;
+mod sequence;
 mod whole;
 
 pub use emulator::{Emulator, Stopped};

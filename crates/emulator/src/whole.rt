@@ -9,8 +9,9 @@ ghost use Rattle.control_parser.specs.declared.func.Func.TheVariants.{Esc};
 ghost use Rattle.emulator.specs.Standing.{HasTaken, TakesWhole, IsBetween};
 
 use crate::emulator::Emulator;
+use crate::sequence::{PARAMS, first_sequence};
 use charsets::{Coding, first_characters};
-use control_parser::{Numerals, plain_run};
+use control_parser::plain_run;
 
 const CAN: u8 = 0x18;
 
@@ -37,12 +38,16 @@ impl Emulator {
     }
 
     /// Reads the complete functions at the beginning of some bytes, as long as they aren't
-    /// answered, and returns their number of bytes. Nothing is incomplete.
+    /// answered, and returns their number of bytes. Nothing is incomplete. In ECMA-35 it reads a run
+    /// of bytes 20 to 7E alone.
     fn read_idle(&mut self, bytes: &[u8]) -> usize
         requires { IsBetween self.old }
         ensures taken { (said : List ℕ) → HasTaken self.old bytes.now result said self.new said }
         ensures few { result ≤ length bytes.now }
     {
+        if self.decoder.coding() != Coding::Utf8 {
+            return self.read_run(bytes);
+        }
         let mut taken = 0;
         while taken < bytes.len() {
             let count = self.read_piece(&bytes[taken..]);
@@ -54,29 +59,36 @@ impl Emulator {
         taken
     }
 
+    /// Reads the bytes 20 to 7E at the beginning of some bytes, and returns their number.
+    fn read_run(&mut self, bytes: &[u8]) -> usize
+        requires { IsBetween self.old }
+        ensures { TakesWhole self.old bytes.now result self.new }
+    {
+        let run = plain_front(bytes);
+        self.screen.print_run(&bytes[..run]);
+        run
+    }
+
     /// Reads one complete function at the beginning of some bytes, or one run of bytes 20 to 7E,
-    /// and returns its number of bytes. In UTF-8 the function is a control, an escape sequence
-    /// without intermediates, a control sequence that isn't answered, or characters from U+00A0 on.
-    /// Returns 0 if the bytes begin with anything else.
+    /// and returns its number of bytes. The function is a control, an escape sequence without
+    /// intermediates, a control sequence that isn't answered, or characters from U+00A0 on. Returns
+    /// 0 if the bytes begin with anything else.
+    #[inline(always)]
     fn read_piece(&mut self, bytes: &[u8]) -> usize
         requires some { 0 < length bytes.now }
         requires idle { IsBetween self.old }
+        requires coding { self.old.decoding.coding ≡ Utf8 }
         ensures { TakesWhole self.old bytes.now result self.new }
     {
         let first = bytes[0];
-        if first == b'\r' && self.decoder.coding() == Coding::Utf8 {
-            return self.read_return(bytes);
+        if first == ESC {
+            return self.read_escape(bytes);
         }
         if 0x1F < first && first < 0x7F {
-            let run = plain_front(bytes);
-            self.screen.print_run(&bytes[..run]);
-            return run;
-        }
-        if self.decoder.coding() != Coding::Utf8 {
-            return 0;
+            return self.read_run(bytes);
         }
         match first {
-            ESC => self.read_escape(bytes),
+            b'\r' => self.read_return(bytes),
             CAN | SUB => 0,
             ..0x20 => {
                 self.screen.control(first);
@@ -119,8 +131,8 @@ impl Emulator {
         self.read_other_escape(bytes)
     }
 
-    /// Reads an escape sequence without CSI, or one with CSI of which few bytes are there, and
-    /// returns its number of bytes, or 0 if it can't be read at once.
+    /// Reads an escape sequence without CSI and returns its number of bytes, or 0 if it can't be
+    /// read at once.
     #[inline(never)]
     fn read_other_escape(&mut self, bytes: &[u8]) -> usize
         requires begins { take 1 bytes.now ≡ 0x1B ∷ [] }
@@ -130,9 +142,6 @@ impl Emulator {
     {
         if bytes.len() < 2 {
             return 0;
-        }
-        if bytes[1] == b'[' {
-            return self.read_other_sequence(bytes);
         }
         if bytes[1] == b'(' {
             return self.read_designation(bytes);
@@ -158,42 +167,24 @@ impl Emulator {
         3
     }
 
-    /// Reads a control sequence and returns its number of bytes, or 0 if it can't be read at once.
-    /// It tries `Numerals` first, which is quicker.
+    /// Reads a control sequence without intermediates and returns its number of bytes, or 0 if it
+    /// can't be read at once.
+    #[inline(always)]
     fn read_sequence(&mut self, bytes: &[u8]) -> usize
         requires begins { take 2 bytes.now ≡ 0x1B ∷ 0x5B ∷ [] }
         requires idle { IsBetween self.old }
         requires coding { self.old.decoding.coding ≡ Utf8 }
         ensures { TakesWhole self.old bytes.now result self.new }
     {
-        let mut numerals = Numerals::new();
-        let count = numerals.read(&bytes[2..]);
-        if count == 0 {
-            return self.read_other_sequence(bytes);
-        }
-        if !self.screen.numerals(&numerals) {
+        let mut params = [0; PARAMS];
+        let Some(found) = first_sequence(&bytes[2..], &mut params) else {
+            return 0;
+        };
+        let params = &params[..found.count];
+        if !self.screen.sequence(found.mark, params, found.last) {
             return 0;
         }
-        count + 2
-    }
-
-    /// Reads a control sequence with `Sequence`, which takes any kind of sequence, and returns its
-    /// number of bytes, or 0 if it can't be read at once.
-    #[inline(never)]
-    fn read_other_sequence(&mut self, bytes: &[u8]) -> usize
-        requires begins { take 2 bytes.now ≡ 0x1B ∷ 0x5B ∷ [] }
-        requires idle { IsBetween self.old }
-        requires coding { self.old.decoding.coding ≡ Utf8 }
-        ensures { TakesWhole self.old bytes.now result self.new }
-    {
-        let count = self.sequence.read(&bytes[2..]);
-        if count == 0 {
-            return 0;
-        }
-        if !self.screen.sequence(&self.sequence) {
-            return 0;
-        }
-        count + 2
+        found.size + 2
     }
 
     /// Reads graphic characters, at most as many as are printed at once, and returns their number of

@@ -4,7 +4,7 @@ ghost use Rattle.std.specs.Prelude.{◌≡◌, ℕ, ◌<◌, ◌≤◌, ◌↔�
 ghost use Rattle.std.specs.Prelude.{IsTrue, length, map, option_copied, slice_get, slice_index};
 ghost use Rattle.std.specs.List.{list_all, range_with_len};
 ghost use Rattle.charsets.specs.Units.{is_plain};
-ghost use Rattle.control_parser.specs.declared.func.Func.TheVariants.{Control, Esc, Print};
+ghost use Rattle.control_parser.specs.declared.func.Func.TheVariants.{Control, Csi, Esc, Print};
 ghost use Rattle.cells.specs.Page.{IsGridSize, line_at};
 ghost use Rattle.cells.specs.Line.{cell_at};
 ghost use Rattle.terminal_model.specs.Screen.{IsSound, starting};
@@ -16,12 +16,10 @@ ghost use Rattle.vt_screen.specs.Effects.{effects, line_of};
 ghost use Rattle.vt_screen.specs.Stored.{MovesPlaces, effects_places};
 ghost use Rattle.vt_screen.specs.Sizes.{IsScreenSize};
 
-use crate::performing::{
-    perform, perform_control, perform_plain, perform_sequence, perform_silently,
-};
+use crate::performing::{perform, perform_control, perform_sequence, perform_silently};
 use cells::{Cell, GridFault};
 use charsets::Coding;
-use control_parser::{Func, Numerals, Sequence};
+use control_parser::Func;
 use std::alloc::Global;
 use std::marker::Model;
 use terminal_model::{MAX_KEEP, Modes, Report};
@@ -146,32 +144,21 @@ impl Screen {
         perform_silently(&mut self.display, escape_action(b"(", last));
     }
 
-    /// Performs a control sequence, as `apply` does. If the sequence is answered, it does nothing
-    /// and returns false.
-    pub fn sequence(&mut self, sequence: &Sequence) -> bool
-        ensures effect { IsTrue result → self.new.screen ≡ effect self.old.screen sequence.now }
-        ensures places { IsTrue result → MovesPlaces self.old sequence.now self.new }
-        ensures silent { IsTrue result → report self.old.screen sequence.now ≡ [] }
-        ensures coding { IsTrue result
-            → self.new.screen.state.coding ≡ self.old.screen.state.coding }
-        ensures undone { result ≡ false → self.new ≡ self.old }
-    {
-        let (mark, params, intermediates, last) = sequence.parts();
-        perform_sequence(&mut self.display, mark, params, intermediates, last)
-    }
-
-    /// Performs a control sequence of digits and semicolons, as `apply` does. If the sequence is
+    /// Performs a control sequence without intermediates, as `apply` does. If the sequence is
     /// answered, it does nothing and returns false.
-    pub fn numerals(&mut self, numerals: &Numerals) -> bool
-        ensures effect { IsTrue result → self.new.screen ≡ effect self.old.screen numerals.now }
-        ensures places { IsTrue result → MovesPlaces self.old numerals.now self.new }
-        ensures silent { IsTrue result → report self.old.screen numerals.now ≡ [] }
+    #[inline(always)]
+    pub fn sequence(&mut self, mark: Option<u8>, params: &[u16], last: u8) -> bool
+        ensures effect { IsTrue result
+            → self.new.screen ≡ effect self.old.screen (Csi mark params.now [] last) }
+        ensures places { IsTrue result
+            → MovesPlaces self.old (Csi mark params.now [] last) self.new }
+        ensures silent { IsTrue result
+            → report self.old.screen (Csi mark params.now [] last) ≡ [] }
         ensures coding { IsTrue result
             → self.new.screen.state.coding ≡ self.old.screen.state.coding }
         ensures undone { result ≡ false → self.new ≡ self.old }
     {
-        let (params, last) = numerals.parts();
-        perform_plain(&mut self.display, params, last)
+        perform_sequence(&mut self.display, mark, params, last)
     }
 
     /// Changes the size. The upper left part stays, of the kept lines too; the cursor and the saved

@@ -1,4 +1,4 @@
-use Rattle.std.proofs.Common.{◌≡◌, ◌+◌, ℕ, take, ap, ◌∙◌, subst, arith}
+use Rattle.std.proofs.Common.{rules, ◌≡◌, ◌+◌, ℕ, take, ap, ◌∙◌, subst, arith}
 use Rattle.charsets.specs.Units.{Decoding}
 use Rattle.emulator.specs.Standing.{HasRead}
 use Rattle.emulator.proofs.Wholes.{nothing-taken}
@@ -6,8 +6,12 @@ use Rattle.emulator.proofs.RunLemmas.{has-read-on}
 use Rattle.emulator.proofs.emulator.Emulator.read_idle.Goals as goal
 
 pub loop-taken-init : goal.loop-taken-init
-loop-taken-init c = record
-    { read = λ said. nothing-taken c.args.self.now c.args.bytes.now said; between = c.requires; inside = omega arith }
+loop-taken-init c = record {
+  read = λ said. nothing-taken c.args.self.now c.args.bytes.now said;
+  between = c.requires;
+  coding = search rules;
+  inside = omega arith;
+}
 
 pub returns-then-count-eq0-clause-taken : goal.returns-then-count-eq0-clause-taken
 returns-then-count-eq0-clause-taken c = λ said t h.
@@ -27,5 +31,6 @@ loop-taken-preserved c = record {
     whole = ap (λ (d : Decoding). d.rest) c.read_piece-count.ensures.decoding ∙ c.loop-taken.invariant.between.whole;
     idle = c.read_piece-count.ensures.parsing ∙ c.loop-taken.invariant.between.idle;
   };
+  coding = ap (λ (d : Decoding). d.coding) c.read_piece-count.ensures.decoding ∙ c.loop-taken.invariant.coding;
   inside = omega arith;
 }

@@ -1,0 +1,117 @@
+-- Control sequences of digits and semicolons, read from a list of bytes at once.
+use Rattle.std.proofs.Common.{◌≡◌, ℕ, ◌+◌, ◌-◌, ◌<◌, ◌≤◌, true, false, arith, List, [], ◌∷◌, ◌++◌, length, take, drop, set}
+use Rattle.std.proofs.Common.{get_or, Option, Some, None, IfSome, refl, sym, ap, ◌∙◌, subst, length-take-le}
+use Rattle.std.specs.Prelude.{◌==◌}
+use Rattle.std.proofs.lemmas.Bool.Decides.{nat_tests}
+use Rattle.std.proofs.lemmas.List.{take_more_set, length-set, get_or-take, get_or-drop}
+use Rattle.charsets.specs.declared.unit.Coding.TheVariants.{Utf8}
+use Rattle.control_parser.specs.declared.func.Func.TheVariants.{Csi}
+use Rattle.control_parser.specs.declared.state.SequenceText.{SequenceText}
+use Rattle.control_parser.specs.Grammar.{is_sequence_text}
+use Rattle.control_parser.specs.Spelling.{ReadsAs}
+use Rattle.control_parser.specs.Steps.{text_grown, no_text, valued}
+use Rattle.control_parser.specs.Text.{is_intermediate, is_digit, is_mark, value_of, with_last}
+use Rattle.control_parser.proofs.Sequences.{IsNumerals, no-text, no-digits, text-more, inside-more, sequence-whole}
+use Rattle.control_parser.proofs.Sequences.{value-read, next-read}
+
+-- a private marker
+mark-grown : (m : ℕ) → is_mark m ≡ true → text_grown no_text m ≡ Some (record no_text { begun = true; mark = Some m })
+mark-grown m is =
+    let a : is_intermediate m ≡ false = grind (arith, nat_tests) in
+    let d : is_digit m ≡ false = grind (arith, nat_tests) in
+    let s : (m == 0x3B) ≡ false = grind (arith, nat_tests) in
+    rw (a, d, s, is) refl
+
+mark-read : (bytes : List ℕ) (m : ℕ) → take 1 bytes ≡ m ∷ [] → is_mark m ≡ true
+    → IsNumerals bytes 1 (record no_text { mark = Some m }) 0
+mark-read [] m front is = absurd (cc front)
+mark-read (b ∷ bytes) m front is =
+    let same : b ≡ m = cc in
+    let marks : is_mark b ≡ true = rw same is in
+    let inside : is_sequence_text b ≡ true = grind (arith, nat_tests) in
+    record {
+      begun = true;
+      read = record {
+        inside = inside-more (b ∷ bytes) 0 (omega arith) refl inside;
+        text = text-more (b ∷ bytes) 0 no_text (record no_text { begun = true; mark = Some m }) (omega arith) no-text
+            (rw same (mark-grown m is));
+        digits = λ on. record { few = refl; inside = refl };
+      };
+    }
+
+-- the private marker, if there is one
+pub begun-read : (bytes : List ℕ) (mark : Option ℕ) (at : ℕ)
+    → IfSome mark (λ m. take 1 bytes ≡ m ∷ []) → IfSome mark (λ m. is_mark m ≡ true) → IfSome mark (λ m. at ≡ 1)
+    → (mark ≡ None → at ≡ 0) → IsNumerals bytes at (record no_text { mark = mark }) 0
+begun-read bytes None at front is one none =
+    subst (λ n. IsNumerals bytes n no_text 0) (sym (none refl))
+    (record { begun = false; read = record { inside = refl; text = no-text; digits = λ on. no-digits } })
+begun-read bytes (Some m) at front is one none =
+    subst (λ n. IsNumerals bytes n (record no_text { mark = Some m }) 0) (sym one) (mark-read bytes m front is)
+
+-- the value of a parameter that is absent so far
+pub with_last-pushed : (values : List ℕ) (value : ℕ) → with_last (values ++ 0 ∷ []) value ≡ values ++ value ∷ []
+with_last-pushed [] value = refl
+with_last-pushed (n ∷ []) value = refl
+with_last-pushed (n ∷ m ∷ ns) value = ap (λ l. n ∷ l) (with_last-pushed (m ∷ ns) value)
+
+-- After `count` digits from `at` on: `rest` has the bytes from there on, and the parameters before them stand in an
+-- array.
+pub numeral-read : (bytes : List ℕ) (at behind value : ℕ) (mark : Option ℕ) (params : List ℕ)
+    → at + behind ≤ length bytes → 0 < behind
+    → IsNumerals bytes at (record no_text { mark = mark; params = params ++ 0 ∷ [] }) 0
+    → value ≡ value_of (take (length bytes - at) (drop at bytes)) (behind - 1)
+    → ((k : ℕ) → k < behind - 1 → is_digit (get_or (take (length bytes - at) (drop at bytes)) k 0) ≡ true)
+    → IsNumerals bytes (at + behind - 1) (record no_text { mark = mark; params = params ++ 0 ∷ [] }) value
+numeral-read bytes at behind value mark params room some read is digits =
+    let rest : List ℕ = take (length bytes - at) (drop at bytes) in
+    let t : SequenceText = record no_text { mark = mark; params = params ++ 0 ∷ [] } in
+    let same : (k : ℕ) → k < behind - 1 → get_or rest k 0 ≡ get_or bytes (at + k) 0 = λ k h.
+    get_or-take (length bytes - at) (drop at bytes) k 0 (omega (arith, h, room)) ∙ get_or-drop at bytes k 0 in
+    subst (λ n. IsNumerals bytes n t value) (omega (arith, some))
+    (subst (λ v. IsNumerals bytes (at + (behind - 1)) t v) (sym is)
+    (value-read bytes rest at (behind - 1) t (omega (arith, room)) same read digits))
+
+pub numeral-last : (bytes : List ℕ) (at behind c : ℕ) → at + behind ≤ length bytes → 0 < behind
+    → c ≡ get_or (take (length bytes - at) (drop at bytes)) (behind - 1) 0 → c ≡ get_or bytes (at + behind - 1) 0
+numeral-last bytes at behind c room some is =
+    let place : at + (behind - 1) ≡ at + behind - 1 = omega (arith, some) in
+    is ∙ get_or-take (length bytes - at) (drop at bytes) (behind - 1) 0 (omega (arith, some, room))
+    ∙ get_or-drop at bytes (behind - 1) 0 ∙ ap (λ n. get_or bytes n 0) place
+
+-- the parameters, with one more at their end
+params-more : (params : List ℕ) (count value : ℕ) → count < length params
+    → with_last (take count params ++ 0 ∷ []) value ≡ take (count + 1) (set params count value)
+params-more params count value few =
+    with_last-pushed (take count params) value ∙ sym (take_more_set params count value few)
+
+-- a semicolon behind a parameter
+pub parameter-read : (bytes : List ℕ) (at count value : ℕ) (mark : Option ℕ) (params : List ℕ) → at < length bytes
+    → IsNumerals bytes at (record no_text { mark = mark; params = take count params ++ 0 ∷ [] }) value
+    → get_or bytes at 0 ≡ 0x3B → count < 15 → count < length params
+    → IsNumerals bytes (at + 1)
+    (record no_text { mark = mark; params = take (count + 1) (set params count value) ++ 0 ∷ [] }) 0
+parameter-read bytes at count value mark params room read c few inside =
+    let t : SequenceText = record no_text { mark = mark; params = take count params ++ 0 ∷ [] } in
+    next-read bytes at t value (take (count + 1) (set params count value)) room read c
+    (sym (params-more params count value inside))
+    (omega (
+      arith,
+      few,
+      length-take-le (count + 1) (set params count value)
+          (omega (arith, inside, length-set params count value)),
+    ))
+
+-- a final byte behind a parameter
+pub final-read : (bytes : List ℕ) (at count value : ℕ) (mark : Option ℕ) (params : List ℕ) → at < length bytes
+    → IsNumerals bytes at (record no_text { mark = mark; params = take count params ++ 0 ∷ [] }) value
+    → 0x3F < get_or bytes at 0 → get_or bytes at 0 < 0x7F → count < length params
+    → ReadsAs Utf8 (0x1B ∷ 0x5B ∷ take (at + 1) bytes)
+    (Csi mark (take (count + 1) (set params count value)) [] (get_or bytes at 0) ∷ [])
+final-read bytes at count value mark params room read above below inside =
+    let t : SequenceText = record no_text
+    { begun = read.begun; mark = mark; params = take count params ++ 0 ∷ [] } in
+    subst
+    (λ (v : List ℕ). ReadsAs Utf8 (0x1B ∷ 0x5B ∷ take (at + 1) bytes) (Csi mark v [] (get_or bytes at 0) ∷ []))
+    (params-more params count value inside)
+    (sequence-whole bytes at (valued t value) room read.read.inside read.read.text above below)
