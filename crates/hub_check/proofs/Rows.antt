@@ -65,7 +65,7 @@ differ_on [] client d = tt
 differ_on (c ∷ rows) client d = differ_if (not (c.0 == client)) c (others rows client) (none_kept rows client c.0 d.0)
     (differ_on rows client d.1)
 
--- where the client isn't there, all rows are others
+-- if the client isn't there, all rows are others
 all_others : (rows : List Row) (client : ℕ) (u : UserId) → list_any (λ d. d.0 == client) rows ≡ false
     → is_users u rows ≡ has_other rows client u
 all_others [] client u e = refl
@@ -139,7 +139,7 @@ loses_at rows client u (Some x) =
     ∙ ap (λ b. not (has_other rows client x) && b) (same_user-sym x u)
     ∙ sym (unless u x (has_other rows client x))
 
--- the user who loses his last row with the client's
+-- the user who loses their last row with the client's
 pub last_is : (rows : List Row) (client : ℕ) (u : UserId) → Differ rows
     → (is_users u rows && not (is_users u (others rows client))) ≡ option_map_or (same_user u) (last_in rows client)
     false

@@ -1,4 +1,4 @@
--- One entry more, behind others.
+-- One entry more, after others.
 use Rattle.std.proofs.Common.{◌≡◌, ◌∷◌, ◌++◌, [], ℕ, List, length, suc, refl, sym, subst}
 use Rattle.acl.specs.declared.edition.Edition.{Edition}
 use Rattle.acl.specs.declared.user_id.UserId.{UserId}

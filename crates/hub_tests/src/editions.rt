@@ -52,7 +52,7 @@ fn events(owner: UserId, bob: UserId) -> [Event<'static>; 9] {
     ]
 }
 
-/// Whose session it is, of which edition, and who types in it.
+/// The owner of a session, its edition, and the users who type in it.
 #[derive(Clone, Copy)]
 struct Beginning {
     edition: Edition,
@@ -115,7 +115,7 @@ fn bad_place(answer: Result<(), CheckFault>) -> Option<Option<usize>> {
     }
 }
 
-/// What the check answers of the trail's entries, where the last one's first verdict is this.
+/// What the check answers for the trail's entries if the last one's first verdict is this.
 fn judged(alloc: Global, trail: &Trail, first: Verdict) -> Option<Option<usize>> {
     let mut entries = Vec::new(alloc);
     let mut verdicts = Vec::new(alloc);

@@ -68,7 +68,7 @@ static FORGED: [&[u8]; 26] = [
     b"5 0 command eve - .detach ok:0:0:0",
 ];
 
-/// What the audit answers of the last line, where all before it are taken.
+/// What the audit answers for the last line if all lines before it are taken.
 fn answer(alloc: Global, edition: Edition, last: &[u8]) -> Option<Result<(), Wrong>> {
     let mut audit = Audit::new(alloc, edition, UserId::of(b"own")?).ok()?;
     for line in &BEFORE {

@@ -46,7 +46,7 @@ fn is_denied(effects: &[Effect]) -> bool {
     }
 }
 
-/// Whether the seat that takes a right from bob, and types for him, takes the denial, once.
+/// Whether the seat that takes a right from bob, and types as bob, takes the denial, once.
 fn is_told<L: Begun, R: Wait>(
     rt: &R,
     hub: &Hub<L>,

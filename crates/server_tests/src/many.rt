@@ -1,4 +1,4 @@
-//! Much at once: a peer that falls too far behind, whose turn it is, and a crowd.
+//! Much at once: a peer that reads too slowly, whose turn it is, and a crowd.
 
 use crate::rows::{Row, Wanted, first_wrong, is_played, play};
 use server_stage::{ATTACH, Act, Habit, Seen, System, WELCOME, WINDOW, Why};

@@ -43,7 +43,7 @@ taken (suc n) (b ∷ bytes) all =
     let both = and_parts (is_other feed b) (list_all (is_other feed) bytes) all in
     (λ i. both.0 i && taken n bytes both.1 i)
 
--- a cut within a line, or behind its line feed
+-- a cut within a line, or after its line feed
 abbrev Cuts : List ℕ → List ℕ → ℕ → Type 0
 Cuts word rest n =
     ((take n (word ++ feed ∷ rest) ≡ take n word) × (n ≤ length word))

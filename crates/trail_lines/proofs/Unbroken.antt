@@ -200,7 +200,7 @@ window_free : (window : Option ℕ) → IsNumberIfAny window → IsFree feed (wi
 window_free None is = record { free = refl }
 window_free (Some n) is = small_free n is
 
--- ---- fields behind each other, each ended by a blank
+-- ---- fields one after another, each ended by a blank
 
 blank_free : (a b : List ℕ) → IsFree feed a → IsFree feed b → IsFree feed (field blank a b)
 blank_free a b f g = free_append feed a (blank ∷ b) f (record { free = g.free })

@@ -68,6 +68,6 @@ pub fn read_entries<R: BufRead>(
             });
         }
     }
-    // No file has so many lines.
+    // No file has 2^64 lines.
     Err(io::Error::from(AllocError))
 }

@@ -7,7 +7,7 @@ use Rattle.std.proofs.lemmas.List.{take_more, flat_map_more}
 use Rattle.std.proofs.lemmas.Option.{slice_get_within, get_or_from_slice_get}
 use Rattle.acl.proofs.InPlace.{drop-next}
 
--- what holds of all that are left holds of the next, and of all behind it
+-- what holds of all that are left holds of the next, and of all after it
 pub all_next : {X : Type 0} (p : X → Bool) (xs : List X) (i : ℕ) (d : X) → i < length xs
     → list_all p (drop i xs) ≡ (p (slice_index_or xs i d) && list_all p (drop (i + 1) xs))
 all_next p xs i d below = ap (list_all p) (sym (drop-next xs i d below))

@@ -85,6 +85,6 @@ pub fn watch_entries<R: BufRead>(
             });
         }
     }
-    // No file has so many lines.
+    // No file has 2^64 lines.
     Err(io::Error::from(AllocError))
 }

@@ -1,7 +1,7 @@
 //! The page of a screen.
 
 ghost use Rattle.std.specs.Prelude.{◌≡◌, ℕ, ◌+◌, ◌*◌, ◌-◌, ◌<◌, ◌≤◌, ◌↔◌, [], ◌∷◌, length, replicate};
-ghost use Rattle.std.specs.Prelude.{IfOk, OnOk, OnErr, Err, false, slice_index};
+ghost use Rattle.std.specs.Prelude.{IfOk, Err, false, slice_index};
 ghost use Rattle.cells.specs.Line.{blank, unprotected_erased, narrow_cells, plain};
 ghost use Rattle.cells.specs.Wide.{wide_cells};
 ghost use Rattle.cells.specs.Page.{IsGrid, IsGridSize, line_at, page_from, page_marked};
@@ -387,19 +387,5 @@ impl Page {
             stored,
             places,
         })
-    }
-
-    /// Changes the size. The page keeps its upper left part; new places are blank, and so is a half
-    /// that is cut off from its other half. `BadSize` if the size isn't 2 to 200 lines by 2 to 300
-    /// columns, `NoMemory` if memory is refused; the page then stays as it was.
-    pub fn resized(&mut self, rows: usize, columns: usize) -> Result<(), GridFault>
-        ensures ok { OnOk result
-            (self.new ≡ placed_in_order rows (page_resized rows columns self.old.lines)) }
-        ensures err { OnErr result (self.new ≡ self.old) }
-        ensures bad_size { (result ≡ Err GridFault.BadSize) ↔ (¬ IsGridSize rows columns) }
-    {
-        let page = self.with_size(rows, columns)?;
-        *self = page;
-        Ok(())
     }
 }

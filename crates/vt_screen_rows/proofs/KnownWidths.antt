@@ -90,6 +90,39 @@ cyrillic_are : all_are 1 0x48A 0x590 kind_number_stepped.steps ≡ true
 unfolding tables kind_number_stepped all_are
 cyrillic_are = refl
 
+hebrew_are : all_are 1 0x5D0 0x5DC kind_number_stepped.steps ≡ true
+unfolding tables kind_number_stepped all_are
+hebrew_are = refl
+
+more_hebrew_are : all_are 1 0x5DD 0x5EB kind_number_stepped.steps ≡ true
+unfolding tables kind_number_stepped all_are
+more_hebrew_are = refl
+
+lamed_is : eqb (step_value kind_number_stepped.default kind_number_stepped.steps 0x5DC) 11 ≡ true
+unfolding tables kind_number_stepped
+lamed_is = refl
+
+-- lamed is of the last kind, in which it takes one column
+of_kind-lamed : (k : Kind) → eqb (number_of_kind k) 11 ≡ true → (of_kind false 0x5DC k).0 ≡ 1
+of_kind-lamed kinds.Zero h = absurd (cc)
+of_kind-lamed kinds.Narrow h = refl
+of_kind-lamed kinds.Wide h = absurd (cc)
+of_kind-lamed kinds.Ambiguous h = refl
+of_kind-lamed kinds.Alef h = refl
+of_kind-lamed kinds.KhmerLetter h = refl
+of_kind-lamed kinds.TifinaghConsonant h = refl
+of_kind-lamed kinds.LisuTone h = refl
+of_kind-lamed kinds.RegionalIndicator h = refl
+of_kind-lamed kinds.EmojiModifier h = absurd (cc)
+of_kind-lamed kinds.Emoji h = absurd (cc)
+of_kind-lamed kinds.Single h = refl
+
+lamed_width : char_width false 0x5DC ≡ Some 1
+unfolding char_width alone kind_number
+lamed_width =
+    let is : eqb (kind_number 0x5DC) 11 ≡ true = ap (λ (n : ℕ). eqb n 11) (kind_number_stepped.gives 0x5DC) ∙ lamed_is in
+    ap Some (of_kind-lamed (kind 0x5DC) is)
+
 marks_are : all_are 0 0x300 0x338 kind_number_stepped.steps ≡ true
 unfolding tables kind_number_stepped all_are
 marks_are = refl
@@ -113,6 +146,17 @@ greek_width c low high = known 1 0x370 0x483 c greek_are (omega arith) (omega ar
 
 pub cyrillic_width : (c : ℕ) → 0x48A ≤ c → c < 0x590 → char_width false c ≡ Some 1
 cyrillic_width c low high = known 1 0x48A 0x590 c cyrillic_are (omega arith) (omega arith) low high
+
+pub hebrew_width : (c : ℕ) → 0x5D0 ≤ c → c < 0x5EB → char_width false c ≡ Some 1
+hebrew_width c low high =
+    elim (cases_lt c 0x5DC) [
+      | inl before ↦ known 1 0x5D0 0x5DC c hebrew_are (omega arith) (omega arith) low before
+      | inr from ↦
+          elim (cases_lt c 0x5DD) [
+            | inl at ↦ let is : c ≡ 0x5DC = omega arith in rw is lamed_width
+            | inr after ↦ known 1 0x5DD 0x5EB c more_hebrew_are (omega arith) (omega arith) after high
+          ]
+    ]
 
 mark_width : (c : ℕ) → 0x300 ≤ c → c < 0x370 → (c ≡ 0x338 → ⊥) → char_width false c ≡ Some 0
 mark_width c low high other =

@@ -20,7 +20,7 @@ use Rattle.vt_screen_rows.specs.Places.{acted_places, printed_places, wrapped_pl
 use Rattle.std.specs.List.{list_all}
 use Rattle.charsets.specs.Units.{is_plain}
 use Rattle.vt_screen_rows.specs.Runs.{is_letter}
-use Rattle.vt_screen_rows.proofs.KnownWidths.{latin_width, more_latin_width, greek_width, cyrillic_width}
+use Rattle.vt_screen_rows.proofs.KnownWidths.{latin_width, more_latin_width, greek_width, cyrillic_width, hebrew_width}
 use Rattle.terminal_model.proofs.Plain.{columns-plain, drawn-plain}
 
 pub both : (p q : Bool) → (p && q) ≡ true → (p ≡ true) × (q ≡ true)
@@ -38,7 +38,11 @@ letter_width c h low =
             | inr beyond ↦
                 elim (cases_lt c 0x483) [
                   | inl greek ↦ greek_width c (grind (arith, nat_tests)) greek
-                  | inr later ↦ cyrillic_width c (grind (arith, nat_tests)) (grind (arith, nat_tests))
+                  | inr later ↦
+                      elim (cases_lt c 0x590) [
+                        | inl cyrillic ↦ cyrillic_width c (grind (arith, nat_tests)) cyrillic
+                        | inr beyond ↦ hebrew_width c (grind (arith, nat_tests)) (grind (arith, nat_tests))
+                      ]
                 ]
           ]
     ]

@@ -16,9 +16,15 @@ ActsByAll old actions new = screen_of new ≡ all_acted (screen_of old) actions
 abbrev pub AreUnanswered : Display → List Action → Type 0
 AreUnanswered old actions = all_answered (screen_of old) actions ≡ []
 
--- the places of the page's lines changed in this way
-abbrev pub MovesLines : Display → (State → List ℕ → List ℕ) → Display → Type 0
-MovesLines old change new = new.page.places ≡ change old.state old.page.places
+-- the lines of the page are stored as the change says, and the kept lines are as wide as before
+pub record MovesLines (old : Display) (change : State → List ℕ → List ℕ) (new : Display) : Type 0 where
+  pub width : new.ring.columns ≡ old.ring.columns
+  pub places : new.page.places ≡ change old.state old.page.places
+
+-- each line of the page is stored where it was, and the kept lines are as wide as before
+pub record KeepsLines (old new : Display) : Type 0 where
+  pub width : new.ring.columns ≡ old.ring.columns
+  pub places : new.page.places ≡ old.page.places
 
 -- the places changed as the action says; as the actions say, in turn
 abbrev pub MovesLinesBy : Display → Action → Display → Type 0

@@ -14,6 +14,10 @@ use Rattle.terminal_model.specs.Erasing.{is_in_margins}
 use Rattle.terminal_model.specs.Table.{acted}
 use Rattle.vt_screen_page.specs.Store.{turned}
 
+-- the places after the lines of the margins went up by one
+abbrev pub raised_places : State → List ℕ → List ℕ
+raised_places s places = turned s.top s.bottom 1 places
+
 -- the places after an index: the lines of the margins go up by one in the last of them; and after a
 -- reverse index: they go down by one in the first of them
 abbrev pub indexed_places : State → List ℕ → List ℕ
@@ -52,6 +56,9 @@ acted_places s ReverseIndex places = lowered_places s places
 acted_places s (InsertLines n) places = inserted_places n s places
 acted_places s (DeleteLines n) places = deleted_places n s places
 acted_places s other places = places
+
+abbrev pub places_after : Action → State → List ℕ → List ℕ
+places_after action s places = acted_places s action places
 
 abbrev pub all_acted_places : Screen → List Action → List ℕ → List ℕ
 all_acted_places x [] places = places

@@ -14,11 +14,12 @@ use Rattle.terminal_model.specs.Screen.{Screen, line_edited}
 use Rattle.terminal_model.specs.Printing.{advanced, columns_of, drawn}
 
 -- Characters that take one column each (UAX #11) and that no set changes while GL is ASCII: 20 to 7E,
--- Latin letters and signs from A0 on without the soft hyphen, Greek, Cyrillic and Armenian.
+-- Latin letters and signs from A0 on without the soft hyphen, Greek, Cyrillic, Armenian and Hebrew.
 abbrev pub is_letter : ℕ → Bool
 is_letter c =
     is_plain c || (nat_lt 0x9F c && nat_lt c 0x300 && not (c == 0xAD))
     || (nat_lt 0x36F c && nat_lt c 0x483) || (nat_lt 0x489 c && nat_lt c 0x590)
+    || (nat_lt 0x5CF c && nat_lt c 0x5EB)
 
 -- characters are printed, one after another
 abbrev pub prints : List ℕ → List Action
@@ -35,7 +36,7 @@ pub record TakesRuns (s : State) : Type 0 where
   pub unshifted : s.shifts.single ≡ None
   pub replaces : s.modes.inserts ≡ false
 
--- characters of width 1 over as many cells from the cursor on, which goes behind the last of them
+-- characters of width 1 over as many cells from the cursor on, which goes to the column after them
 abbrev pub run_placed : List ℕ → Screen → Screen
 run_placed characters x =
     let s : State = x.state in
@@ -56,7 +57,7 @@ pub record IsWide (character : ℕ) : Type 0 where
 abbrev pub AreWide : List ℕ → Type 0
 AreWide characters = (k : ℕ) → k < length characters → IsWide (slice_index characters k)
 
--- characters of width 2 over twice as many cells from the cursor on, which goes behind the last of
+-- characters of width 2 over twice as many cells from the cursor on, which goes to the column after
 -- them
 abbrev pub wides_placed : List ℕ → Screen → Screen
 wides_placed characters x =

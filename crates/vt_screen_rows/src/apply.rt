@@ -3,8 +3,9 @@
 ghost use Rattle.std.specs.Prelude.{◌≡◌, ◌≤◌, length};
 ghost use Rattle.terminal_model.specs.Table.{acted};
 ghost use Rattle.terminal_model.specs.Reports.{answer};
-ghost use Rattle.vt_screen_rows.specs.Acting.{MovesLinesBy};
+ghost use Rattle.vt_screen_rows.specs.Acting.{MovesLines, MovesLinesBy};
 ghost use Rattle.vt_screen_rows.specs.Displays.{IsFit, screen_of};
+ghost use Rattle.vt_screen_rows.specs.Places.{places_after};
 ghost use Rattle.vt_screen_state.specs.Counted.{IsCounted};
 
 use crate::display::Display;
@@ -49,8 +50,7 @@ impl Display {
         requires fit { IsFit self.old }
         requires counted { IsCounted action }
         ensures screen { screen_of self.new ≡ acted (screen_of self.old) action }
-        ensures width { self.new.ring.columns ≡ self.old.ring.columns }
-        ensures places { MovesLinesBy self.old action self.new }
+        ensures lines { MovesLines self.old (places_after action) self.new }
     {
         match action {
             Action::Print(unit) => self.print(unit),

@@ -4,7 +4,7 @@ ghost use Rattle.std.specs.Prelude.{◌≡◌, ◌<◌};
 ghost use Rattle.terminal_model.specs.Table.{acted};
 ghost use Rattle.terminal_model.specs.declared.action.Action.TheVariants.{DeleteCells, DeleteLines};
 ghost use Rattle.terminal_model.specs.declared.action.Action.TheVariants.{InsertCells, InsertLines};
-ghost use Rattle.vt_screen_rows.specs.Acting.{MovesLines};
+ghost use Rattle.vt_screen_rows.specs.Acting.{KeepsLines, MovesLines};
 ghost use Rattle.vt_screen_rows.specs.Displays.{IsFit, screen_of};
 ghost use Rattle.vt_screen_rows.specs.Places.{inserted_places, deleted_places};
 
@@ -17,8 +17,7 @@ impl Display {
         requires fit { IsFit self.old }
         requires some { 0 < count }
         ensures screen { screen_of self.new ≡ acted (screen_of self.old) (InsertCells count) }
-        ensures width { self.new.ring.columns ≡ self.old.ring.columns }
-        ensures places { self.new.page.places ≡ self.old.page.places }
+        ensures lines { KeepsLines self.old self.new }
     {
         let column = self.state.column;
         let count = count.min(self.state.columns - column);
@@ -31,8 +30,7 @@ impl Display {
         requires fit { IsFit self.old }
         requires some { 0 < count }
         ensures screen { screen_of self.new ≡ acted (screen_of self.old) (DeleteCells count) }
-        ensures width { self.new.ring.columns ≡ self.old.ring.columns }
-        ensures places { self.new.page.places ≡ self.old.page.places }
+        ensures lines { KeepsLines self.old self.new }
     {
         let rest = end_after(&self.state, count);
         self.page
@@ -45,8 +43,7 @@ impl Display {
     pub fn insert_lines(&mut self, count: usize)
         requires { IsFit self.old }
         ensures screen { screen_of self.new ≡ acted (screen_of self.old) (InsertLines count) }
-        ensures width { self.new.ring.columns ≡ self.old.ring.columns }
-        ensures places { MovesLines self.old (inserted_places count) self.new }
+        ensures lines { MovesLines self.old (inserted_places count) self.new }
     {
         if is_in_margins(&self.state) {
             let line = self.state.line;
@@ -64,8 +61,7 @@ impl Display {
     pub fn delete_lines(&mut self, count: usize)
         requires { IsFit self.old }
         ensures screen { screen_of self.new ≡ acted (screen_of self.old) (DeleteLines count) }
-        ensures width { self.new.ring.columns ≡ self.old.ring.columns }
-        ensures places { MovesLines self.old (deleted_places count) self.new }
+        ensures lines { MovesLines self.old (deleted_places count) self.new }
     {
         if is_in_margins(&self.state) {
             let line = self.state.line;

@@ -10,6 +10,7 @@ ghost use Rattle.terminal_model.specs.declared.action.Action.TheVariants.{EraseU
 ghost use Rattle.terminal_model.specs.Erasing.{line_erased, part_erased, part_unprotected};
 ghost use Rattle.terminal_model.specs.Erasing.{unprotected_lines};
 ghost use Rattle.terminal_model.specs.Table.{acted};
+ghost use Rattle.vt_screen_rows.specs.Acting.{KeepsLines};
 ghost use Rattle.vt_screen_rows.specs.Displays.{IsFit, screen_of};
 
 use crate::display::Display;
@@ -22,8 +23,7 @@ impl Display {
     pub fn erase_in_line(&mut self, part: Part)
         requires { IsFit self.old }
         ensures screen { screen_of self.new ≡ acted (screen_of self.old) (EraseInLine part) }
-        ensures width { self.new.ring.columns ≡ self.old.ring.columns }
-        ensures places { self.new.page.places ≡ self.old.page.places }
+        ensures lines { KeepsLines self.old self.new }
     {
         erase_part(&mut self.page, &self.state, part);
         settle(&mut self.state);
@@ -33,8 +33,7 @@ impl Display {
     pub fn erase_in_page(&mut self, part: Part)
         requires { IsFit self.old }
         ensures screen { screen_of self.new ≡ acted (screen_of self.old) (EraseInPage part) }
-        ensures width { self.new.ring.columns ≡ self.old.ring.columns }
-        ensures places { self.new.page.places ≡ self.old.page.places }
+        ensures lines { KeepsLines self.old self.new }
     {
         erase_part(&mut self.page, &self.state, part);
         let first = first_line(part, &self.state);
@@ -48,8 +47,7 @@ impl Display {
         requires fit { IsFit self.old }
         requires some { 0 < count }
         ensures screen { screen_of self.new ≡ acted (screen_of self.old) (EraseCells count) }
-        ensures width { self.new.ring.columns ≡ self.old.ring.columns }
-        ensures places { self.new.page.places ≡ self.old.page.places }
+        ensures lines { KeepsLines self.old self.new }
     {
         let from = self.state.column;
         let end = end_after(&self.state, count);
@@ -62,8 +60,7 @@ impl Display {
         requires { IsFit self.old }
         ensures screen { screen_of self.new
             ≡ acted (screen_of self.old) (EraseUnprotectedInLine part) }
-        ensures width { self.new.ring.columns ≡ self.old.ring.columns }
-        ensures places { self.new.page.places ≡ self.old.page.places }
+        ensures lines { KeepsLines self.old self.new }
     {
         erase_unprotected_part(&mut self.page, &self.state, part);
         settle(&mut self.state);
@@ -75,8 +72,7 @@ impl Display {
         requires { IsFit self.old }
         ensures screen { screen_of self.new
             ≡ acted (screen_of self.old) (EraseUnprotectedInPage part) }
-        ensures width { self.new.ring.columns ≡ self.old.ring.columns }
-        ensures places { self.new.page.places ≡ self.old.page.places }
+        ensures lines { KeepsLines self.old self.new }
     {
         erase_unprotected_part(&mut self.page, &self.state, part);
         let first = first_line(part, &self.state);

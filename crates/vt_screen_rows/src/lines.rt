@@ -63,8 +63,7 @@ impl Display {
         requires room { length codes.now ≤ self.old.state.columns }
         ensures screen { screen_of self.new
             ≡ run_placed codes.now (wrapped true (screen_of self.old)) }
-        ensures width { self.new.ring.columns ≡ self.old.ring.columns }
-        ensures places { MovesLines self.old indexed_places self.new }
+        ensures lines { MovesLines self.old indexed_places self.new }
     {
         if scrolls_plain(&self.state) {
             self.scroll_in_run(codes);
@@ -84,8 +83,7 @@ impl Display {
         requires scrolls { ScrollsPlain self.old.state }
         ensures screen { screen_of self.new
             ≡ run_placed codes.now (wrapped true (screen_of self.old)) }
-        ensures width { self.new.ring.columns ≡ self.old.ring.columns }
-        ensures places { MovesLines self.old indexed_places self.new }
+        ensures lines { MovesLines self.old indexed_places self.new }
     {
         self.page
             .scroll_in_run(&mut self.ring, self.state.bottom, codes);

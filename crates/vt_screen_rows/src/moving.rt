@@ -7,8 +7,7 @@ ghost use Rattle.terminal_model.specs.Table.{acted};
 ghost use Rattle.terminal_model.specs.declared.action.Action.TheVariants.{LineFeed};
 ghost use Rattle.vt_screen_rows.specs.Acting.{MovesLines};
 ghost use Rattle.vt_screen_rows.specs.Displays.{IsFit, screen_of, scrolled};
-ghost use Rattle.vt_screen_page.specs.Store.{turned};
-ghost use Rattle.vt_screen_rows.specs.Places.{indexed_places, lowered_places};
+ghost use Rattle.vt_screen_rows.specs.Places.{indexed_places, lowered_places, raised_places};
 
 use crate::display::Display;
 use vt_screen_state::{go_to_first_column, settle};
@@ -21,8 +20,7 @@ impl Display {
     pub fn index(&mut self)
         requires { IsFit self.old }
         ensures screen { screen_of self.new ≡ indexed (screen_of self.old) }
-        ensures width { self.new.ring.columns ≡ self.old.ring.columns }
-        ensures places { MovesLines self.old indexed_places self.new }
+        ensures lines { MovesLines self.old indexed_places self.new }
     {
         if self.state.line == self.state.bottom {
             self.scroll();
@@ -38,9 +36,7 @@ impl Display {
     fn scroll(&mut self)
         requires { IsFit self.old }
         ensures screen { screen_of self.new ≡ scrolled (screen_of self.old) }
-        ensures width { self.new.ring.columns ≡ self.old.ring.columns }
-        ensures places { self.new.page.places
-            ≡ turned self.old.state.top self.old.state.bottom 1 self.old.page.places }
+        ensures lines { MovesLines self.old raised_places self.new }
     {
         if self.state.top == 0 {
             self.page.scroll_into(&mut self.ring, self.state.bottom);
@@ -55,8 +51,7 @@ impl Display {
         ensures screen { screen_of self.new
             ≡ indexed
             (with_state (screen_of self.old) (moved_to self.old.state self.old.state.line 0)) }
-        ensures width { self.new.ring.columns ≡ self.old.ring.columns }
-        ensures places { MovesLines self.old indexed_places self.new }
+        ensures lines { MovesLines self.old indexed_places self.new }
     {
         go_to_first_column(&mut self.state);
         self.index();
@@ -67,8 +62,7 @@ impl Display {
     pub fn feed_line(&mut self)
         requires { IsFit self.old }
         ensures screen { screen_of self.new ≡ acted (screen_of self.old) LineFeed }
-        ensures width { self.new.ring.columns ≡ self.old.ring.columns }
-        ensures places { MovesLines self.old indexed_places self.new }
+        ensures lines { MovesLines self.old indexed_places self.new }
     {
         if self.state.modes.starts_lines {
             self.go_to_next_line();
@@ -82,8 +76,7 @@ impl Display {
     pub fn index_back(&mut self)
         requires { IsFit self.old }
         ensures screen { screen_of self.new ≡ reverse_indexed (screen_of self.old) }
-        ensures width { self.new.ring.columns ≡ self.old.ring.columns }
-        ensures places { MovesLines self.old lowered_places self.new }
+        ensures lines { MovesLines self.old lowered_places self.new }
     {
         if self.state.line == self.state.top {
             self.page.scroll_down(self.state.top, self.state.bottom, 1);

@@ -7,9 +7,9 @@ ghost use Rattle.terminal_model.specs.Printing.{placed_narrow, placed_wide, prin
 ghost use Rattle.terminal_model.specs.Printing.{wide_printed, wrapped};
 ghost use Rattle.terminal_model.specs.Table.{acted};
 ghost use Rattle.terminal_model.specs.declared.action.Action.TheVariants.{Print};
-ghost use Rattle.vt_screen_rows.specs.Acting.{MovesLines, MovesLinesBy};
+ghost use Rattle.vt_screen_rows.specs.Acting.{KeepsLines, MovesLines};
 ghost use Rattle.vt_screen_rows.specs.Displays.{IsFit, screen_of};
-ghost use Rattle.vt_screen_rows.specs.Places.{printed_places, wrapped_places};
+ghost use Rattle.vt_screen_rows.specs.Places.{places_after, printed_places, wrapped_places};
 ghost use Rattle.vt_screen_rows.specs.Runs.{is_letter};
 ghost use Rattle.terminal_model.specs.Scrollback.{is_wrapped};
 
@@ -31,8 +31,7 @@ impl Display {
     pub fn print(&mut self, unit: Unit)
         requires { IsFit self.old }
         ensures screen { screen_of self.new ≡ acted (screen_of self.old) (Print unit) }
-        ensures width { self.new.ring.columns ≡ self.old.ring.columns }
-        ensures places { MovesLinesBy self.old (Print unit) self.new }
+        ensures lines { MovesLines self.old (places_after (Print unit)) self.new }
     {
         if let Some(character) = self.state.shifts.map(unit) {
             self.print_character(character);
@@ -45,8 +44,7 @@ impl Display {
         requires { IsFit self.old }
         ensures screen { screen_of self.new ≡ acted (screen_of self.old) (Print (Code character)) }
         ensures fit { IsFit self.new }
-        ensures width { self.new.ring.columns ≡ self.old.ring.columns }
-        ensures places { MovesLinesBy self.old (Print (Code character)) self.new }
+        ensures lines { MovesLines self.old (places_after (Print (Code character))) self.new }
     {
         if character < '\u{A0}' {
             self.print(Unit::Code(character));
@@ -62,8 +60,7 @@ impl Display {
     fn print_beyond(&mut self, character: char)
         requires { IsFit self.old }
         ensures screen { screen_of self.new ≡ printed (Some character) (screen_of self.old) }
-        ensures width { self.new.ring.columns ≡ self.old.ring.columns }
-        ensures places { MovesLines self.old (printed_places (Some character)) self.new }
+        ensures lines { MovesLines self.old (printed_places (Some character)) self.new }
     {
         if is_letter(character) {
             self.print_narrow(character);
@@ -81,8 +78,7 @@ impl Display {
     fn print_character(&mut self, character: char)
         requires { IsFit self.old }
         ensures screen { screen_of self.new ≡ printed (Some character) (screen_of self.old) }
-        ensures width { self.new.ring.columns ≡ self.old.ring.columns }
-        ensures places { MovesLines self.old (printed_places (Some character)) self.new }
+        ensures lines { MovesLines self.old (printed_places (Some character)) self.new }
     {
         match character.width() {
             Some(2) => self.print_broad(character),
@@ -95,8 +91,7 @@ impl Display {
     fn print_broad(&mut self, character: char)
         requires { IsFit self.old }
         ensures screen { screen_of self.new ≡ printed_as 2 character (screen_of self.old) }
-        ensures width { self.new.ring.columns ≡ self.old.ring.columns }
-        ensures places { MovesLines self.old
+        ensures lines { MovesLines self.old
             (wrapped_places (is_wrapped 2 self.old.state)) self.new }
     {
         self.wrap(self.state.is_wrap_pending);
@@ -108,8 +103,7 @@ impl Display {
     fn print_narrow(&mut self, character: char)
         requires { IsFit self.old }
         ensures screen { screen_of self.new ≡ printed_as 1 character (screen_of self.old) }
-        ensures width { self.new.ring.columns ≡ self.old.ring.columns }
-        ensures places { MovesLines self.old
+        ensures lines { MovesLines self.old
             (wrapped_places (is_wrapped 1 self.old.state)) self.new }
     {
         self.wrap(self.state.is_wrap_pending);
@@ -121,8 +115,7 @@ impl Display {
     fn print_as(&mut self, columns: u8, character: char)
         requires { IsFit self.old }
         ensures screen { screen_of self.new ≡ printed_as columns character (screen_of self.old) }
-        ensures width { self.new.ring.columns ≡ self.old.ring.columns }
-        ensures places { MovesLines self.old
+        ensures lines { MovesLines self.old
             (wrapped_places (is_wrapped columns self.old.state)) self.new }
     {
         if columns == 0 {
@@ -143,8 +136,7 @@ impl Display {
         requires { IsFit self.old }
         ensures screen { screen_of self.new
             ≡ marked_at self.old.state.joining mark (screen_of self.old) }
-        ensures width { self.new.ring.columns ≡ self.old.ring.columns }
-        ensures places { self.new.page.places ≡ self.old.page.places }
+        ensures lines { KeepsLines self.old self.new }
     {
         if let Some(place) = self.state.joining {
             self.page.mark(place.line, place.column, mark);
@@ -156,8 +148,7 @@ impl Display {
         requires { IsFit self.old }
         ensures screen { screen_of self.new ≡ wrapped is_due (screen_of self.old) }
         ensures fit { IsFit self.new }
-        ensures width { self.new.ring.columns ≡ self.old.ring.columns }
-        ensures places { MovesLines self.old (wrapped_places is_due) self.new }
+        ensures lines { MovesLines self.old (wrapped_places is_due) self.new }
     {
         if is_due {
             self.go_to_next_line();
@@ -168,8 +159,7 @@ impl Display {
     pub fn place_narrow(&mut self, character: char)
         requires { IsFit self.old }
         ensures screen { screen_of self.new ≡ placed_narrow character (screen_of self.old) }
-        ensures width { self.new.ring.columns ≡ self.old.ring.columns }
-        ensures places { self.new.page.places ≡ self.old.page.places }
+        ensures lines { KeepsLines self.old self.new }
     {
         let state = &self.state;
         let cell = Cell::narrow(character, state.rendition, state.is_protecting);
@@ -185,8 +175,7 @@ impl Display {
     fn print_wide(&mut self, character: char)
         requires { IsFit self.old }
         ensures screen { screen_of self.new ≡ wide_printed character (screen_of self.old) }
-        ensures width { self.new.ring.columns ≡ self.old.ring.columns }
-        ensures places { MovesLines self.old
+        ensures lines { MovesLines self.old
             (wrapped_places (lacks_room self.old.state && self.old.state.modes.wraps)) self.new }
     {
         let is_due = needs_line(&self.state);
@@ -203,8 +192,7 @@ impl Display {
         requires fit { IsFit self.old }
         requires room { self.old.state.column + 1 < self.old.state.columns }
         ensures screen { screen_of self.new ≡ placed_wide character (screen_of self.old) }
-        ensures width { self.new.ring.columns ≡ self.old.ring.columns }
-        ensures places { self.new.page.places ≡ self.old.page.places }
+        ensures lines { KeepsLines self.old self.new }
     {
         let state = &self.state;
         let left = Cell::left(character, state.rendition, state.is_protecting);
@@ -220,7 +208,7 @@ impl Display {
 }
 
 /// Whether a character is a letter of one column: one of 20 to 7E, of U+00A0 to U+02FF without the
-/// soft hyphen, or a Greek, Cyrillic or Armenian one up to U+058F.
+/// soft hyphen, a Greek, Cyrillic or Armenian one up to U+058F, or a Hebrew one.
 #[inline(always)]
 pub fn is_letter(character: char) -> bool
     ensures { result ≡ is_letter character }
@@ -232,6 +220,7 @@ pub fn is_letter(character: char) -> bool
     } else {
         ('\u{370}' <= character && character < '\u{483}')
             || ('\u{48A}' <= character && character < '\u{590}')
+            || ('\u{5D0}' <= character && character < '\u{5EB}')
     }
 }
 

@@ -6,6 +6,7 @@ ghost use Rattle.terminal_model.specs.declared.action.Action.TheVariants.{Align,
 ghost use Rattle.terminal_model.specs.declared.action.Action.TheVariants.{ClearTab, ClearTabs};
 ghost use Rattle.terminal_model.specs.declared.action.Action.TheVariants.{Reset, Restore, Save};
 ghost use Rattle.terminal_model.specs.declared.action.Action.TheVariants.{SetTab, SoftReset, Tab};
+ghost use Rattle.vt_screen_rows.specs.Acting.{KeepsLines};
 ghost use Rattle.vt_screen_rows.specs.Displays.{IsFit, screen_of};
 
 use crate::display::Display;
@@ -20,8 +21,7 @@ impl Display {
     pub fn tab(&mut self)
         requires { IsFit self.old }
         ensures screen { screen_of self.new ≡ acted (screen_of self.old) Tab }
-        ensures width { self.new.ring.columns ≡ self.old.ring.columns }
-        ensures places { self.new.page.places ≡ self.old.page.places }
+        ensures lines { KeepsLines self.old self.new }
     {
         let line = self.state.line;
         let column = self.tabs.next(self.state.column);
@@ -32,8 +32,7 @@ impl Display {
     pub fn set_tab(&mut self)
         requires { IsFit self.old }
         ensures screen { screen_of self.new ≡ acted (screen_of self.old) SetTab }
-        ensures width { self.new.ring.columns ≡ self.old.ring.columns }
-        ensures places { self.new.page.places ≡ self.old.page.places }
+        ensures lines { KeepsLines self.old self.new }
     {
         self.tabs.set(self.state.column);
         settle(&mut self.state);
@@ -43,8 +42,7 @@ impl Display {
     pub fn clear_tab(&mut self)
         requires { IsFit self.old }
         ensures screen { screen_of self.new ≡ acted (screen_of self.old) ClearTab }
-        ensures width { self.new.ring.columns ≡ self.old.ring.columns }
-        ensures places { self.new.page.places ≡ self.old.page.places }
+        ensures lines { KeepsLines self.old self.new }
     {
         self.tabs.clear(self.state.column);
         settle(&mut self.state);
@@ -54,8 +52,7 @@ impl Display {
     pub fn clear_tabs(&mut self)
         requires { IsFit self.old }
         ensures screen { screen_of self.new ≡ acted (screen_of self.old) ClearTabs }
-        ensures width { self.new.ring.columns ≡ self.old.ring.columns }
-        ensures places { self.new.page.places ≡ self.old.page.places }
+        ensures lines { KeepsLines self.old self.new }
     {
         self.tabs.clear_all();
         settle(&mut self.state);
@@ -65,8 +62,7 @@ impl Display {
     /// settings with the pending wrap, which is then cleared.
     pub fn save(&mut self)
         ensures screen { screen_of self.new ≡ acted (screen_of self.old) Save }
-        ensures width { self.new.ring.columns ≡ self.old.ring.columns }
-        ensures places { self.new.page.places ≡ self.old.page.places }
+        ensures lines { KeepsLines self.old self.new }
     {
         self.saved = Some(saved_of(&self.state));
         settle(&mut self.state);
@@ -76,8 +72,7 @@ impl Display {
     pub fn restore(&mut self)
         requires { IsFit self.old }
         ensures screen { screen_of self.new ≡ acted (screen_of self.old) Restore }
-        ensures width { self.new.ring.columns ≡ self.old.ring.columns }
-        ensures places { self.new.page.places ≡ self.old.page.places }
+        ensures lines { KeepsLines self.old self.new }
     {
         restore(&mut self.state, self.saved);
     }
@@ -87,8 +82,7 @@ impl Display {
     pub fn reset(&mut self)
         requires { IsFit self.old }
         ensures screen { screen_of self.new ≡ acted (screen_of self.old) Reset }
-        ensures width { self.new.ring.columns ≡ self.old.ring.columns }
-        ensures places { self.new.page.places ≡ self.old.page.places }
+        ensures lines { KeepsLines self.old self.new }
     {
         self.state = starting_state(self.state.rows, self.state.columns, self.state.coding);
         self.tabs.start();
@@ -101,8 +95,7 @@ impl Display {
     pub fn soft_reset(&mut self)
         requires { IsFit self.old }
         ensures screen { screen_of self.new ≡ acted (screen_of self.old) SoftReset }
-        ensures width { self.new.ring.columns ≡ self.old.ring.columns }
-        ensures places { self.new.page.places ≡ self.old.page.places }
+        ensures lines { KeepsLines self.old self.new }
     {
         soft_reset(&mut self.state);
         self.saved = None;
@@ -112,8 +105,7 @@ impl Display {
     pub fn align(&mut self)
         requires { IsFit self.old }
         ensures screen { screen_of self.new ≡ acted (screen_of self.old) Align }
-        ensures width { self.new.ring.columns ≡ self.old.ring.columns }
-        ensures places { self.new.page.places ≡ self.old.page.places }
+        ensures lines { KeepsLines self.old self.new }
     {
         self.page.fill(Cell::narrow('E', Rendition::PLAIN, false));
         use_whole_page(&mut self.state);
@@ -125,8 +117,7 @@ impl Display {
     pub fn blank_page(&mut self)
         requires { IsFit self.old }
         ensures screen { screen_of self.new ≡ acted (screen_of self.old) BlankPage }
-        ensures width { self.new.ring.columns ≡ self.old.ring.columns }
-        ensures places { self.new.page.places ≡ self.old.page.places }
+        ensures lines { KeepsLines self.old self.new }
     {
         self.page.clear();
         use_whole_page(&mut self.state);

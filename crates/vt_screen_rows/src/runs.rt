@@ -5,21 +5,39 @@ ghost use Rattle.std.specs.Prelude.{IsTrue, slice_index};
 ghost use Rattle.std.specs.List.{list_all};
 ghost use Rattle.charsets.specs.Shifts.{set_at};
 ghost use Rattle.charsets.specs.Units.{is_plain};
-ghost use Rattle.vt_screen_rows.specs.Acting.{ActsByAll, MovesLinesByAll};
+ghost use Rattle.vt_screen_rows.specs.Acting.{ActsByAll, KeepsLines, MovesLinesByAll};
 ghost use Rattle.vt_screen_rows.specs.Displays.{IsFit, screen_of};
 ghost use Rattle.vt_screen_rows.specs.Runs.{PrintsAscii, TakesRuns, prints, run_placed};
 ghost use Rattle.vt_screen_rows.specs.Runs.{IsWide, is_letter, wides_placed};
 
 use crate::display::Display;
 use crate::printing::{is_letter, is_mark};
-use charsets::{CharacterSet, Place, Shifts, Unit};
+use charsets::{CharacterSet, Place, Shifts};
 use terminal_model::State;
 use unicode_width::UnicodeWidthChar;
 use vt_screen_state::advance;
 
 impl Display {
-    /// Prints characters 20 to 7E, one after another: `codes` has their code points.
+    /// Prints characters 20 to 7E, one after another: `codes` has their code points. Between two
+    /// control functions there is mostly one, which is put in its cell at once.
+    #[inline(always)]
     pub fn print_run(&mut self, codes: &[u8])
+        requires fit { IsFit self.old }
+        requires plain { list_all is_plain codes.now ≡ true }
+        ensures screen { ActsByAll self.old (prints codes.now) self.new }
+        ensures fit { IsFit self.new }
+        ensures places { MovesLinesByAll self.old (prints codes.now) self.new }
+    {
+        if codes.len() == 1 && takes_runs(&self.state) && !self.state.is_wrap_pending {
+            self.place_narrow(codes[0] as char);
+        } else {
+            self.print_each(codes);
+        }
+    }
+
+    /// Prints characters 20 to 7E, one after another: `codes` has their code points.
+    #[inline(never)]
+    fn print_each(&mut self, codes: &[u8])
         requires fit { IsFit self.old }
         requires plain { list_all is_plain codes.now ≡ true }
         ensures screen { ActsByAll self.old (prints codes.now) self.new }
@@ -45,18 +63,11 @@ impl Display {
         ensures few { result ≤ length codes.now }
     {
         if !takes_runs(&self.state) {
-            self.print(Unit::Code(codes[0] as char));
+            self.print_code(codes[0] as char);
             return 1;
         }
-        if self.state.is_wrap_pending {
-            let count = codes.len().min(self.state.columns);
-            self.place_run_below(&codes[..count]);
-            return count;
-        }
-        if codes.len() == 1 {
-            self.place_narrow(codes[0] as char);
-            return 1;
-        }
+        let is_due = self.state.is_wrap_pending;
+        self.wrap(is_due);
         let count = codes.len().min(self.state.columns - self.state.column);
         self.place_run(&codes[..count]);
         count
@@ -86,6 +97,10 @@ impl Display {
         ensures some { 0 < result }
         ensures few { result ≤ length characters.now }
     {
+        if !takes_runs(&self.state) {
+            self.print_code(characters[0]);
+            return 1;
+        }
         let count = letters_front(characters);
         if count == 0 {
             return self.print_some_others(characters);
@@ -135,8 +150,7 @@ impl Display {
         requires some { 0 < length characters.now }
         requires room { self.old.state.column + 2 * length characters.now ≤ self.old.state.columns }
         ensures screen { screen_of self.new ≡ wides_placed characters.now (screen_of self.old) }
-        ensures width { self.new.ring.columns ≡ self.old.ring.columns }
-        ensures places { self.new.page.places ≡ self.old.page.places }
+        ensures lines { KeepsLines self.old self.new }
     {
         self.page.put_wide_run(
             self.state.line,
@@ -153,6 +167,7 @@ impl Display {
     /// many, at least 1.
     fn print_some_letters(&mut self, letters: &[char]) -> usize
         requires fit { IsFit self.old }
+        requires takes { TakesRuns self.old.state }
         requires letters { list_all is_letter letters.now ≡ true }
         requires some { 0 < length letters.now }
         ensures screen { ActsByAll self.old (prints (take result letters.now)) self.new }
@@ -161,10 +176,6 @@ impl Display {
         ensures some { 0 < result }
         ensures few { result ≤ length letters.now }
     {
-        if !takes_runs(&self.state) {
-            self.print_code(letters[0]);
-            return 1;
-        }
         let is_due = self.state.is_wrap_pending;
         self.wrap(is_due);
         let count = letters.len().min(self.state.columns - self.state.column);
@@ -178,8 +189,7 @@ impl Display {
         requires some { 0 < length letters.now }
         requires room { self.old.state.column + length letters.now ≤ self.old.state.columns }
         ensures screen { screen_of self.new ≡ run_placed letters.now (screen_of self.old) }
-        ensures width { self.new.ring.columns ≡ self.old.ring.columns }
-        ensures places { self.new.page.places ≡ self.old.page.places }
+        ensures lines { KeepsLines self.old self.new }
     {
         self.page.put_letters(
             self.state.line,
@@ -199,8 +209,7 @@ impl Display {
         requires some { 0 < length codes.now }
         requires room { self.old.state.column + length codes.now ≤ self.old.state.columns }
         ensures screen { screen_of self.new ≡ run_placed codes.now (screen_of self.old) }
-        ensures width { self.new.ring.columns ≡ self.old.ring.columns }
-        ensures places { self.new.page.places ≡ self.old.page.places }
+        ensures lines { KeepsLines self.old self.new }
     {
         self.page.put_run(
             self.state.line,

@@ -3,4 +3,4 @@ use Rattle.vt_screen_rows.proofs.display.Display.apply_row.Goals as goal
 
 pub returns-clause-fit : goal.returns-clause-fit
 returns-clause-fit c = acted_fit c.args.self.now c.dispatch.new.self c.args.action c.requires.fit
-    c.dispatch.ensures.screen c.dispatch.ensures.width
+    c.dispatch.ensures.screen c.dispatch.ensures.lines.width

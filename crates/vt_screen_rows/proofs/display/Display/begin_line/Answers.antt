@@ -32,7 +32,7 @@ returns-clause-screen c =
 pub returns-clause-fit : goal.returns-clause-fit
 returns-clause-fit c = all_acted_fit c.args.self.now c.place_run_below.new.self
     (CarriageReturn ∷ LineFeed ∷ prints (take c.min-count.result c.args.codes.now)) c.requires.fit
-    (returns-clause-screen c) c.place_run_below.ensures.width
+    (returns-clause-screen c) c.place_run_below.ensures.lines.width
 
 pub returns-clause-places : goal.returns-clause-places
 returns-clause-places c =
@@ -47,7 +47,7 @@ returns-clause-places c =
     let inside : x.state.column < x.state.columns = c.requires.fit.sound.cursor.1 in
     let some : 0 < length codes = omega arith in
     let room : length codes ≤ x.state.columns = omega arith in
-    c.place_run_below.ensures.places
+    c.place_run_below.ensures.lines.places
     ∙ sym (line_places x codes takes c.requires.fit.sound letters some room c.args.self.now.page.places)
 
 pub returns-then-is_empty-clause-fit : goal.returns-then-is_empty-clause-fit
@@ -56,4 +56,4 @@ returns-then-is_empty-clause-fit c =
     all_acted_fit c.args.self.now c.feed_line.new.self (CarriageReturn ∷ LineFeed ∷ []) c.requires.fit
     (c.feed_line.ensures.screen
     ∙ ap (λ (s : State). acted (with_state (screen_of c.args.self.now) s) LineFeed) c.go_to_first_column.ensures)
-    c.feed_line.ensures.width
+    c.feed_line.ensures.lines.width

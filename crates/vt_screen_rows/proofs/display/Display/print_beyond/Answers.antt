@@ -17,14 +17,18 @@ returns-then-is_letter-clause-screen c =
     (ap (λ (n : ℕ). printed_as n (drawn c.args.character) x) (columns-letter c.args.character is)
     ∙ ap (λ (d : ℕ). printed_as 1 d x) (drawn-letter c.args.character is))
 
-pub returns-then-is_letter-clause-places : goal.returns-then-is_letter-clause-places
-returns-then-is_letter-clause-places c =
+pub returns-then-is_letter-clause-lines : goal.returns-then-is_letter-clause-lines
+returns-then-is_letter-clause-lines c =
     let x : Screen = screen_of c.args.self.now in
     let is : is_letter c.args.character ≡ true = sym c.if-is_letter.ensures in
-    c.print_narrow.ensures.places
-    ∙ sym
-    (ap (λ (n : ℕ). wrapped_places (is_wrapped n x.state) x.state c.args.self.now.page.places)
-    (columns-letter c.args.character is))
+    record {
+      width = c.print_narrow.ensures.lines.width;
+      places =
+          c.print_narrow.ensures.lines.places
+          ∙ sym
+          (ap (λ (n : ℕ). wrapped_places (is_wrapped n x.state) x.state c.args.self.now.page.places)
+          (columns-letter c.args.character is));
+    }
 
 pub returns-then-is_mark-clause-screen : goal.returns-then-is_mark-clause-screen
 returns-then-is_mark-clause-screen c =

@@ -1,41 +1,36 @@
-use Rattle.std.proofs.Common.{◌+◌, ◌-◌, ℕ, List, take, drop, length, ap, ◌∙◌, arith}
-use Rattle.charsets.specs.Units.{is_plain}
+use Rattle.std.proofs.Common.{◌≡◌, ◌<◌, ◌≤◌, length, take, ℕ, List, sym, ap, ◌∙◌, arith}
+use Rattle.std.proofs.lemmas.List.{take_all}
 use Rattle.terminal_model.specs.Screen.{Screen}
 use Rattle.terminal_model.specs.Table.{all_acted}
 use Rattle.vt_screen_rows.specs.Displays.{screen_of}
 use Rattle.vt_screen_rows.specs.Places.{all_acted_places}
-use Rattle.vt_screen_rows.specs.Runs.{prints}
-use Rattle.vt_screen_rows.proofs.RunPlaces.{places_on}
-use Rattle.vt_screen_rows.proofs.RunLemmas.{list_all-drop, list_all-take, prints_on}
+use Rattle.vt_screen_rows.specs.Runs.{TakesRuns, prints}
+use Rattle.vt_screen_rows.proofs.Letters.{plain_letters}
+use Rattle.vt_screen_rows.proofs.LineRuns.{one_placed, one_stays}
+use Rattle.vt_screen_rows.proofs.RunLemmas.{all_acted_fit}
 use Rattle.vt_screen_rows.proofs.display.Display.print_run.Goals as goal
 
-pub print_some-printed-requires-clause-plain : goal.print_some-printed-requires-clause-plain
-print_some-printed-requires-clause-plain c = list_all-take is_plain (length c.args.codes.now - c.loop-printed.printed)
-    (drop c.loop-printed.printed c.args.codes.now)
-    (list_all-drop is_plain c.loop-printed.printed c.args.codes.now c.requires.plain)
+pub returns-then-not-self-clause-screen : goal.returns-then-not-self-clause-screen
+returns-then-not-self-clause-screen c =
+    let x : Screen = screen_of c.args.self.now in
+    let codes : List ℕ = c.args.codes.now in
+    let takes : TakesRuns x.state = c.takes_runs.ensures.0 c.if-takes_runs.true in
+    let one : length codes ≡ 1 = c.if-codes-eq1.true in
+    c.place_narrow.ensures.screen
+    ∙ one_placed x codes takes c.if-not-self.true (plain_letters codes c.requires.plain) (omega arith)
+    ∙ ap (λ (cs : List ℕ). all_acted x (prints cs)) (take_all 1 codes (omega arith))
 
-pub loop-printed-preserved : goal.loop-printed-preserved
-loop-printed-preserved c = record {
-  fit = c.print_some-printed.ensures.fit;
-  screen =
-      ap (λ (v : Screen). all_acted v
-      (prints (drop (c.loop-printed.printed + c.print_some-printed.result) c.args.codes.now)))
-      c.print_some-printed.ensures.screen
-      ∙ prints_on (screen_of c.loop-printed.self) c.args.codes.now c.loop-printed.printed c.print_some-printed.result
-      ∙ c.loop-printed.invariant.screen;
-  places =
-      ap (λ (v : Screen). all_acted_places v
-      (prints (drop (c.loop-printed.printed + c.print_some-printed.result) c.args.codes.now))
-      c.print_some-printed.new.self.page.places) c.print_some-printed.ensures.screen
-      ∙ ap (λ (ps : List ℕ). all_acted_places
-      (all_acted (screen_of c.loop-printed.self)
-      (prints
-      (take c.print_some-printed.result
-      (take (length c.args.codes.now - c.loop-printed.printed) (drop c.loop-printed.printed c.args.codes.now)))))
-      (prints (drop (c.loop-printed.printed + c.print_some-printed.result) c.args.codes.now)) ps)
-      c.print_some-printed.ensures.places
-      ∙ places_on (screen_of c.loop-printed.self) c.args.codes.now c.loop-printed.printed c.print_some-printed.result
-      c.loop-printed.self.page.places
-      ∙ c.loop-printed.invariant.places;
-  few = omega arith;
-}
+pub returns-then-not-self-clause-fit : goal.returns-then-not-self-clause-fit
+returns-then-not-self-clause-fit c = all_acted_fit c.args.self.now c.place_narrow.new.self (prints c.args.codes.now)
+    c.requires.fit (returns-then-not-self-clause-screen c) c.place_narrow.ensures.lines.width
+
+pub returns-then-not-self-clause-places : goal.returns-then-not-self-clause-places
+returns-then-not-self-clause-places c =
+    let x : Screen = screen_of c.args.self.now in
+    let codes : List ℕ = c.args.codes.now in
+    let places : List ℕ = c.args.self.now.page.places in
+    let takes : TakesRuns x.state = c.takes_runs.ensures.0 c.if-takes_runs.true in
+    let one : length codes ≡ 1 = c.if-codes-eq1.true in
+    c.place_narrow.ensures.lines.places
+    ∙ sym (one_stays x codes places takes c.if-not-self.true (plain_letters codes c.requires.plain) (omega arith))
+    ∙ ap (λ (cs : List ℕ). all_acted_places x (prints cs) places) (take_all 1 codes (omega arith))

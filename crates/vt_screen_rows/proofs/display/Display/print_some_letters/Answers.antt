@@ -14,7 +14,7 @@ pub returns-clause-screen : goal.returns-clause-screen
 returns-clause-screen c =
     let x : Screen = screen_of c.args.self.now in
     let codes : List ℕ = take c.min-count.result c.args.letters.now in
-    let takes : TakesRuns x.state = c.takes_runs.ensures.0 c.if-not-takes_runs.false in
+    let takes : TakesRuns x.state = c.requires.takes in
     let w : Screen = wrapped x.state.is_wrap_pending x in
     let sound : IsSound w = subst IsSound c.wrap.ensures.screen c.wrap.ensures.fit.sound in
     let column : c.wrap.new.self.state.column ≡ w.state.column = ap (λ (v : Screen). v.state.column)
@@ -37,13 +37,13 @@ returns-clause-screen c =
 pub returns-clause-fit : goal.returns-clause-fit
 returns-clause-fit c = all_acted_fit c.args.self.now c.place_letters.new.self
     (prints (take c.min-count.result c.args.letters.now)) c.requires.fit (returns-clause-screen c)
-    (c.place_letters.ensures.width ∙ c.wrap.ensures.width)
+    (c.place_letters.ensures.lines.width ∙ c.wrap.ensures.lines.width)
 
 pub returns-clause-places : goal.returns-clause-places
 returns-clause-places c =
     let x : Screen = screen_of c.args.self.now in
     let codes : List ℕ = take c.min-count.result c.args.letters.now in
-    let takes : TakesRuns x.state = c.takes_runs.ensures.0 c.if-not-takes_runs.false in
+    let takes : TakesRuns x.state = c.requires.takes in
     let w : Screen = wrapped x.state.is_wrap_pending x in
     let sound : IsSound w = subst IsSound c.wrap.ensures.screen c.wrap.ensures.fit.sound in
     let column : c.wrap.new.self.state.column ≡ w.state.column = ap (λ (v : Screen). v.state.column)
@@ -56,5 +56,5 @@ returns-clause-places c =
     let n : length codes ≡ min c.min-count.result (length c.args.letters.now) = length-take c.min-count.result
     c.args.letters.now in
     let some : 0 < length codes = omega (arith, c.requires.some) in
-    c.place_letters.ensures.places ∙ c.wrap.ensures.places
+    c.place_letters.ensures.lines.places ∙ c.wrap.ensures.lines.places
     ∙ sym (prints_places x codes c.args.self.now.page.places takes letters some sound (omega arith))

@@ -22,7 +22,7 @@ returns-clause-screen c =
 pub returns-clause-fit : goal.returns-clause-fit
 returns-clause-fit c = all_acted_fit c.args.self.now c.place_wide_run.new.self
     (prints (take c.wide_count-count.result c.args.characters.now)) c.requires.fit (returns-clause-screen c)
-    c.place_wide_run.ensures.width
+    c.place_wide_run.ensures.lines.width
 
 pub returns-clause-places : goal.returns-clause-places
 returns-clause-places c =
@@ -31,7 +31,7 @@ returns-clause-places c =
     let few : n ≤ length c.args.characters.now = c.wide_count-count.ensures.few in
     let run : List ℕ = take n c.args.characters.now in
     let size : length run ≡ n = omega (arith, length-take n c.args.characters.now) in
-    c.place_wide_run.ensures.places
+    c.place_wide_run.ensures.lines.places
     ∙ sym
     (wides_places run (screen_of c.args.self.now) c.args.self.now.page.places (c.wide_count-count.ensures.runs some)
     (c.wide_count-count.ensures.settled some) c.requires.fit.sound

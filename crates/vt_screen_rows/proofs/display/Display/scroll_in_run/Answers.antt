@@ -1,4 +1,4 @@
-use Rattle.std.proofs.Common.{◌≡◌, ◌==◌, true, sym, eq-eqb}
+use Rattle.std.proofs.Common.{◌≡◌, ◌==◌, true, refl, sym, eq-eqb}
 use Rattle.cells.specs.Page.{line_at}
 use Rattle.vt_screen_rows.specs.Displays.{screen_of}
 use Rattle.vt_screen_rows.proofs.KeptLines.{reverse-with_line}
@@ -17,8 +17,11 @@ returns-clause-screen c =
     )
     (sym (scrolled_run (screen_of d) c.args.codes.now c.requires.fit.sound c.requires.scrolls))
 
-pub returns-clause-places : goal.returns-clause-places
-returns-clause-places c =
+pub returns-clause-lines : goal.returns-clause-lines
+returns-clause-lines c =
     let s = c.args.self.now.state in
     let is_last : (s.line == s.bottom) ≡ true = eq-eqb s.line s.bottom c.requires.scrolls.last in
-    rw (is_last, c.requires.scrolls.first) c.scroll_in_run.ensures.places
+    record {
+      width = rw c.scroll_in_run.ensures.kept refl;
+      places = rw (is_last, c.requires.scrolls.first) c.scroll_in_run.ensures.places;
+    }

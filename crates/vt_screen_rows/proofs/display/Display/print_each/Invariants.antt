@@ -3,7 +3,7 @@ use Rattle.terminal_model.specs.Table.{all_acted}
 use Rattle.vt_screen_rows.specs.Displays.{IsFit, screen_of}
 use Rattle.vt_screen_rows.specs.Places.{all_acted_places}
 use Rattle.vt_screen_rows.specs.Runs.{prints}
-use Rattle.vt_screen_rows.proofs.display.Display.print_run.Given as goal
+use Rattle.vt_screen_rows.proofs.display.Display.print_each.Given as goal
 
 abbrev pub invariant-loop-printed : goal.invariant-loop-printed
 invariant-loop-printed l = record {
