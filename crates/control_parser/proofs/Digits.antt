@@ -20,33 +20,6 @@ digit_added-packed (suc n) d y xs now p q h e =
     let e' : y ≡ longer (get_or xs n 0) d = e ∙ ap (λ k. longer (get_or xs k 0) d) less in
     ap (λ k. take (suc n) (set xs k y)) less ∙ digit_packed n d y xs (omega arith) e' ∙ ap (λ l. digit_added l d) h
 
--- the last of the first values, which is read and written separately
-last_front : (n : ℕ) (xs : List ℕ) → n < length xs → get_or xs n 0 ≡ last_value (take (suc n) xs)
-last_front n [] h = absurd (omega arith)
-last_front zero (x ∷ xs) h = refl
-last_front (suc n) (x ∷ []) h = absurd (omega arith)
-last_front (suc n) (x ∷ z ∷ xs) h = last_front n (z ∷ xs) (omega arith)
-
-pub last-front : (count : ℕ) (xs now : List ℕ) → 0 < count → count ≤ length xs → take count xs ≡ now
-    → get_or xs (count - 1) 0 ≡ last_value now
-last-front zero xs now p q h = absurd (omega arith)
-last-front (suc n) xs now p q h =
-    let less : suc n - 1 ≡ n = omega arith in
-    ap (λ k. get_or xs k 0) less ∙ last_front n xs (omega arith) ∙ ap last_value h
-
-with_front : (n y : ℕ) (xs : List ℕ) → n < length xs → take (suc n) (set xs n y) ≡ with_last (take (suc n) xs) y
-with_front n y [] h = absurd (omega arith)
-with_front zero y (x ∷ xs) h = refl
-with_front (suc n) y (x ∷ []) h = absurd (omega arith)
-with_front (suc n) y (x ∷ z ∷ xs) h = ap (λ l. x ∷ l) (with_front n y (z ∷ xs) (omega arith))
-
-pub with_last-front : (count y : ℕ) (xs now : List ℕ) → 0 < count → count ≤ length xs → take count xs ≡ now
-    → take count (set xs (count - 1) y) ≡ with_last now y
-with_last-front zero y xs now p q h = absurd (omega arith)
-with_last-front (suc n) y xs now p q h =
-    let less : suc n - 1 ≡ n = omega arith in
-    ap (λ k. take (suc n) (set xs k y)) less ∙ with_front n y xs (omega arith) ∙ ap (λ l. with_last l y) h
-
 pub digit-last : (values : List ℕ) (value d : ℕ)
     → digit_added (with_last values value) d ≡ with_last values (longer value d)
 digit-last [] value d = refl

@@ -52,14 +52,6 @@ impl Intermediates {
         }
     }
 
-    /// Removes all intermediates.
-    pub(crate) fn clear(&mut self)
-        ensures { self.new ≡ [] }
-    {
-        self.bytes = [0; 2];
-        self.count = 0;
-    }
-
     /// The number of intermediates, 0 to 2.
     pub fn len(&self) -> usize
         ensures value { result ≡ length self.now }

@@ -4,11 +4,9 @@
 mod func;
 mod intermediates;
 mod laws;
-mod numerals;
 mod params;
 mod parser;
 mod plain;
-mod sequence;
 mod spelling;
 mod state;
 
@@ -18,10 +16,8 @@ pub use laws::{
     can_ends_all, each_is_spelled, graphic_codes_print, pieces_are_whole, plain_bytes_print,
     readings_join, spelled_ones_read_back, unended_go_on, whole_ones_join,
 };
-pub use numerals::Numerals;
 pub use params::Params;
 pub use parser::Parser;
 pub use plain::plain_run;
-pub use sequence::Sequence;
 pub use spelling::spell;
 pub use std::alloc::AllocError as NoMemory;

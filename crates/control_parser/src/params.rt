@@ -1,7 +1,7 @@
 //! Parameters.
 
 ghost use Rattle.std.specs.Prelude.{◌≡◌, ◌<◌, ◌≤◌, ◌∷◌, ◌++◌, [], length, slice_index};
-ghost use Rattle.control_parser.specs.Text.{digit_added, last_value, with_last};
+ghost use Rattle.control_parser.specs.Text.{digit_added};
 
 use std::marker::Model;
 
@@ -68,14 +68,6 @@ impl Params {
         }
     }
 
-    /// Resets to a single absent parameter.
-    pub(crate) fn clear(&mut self)
-        ensures { self.new ≡ 0 ∷ [] }
-    {
-        self.values = [0; PARAMS];
-        self.count = 1;
-    }
-
     /// The number of parameters, 1 to 16.
     pub fn len(&self) -> usize
         ensures { result ≡ length self.now }
@@ -108,34 +100,12 @@ impl Params {
         self.values[last] = longer.min(9999) as u16;
     }
 
-    /// The last parameter.
-    pub(crate) fn last(&self) -> u16
-        ensures { result ≡ last_value self.now }
-    {
-        self.values[self.count - 1]
-    }
-
-    /// Replaces the last parameter.
-    pub(crate) fn set_last(&mut self, value: u16)
-        ensures { self.new ≡ with_last self.old value }
-    {
-        self.values[self.count - 1] = value;
-    }
-
     /// Appends a parameter.
     pub fn push(&mut self, value: u16)
         requires { length self.old < 16 }
         ensures { self.new ≡ self.old ++ value ∷ [] }
     {
         self.values[self.count] = value;
-        self.count += 1;
-    }
-
-    /// Appends an absent parameter: the places after the last parameter are 0.
-    pub(crate) fn push_absent(&mut self)
-        requires { length self.old < 16 }
-        ensures { self.new ≡ self.old ++ 0 ∷ [] }
-    {
         self.count += 1;
     }
 }

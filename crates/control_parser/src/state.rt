@@ -96,24 +96,6 @@ impl SequenceText {
         }
     }
 
-    /// Resets to the empty text of a control sequence.
-    pub fn clear(&mut self)
-        ensures { self.new ≡ no_text }
-    {
-        self.begun = false;
-        self.mark = None;
-        self.params.clear();
-        self.over = false;
-        self.intermediates.clear();
-    }
-
-    /// Whether a digit counts for the last parameter.
-    pub fn takes_digits(&self) -> bool
-        ensures { IsTrue result → TakesDigits self.now }
-    {
-        !self.over && self.intermediates.is_empty()
-    }
-
     // The control sequence with this text and this final byte.
     fn ended(&self, last: u8) -> Func
         ensures { result ≡ Func.Csi self.now.mark self.now.params self.now.intermediates last }
