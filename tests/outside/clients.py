@@ -441,6 +441,9 @@ def commands():
         said = run([*words, "windows \u00e9"])[2]
         check("in place of a line with other characters, it has the user and the socket",
               said.endswith(f": own at {server.path}\n".encode()), str(said))
+        said = run([*words, "no\x1b[31mword"])[:3]
+        means = f"mux: line: 1 at 0 (unknown command: no\\x1b[31mword): own at {server.path}\n".encode()
+        check("control characters of the user's own word are visible", said == (1, b"line: 1 at 0\n", means), str(said))
         check("a command that is done", run([*words, "multiuser on"])[:3] == (0, b"", b""))
         said = run([*words, "displays"])
         check("one that says something", said[:3] == (0, b"\n", b""), str(said))

@@ -121,7 +121,7 @@ pub fn some_of(alloc: Global, bytes: &[u8]) -> Result<Bytes, Unread>
     Ok(Bytes::of(alloc, bytes)?)
 }
 
-// Always true. A caller learns by it that a token is 64 digits.
+/// Always true. A caller learns by it that a token is 64 digits.
 pub fn is_token(token: &Token) -> bool
     ensures { (result ≡ true) × IsToken token.now }
 {
@@ -129,7 +129,7 @@ pub fn is_token(token: &Token) -> bool
     true
 }
 
-// Always true. A caller learns by it that a text is UTF-8.
+/// Always true. A caller learns by it that a text is UTF-8.
 pub fn is_text(text: &Text) -> bool
     ensures { (result ≡ true) × IsText text.now }
 {

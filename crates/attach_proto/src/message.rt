@@ -1,9 +1,11 @@
 //! The messages, and how the payload of each is read and written.
 
-ghost use Rattle.std.specs.Prelude.{◌≡◌, ◌++◌, OnOk, true, false};
+ghost use Rattle.std.specs.Prelude.{◌≡◌, ◌++◌, ◌<◌, OnOk, true, false, length};
+ghost use Rattle.attach_proto.specs.Fields.{named, two};
 ghost use Rattle.attach_proto.specs.Texts.{Gives};
 ghost use Rattle.attach_proto.specs.Spelling.{kind_of, payload, HasFields};
 ghost use Rattle.attach_proto.specs.Reading.{message_of};
+ghost use Rattle.attach_proto.specs.declared.message.Message.TheVariants as message;
 
 use crate::fault::Unread;
 use crate::fields::{
@@ -243,6 +245,56 @@ pub fn has_fields(message: &Message) -> bool
     }
 }
 
+fn put_attach(
+    out: &mut Vec<u8>,
+    rows: u16,
+    columns: u16,
+    token: &Token,
+    name: &Text,
+) -> Result<(), AllocError>
+    ensures { OnOk result (out.new.items
+        ≡ out.old.items ++ payload (message.Attach rows columns token.now name.now)) }
+{
+    put_size(out, rows, columns)?;
+    put_token(out, token)?;
+    put_text(out, name)
+}
+
+// Appends what follows the size in the payload of WINDOW.
+fn put_window(
+    out: &mut Vec<u8>,
+    keep: u16,
+    token: &Token,
+    name: &Text,
+    title: &Text,
+) -> Result<(), AllocError>
+    requires { length name.now < 256 }
+    ensures { OnOk result (out.new.items
+        ≡ out.old.items ++ (two keep ++ (token.now ++ (named name.now ++ title.now)))) }
+{
+    put_two(out, keep)?;
+    put_token(out, token)?;
+    put_name(out, name)?;
+    put_text(out, title)
+}
+
+fn put_command(
+    out: &mut Vec<u8>,
+    window: Option<u8>,
+    token: &Token,
+    name: &Text,
+    line: &Bytes,
+) -> Result<(), AllocError>
+    requires { length name.now < 256 }
+    ensures { OnOk result (out.new.items
+        ≡ out.old.items ++ payload (message.Command window token.now name.now line.now)) }
+{
+    out.push(window_byte(window))?;
+    put_token(out, token)?;
+    put_name(out, name)?;
+    put_bytes(out, line)
+}
+
 /// Appends the payload of the message.
 pub fn put_payload(out: &mut Vec<u8>, message: &Message) -> Result<(), AllocError>
     requires { HasFields message.now }
@@ -254,11 +306,7 @@ pub fn put_payload(out: &mut Vec<u8>, message: &Message) -> Result<(), AllocErro
             columns,
             token,
             name,
-        } => {
-            put_size(out, *rows, *columns)?;
-            put_token(out, token)?;
-            put_text(out, name)?;
-        }
+        } => put_attach(out, *rows, *columns, token, name)?,
         Message::Window {
             rows,
             columns,
@@ -268,22 +316,14 @@ pub fn put_payload(out: &mut Vec<u8>, message: &Message) -> Result<(), AllocErro
             title,
         } => {
             put_size(out, *rows, *columns)?;
-            put_two(out, *keep)?;
-            put_token(out, token)?;
-            put_name(out, name)?;
-            put_text(out, title)?;
+            put_window(out, *keep, token, name, title)?;
         }
         Message::Command {
             window,
             token,
             name,
             line,
-        } => {
-            out.push(window_byte(*window))?;
-            put_token(out, token)?;
-            put_name(out, name)?;
-            put_bytes(out, line)?;
-        }
+        } => put_command(out, *window, token, name, line)?,
         Message::Keys(bytes) => put_bytes(out, bytes)?,
         Message::Output(bytes) => put_bytes(out, bytes)?,
         Message::Draw(bytes) => put_bytes(out, bytes)?,

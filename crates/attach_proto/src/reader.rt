@@ -66,11 +66,14 @@ fn read_run(
     Ok((run.taken, run.fault))
 }
 
+// Removes the first bytes. A drain would move the others, and drop these, one by one.
 fn drop_front(bytes: &mut Vec<u8>, taken: usize)
     requires { taken ≤ vec_len bytes.old }
     ensures { bytes.new.items ≡ drop taken bytes.old.items }
 {
-    bytes.drain(..taken);
+    let left = bytes.len() - taken;
+    bytes.as_mut_slice().copy_within(taken.., 0);
+    bytes.truncate(left);
 }
 
 /// Reads the frames of a connection. After a fault it answers with this fault for good.

@@ -2,13 +2,17 @@
 //! the messages that came from it.
 #![tactic(auto)]
 
+mod host;
 mod opening;
 mod outgoing;
 mod sending;
 mod standing;
+mod starting;
 mod taking;
 
-pub use opening::{Connects, Door, prepare, warn_of_token};
+pub use host::{Connects, PeerHost, Sink, Source};
+pub use opening::{Door, prepare, warn_of_token};
 pub use outgoing::{let_out, send_detach};
 pub use sending::start_sources;
-pub use standing::{Intake, Outlet, Shared, Standing};
+pub use standing::{Intake, Outlet, SharedPeer, Standing};
+pub use starting::start_thread;

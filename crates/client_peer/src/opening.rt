@@ -1,5 +1,6 @@
 //! The connection with its first frame, and the files that the arguments name.
 
+use crate::host::PeerHost;
 use crate::outgoing::PATIENCE;
 use attach_proto::Token;
 use client_words::{Fault, Part, Way, Words};
@@ -87,37 +88,25 @@ fn sizes_of<R: fs::Files<File = File>>(rt: &R, words: &Words<'_>) -> Result<Opti
 
 /// The sizes' files of a peer.
 #[derive(Drop)]
-pub struct Files {
+pub struct SizesFiles {
     /// The file that a client's sizes are read from.
     pub asked: Option<File>,
     /// The file that a window's sizes are written to.
     pub told: Option<File>,
 }
 
-impl Files {
-    fn of(way: Way, sizes: Option<File>) -> Files {
+impl SizesFiles {
+    fn of(way: Way, sizes: Option<File>) -> SizesFiles {
         match way {
-            Way::Attach => Files {
+            Way::Attach => SizesFiles {
                 asked: sizes,
                 told: None,
             },
-            _ => Files {
+            _ => SizesFiles {
                 asked: None,
                 told: sizes,
             },
         }
-    }
-}
-
-/// Something that connects to a server's socket. (A thread can't be handed `Net`, which has types of
-/// its own.)
-pub trait Connects {
-    fn reach(&self, socket: &str) -> io::Result<UnixStream>;
-}
-
-impl Connects for HostRuntime {
-    fn reach(&self, socket: &str) -> io::Result<UnixStream> {
-        UnixStream::connect(self, socket)
     }
 }
 
@@ -153,7 +142,7 @@ impl Door {
     }
 
     /// Makes the connection.
-    pub fn open<R: Connects>(&self, rt: &R) -> Result<UnixStream, Fault> {
+    pub fn open(&self, rt: &impl PeerHost) -> Result<UnixStream, Fault> {
         match rt.reach(self.socket.as_str()) {
             Ok(stream) => match self.begin(&stream) {
                 Ok(()) => Ok(stream),
@@ -207,12 +196,12 @@ pub fn prepare<R: fs::Files<File = File> + AllocGlobal>(
     rt: &R,
     words: &Words<'_>,
     kept: &mut Vec<File>,
-) -> Result<(Door, Files), Fault> {
+) -> Result<(Door, SizesFiles), Fault> {
     fill_closed(rt, kept)?;
     let frame = frame_for(rt, words)?;
     let door = Door::of(rt.alloc(), words, frame)?;
     match sizes_of(rt, words) {
-        Ok(sizes) => Ok((door, Files::of(words.way, sizes))),
+        Ok(sizes) => Ok((door, SizesFiles::of(words.way, sizes))),
         Err(fault) => Err(fault),
     }
 }

@@ -1,14 +1,16 @@
 //! Frames that go to the server, in their order and whole.
 
-use crate::standing::{Outbox, Shared};
+use crate::host::{PeerHost, Sink, Source};
+use crate::standing::{Outbox, SharedPeer};
+use crate::starting::start_thread;
 use attach_proto::{Kind, head_of};
 use client_words::{Fault, Part};
 use std::alloc::{AllocError, Global};
-use std::io::{ErrorKind, Read, Write};
+use std::io::{ErrorKind, Write};
 use std::os::unix::net::UnixStream;
 use std::sync::{Arc, Wait};
 use std::thread::Threads;
-use std::{io, mem, thread};
+use std::{io, mem};
 
 /// How long a socket that has a limit may take nothing, in milliseconds, before a frame waits.
 pub const PATIENCE: u64 = 20;
@@ -67,7 +69,7 @@ impl Outbox {
 }
 
 // Writes all of the frames, no matter how long that takes.
-fn write_out<R: Wait, I, O>(rt: &R, shared: &Shared<I, O>, frames: &[u8]) -> io::Result<()> {
+fn write_out<R: Wait, I, O>(rt: &R, shared: &SharedPeer<I, O>, frames: &[u8]) -> io::Result<()> {
     let Some(stream) = shared.stream.get() else {
         return Err(io::Error::from(ErrorKind::NotConnected));
     };
@@ -83,7 +85,7 @@ fn write_out<R: Wait, I, O>(rt: &R, shared: &Shared<I, O>, frames: &[u8]) -> io:
 }
 
 // Writes waiting frames until none is left.
-fn flush<R: Wait, I, O>(rt: &R, shared: &Shared<I, O>) {
+fn flush<R: Wait, I, O>(rt: &R, shared: &SharedPeer<I, O>) {
     for _ in rt.forever() {
         let Some(frames) = shared.outbox.lock(rt).take(shared.alloc) else {
             break;
@@ -97,64 +99,44 @@ fn flush<R: Wait, I, O>(rt: &R, shared: &Shared<I, O>) {
     }
 }
 
-// Starts a thread that writes the waiting frames.
-fn start_flushing<
-    R: Threads + Wait + Copy + Send + 'static,
-    I: Read + Send + Drop + 'static,
-    O: Write + Send + Drop + 'static,
->(rt: &R, shared: &Arc<Shared<I, O>, Global>) -> Result<(), AllocError> {
-    let theirs = Arc::try_clone(shared)?;
-    let rt_there = *rt;
-    let started = thread::spawn(rt, move || {
-        let rt = rt_there;
-        flush(&rt, &theirs);
-    });
-    match started {
-        Ok(_) => Ok(()),
-        Err(error) => Err(AllocError::from(error)),
-    }
-}
-
 /// Sends one frame, or leaves it to a thread if the socket doesn't take it at once.
-pub fn send<
-    R: Threads + Wait + Copy + Send + 'static,
-    I: Read + Send + Drop + 'static,
-    O: Write + Send + Drop + 'static,
->(rt: &R, shared: &Arc<Shared<I, O>, Global>, frame: &[u8]) -> Result<(), Fault> {
+pub fn send<R: PeerHost + Threads + Wait, I: Source, O: Sink>(
+    rt: &R,
+    shared: &Arc<SharedPeer<I, O>, Global>,
+    frame: &[u8],
+) -> Result<(), Fault> {
     let is_left = shared.outbox.lock(rt).put(shared.stream.get(), frame)?;
     if is_left {
-        start_flushing(rt, shared)?;
+        start_thread(rt, shared, |rt, shared| flush(rt, shared))?;
     }
     Ok(())
 }
 
 /// Sends DETACH, a frame without a payload.
-pub fn send_detach<
-    R: Threads + Wait + Copy + Send + 'static,
-    I: Read + Send + Drop + 'static,
-    O: Write + Send + Drop + 'static,
->(rt: &R, shared: &Arc<Shared<I, O>, Global>) -> Result<(), Fault> {
+pub fn send_detach<R: PeerHost + Threads + Wait, I: Source, O: Sink>(
+    rt: &R,
+    shared: &Arc<SharedPeer<I, O>, Global>,
+) -> Result<(), Fault> {
     send(rt, shared, &head_of(Kind::Detach, &[]))
 }
 
 /// Sends the waiting frames, once the server has welcomed the peer.
-pub fn let_out<
-    R: Threads + Wait + Copy + Send + 'static,
-    I: Read + Send + Drop + 'static,
-    O: Write + Send + Drop + 'static,
->(rt: &R, shared: &Arc<Shared<I, O>, Global>) -> Result<(), AllocError> {
+pub fn let_out<R: PeerHost + Threads + Wait, I: Source, O: Sink>(
+    rt: &R,
+    shared: &Arc<SharedPeer<I, O>, Global>,
+) -> Result<(), AllocError> {
     let mut outbox = shared.outbox.lock(rt);
     outbox.is_held = !outbox.frames.is_empty();
     let is_left = outbox.is_held;
     drop(outbox);
     if is_left {
-        start_flushing(rt, shared)?;
+        start_thread(rt, shared, |rt, shared| flush(rt, shared))?;
     }
     Ok(())
 }
 
 /// Waits while too many bytes wait for the socket.
-pub fn wait_for_room<R: Wait, I, O>(rt: &R, shared: &Shared<I, O>) {
+pub fn wait_for_room<R: Wait, I, O>(rt: &R, shared: &SharedPeer<I, O>) {
     let outbox = shared.outbox.lock(rt);
     let _ = shared.room.wait_while(rt, outbox, |outbox| {
         outbox.frames.len() > MOST_AHEAD && !outbox.is_lost

@@ -2,16 +2,18 @@
 
 ghost use Rattle.std.specs.Io.{ReadsAtMost};
 
+use crate::host::{PeerHost, Sink, Source};
 use crate::outgoing::{send, send_detach, wait_for_room};
-use crate::standing::{Shared, Typing};
+use crate::standing::{SharedPeer, Typing};
+use crate::starting::start_thread;
 use attach_proto::{Bytes, LONGEST, Message, WriteFault};
-use client_words::{Fault, Part, Size, SizeLines, Stage, Way, frame_of};
+use client_words::{Fault, InputStage, Part, Size, SizeLines, Way, frame_of};
 use std::alloc::{AllocError, Global};
 use std::fs::File;
-use std::io::{Read, Write};
+use std::io;
+use std::io::Read;
 use std::sync::{Arc, Wait};
 use std::thread::Threads;
-use std::{io, thread};
 
 // The errno of a terminal whose other end has gone: it counts as the end of the input.
 const EIO: i32 = 5;
@@ -42,12 +44,12 @@ fn size_frame(alloc: Global, size: Size) -> Result<Vec<u8>, WriteFault> {
 
 impl Typing {
     // The bytes of the input to be sent, and the stage that it has reached.
-    fn take(&mut self, alloc: Global, input: &[u8]) -> Result<(Vec<u8>, Stage), AllocError> {
+    fn take(&mut self, alloc: Global, input: &[u8]) -> Result<(Vec<u8>, InputStage), AllocError> {
         let mut bytes = Vec::new(alloc);
         self.reads = self.reads.wrapping_add(1);
         let Some(reader) = &mut self.reader else {
             bytes.extend_from_slice(input)?;
-            return Ok((bytes, Stage::Reading));
+            return Ok((bytes, InputStage::Reading));
         };
         reader.feed(input, &mut bytes)?;
         Ok((bytes, reader.stage()))
@@ -55,11 +57,11 @@ impl Typing {
 }
 
 // Sends input that was read. Returns whether the socket takes more.
-fn send_input<
-    R: Threads + Wait + Copy + Send + 'static,
-    I: Read + Send + Drop + 'static,
-    O: Write + Send + Drop + 'static,
->(rt: &R, shared: &Arc<Shared<I, O>, Global>, input: &[u8]) -> Result<bool, Fault> {
+fn send_input<R: PeerHost + Threads + Wait, I: Source, O: Sink>(
+    rt: &R,
+    shared: &Arc<SharedPeer<I, O>, Global>,
+    input: &[u8],
+) -> Result<bool, Fault> {
     if input.is_empty() {
         return Ok(true);
     }
@@ -73,18 +75,18 @@ fn send_input<
 }
 
 // Sends input that was read, without the byte that leaves. Returns whether to go on.
-fn send_typed<
-    R: Threads + Wait + Copy + Send + 'static,
-    I: Read + Send + Drop + 'static,
-    O: Write + Send + Drop + 'static,
->(rt: &R, shared: &Arc<Shared<I, O>, Global>, input: &[u8]) -> Result<bool, Fault> {
+fn send_typed<R: PeerHost + Threads + Wait, I: Source, O: Sink>(
+    rt: &R,
+    shared: &Arc<SharedPeer<I, O>, Global>,
+    input: &[u8],
+) -> Result<bool, Fault> {
     let mut typing = shared.typing.lock(rt);
     let (bytes, stage) = typing.take(shared.alloc, input)?;
     let takes = send_input(rt, shared, &bytes)?;
     shared.tell_stage(rt, stage, typing.reads);
     drop(typing);
     wait_for_room(rt, shared);
-    Ok(takes && !matches!(stage, Stage::Left))
+    Ok(takes && !matches!(stage, InputStage::Left))
 }
 
 /// What to do after a read of the input.
@@ -98,13 +100,9 @@ enum Next {
 }
 
 // Reads the input once, and sends it.
-fn send_next<
-    R: Threads + Wait + Copy + Send + 'static,
-    I: Read + Send + Drop + 'static,
-    O: Write + Send + Drop + 'static,
->(
+fn send_next<R: PeerHost + Threads + Wait, I: Source, O: Sink>(
     rt: &R,
-    shared: &Arc<Shared<I, O>, Global>,
+    shared: &Arc<SharedPeer<I, O>, Global>,
     input: &mut I,
     buffer: &mut [u8],
 ) -> Result<Next, Fault> {
@@ -118,11 +116,11 @@ fn send_next<
 }
 
 // Reads and sends the input until its end. Returns whether to send DETACH then.
-fn send_all<
-    R: Threads + Wait + Copy + Send + 'static,
-    I: Read + Send + Drop + 'static,
-    O: Write + Send + Drop + 'static,
->(rt: &R, shared: &Arc<Shared<I, O>, Global>, input: &mut I) -> Result<bool, Fault> {
+fn send_all<R: PeerHost + Threads + Wait, I: Source, O: Sink>(
+    rt: &R,
+    shared: &Arc<SharedPeer<I, O>, Global>,
+    input: &mut I,
+) -> Result<bool, Fault> {
     let mut buffer = vec![in shared.alloc; 0; LONGEST]?;
     for _ in 0..u64::MAX {
         match send_next(rt, shared, input, buffer.as_mut_slice())? {
@@ -135,11 +133,11 @@ fn send_all<
 }
 
 // Sends the input, and DETACH at its end.
-fn send_to_end<
-    R: Threads + Wait + Copy + Send + 'static,
-    I: Read + Send + Drop + 'static,
-    O: Write + Send + Drop + 'static,
->(rt: &R, shared: &Arc<Shared<I, O>, Global>, input: &mut I) {
+fn send_to_end<R: PeerHost + Threads + Wait, I: Source, O: Sink>(
+    rt: &R,
+    shared: &Arc<SharedPeer<I, O>, Global>,
+    input: &mut I,
+) {
     let has_ended = match send_all(rt, shared, input) {
         Ok(has_ended) => has_ended,
         Err(fault) => {
@@ -153,11 +151,11 @@ fn send_to_end<
 }
 
 // Sends a size. Returns whether to go on.
-fn send_size<
-    R: Threads + Wait + Copy + Send + 'static,
-    I: Read + Send + Drop + 'static,
-    O: Write + Send + Drop + 'static,
->(rt: &R, shared: &Arc<Shared<I, O>, Global>, size: Size) -> bool {
+fn send_size<R: PeerHost + Threads + Wait, I: Source, O: Sink>(
+    rt: &R,
+    shared: &Arc<SharedPeer<I, O>, Global>,
+    size: Size,
+) -> bool {
     match size_frame(shared.alloc, size) {
         Ok(frame) => send(rt, shared, &frame).is_ok(),
         Err(_) => false,
@@ -165,11 +163,12 @@ fn send_size<
 }
 
 // Sends the last of the sizes whose lines these bytes complete. Returns whether to go on.
-fn send_last<
-    R: Threads + Wait + Copy + Send + 'static,
-    I: Read + Send + Drop + 'static,
-    O: Write + Send + Drop + 'static,
->(rt: &R, shared: &Arc<Shared<I, O>, Global>, lines: &mut SizeLines, bytes: &[u8]) -> bool {
+fn send_last<R: PeerHost + Threads + Wait, I: Source, O: Sink>(
+    rt: &R,
+    shared: &Arc<SharedPeer<I, O>, Global>,
+    lines: &mut SizeLines,
+    bytes: &[u8],
+) -> bool {
     let Ok(size) = lines.feed(bytes) else {
         return false;
     };
@@ -183,13 +182,9 @@ fn send_last<
 }
 
 // Reads the sizes' file once, and sends the last size. Returns whether to go on.
-fn send_read<
-    R: Threads + Wait + Copy + Send + 'static,
-    I: Read + Send + Drop + 'static,
-    O: Write + Send + Drop + 'static,
->(
+fn send_read<R: PeerHost + Threads + Wait, I: Source, O: Sink>(
     rt: &R,
-    shared: &Arc<Shared<I, O>, Global>,
+    shared: &Arc<SharedPeer<I, O>, Global>,
     file: &mut File,
     lines: &mut SizeLines,
     buffer: &mut [u8],
@@ -201,11 +196,11 @@ fn send_read<
 }
 
 // Sends sizes until the file ends; of several that came at once only the last.
-fn send_sizes<
-    R: Threads + Wait + Copy + Send + 'static,
-    I: Read + Send + Drop + 'static,
-    O: Write + Send + Drop + 'static,
->(rt: &R, shared: &Arc<Shared<I, O>, Global>, file: &mut File) -> Result<(), AllocError> {
+fn send_sizes<R: PeerHost + Threads + Wait, I: Source, O: Sink>(
+    rt: &R,
+    shared: &Arc<SharedPeer<I, O>, Global>,
+    file: &mut File,
+) -> Result<(), AllocError> {
     let mut lines = SizeLines::new(shared.alloc);
     let mut buffer = vec![in shared.alloc; 0; LONGEST]?;
     for _ in 0..u64::MAX {
@@ -216,57 +211,25 @@ fn send_sizes<
     Ok(())
 }
 
-// Starts a thread that sends the input. Nobody joins it: it may wait for its source for ever, and the
-// program ends without it.
-fn start_input<
-    R: Threads + Wait + Copy + Send + 'static,
-    I: Read + Send + Drop + 'static,
-    O: Write + Send + Drop + 'static,
->(rt: &R, shared: &Arc<Shared<I, O>, Global>, input: I) -> Result<(), AllocError> {
-    let theirs = Arc::try_clone(shared)?;
-    let rt_there = *rt;
-    let mut input = input;
-    let started = thread::spawn(rt, move || {
-        let rt = rt_there;
-        send_to_end(&rt, &theirs, &mut input);
-    });
-    match started {
-        Ok(_) => Ok(()),
-        Err(error) => Err(AllocError::from(error)),
-    }
-}
-
-// Starts a thread that sends the sizes from a file.
-fn start_sizes<
-    R: Threads + Wait + Copy + Send + 'static,
-    I: Read + Send + Drop + 'static,
-    O: Write + Send + Drop + 'static,
->(rt: &R, shared: &Arc<Shared<I, O>, Global>, file: File) -> Result<(), AllocError> {
-    let theirs = Arc::try_clone(shared)?;
-    let rt_there = *rt;
-    let mut file = file;
-    let started = thread::spawn(rt, move || {
-        let rt = rt_there;
-        let _ = send_sizes(&rt, &theirs, &mut file);
-    });
-    match started {
-        Ok(_) => Ok(()),
-        Err(error) => Err(AllocError::from(error)),
-    }
-}
-
 /// Starts the threads that read a peer's input and sizes, unless they run already.
-pub fn start_sources<
-    R: Threads + Wait + Copy + Send + 'static,
-    I: Read + Send + Drop + 'static,
-    O: Write + Send + Drop + 'static,
->(rt: &R, shared: &Arc<Shared<I, O>, Global>) -> Result<(), AllocError> {
+pub fn start_sources<R: PeerHost + Threads + Wait, I: Source, O: Sink>(
+    rt: &R,
+    shared: &Arc<SharedPeer<I, O>, Global>,
+) -> Result<(), AllocError> {
     let mut sources = shared.sources.lock(rt);
-    if let Some(asked) = sources.asked.take() {
-        start_sizes(rt, shared, asked)?;
+    if let Some(mut file) = sources.asked.take() {
+        start_thread(rt, shared, move |rt, shared| {
+            let _ = send_sizes(rt, shared, &mut file);
+        })?;
     }
     match sources.input.take() {
-        Some(input) => start_input(rt, shared, input),
+        Some(mut input) => {
+            start_thread(
+                rt,
+                shared,
+                move |rt, shared| send_to_end(rt, shared, &mut input),
+            )
+        }
         None => Ok(()),
     }
 }

@@ -1,8 +1,8 @@
 //! What the threads of a peer share.
 
-use crate::opening::Files;
+use crate::opening::SizesFiles;
 use attach_proto::{Reader, Side, Why};
-use client_words::{Fault, LeaveReader, Stage, Way, Words};
+use client_words::{Fault, InputStage, LeaveReader, Way, Words};
 use std::alloc::Global;
 use std::fs::File;
 use std::os::unix::net::UnixStream;
@@ -37,7 +37,7 @@ pub struct Standing {
     /// A line of the sizes' file wasn't a size.
     pub has_dropped: bool,
     /// The stage of the input in looking for the byte that leaves, and how many times it was read.
-    pub stage: Stage,
+    pub stage: InputStage,
     pub reads: u64,
 }
 
@@ -58,7 +58,7 @@ impl Standing {
             end: None,
             input: None,
             has_dropped: false,
-            stage: Stage::Reading,
+            stage: InputStage::Reading,
             reads: 0,
         }
     }
@@ -157,7 +157,7 @@ pub struct Outlet<O> {
 
 /// A peer, for all of its threads.
 #[derive(Drop)]
-pub struct Shared<I, O> {
+pub struct SharedPeer<I, O> {
     pub alloc: Global,
     pub way: Way,
     /// Whether there is a byte of the input that leaves, whatever the server does.
@@ -180,17 +180,17 @@ pub struct Shared<I, O> {
     pub room: Condvar,
 }
 
-impl<I, O> Shared<I, O> {
+impl<I, O> SharedPeer<I, O> {
     pub fn new(
         alloc: Global,
         words: &Words<'_>,
-        files: Files,
+        files: SizesFiles,
         input: I,
         output: O,
-    ) -> Shared<I, O> {
-        let Files { asked, told } = files;
+    ) -> SharedPeer<I, O> {
+        let SizesFiles { asked, told } = files;
         let can_leave = words.leave.is_some();
-        Shared {
+        SharedPeer {
             alloc,
             way: words.way,
             can_leave,
@@ -222,9 +222,12 @@ impl<I, O> Shared<I, O> {
 
     /// Notes the stage of the input in looking for the byte that leaves, and wakes the thread that waits
     /// for it.
-    pub fn tell_stage<R: Wait>(&self, rt: &R, stage: Stage, reads: u64) {
+    pub fn tell_stage<R: Wait>(&self, rt: &R, stage: InputStage, reads: u64) {
         let mut standing = self.standing.lock(rt);
-        let is_news = !matches!((standing.stage, stage), (Stage::Reading, Stage::Reading));
+        let is_news = !matches!(
+            (standing.stage, stage),
+            (InputStage::Reading, InputStage::Reading)
+        );
         standing.stage = stage;
         standing.reads = reads;
         drop(standing);

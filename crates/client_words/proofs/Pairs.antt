@@ -1,17 +1,17 @@
 -- What one byte more does to input in which a byte leaves.
 use Rattle.std.proofs.Common.{◌≡◌, ℕ, ◌==◌, Bool, true, false, List, [], ◌∷◌, ◌++◌, refl, sym, ap, ◌∙◌, if◌then◌else◌}
-use Rattle.client_words.specs.declared.leaving.Stage.{Stage}
-use Rattle.client_words.specs.declared.leaving.Stage.TheVariants.{Reading, Waiting, Left}
+use Rattle.client_words.specs.declared.leaving.InputStage.{InputStage}
+use Rattle.client_words.specs.declared.leaving.InputStage.TheVariants.{Reading, Waiting, Left}
 use Rattle.client_words.specs.Leaving.{sent, stage}
 use Rattle.client_words.specs.Stands.{HasRead}
 use Rattle.client_words.specs.declared.leaving.LeaveReader.{LeaveReader}
 
-abbrev pub next : ℕ → Stage → ℕ → Stage
+abbrev pub next : ℕ → InputStage → ℕ → InputStage
 next byte Reading y = if y == byte then Waiting else Reading
 next byte Waiting y = if y == byte then Reading else Left
 next byte Left y = Left
 
-abbrev pub more : ℕ → Stage → ℕ → List ℕ
+abbrev pub more : ℕ → InputStage → ℕ → List ℕ
 more byte Reading y = if y == byte then [] else y ∷ []
 more byte Waiting y = if y == byte then byte ∷ [] else []
 more byte Left y = []
@@ -64,53 +64,53 @@ pub reads-nothing : (byte : ℕ) → HasRead (record { byte = byte; stage = Read
 unfolding stage
 reads-nothing byte = record { stage = refl }
 
-pub reads-more : (reader : LeaveReader) (before : List ℕ) (y : ℕ) (after : Stage) → HasRead reader before
+pub reads-more : (reader : LeaveReader) (before : List ℕ) (y : ℕ) (after : InputStage) → HasRead reader before
     → next reader.byte reader.stage y ≡ after
     → HasRead (record { byte = reader.byte; stage = after }) (before ++ y ∷ [])
 reads-more reader before y after s e = record {
-  stage = sym (stage-more reader.byte before y ∙ ap (λ (st : Stage). next reader.byte st y) (sym s.stage) ∙ e);
+  stage = sym (stage-more reader.byte before y ∙ ap (λ (st : InputStage). next reader.byte st y) (sym s.stage) ∙ e);
 }
 
 pub sends-more : (reader : LeaveReader) (before : List ℕ) (y : ℕ) (put : List ℕ) → HasRead reader before
     → more reader.byte reader.stage y ≡ put
     → sent reader.byte (before ++ y ∷ []) ≡ sent reader.byte before ++ put
 sends-more reader before y put s e =
-    sent-more reader.byte before y ∙ ap (λ (st : Stage). sent reader.byte before ++ more reader.byte st y) (sym s.stage)
+    sent-more reader.byte before y ∙ ap (λ (st : InputStage). sent reader.byte before ++ more reader.byte st y) (sym s.stage)
     ∙ ap (λ (l : List ℕ). sent reader.byte before ++ l) e
 
-pub next-yes : (byte : ℕ) (st : Stage) (y : ℕ) → st ≡ Reading → y == byte ≡ true → next byte st y ≡ Waiting
+pub next-yes : (byte : ℕ) (st : InputStage) (y : ℕ) → st ≡ Reading → y == byte ≡ true → next byte st y ≡ Waiting
 next-yes byte st y e h = rw (e, h) refl
 
-pub next-no : (byte : ℕ) (st : Stage) (y : ℕ) → st ≡ Reading → y == byte ≡ false → next byte st y ≡ Reading
+pub next-no : (byte : ℕ) (st : InputStage) (y : ℕ) → st ≡ Reading → y == byte ≡ false → next byte st y ≡ Reading
 next-no byte st y e h = rw (e, h) refl
 
-pub next-pair : (byte : ℕ) (st : Stage) (y : ℕ) → st ≡ Waiting → y == byte ≡ true → next byte st y ≡ Reading
+pub next-pair : (byte : ℕ) (st : InputStage) (y : ℕ) → st ≡ Waiting → y == byte ≡ true → next byte st y ≡ Reading
 next-pair byte st y e h = rw (e, h) refl
 
-pub next-lone : (byte : ℕ) (st : Stage) (y : ℕ) → st ≡ Waiting → y == byte ≡ false → next byte st y ≡ Left
+pub next-lone : (byte : ℕ) (st : InputStage) (y : ℕ) → st ≡ Waiting → y == byte ≡ false → next byte st y ≡ Left
 next-lone byte st y e h = rw (e, h) refl
 
-pub next-left : (byte : ℕ) (st : Stage) (y : ℕ) → st ≡ Left → next byte st y ≡ Left
+pub next-left : (byte : ℕ) (st : InputStage) (y : ℕ) → st ≡ Left → next byte st y ≡ Left
 next-left byte st y e = rw e refl
 
-pub more-yes : (byte : ℕ) (st : Stage) (y : ℕ) → st ≡ Reading → y == byte ≡ true → more byte st y ≡ []
+pub more-yes : (byte : ℕ) (st : InputStage) (y : ℕ) → st ≡ Reading → y == byte ≡ true → more byte st y ≡ []
 more-yes byte st y e h = rw (e, h) refl
 
-pub more-no : (byte : ℕ) (st : Stage) (y : ℕ) → st ≡ Reading → y == byte ≡ false → more byte st y ≡ y ∷ []
+pub more-no : (byte : ℕ) (st : InputStage) (y : ℕ) → st ≡ Reading → y == byte ≡ false → more byte st y ≡ y ∷ []
 more-no byte st y e h = rw (e, h) refl
 
-pub more-pair : (byte : ℕ) (st : Stage) (y : ℕ) → st ≡ Waiting → y == byte ≡ true → y ≡ byte → more byte st y ≡ y ∷ []
+pub more-pair : (byte : ℕ) (st : InputStage) (y : ℕ) → st ≡ Waiting → y == byte ≡ true → y ≡ byte → more byte st y ≡ y ∷ []
 more-pair byte st y e h same = rw (e, h) (ap (λ n. n ∷ []) (sym same))
 
-pub more-lone : (byte : ℕ) (st : Stage) (y : ℕ) → st ≡ Waiting → y == byte ≡ false → more byte st y ≡ []
+pub more-lone : (byte : ℕ) (st : InputStage) (y : ℕ) → st ≡ Waiting → y == byte ≡ false → more byte st y ≡ []
 more-lone byte st y e h = rw (e, h) refl
 
-pub more-left : (byte : ℕ) (st : Stage) (y : ℕ) → st ≡ Left → more byte st y ≡ []
+pub more-left : (byte : ℕ) (st : InputStage) (y : ℕ) → st ≡ Left → more byte st y ≡ []
 more-left byte st y e = rw e refl
 
 pub reads-same : (reader : LeaveReader) (before : List ℕ) (y : ℕ) → HasRead reader before
     → next reader.byte reader.stage y ≡ reader.stage
     → HasRead reader (before ++ y ∷ [])
 reads-same reader before y s e = record {
-  stage = sym (stage-more reader.byte before y ∙ ap (λ (st : Stage). next reader.byte st y) (sym s.stage) ∙ e);
+  stage = sym (stage-more reader.byte before y ∙ ap (λ (st : InputStage). next reader.byte st y) (sym s.stage) ∙ e);
 }

@@ -4,13 +4,13 @@ ghost use Rattle.std.specs.Prelude.{◌≡◌, ◌++◌, ◌∷◌, [], ℕ, Lis
 ghost use Rattle.std.specs.Option.{option_to_list};
 ghost use Rattle.client_words.specs.Leaving.{sent, stage};
 ghost use Rattle.client_words.specs.Stands.{HasRead};
-ghost use Rattle.client_words.specs.declared.leaving.Stage.TheVariants.{Left};
+ghost use Rattle.client_words.specs.declared.leaving.InputStage.TheVariants.{Left};
 
 use std::alloc::AllocError;
 
 /// Where input stands.
 #[derive(Clone, Copy)]
-pub enum Stage {
+pub enum InputStage {
     Reading,
     /// The last byte is the one that leaves; typed once more it is a byte of the input.
     Waiting,
@@ -22,7 +22,7 @@ pub enum Stage {
 #[derive(Clone, Copy)]
 pub struct LeaveReader {
     byte: u8,
-    stage: Stage,
+    stage: InputStage,
 }
 
 impl LeaveReader {
@@ -33,11 +33,11 @@ impl LeaveReader {
     {
         LeaveReader {
             byte,
-            stage: Stage::Reading,
+            stage: InputStage::Reading,
         }
     }
 
-    pub fn stage(&self) -> Stage
+    pub fn stage(&self) -> InputStage
         ensures { (bytes : List ℕ) → HasRead self.now bytes → result ≡ stage self.now.byte bytes }
     {
         self.stage
@@ -53,20 +53,20 @@ impl LeaveReader {
         ensures byte { self.new.byte ≡ self.old.byte }
     {
         match self.stage {
-            Stage::Reading if byte == self.byte => {
-                self.stage = Stage::Waiting;
+            InputStage::Reading if byte == self.byte => {
+                self.stage = InputStage::Waiting;
                 None
             }
-            Stage::Reading => Some(byte),
-            Stage::Waiting if byte == self.byte => {
-                self.stage = Stage::Reading;
+            InputStage::Reading => Some(byte),
+            InputStage::Waiting if byte == self.byte => {
+                self.stage = InputStage::Reading;
                 Some(byte)
             }
-            Stage::Waiting => {
-                self.stage = Stage::Left;
+            InputStage::Waiting => {
+                self.stage = InputStage::Left;
                 None
             }
-            Stage::Left => None,
+            InputStage::Left => None,
         }
     }
 
@@ -95,6 +95,6 @@ impl LeaveReader {
     pub fn leave(&mut self)
         ensures { self.new.stage ≡ Left }
     {
-        self.stage = Stage::Left;
+        self.stage = InputStage::Left;
     }
 }

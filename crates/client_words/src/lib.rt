@@ -10,7 +10,7 @@ mod visible;
 mod words;
 
 pub use fault::{Fault, Part, Told, gone};
-pub use leaving::{LeaveReader, Stage};
+pub use leaving::{InputStage, LeaveReader};
 pub use refusals::explain;
 pub use size_lines::{Size, SizeLines};
 pub use visible::{nothing_controls, put_visible};

@@ -1,7 +1,9 @@
 //! What refusals mean that are a number or a bad size, and what was refused.
 
+use crate::visible::put_visible;
 use crate::words::{Way, Words};
 use program_words::explain as explain_number;
+use std::alloc::Global;
 use std::io;
 use std::io::Write;
 
@@ -22,16 +24,31 @@ fn is_plain(line: &str) -> bool {
         .all(|byte| 0x20 <= *byte && *byte <= 0x7E)
 }
 
-/// Writes what follows a refusal's text: in parentheses what it means, if it is a number or a bad
-/// size, and then what was refused, which is the command line, or the user at the socket.
-pub fn explain<E: Write>(said: &str, words: &Words<'_>, errors: &mut E) -> io::Result<()> {
+// Puts what follows a refusal's text.
+fn put_explanation(said: &str, words: &Words<'_>, out: &mut Vec<u8>) -> io::Result<()> {
     if said == "bad size" {
-        errors.write_all(bounds(words.way))?;
+        out.write_all(bounds(words.way))?;
     } else {
-        explain_number(said, words.line, errors)?;
+        explain_number(said, words.line, out)?;
     }
     if words.way.is_command() && is_plain(words.line) {
-        return write!(errors, ": {}", words.line);
+        return write!(out, ": {}", words.line);
     }
-    write!(errors, ": {}", words.place())
+    write!(out, ": {}", words.place())
+}
+
+/// Writes what follows a refusal's text: in parentheses what it means, if it is a number or a bad
+/// size, and then what was refused, which is the command line, or the user at the socket. The
+/// user's own words may have control characters, which are written as `\xNN`.
+pub fn explain<E: Write>(
+    alloc: Global,
+    said: &str,
+    words: &Words<'_>,
+    errors: &mut E,
+) -> io::Result<()> {
+    let mut text = Vec::new(alloc);
+    put_explanation(said, words, &mut text)?;
+    let mut visible = Vec::new(alloc);
+    put_visible(&text, &mut visible)?;
+    errors.write_all(&visible)
 }

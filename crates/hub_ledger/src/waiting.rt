@@ -77,7 +77,8 @@ impl Waiting {
         }
     }
 
-    /// Hands out the effects that wait for a seat, and its mark. It takes no memory.
+    /// Hands out the effects that wait for a seat, and its mark. It needs no memory: if memory is
+    /// refused, they are handed out in the list in which they waited.
     pub fn take(&mut self, alloc: Global, seat: usize) -> (Vec<Effect>, bool)
         requires lists { seat < length self.old.lists.items }
         requires marks { seat < length self.old.marks.items }
@@ -87,10 +88,23 @@ impl Waiting {
             ≡ slice_set (views self.old.lists.items) seat [] }
         ensures marks { self.new.marks.items ≡ slice_set self.old.marks.items seat false }
     {
-        let effects = mem::replace(&mut self.lists[seat], Vec::new(alloc));
+        let effects = emptied(alloc, &mut self.lists[seat]);
         let marked = mem::replace(&mut self.marks[seat], false);
         (effects, marked)
     }
+}
+
+/// Takes all effects out of a list, which keeps its memory for those of the next steps, unless memory
+/// is refused.
+fn emptied(alloc: Global, list: &mut Vec<Effect>) -> Vec<Effect>
+    ensures effects { result.items ≡ list.old.items }
+    ensures rest { list.new.items ≡ [] }
+{
+    let mut effects = Vec::new(alloc);
+    if effects.append(list).is_err() {
+        mem::swap(&mut effects, list);
+    }
+    effects
 }
 
 fn make_room(waiting: &mut [Vec<Effect>]) -> Result<(), AllocError>

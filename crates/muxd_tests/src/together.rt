@@ -4,15 +4,13 @@ use crate::frames::USERS;
 use crate::gate::{Calls, Latch};
 use crate::peer::{SOCKET, has};
 use crate::turns::first_wrong;
-use server::{Host, serve_through};
+use server::{Handles, Host, serve_through};
 use std::alloc::{AllocError, Global};
-use std::fs::{File, Files, OpenOptions};
+use std::fs::{Files, OpenOptions};
 use std::io::Write;
-use std::net::Net;
 use std::os::unix::fs::OpenOptionsExt;
 use std::sync::Wait;
 use std::thread::Threads;
-use std::time::Clock;
 use std::{fs, io, thread};
 
 const LOCK: &str = "muxd_tests.socket.lock";
@@ -46,19 +44,12 @@ fn words(alloc: Global) -> Result<Vec<String>, AllocError> {
 }
 
 // Serves until a peer gives `quit`. The server's output is dropped.
-fn serve<R>(rt: &R, runtime: HostRuntime, words: &[String], calls: &Calls) -> u8
-where
-    R: Clock
-        + Net
-        + Files<File = File>
-        + AllocGlobal
-        + Threads
-        + Wait
-        + Copy
-        + Send
-        + Sync
-        + 'static,
-{
+fn serve<R: Host + Threads + Wait>(
+    rt: &R,
+    runtime: HostRuntime,
+    words: &[String],
+    calls: &Calls,
+) -> u8 {
     let mut output: Vec<u8> = Vec::new(rt.alloc());
     let mut errors: Vec<u8> = Vec::new(rt.alloc());
     let gate = Latch {
@@ -68,7 +59,10 @@ where
     };
     serve_through(
         rt,
-        Host::new(runtime, gate),
+        Handles {
+            files: runtime,
+            gate,
+        },
         words,
         &mut output,
         &mut errors,

@@ -4,6 +4,7 @@
 mod acceptor;
 mod loop_handle;
 mod loops;
+mod news_line;
 mod places;
 mod serving;
 mod turns;
@@ -11,5 +12,6 @@ mod winding;
 
 pub use server_connections::Turn;
 pub use server_loop::{Gate, Loop, Open};
+pub use server_system::Host;
 pub use server_users::{AuthFault, Users, UsersFault, authenticate};
-pub use serving::{Host, serve, serve_through};
+pub use serving::{Handles, serve, serve_through};

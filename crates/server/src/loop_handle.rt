@@ -4,7 +4,7 @@ use crate::acceptor::Acceptor;
 use mio::net::UnixStream;
 use mio::{Poll, Registry, Waker};
 use server_loop::End;
-use server_system::{Log, Seen, Watched};
+use server_system::{LastLook, Log, WatchedUsers};
 use std::alloc::{AllocError, Global};
 use std::collections::VecDeque;
 use std::sync::atomic::{AtomicBool, AtomicU64, Ordering};
@@ -87,24 +87,17 @@ impl LoopHandle {
 /// What the loops share beside their session.
 #[derive(Drop)]
 pub struct Shared {
+    pub alloc: Global,
     pub loop_handles: Arc<Vec<LoopHandle>, Global>,
     pub over: OnceLock<End>,
     /// How many loops much comes to.
     pub busy: AtomicU64,
-    pub watched: Arc<Watched, Global>,
+    pub watched: Arc<WatchedUsers, Global>,
     /// How many connections had a wrong token.
     pub wrong_tokens: AtomicU64,
     pub log: Log,
     /// Whether news are written to the log.
     pub tells: bool,
-}
-
-/// What the loops of a server stand on.
-#[derive(Drop)]
-pub struct Common<G> {
-    pub shared: Shared,
-    /// Is called around each event that a loop submits.
-    pub gate: G,
 }
 
 /// What a loop begins with.
@@ -121,11 +114,12 @@ impl Shared {
     pub fn new(
         alloc: Global,
         loop_handles: Arc<Vec<LoopHandle>, Global>,
-        watched: Arc<Watched, Global>,
+        watched: Arc<WatchedUsers, Global>,
         tells: bool,
     ) -> Shared {
         let log = Log::new(alloc, loop_handles.len());
         Shared {
+            alloc,
             loop_handles,
             over: OnceLock::new(),
             busy: AtomicU64::new(0),
@@ -156,7 +150,12 @@ impl Shared {
 }
 
 // Looks at the users' file whenever that is asked for, until nobody can ask any more.
-fn watch<R: Clock + Wait>(rt: &R, watched: &Watched, seen: Seen, loop_handles: &[LoopHandle]) {
+fn watch<R: Clock + Wait>(
+    rt: &R,
+    watched: &WatchedUsers,
+    seen: LastLook,
+    loop_handles: &[LoopHandle],
+) {
     let mut seen = seen;
     for _ in rt.forever() {
         if !watched.look(rt, &mut seen) {
@@ -173,7 +172,7 @@ fn watch<R: Clock + Wait>(rt: &R, watched: &Watched, seen: Seen, loop_handles: &
 pub fn start_watching<R: Threads + Clock + Wait + Copy + Send + 'static>(
     rt: &R,
     shared: &Shared,
-    seen: Seen,
+    seen: LastLook,
 ) -> io::Result<()> {
     let watched = Arc::try_clone(&shared.watched)?;
     let loop_handles = Arc::try_clone(&shared.loop_handles)?;

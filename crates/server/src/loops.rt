@@ -1,16 +1,19 @@
-//! The loops of a server, each in a thread of its own.
+//! A server: its socket, its threads, its files, its log and its end.
 
-use crate::loop_handle::{Common, LoopStart};
+use crate::loop_handle::{LoopStart, Shared};
 use crate::turns::run_loop;
 use server_loop::{End, Gate};
 use server_session::{
-    Accounts, Begun as Roll, LoopBody, Recorder, Seat, Seated, SharedSession, Trail,
+    Accounts, Begun as Roll, LoopBody, LoopsFault, Recorder, Seat, Seated, SharedSession, Start,
+    Trail, keep,
 };
-use server_system::{Place, Setup};
+use server_system::{Host, ServeFault, Setup, SocketPath};
 use server_trail::{Cause, Journal};
 use std::alloc::Global;
+use std::io::Write;
 use std::rt::{HostRuntime, Stderr};
 use std::sync::Wait;
+use std::thread::Threads;
 use std::time::Clock;
 
 // The cause that the last line of the trail's file names; None if a fault leaves the file without one.
@@ -22,12 +25,14 @@ fn cause_of(end: End) -> Option<Cause> {
     }
 }
 
-/// The loops of a server.
+/// A server, of which each loop runs in a thread of its own.
 #[derive(Drop)]
 pub struct Server<'a, G> {
-    pub common: Common<G>,
+    pub shared: Shared,
+    /// Is called around each event that a loop submits.
+    pub gate: G,
     pub files: HostRuntime,
-    pub place: &'a Place<'a>,
+    pub place: &'a SocketPath<'a>,
     /// What each user may still try, and how many clients and windows they have.
     pub accounts: Accounts,
     /// The owner's commands that are given before anybody connects.
@@ -38,6 +43,51 @@ pub struct Server<'a, G> {
     pub journal: Option<Journal<'a>>,
 }
 
+impl<G: Gate + Copy + Sync + Drop> Server<'_, G> {
+    // The fault of the trail's file, if there is one.
+    fn trail_fault(&self, rt: &impl Wait) -> Option<ServeFault> {
+        let journal = self.journal.as_ref()?;
+        let fault = journal.fault(rt)?;
+        Some(ServeFault::of_trail(self.shared.alloc, journal.path(), fault))
+    }
+
+    // How the server ended. `agrees` says whether every answer stands in the trail.
+    fn outcome(&self, rt: &impl Wait, agrees: bool) -> Result<(), ServeFault> {
+        match (self.shared.over.get().copied(), self.trail_fault(rt)) {
+            (Some(End::Fault) | None, _) => Err(ServeFault::Loop),
+            (Some(End::Quit), _) if !agrees => Err(ServeFault::Trail),
+            (_, Some(fault)) => Err(fault),
+            (Some(End::TrailFull), None) => Err(ServeFault::TrailFull),
+            (Some(End::Quit), None) => Ok(()),
+        }
+    }
+
+    /// Serves a new session until it ends.
+    pub fn serve<R: Host + Threads + Wait, O: Write>(
+        &self,
+        rt: &R,
+        start: Start<LoopStart>,
+        output: &mut O,
+    ) -> Result<(), ServeFault> {
+        let kept = keep(rt, start, self, || {
+            writeln!(output, "muxd: ready")?;
+            output.flush()
+        });
+        self.shared.watched.stop(rt);
+        if let (Err(_), Some(journal)) = (&kept, &self.journal) {
+            journal.remove();
+        }
+        let alloc = self.shared.alloc;
+        match kept {
+            Ok(agrees) => self.outcome(rt, agrees),
+            Err(LoopsFault::NoMemory) => Err(ServeFault::NoMemory),
+            Err(LoopsFault::Untold(error)) => Err(ServeFault::Untold(error)),
+            Err(LoopsFault::Setup(fault)) => Err(self.setup.wrong(alloc, fault)),
+            Err(LoopsFault::Refused(number, said)) => Err(self.setup.refused(alloc, number, &said)),
+        }
+    }
+}
+
 impl<R, G> LoopBody<LoopStart, R> for Server<'_, G>
 where
     R: Clock + Wait,
@@ -46,20 +96,20 @@ where
     fn run<L: Roll>(
         &self,
         rt: &R,
-        alloc: Global,
+        _alloc: Global,
         session: &SharedSession<L>,
         seat: Seat<L>,
         start: LoopStart,
     ) -> Option<Seat<L>> {
         let seated = Seated::new(session, &self.accounts, seat);
-        let left = match run_loop(rt, alloc, &self.common, seated, start) {
+        let left = match run_loop(rt, &self.shared, self.gate, seated, start) {
             Ok(seated) => Some(seated.into_inner()),
             Err(_) => {
-                let _ = self.common.shared.end(End::Fault);
+                let _ = self.shared.end(End::Fault);
                 None
             }
         };
-        self.common.shared.log.leave(rt);
+        self.shared.log.leave(rt);
         left
     }
 
@@ -68,14 +118,14 @@ where
     }
 
     fn fail(&self, rt: &R) {
-        let _ = self.common.shared.end(End::Fault);
-        self.common.shared.log.leave(rt);
+        let _ = self.shared.end(End::Fault);
+        self.shared.log.leave(rt);
     }
 
     // After the loops have ended nobody can connect, so another server may take the place.
     fn stand_by(&self, rt: &R) {
         let mut errors = self.log;
-        self.common.shared.log.write_all(rt, &mut errors);
+        self.shared.log.write_all(rt, &mut errors);
         self.place.leave(rt, &self.files);
     }
 
@@ -87,7 +137,7 @@ where
     fn write_trail(&self, rt: &R, recorder: &Recorder) {
         if let Some(journal) = &self.journal {
             let written = journal.write(rt, recorder);
-            let cause = self.common.shared.over.get().copied().and_then(cause_of);
+            let cause = self.shared.over.get().copied().and_then(cause_of);
             journal.end(rt, recorder, written, cause);
         }
     }

@@ -5,10 +5,10 @@ use crate::loop_handle::{LoopHandle, LoopStart};
 use crate::turns::{LISTEN, WAKE};
 use mio::net::UnixListener;
 use mio::{Interest, Poll, Waker};
+use server_system::Host;
 use std::alloc::Global;
 use std::collections::VecDeque;
 use std::io;
-use std::net::Net;
 
 // The acceptor of a loop that waits at this poll.
 fn acceptor(alloc: Global, mut listener: UnixListener, poll: &Poll) -> io::Result<Acceptor> {
@@ -17,47 +17,36 @@ fn acceptor(alloc: Global, mut listener: UnixListener, poll: &Poll) -> io::Resul
     Ok(Acceptor::new(alloc, listener, registry.try_clone()?)?)
 }
 
-/// The starts of the loops, and how others reach them.
-#[derive(Drop)]
-pub struct Places {
-    alloc: Global,
-    pub starts: Vec<LoopStart>,
-    pub loop_handles: Vec<LoopHandle>,
+// A loop of this number, and how others reach it.
+fn place(rt: &impl Host, me: usize) -> io::Result<(LoopStart, LoopHandle)> {
+    let poll = Poll::new(rt)?;
+    let waker = Waker::new(poll.registry(), WAKE)?;
+    let registry = poll.registry().try_clone()?;
+    let start = LoopStart {
+        me,
+        poll,
+        registry,
+        acceptor: None,
+    };
+    Ok((start, LoopHandle::new(waker, VecDeque::new(rt.alloc()))))
 }
 
-impl Places {
-    /// No loop yet.
-    pub fn new(alloc: Global) -> Places {
-        Places {
-            alloc,
-            starts: Vec::new(alloc),
-            loop_handles: Vec::new(alloc),
-        }
+/// What this many loops begin with, of which the first has the listener, and how others reach them.
+pub fn places(
+    rt: &impl Host,
+    loops: usize,
+    listener: UnixListener,
+) -> io::Result<(Vec<LoopStart>, Vec<LoopHandle>)> {
+    let alloc = rt.alloc();
+    let mut starts = Vec::new(alloc);
+    let mut loop_handles = Vec::new(alloc);
+    for me in 0..loops {
+        let (start, loop_handle) = place(rt, me)?;
+        starts.push(start)?;
+        loop_handles.push(loop_handle)?;
     }
-
-    // Adds a loop that waits at this poll.
-    fn push(&mut self, poll: Poll) -> io::Result<()> {
-        let waker = Waker::new(poll.registry(), WAKE)?;
-        let registry = poll.registry().try_clone()?;
-        let handed = VecDeque::new(self.alloc);
-        self.loop_handles.push(LoopHandle::new(waker, handed))?;
-        let start = LoopStart {
-            me: self.starts.len(),
-            poll,
-            registry,
-            acceptor: None,
-        };
-        Ok(self.starts.push(start)?)
+    if let Some(first) = starts.first_mut() {
+        first.acceptor = Some(acceptor(alloc, listener, &first.poll)?);
     }
-
-    /// Adds this many loops, of which the first has the listener.
-    pub fn fill<R: Net>(&mut self, rt: &R, loops: usize, listener: UnixListener) -> io::Result<()> {
-        for _ in 0..loops {
-            self.push(Poll::new(rt)?)?;
-        }
-        if let Some(first) = self.starts.first_mut() {
-            first.acceptor = Some(acceptor(self.alloc, listener, &first.poll)?);
-        }
-        Ok(())
-    }
+    Ok((starts, loop_handles))
 }

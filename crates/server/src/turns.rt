@@ -1,14 +1,14 @@
 //! The turns of one loop.
 
 use crate::acceptor::Acceptor;
-use crate::loop_handle::{Common, LoopHandle, LoopStart, Shared};
+use crate::loop_handle::{LoopHandle, LoopStart, Shared};
+use crate::news_line::NewsLine;
 use crate::winding::wind_up;
 use mio::{Events, Poll, Registry, Token};
 use server_loop::{
-    End, Gate, Loop, News, NewsLine, Pace, Peers, Pending, Reads, SessionSeat, Submitted, Writes,
+    Connections, Gate, Loop, News, Pace, Pending, Reads, SessionSeat, Submitted, Writes,
 };
 use server_system::Wired;
-use std::alloc::Global;
 use std::io;
 use std::io::{ErrorKind, Read, Write};
 use std::sync::Wait;
@@ -68,9 +68,9 @@ impl Pacing<'_> {
     }
 }
 
-/// What a loop watches beside its connections: events, news, and connections to be taken in.
+/// What comes to a loop: events of its connections, news, and connections to be taken in.
 #[derive(Drop)]
-pub struct Watch<'a> {
+pub struct Inlet<'a> {
     poll: Poll,
     events: Events,
     loop_handle: &'a LoopHandle,
@@ -79,7 +79,7 @@ pub struct Watch<'a> {
     pacing: Pacing<'a>,
 }
 
-impl Watch<'_> {
+impl Inlet<'_> {
     // Whether more connections may wait to be taken in.
     fn has_more(&self) -> bool {
         self.acceptor.as_ref().is_some_and(|it| it.has_more)
@@ -155,32 +155,29 @@ impl Watch<'_> {
 // system grants no more descriptors, the connection whose first message is waited for longest goes.
 fn admit<'a, J: SessionSeat + Drop, G: Gate + Drop>(
     rt: &impl Wait,
-    watch: &Watch<'a>,
-    peers: &mut Peers<Wired<'a>, G, J>,
+    inlet: &Inlet<'a>,
+    own: &mut Loop<Wired<'a>, G, J>,
 ) {
-    if watch.is_stuck() {
-        peers.let_oldest_go(rt, 1);
+    if inlet.is_stuck() {
+        own.let_oldest_go(rt, 1);
     }
-    let share = watch.share();
+    let share = inlet.share();
     for _ in 0..u64::MAX {
-        let Some(handed) = watch.loop_handle.handed.lock(rt).pop_front() else {
+        let Some(handed) = inlet.loop_handle.handed.lock(rt).pop_front() else {
             return;
         };
         let most = if handed.is_extra { 1 } else { share };
-        peers.let_oldest_go(rt, most);
-        let token = Token(peers.connections.vacant_key().saturating_add(FIRST));
-        if let Ok(wired) = Wired::new(watch.registry, token, handed.stream) {
-            let _ = peers.connections.admit(wired, handed.is_extra);
+        own.let_oldest_go(rt, most);
+        let token = Token(own.connections.vacant_key().saturating_add(FIRST));
+        if let Ok(wired) = Wired::new(inlet.registry, token, handed.stream) {
+            let _ = own.connections.admit(wired, handed.is_extra);
         }
     }
 }
 
 // Marks the connections that have something to read. Returns whether a connection may wait to be
 // taken in.
-fn sort<J: SessionSeat + Drop, G: Gate + Drop>(
-    events: &Events,
-    peers: &mut Peers<Wired, G, J>,
-) -> bool {
+fn sort(events: &Events, connections: &mut Connections<Wired>) -> bool {
     let mut is_asked = false;
     for event in events {
         match event.token() {
@@ -189,7 +186,9 @@ fn sort<J: SessionSeat + Drop, G: Gate + Drop>(
             Token(token) => {
                 let has_hung_up = event.is_read_closed() || event.is_error();
                 if event.is_readable() || has_hung_up {
-                    peers.mark_ready(token.saturating_sub(FIRST), has_hung_up);
+                    if let Some(peer) = connections.touch(token.saturating_sub(FIRST)) {
+                        peer.mark_ready(has_hung_up);
+                    }
                 }
             }
         }
@@ -214,17 +213,17 @@ pub fn tell_news<R: Clock + Wait>(rt: &R, shared: &Shared, happened: Vec<News>) 
 // connections in. Returns the turn's time, if there is a clock.
 fn begin_turn<'a, J: SessionSeat + Drop, G: Gate + Drop, R: Clock + Wait>(
     rt: &R,
-    watch: &mut Watch<'a>,
+    inlet: &mut Inlet<'a>,
     own: &mut Loop<Wired<'a>, G, J>,
 ) -> io::Result<Option<Duration>> {
-    watch.sleep(own.peers.pending())?;
+    inlet.sleep(own.pending())?;
     let now = rt.monotonic().ok();
     if let Some(now) = now {
         own.now = now;
     }
-    let is_asked = sort(&watch.events, &mut own.peers);
-    watch.accept(rt, is_asked)?;
-    admit(rt, watch, &mut own.peers);
+    let is_asked = sort(&inlet.events, &mut own.connections);
+    inlet.accept(rt, is_asked)?;
+    admit(rt, inlet, own);
     Ok(now)
 }
 
@@ -236,16 +235,17 @@ fn turn<J: SessionSeat + Drop, G: Gate + Drop, R: Clock + Wait>(
     own: &mut Loop<Wired, G, J>,
     now: Option<Duration>,
 ) -> io::Result<()> {
-    own.peers.seat.set_time(rt);
+    own.seat.set_time(rt);
     let reads = own.read_all(rt);
-    if own.peers.awaits_look() {
+    if own.awaits_look() {
         loop_handle.await_look();
-        own.peers.set_look(pacing.shared.watched.ask(rt));
+        own.set_look(pacing.shared.watched.ask(rt));
     }
     let holds_draws = pacing.read(now, reads)?;
+    own.expire();
     let writes = own.end_turn(rt, holds_draws);
     pacing.written(now, writes)?;
-    tell_news(rt, pacing.shared, own.peers.take_news());
+    tell_news(rt, pacing.shared, own.take_news());
     match writes.end {
         Some(end) => pacing.shared.end(end),
         None => Ok(()),
@@ -271,54 +271,31 @@ fn look_at_users<S: Read + Write + Drop, J: SessionSeat + Drop, G: Gate + Drop, 
 fn take_turns<'a, J: SessionSeat + Drop, G: Gate + Drop, R: Clock + Wait>(
     rt: &R,
     shared: &Shared,
-    watch: &mut Watch<'a>,
+    inlet: &mut Inlet<'a>,
     own: &mut Loop<Wired<'a>, G, J>,
 ) -> io::Result<()> {
     let mut count = 0;
     own.looked = Some(0);
     for _ in rt.forever() {
-        let now = begin_turn(rt, watch, own)?;
-        if own.peers.has_held() {
+        let now = begin_turn(rt, inlet, own)?;
+        if own.has_held() {
             // A look that ends after this wakes the loop.
-            watch.loop_handle.await_look();
+            inlet.loop_handle.await_look();
             look_at_users(rt, shared, &mut count, own);
         }
-        turn(rt, watch.loop_handle, &mut watch.pacing, own, now)?;
+        turn(rt, inlet.loop_handle, &mut inlet.pacing, own, now)?;
         if let Some(end) = shared.over.get() {
-            return wind_up(rt, shared, watch, &mut own.peers, *end);
+            return wind_up(rt, shared, inlet, own, *end);
         }
     }
     Ok(())
 }
 
-// Runs a loop with this seat until the server ends, and returns the seat.
-fn run_seat<J: SessionSeat + Drop, G: Gate + Copy + Drop, R: Clock + Wait>(
-    rt: &R,
-    alloc: Global,
-    common: &Common<G>,
-    watch: &mut Watch,
-    seat: J,
-) -> io::Result<J> {
-    let Shared {
-        loop_handles,
-        tells,
-        ..
-    } = &common.shared;
-    let mut gate = common.gate;
-    gate.stand_at(watch.pacing.me);
-    let mut own: Loop<Wired, G, J> = Loop::new(alloc, seat, gate, loop_handles.len())?;
-    own.peers.tells = *tells;
-    match take_turns(rt, &common.shared, watch, &mut own) {
-        Ok(()) => Ok(own.into_seat()),
-        Err(error) => Err(error),
-    }
-}
-
 /// Runs one loop until the server ends, and returns its seat.
 pub fn run_loop<J: SessionSeat + Drop, G: Gate + Copy + Drop, R: Clock + Wait>(
     rt: &R,
-    alloc: Global,
-    common: &Common<G>,
+    shared: &Shared,
+    gate: G,
     seat: J,
     start: LoopStart,
 ) -> io::Result<J> {
@@ -328,13 +305,12 @@ pub fn run_loop<J: SessionSeat + Drop, G: Gate + Copy + Drop, R: Clock + Wait>(
         registry,
         acceptor,
     } = start;
-    let shared = &common.shared;
     let Some(loop_handle) = shared.loop_handles.get(me) else {
         return Ok(seat);
     };
-    let mut watch = Watch {
+    let mut inlet = Inlet {
         poll,
-        events: Events::with_capacity(alloc, 64)?,
+        events: Events::with_capacity(shared.alloc, 64)?,
         loop_handle,
         registry: &registry,
         acceptor,
@@ -344,5 +320,11 @@ pub fn run_loop<J: SessionSeat + Drop, G: Gate + Copy + Drop, R: Clock + Wait>(
             pace: Pace::new(),
         },
     };
-    run_seat(rt, alloc, common, &mut watch, seat)
+    let mut gate = gate;
+    gate.stand_at(me);
+    let loops = shared.loop_handles.len();
+    let mut own: Loop<Wired, G, J> = Loop::new(shared.alloc, seat, gate, loops)?;
+    own.tells = shared.tells;
+    take_turns(rt, shared, &mut inlet, &mut own)?;
+    Ok(own.into_seat())
 }

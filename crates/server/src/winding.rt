@@ -1,8 +1,8 @@
 //! How a loop ends.
 
 use crate::loop_handle::Shared;
-use crate::turns::{Watch, tell_news};
-use server_loop::{End, Gate, Peers, SessionSeat};
+use crate::turns::{Inlet, tell_news};
+use server_loop::{End, Gate, Loop, SessionSeat};
 use server_system::Wired;
 use std::io;
 use std::sync::Wait;
@@ -29,20 +29,20 @@ fn is_late<R: Clock>(rt: &R, began: Option<Duration>, pauses: u64) -> bool {
 pub fn wind_up<J: SessionSeat + Drop, G: Gate + Drop, R: Clock + Wait>(
     rt: &R,
     shared: &Shared,
-    watch: &mut Watch,
-    peers: &mut Peers<Wired, G, J>,
+    inlet: &mut Inlet,
+    own: &mut Loop<Wired, G, J>,
     end: End,
 ) -> io::Result<()> {
-    watch.close();
+    inlet.close();
     let began = rt.monotonic().ok();
-    peers.finish(rt, end);
+    own.finish(rt, end);
     for pauses in 0..u64::MAX {
-        if peers.connections.len() == 0 || is_late(rt, began, pauses) {
+        if own.connections.len() == 0 || is_late(rt, began, pauses) {
             break;
         }
-        watch.wait(Some(Duration::from_millis(PAUSE)))?;
-        peers.finish(rt, end);
+        inlet.wait(Some(Duration::from_millis(PAUSE)))?;
+        own.finish(rt, end);
     }
-    tell_news(rt, shared, peers.take_news());
+    tell_news(rt, shared, own.take_news());
     Ok(())
 }

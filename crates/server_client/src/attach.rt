@@ -1,43 +1,22 @@
 //! Runs `mux`: a client, a window, a command, or a question whether the server answers.
 
-use crate::ending::{Ending, tell_end, tell_fault, tell_unseen, wait_for_answer, wait_for_end};
+use crate::ending::{PeerEnding, tell_end, tell_fault, tell_unseen, wait_for_answer, wait_for_end};
 use crate::leaving::wait_or_leave;
 use crate::showing::show;
-use client_peer::{Connects, Door, Shared, prepare, warn_of_token};
+use client_peer::{Door, PeerHost, SharedPeer, Sink, Source, prepare, start_thread, warn_of_token};
 use client_words::{Fault, Way, Words, words_of};
-use std::alloc::{AllocError, Global};
+use std::alloc::Global;
 use std::fs::{File, Files};
-use std::io::{Read, Write};
+use std::io::Write;
 use std::sync::{Arc, Wait};
-use std::thread;
 use std::thread::Threads;
-use std::time::Clock;
-
-// Starts a thread that connects, reads the socket and writes. Without a door it starts a second
-// thread, which reads and writes only while a write of the first takes long.
-fn start_showing<
-    R: Connects + Threads + Wait + Clock + Copy + Send + 'static,
-    I: Read + Send + Drop + 'static,
-    O: Write + Send + Drop + 'static,
->(rt: &R, shared: &Arc<Shared<I, O>, Global>, door: Option<Door>) -> Result<(), AllocError> {
-    let theirs = Arc::try_clone(shared)?;
-    let rt_there = *rt;
-    let started = thread::spawn(rt, move || {
-        let rt = rt_there;
-        show(&rt, &theirs, door);
-    });
-    match started {
-        Ok(_) => Ok(()),
-        Err(error) => Err(AllocError::from(error)),
-    }
-}
 
 // Waits for a peer's end.
-fn wait<
-    R: Clock + Threads + Wait + Copy + Send + 'static,
-    I: Read + Send + Drop + 'static,
-    O: Write + Send + Drop + 'static,
->(rt: &R, shared: &Arc<Shared<I, O>, Global>, words: &Words<'_>) -> Ending {
+fn wait<R: PeerHost + Threads + Wait, I: Source, O: Sink>(
+    rt: &R,
+    shared: &Arc<SharedPeer<I, O>, Global>,
+    words: &Words<'_>,
+) -> PeerEnding {
     match words.way {
         Way::Attach if shared.can_leave => wait_or_leave(rt, shared),
         Way::Command | Way::Ping if words.wait > 0 => wait_for_answer(rt, shared, words.wait),
@@ -45,33 +24,31 @@ fn wait<
     }
 }
 
-// Starts the threads of a peer, and waits for its end.
-fn join<
-    R: Connects + Clock + Threads + Wait + Copy + Send + 'static,
-    I: Read + Send + Drop + 'static,
-    O: Write + Send + Drop + 'static,
->(
+// Starts the threads of a peer, and waits for its end. One connects, reads the socket and writes; a
+// window's second one reads and writes only while a write of the first takes long.
+fn join<R: PeerHost + Threads + Wait, I: Source, O: Sink>(
     rt: &R,
-    shared: &Arc<Shared<I, O>, Global>,
+    shared: &Arc<SharedPeer<I, O>, Global>,
     door: Door,
     words: &Words<'_>,
-) -> Result<Ending, Fault> {
-    start_showing(rt, shared, Some(door))?;
+) -> Result<PeerEnding, Fault> {
+    start_thread(rt, shared, move |rt, shared| show(rt, shared, Some(door)))?;
     if shared.way.is_window() {
-        start_showing(rt, shared, None)?;
+        start_thread(rt, shared, |rt, shared| show(rt, shared, None))?;
     }
     Ok(wait(rt, shared, words))
 }
 
-fn run<
-    R: Connects + Files<File = File> + Clock + Threads + Wait + AllocGlobal + Copy + Send + 'static,
-    I: Read + Send + Drop + 'static,
-    O: Write + Send + Drop + 'static,
->(rt: &R, words: &Words<'_>, input: I, output: O) -> Result<Ending, Fault> {
+fn run<R: PeerHost + Threads + Wait + Files<File = File> + AllocGlobal, I: Source, O: Sink>(
+    rt: &R,
+    words: &Words<'_>,
+    input: I,
+    output: O,
+) -> Result<PeerEnding, Fault> {
     let alloc = rt.alloc();
     let mut kept = Vec::new(alloc);
     let (door, files) = prepare(rt, words, &mut kept)?;
-    match Arc::new(alloc, Shared::new(alloc, words, files, input, output)) {
+    match Arc::new(alloc, SharedPeer::new(alloc, words, files, input, output)) {
         Ok(shared) => join(rt, &shared, door, words),
         Err(fault) => Err(Fault::from(fault)),
     }
@@ -80,9 +57,9 @@ fn run<
 /// Runs `mux`. The first word is the program's name. Returns the exit status: 0, 1 for a fault, 2 for
 /// invalid arguments.
 pub fn client<
-    R: Connects + Files<File = File> + Clock + Threads + Wait + AllocGlobal + Copy + Send + 'static,
-    I: Read + Send + Drop + 'static,
-    O: Write + Send + Drop + 'static,
+    R: PeerHost + Threads + Wait + Files<File = File> + AllocGlobal,
+    I: Source,
+    O: Sink,
     E: Write,
 >(rt: &R, words: &[String], input: I, output: O, errors: &mut E) -> u8 {
     let mut output = output;

@@ -1,19 +1,19 @@
 //! The end of a peer, and the messages about it.
 
 use attach_proto::Why;
-use client_peer::{Shared, Standing};
+use client_peer::{PeerHost, SharedPeer, Standing};
 use client_words::{Fault, Told, Words, explain, gone, put_visible};
 use std::alloc::Global;
 use std::io::Write;
 use std::sync::Wait;
-use std::time::{Clock, Duration};
+use std::time::Duration;
 
 // How long a window's end waits for its standard output, in milliseconds.
 const LAST_WRITING: u64 = 500;
 
 /// How a peer ended.
 #[derive(Drop)]
-pub struct Ending {
+pub struct PeerEnding {
     pub end: Result<Why, Fault>,
     /// The session's last text before it let the peer in.
     pub said: Option<String>,
@@ -29,8 +29,8 @@ fn is_awaited(standing: &Standing) -> bool {
 }
 
 /// Takes how the peer ended; the session's last text is given once.
-pub fn take_ending(standing: &mut Standing) -> Ending {
-    Ending {
+pub fn take_ending(standing: &mut Standing) -> PeerEnding {
+    PeerEnding {
         end: standing.ending(),
         said: standing.said.take(),
         has_dropped: standing.has_dropped,
@@ -41,7 +41,7 @@ pub fn take_ending(standing: &mut Standing) -> Ending {
 
 /// Waits for the peer's end, and then at most half a second until a window's program has read its
 /// bytes.
-pub fn wait_for_end<R: Wait + Clock, I, O>(rt: &R, shared: &Shared<I, O>) -> Ending {
+pub fn wait_for_end<R: PeerHost + Wait, I, O>(rt: &R, shared: &SharedPeer<I, O>) -> PeerEnding {
     let news = &shared.news;
     let standing = news.wait_while(rt, shared.standing.lock(rt), |s| s.end.is_none());
     let most = Duration::from_millis(LAST_WRITING);
@@ -50,11 +50,11 @@ pub fn wait_for_end<R: Wait + Clock, I, O>(rt: &R, shared: &Shared<I, O>) -> End
 }
 
 /// Waits for an answer, at most `seconds`, and then for the end that comes with it.
-pub fn wait_for_answer<R: Wait + Clock, I, O>(
+pub fn wait_for_answer<R: PeerHost + Wait, I, O>(
     rt: &R,
-    shared: &Shared<I, O>,
+    shared: &SharedPeer<I, O>,
     seconds: u16,
-) -> Ending {
+) -> PeerEnding {
     let most = Duration::from_secs(u64::from(seconds));
     let standing = shared.standing.lock(rt);
     let (mut standing, waited) = shared
@@ -73,7 +73,7 @@ fn tell_said<E: Write>(alloc: Global, said: &str, words: &Words<'_>, errors: &mu
     let _ = put_visible(said.as_bytes(), &mut visible);
     let _ = errors.write_all(b"mux: ");
     let _ = errors.write_all(&visible);
-    let _ = explain(said, words, errors);
+    let _ = explain(alloc, said, words, errors);
     let _ = writeln!(errors);
 }
 
@@ -84,7 +84,7 @@ pub fn tell_fault<E: Write>(fault: Fault, words: &Words<'_>, errors: &mut E) -> 
 }
 
 // Prints, with `--why`, how a client left.
-fn tell_left<E: Write>(ending: &Ending, words: &Words<'_>, errors: &mut E) {
+fn tell_left<E: Write>(ending: &PeerEnding, words: &Words<'_>, errors: &mut E) {
     if !words.why {
         return;
     }
@@ -99,7 +99,12 @@ fn tell_left<E: Write>(ending: &Ending, words: &Words<'_>, errors: &mut E) {
 }
 
 /// Prints the messages about a peer's end. Returns the exit status.
-pub fn tell_end<E: Write>(alloc: Global, ending: &Ending, words: &Words<'_>, errors: &mut E) -> u8 {
+pub fn tell_end<E: Write>(
+    alloc: Global,
+    ending: &PeerEnding,
+    words: &Words<'_>,
+    errors: &mut E,
+) -> u8 {
     if ending.has_dropped {
         let _ = writeln!(
             errors,
@@ -122,7 +127,12 @@ pub fn tell_unseen<E: Write>(words: &Words<'_>, errors: &mut E) {
 }
 
 // Prints why a peer ended. Returns the exit status.
-fn tell_cause<E: Write>(alloc: Global, ending: &Ending, words: &Words<'_>, errors: &mut E) -> u8 {
+fn tell_cause<E: Write>(
+    alloc: Global,
+    ending: &PeerEnding,
+    words: &Words<'_>,
+    errors: &mut E,
+) -> u8 {
     if ending.has_left {
         tell_left(ending, words, errors);
         return 0;

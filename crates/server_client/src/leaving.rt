@@ -1,13 +1,12 @@
 //! A client with a byte that leaves ends soon after that byte, whatever the server does.
 
-use crate::ending::{Ending, take_ending};
-use client_peer::{Shared, send_detach, start_sources};
-use client_words::Stage;
+use crate::ending::{PeerEnding, take_ending};
+use client_peer::{PeerHost, SharedPeer, Sink, Source, send_detach, start_sources};
+use client_words::InputStage;
 use std::alloc::Global;
-use std::io::{Read, Write};
 use std::sync::{Arc, Wait};
 use std::thread::Threads;
-use std::time::{Clock, Duration};
+use std::time::Duration;
 
 // How long the server may take to let the client in before the input is read anyway, in milliseconds.
 // Keys that are typed meanwhile wait.
@@ -20,11 +19,10 @@ const PAIR: u64 = 250;
 const ANSWER: u64 = 100;
 
 // Starts reading the input once the client is let in, or after a short wait.
-fn start_reading<
-    R: Threads + Wait + Clock + Copy + Send + 'static,
-    I: Read + Send + Drop + 'static,
-    O: Write + Send + Drop + 'static,
->(rt: &R, shared: &Arc<Shared<I, O>, Global>) {
+fn start_reading<R: PeerHost + Threads + Wait, I: Source, O: Sink>(
+    rt: &R,
+    shared: &Arc<SharedPeer<I, O>, Global>,
+) {
     let most = Duration::from_millis(WELCOME);
     let standing = shared.standing.lock(rt);
     let (standing, _) = shared.news.wait_timeout_while(rt, standing, most, |s| {
@@ -38,7 +36,7 @@ fn start_reading<
 }
 
 // Leaves, unless the input was read since. Returns whether it left.
-fn settle<R: Wait, I, O>(rt: &R, shared: &Shared<I, O>, reads: u64) -> bool {
+fn settle<R: Wait, I, O>(rt: &R, shared: &SharedPeer<I, O>, reads: u64) -> bool {
     let mut typing = shared.typing.lock(rt);
     if typing.reads != reads {
         return false;
@@ -51,23 +49,23 @@ fn settle<R: Wait, I, O>(rt: &R, shared: &Shared<I, O>, reads: u64) -> bool {
 
 // What to wait for next.
 #[derive(Clone, Copy)]
-enum Turn {
+enum Waited {
     Wait,
     Leave,
     End,
 }
 
 // Waits for the peer's end, or for the byte that leaves and whether a second one follows.
-fn wait_once<R: Wait + Clock, I, O>(rt: &R, shared: &Shared<I, O>) -> Turn {
+fn wait_once<R: PeerHost + Wait, I, O>(rt: &R, shared: &SharedPeer<I, O>) -> Waited {
     let news = &shared.news;
     let standing = news.wait_while(rt, shared.standing.lock(rt), |s| {
-        s.end.is_none() && matches!(s.stage, Stage::Reading)
+        s.end.is_none() && matches!(s.stage, InputStage::Reading)
     });
     if standing.end.is_some() {
-        return Turn::End;
+        return Waited::End;
     }
-    if matches!(standing.stage, Stage::Left) {
-        return Turn::Leave;
+    if matches!(standing.stage, InputStage::Left) {
+        return Waited::Leave;
     }
     let reads = standing.reads;
     let most = Duration::from_millis(PAIR);
@@ -76,24 +74,23 @@ fn wait_once<R: Wait + Clock, I, O>(rt: &R, shared: &Shared<I, O>) -> Turn {
     });
     drop(standing);
     if waited.timed_out() && settle(rt, shared, reads) {
-        Turn::Leave
+        Waited::Leave
     } else {
-        Turn::Wait
+        Waited::Wait
     }
 }
 
 /// Waits for the end of a client that has a byte that leaves.
-pub fn wait_or_leave<
-    R: Threads + Wait + Clock + Copy + Send + 'static,
-    I: Read + Send + Drop + 'static,
-    O: Write + Send + Drop + 'static,
->(rt: &R, shared: &Arc<Shared<I, O>, Global>) -> Ending {
+pub fn wait_or_leave<R: PeerHost + Threads + Wait, I: Source, O: Sink>(
+    rt: &R,
+    shared: &Arc<SharedPeer<I, O>, Global>,
+) -> PeerEnding {
     start_reading(rt, shared);
     for _ in rt.forever() {
         match wait_once(rt, shared) {
-            Turn::Wait => {}
-            Turn::Leave => return leave(rt, shared),
-            Turn::End => break,
+            Waited::Wait => {}
+            Waited::Leave => return leave(rt, shared),
+            Waited::End => break,
         }
     }
     let mut standing = shared.standing.lock(rt);
@@ -101,11 +98,10 @@ pub fn wait_or_leave<
 }
 
 // Sends DETACH, and waits a moment for the server.
-fn leave<
-    R: Threads + Wait + Clock + Copy + Send + 'static,
-    I: Read + Send + Drop + 'static,
-    O: Write + Send + Drop + 'static,
->(rt: &R, shared: &Arc<Shared<I, O>, Global>) -> Ending {
+fn leave<R: PeerHost + Threads + Wait, I: Source, O: Sink>(
+    rt: &R,
+    shared: &Arc<SharedPeer<I, O>, Global>,
+) -> PeerEnding {
     let _ = send_detach(rt, shared);
     let most = Duration::from_millis(ANSWER);
     let standing = shared.standing.lock(rt);

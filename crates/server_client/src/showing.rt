@@ -1,14 +1,15 @@
 //! Reads the server's messages, and writes their bytes to standard output and the sizes' file.
 
-use crate::watching::Turns;
+use crate::watching::Permit;
 use attach_proto::{LONGEST, Why};
-use client_peer::{Connects, Door, Intake, Outlet, Shared, Standing, let_out, start_sources};
+use client_peer::{
+    Door, Intake, Outlet, PeerHost, SharedPeer, Sink, Source, Standing, let_out, start_sources,
+};
 use client_words::{Fault, Part};
 use std::alloc::{AllocError, Global};
 use std::io::{Read, Write};
 use std::sync::{Arc, Wait};
 use std::thread::Threads;
-use std::time::Clock;
 use std::{io, mem};
 
 // The bytes of one write, and whether a thread watched writes before.
@@ -36,7 +37,7 @@ fn begin_writing(standing: &mut Standing, alloc: Global) -> Option<Writing> {
 
 // The result of a read of the socket.
 #[derive(Clone, Copy)]
-enum Came {
+enum FromServer {
     More,
     /// The peer ended in this way.
     End(Result<Why, Fault>),
@@ -47,30 +48,30 @@ enum Came {
 // Sorts the bytes of a read.
 fn take_in<R: Wait, I, O>(
     rt: &R,
-    shared: &Shared<I, O>,
+    shared: &SharedPeer<I, O>,
     intake: &mut Intake,
     bytes: &[u8],
-) -> Result<Came, Fault> {
+) -> Result<FromServer, Fault> {
     let mut standing = shared.standing.lock(rt);
     let end = standing.take_read(shared.alloc, &mut intake.reader, bytes)?;
     intake.is_welcome = standing.is_welcome;
     intake.is_over = end.is_some();
     standing.is_over = intake.is_over;
     Ok(match end {
-        Some(end) => Came::End(end),
-        None => Came::More,
+        Some(end) => FromServer::End(end),
+        None => FromServer::More,
     })
 }
 
 // Reads the socket, and sorts the bytes.
 fn receive<R: Wait, I, O>(
     rt: &R,
-    shared: &Shared<I, O>,
+    shared: &SharedPeer<I, O>,
     intake: &mut Intake,
     buffer: &mut [u8],
-) -> Result<Came, Fault> {
+) -> Result<FromServer, Fault> {
     if intake.is_over {
-        return Ok(Came::Nothing);
+        return Ok(FromServer::Nothing);
     }
     let Some(mut stream) = shared.stream.get() else {
         return Err(Fault::Ended);
@@ -82,11 +83,11 @@ fn receive<R: Wait, I, O>(
 }
 
 // Once the peer is let in, starts reading its input and its sizes.
-fn start<
-    R: Threads + Wait + Copy + Send + 'static,
-    I: Read + Send + Drop + 'static,
-    O: Write + Send + Drop + 'static,
->(rt: &R, shared: &Arc<Shared<I, O>, Global>, intake: &mut Intake) -> Result<(), AllocError> {
+fn start<R: PeerHost + Threads + Wait, I: Source, O: Sink>(
+    rt: &R,
+    shared: &Arc<SharedPeer<I, O>, Global>,
+    intake: &mut Intake,
+) -> Result<(), AllocError> {
     if !intake.is_welcome || intake.has_begun {
         return Ok(());
     }
@@ -98,11 +99,11 @@ fn start<
 }
 
 // Reads the socket once, and starts the sources if the peer was let in.
-fn read_once<
-    R: Threads + Wait + Copy + Send + 'static,
-    I: Read + Send + Drop + 'static,
-    O: Write + Send + Drop + 'static,
->(rt: &R, shared: &Arc<Shared<I, O>, Global>, buffer: &mut [u8]) -> Result<Came, Fault> {
+fn read_once<R: PeerHost + Threads + Wait, I: Source, O: Sink>(
+    rt: &R,
+    shared: &Arc<SharedPeer<I, O>, Global>,
+    buffer: &mut [u8],
+) -> Result<FromServer, Fault> {
     let mut intake = shared.intake.lock(rt);
     let came = receive(rt, shared, &mut intake, buffer)?;
     start(rt, shared, &mut intake)?;
@@ -110,7 +111,7 @@ fn read_once<
 }
 
 // Takes the bytes that wait. Returns none if there are none, or if another thread is writing.
-fn waiting<R: Wait, I, O>(rt: &R, shared: &Shared<I, O>, mine: bool) -> Option<Writing> {
+fn waiting<R: Wait, I, O>(rt: &R, shared: &SharedPeer<I, O>, mine: bool) -> Option<Writing> {
     let mut standing = shared.standing.lock(rt);
     if standing.is_writing != mine {
         return None;
@@ -137,7 +138,11 @@ fn write<O: Write>(outlet: &mut Outlet<O>, writing: &Writing) -> io::Result<()> 
 }
 
 // Writes the bytes that wait, unless another thread is writing. Returns whether it wrote some.
-fn write_next<R: Wait, I, O: Write>(rt: &R, shared: &Shared<I, O>, mine: bool) -> io::Result<bool> {
+fn write_next<R: Wait, I, O: Write>(
+    rt: &R,
+    shared: &SharedPeer<I, O>,
+    mine: bool,
+) -> io::Result<bool> {
     match waiting(rt, shared, mine) {
         Some(writing) => {
             let mut outlet = shared.outlet.lock(rt);
@@ -149,7 +154,7 @@ fn write_next<R: Wait, I, O: Write>(rt: &R, shared: &Shared<I, O>, mine: bool) -
 }
 
 // Writes until nothing waits, unless another thread does.
-fn write_waiting<R: Wait, I, O: Write>(rt: &R, shared: &Shared<I, O>) -> io::Result<()> {
+fn write_waiting<R: Wait, I, O: Write>(rt: &R, shared: &SharedPeer<I, O>) -> io::Result<()> {
     let mut mine = false;
     for _ in rt.forever() {
         if !write_next(rt, shared, mine)? {
@@ -161,7 +166,7 @@ fn write_waiting<R: Wait, I, O: Write>(rt: &R, shared: &Shared<I, O>) -> io::Res
 }
 
 // Ends the peer. A window's end is noted before its last write, since its program may read no more.
-fn finish<R: Wait, I, O: Write>(rt: &R, shared: &Shared<I, O>, end: Result<Why, Fault>) {
+fn finish<R: Wait, I, O: Write>(rt: &R, shared: &SharedPeer<I, O>, end: Result<Why, Fault>) {
     if shared.way.is_window() {
         shared.end(rt, end);
     }
@@ -172,21 +177,21 @@ fn finish<R: Wait, I, O: Write>(rt: &R, shared: &Shared<I, O>, end: Result<Why, 
 }
 
 // Reads the socket once, and writes the bytes that came. Returns whether to go on.
-fn pass_on<
-    R: Threads + Wait + Copy + Send + 'static,
-    I: Read + Send + Drop + 'static,
-    O: Write + Send + Drop + 'static,
->(rt: &R, shared: &Arc<Shared<I, O>, Global>, buffer: &mut [u8]) -> bool {
+fn pass_on<R: PeerHost + Threads + Wait, I: Source, O: Sink>(
+    rt: &R,
+    shared: &Arc<SharedPeer<I, O>, Global>,
+    buffer: &mut [u8],
+) -> bool {
     let fault = match read_once(rt, shared, buffer) {
-        Ok(Came::More) => match write_waiting(rt, shared) {
+        Ok(FromServer::More) => match write_waiting(rt, shared) {
             Ok(()) => return true,
             Err(error) => Fault::Refused(Part::Output, error),
         },
-        Ok(Came::End(end)) => {
+        Ok(FromServer::End(end)) => {
             finish(rt, shared, end);
             return false;
         }
-        Ok(Came::Nothing) => return false,
+        Ok(FromServer::Nothing) => return false,
         Err(fault) => fault,
     };
     shared.end(rt, Err(fault));
@@ -194,7 +199,7 @@ fn pass_on<
 }
 
 // Connects. Only one thread calls it.
-fn connect<R: Connects, I, O>(rt: &R, shared: &Shared<I, O>, door: &Door) -> Result<(), Fault> {
+fn connect<I, O>(rt: &impl PeerHost, shared: &SharedPeer<I, O>, door: &Door) -> Result<(), Fault> {
     let stream = door.open(rt)?;
     match shared.stream.try_set(stream) {
         Ok(_) => Ok(()),
@@ -204,12 +209,12 @@ fn connect<R: Connects, I, O>(rt: &R, shared: &Shared<I, O>, door: &Door) -> Res
 
 /// Connects, and reads and writes until the peer ends. Without a door it reads and writes only while
 /// another thread's write takes long.
-pub fn show<
-    R: Connects + Threads + Wait + Clock + Copy + Send + 'static,
-    I: Read + Send + Drop + 'static,
-    O: Write + Send + Drop + 'static,
->(rt: &R, shared: &Arc<Shared<I, O>, Global>, door: Option<Door>) {
-    let mut turns = Turns::of(door.is_none());
+pub fn show<R: PeerHost + Threads + Wait, I: Source, O: Sink>(
+    rt: &R,
+    shared: &Arc<SharedPeer<I, O>, Global>,
+    door: Option<Door>,
+) {
+    let mut permit = Permit::of(door.is_none());
     if let Some(door) = &door {
         if let Err(fault) = connect(rt, shared, door) {
             return shared.end(rt, Err(fault));
@@ -219,7 +224,7 @@ pub fn show<
         return shared.end(rt, Err(Fault::NoMemory));
     };
     for _ in rt.forever() {
-        if !turns.wait(rt, shared) || !pass_on(rt, shared, buffer.as_mut_slice()) {
+        if !permit.wait(rt, shared) || !pass_on(rt, shared, buffer.as_mut_slice()) {
             break;
         }
     }

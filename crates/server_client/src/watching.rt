@@ -1,8 +1,8 @@
 //! Decides when a window's second thread reads the socket: while a write of the first takes long.
 
-use client_peer::{Shared, Standing};
+use client_peer::{PeerHost, SharedPeer, Standing};
 use std::sync::Wait;
-use std::time::{Clock, Duration};
+use std::time::Duration;
 
 // A write takes long if it doesn't end within this time, in milliseconds.
 const PERIOD: u64 = 100;
@@ -28,7 +28,7 @@ fn goes_on(standing: &mut Standing, number: u64, idle: &mut u32) -> bool {
 
 // The result of one period.
 #[derive(Clone, Copy)]
-enum Seen {
+enum Period {
     /// The write with this number takes long.
     Stuck(u64),
     Nothing,
@@ -37,7 +37,7 @@ enum Seen {
 }
 
 // Watches for one period.
-fn look<R: Wait + Clock, I, O>(rt: &R, shared: &Shared<I, O>, idle: &mut u32) -> Seen {
+fn look<R: PeerHost + Wait, I, O>(rt: &R, shared: &SharedPeer<I, O>, idle: &mut u32) -> Period {
     let begun = &shared.begun;
     let standing = begun.wait_while(rt, shared.standing.lock(rt), |s| {
         !s.is_watched && s.end.is_none()
@@ -46,58 +46,58 @@ fn look<R: Wait + Clock, I, O>(rt: &R, shared: &Shared<I, O>, idle: &mut u32) ->
     let period = Duration::from_millis(PERIOD);
     let (mut standing, _) = begun.wait_timeout_while(rt, standing, period, |s| s.end.is_none());
     if standing.end.is_some() {
-        Seen::End
+        Period::End
     } else if goes_on(&mut standing, seen, idle) {
-        Seen::Stuck(seen)
+        Period::Stuck(seen)
     } else {
-        Seen::Nothing
+        Period::Nothing
     }
 }
 
 // Waits until a write takes long, and returns its number; none if the peer ended.
-fn wait_for_stuck<R: Wait + Clock, I, O>(rt: &R, shared: &Shared<I, O>) -> Option<u64> {
+fn wait_for_stuck<R: PeerHost + Wait, I, O>(rt: &R, shared: &SharedPeer<I, O>) -> Option<u64> {
     let mut idle = 0u32;
     for _ in rt.forever() {
         match look(rt, shared, &mut idle) {
-            Seen::Stuck(number) => return Some(number),
-            Seen::Nothing => {}
-            Seen::End => return None,
+            Period::Stuck(number) => return Some(number),
+            Period::Nothing => {}
+            Period::End => return None,
         }
     }
     None
 }
 
 // Whether the write with this number is still in progress.
-fn is_stuck<R: Wait, I, O>(rt: &R, shared: &Shared<I, O>, number: u64) -> bool {
+fn is_stuck<R: Wait, I, O>(rt: &R, shared: &SharedPeer<I, O>, number: u64) -> bool {
     let standing = shared.standing.lock(rt);
     standing.is_writing && standing.writings == number
 }
 
 /// When a thread may read the socket.
 #[derive(Clone, Copy)]
-pub enum Turns {
+pub enum Permit {
     Always,
     /// While a write of another thread takes long, with that write's number once there was one.
     StandsIn(Option<u64>),
 }
 
-impl Turns {
-    pub fn of(stands_in: bool) -> Turns {
+impl Permit {
+    pub fn of(stands_in: bool) -> Permit {
         if stands_in {
-            Turns::StandsIn(None)
+            Permit::StandsIn(None)
         } else {
-            Turns::Always
+            Permit::Always
         }
     }
 
     /// Waits until the thread may read. Returns false if the peer ended.
-    pub fn wait<R: Wait + Clock, I, O>(&mut self, rt: &R, shared: &Shared<I, O>) -> bool {
+    pub fn wait<R: PeerHost + Wait, I, O>(&mut self, rt: &R, shared: &SharedPeer<I, O>) -> bool {
         match *self {
-            Turns::Always => true,
-            Turns::StandsIn(Some(number)) if is_stuck(rt, shared, number) => true,
-            Turns::StandsIn(_) => {
+            Permit::Always => true,
+            Permit::StandsIn(Some(number)) if is_stuck(rt, shared, number) => true,
+            Permit::StandsIn(_) => {
                 let met = wait_for_stuck(rt, shared);
-                *self = Turns::StandsIn(met);
+                *self = Permit::StandsIn(met);
                 met.is_some()
             }
         }

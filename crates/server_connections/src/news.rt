@@ -3,6 +3,18 @@
 use crate::seat::GuestKind;
 use acl::UserId;
 use attach_proto::Why;
+use std::fmt;
+use std::fmt::{Display, Formatter};
+
+/// A user's name.
+#[derive(Clone, Copy)]
+pub struct Name(pub UserId);
+
+impl Display for Name {
+    fn fmt<W: fmt::Write>(&self, f: &mut Formatter<W>) -> fmt::Result {
+        f.write_str(str::from_utf8(self.0.as_bytes()).unwrap_or("?"))
+    }
+}
 
 /// A client or a window, with its user.
 #[derive(Clone, Copy, Debug, PartialEq, Eq)]

@@ -1,12 +1,12 @@
 //! One connection.
 
-ghost use Rattle.std.specs.Prelude.{◌≡◌, ◌↔◌, IfOk, IsTrue};
+ghost use Rattle.std.specs.Prelude.{◌≡◌, ◌↔◌, IfOk, IsTrue, not};
 ghost use Rattle.server_connections.specs.Peers.{IsNewcomer, awaits, has_more, is_at_rest, is_awaited};
-ghost use Rattle.server_connections.specs.Peers.{is_closed, is_done, is_due, is_new, is_open, is_stranger};
+ghost use Rattle.server_connections.specs.Peers.{is_closed, is_done, is_due, is_empty, is_new, is_open, is_stranger};
 ghost use Rattle.server_connections.specs.Peers.{listens};
 
 use crate::frames::gone_frame;
-use crate::inbox::Inbox;
+use crate::inbox::{Asked, Inbox};
 use crate::news::Guest;
 use crate::turn::Turn;
 use acl::UserId;
@@ -14,6 +14,9 @@ use attach_proto::{Reader, Side, Why};
 use session_model::Event;
 use std::alloc::{AllocError, Global};
 use std::time::Duration;
+
+// A connection for which more bytes wait is told to go.
+const MOST_UNSENT: usize = 1_048_576;
 
 // A connection has this many seconds for its first message, and again to read its last frame.
 const PATIENCE: u64 = 10;
@@ -196,6 +199,36 @@ impl<S: Drop> Peer<S> {
         self.has_more && !self.inbox.is_broken()
     }
 
+    /// There is something to read, and perhaps its other end was closed.
+    pub fn mark_ready(&mut self, has_hung_up: bool) {
+        self.has_more = true;
+        self.has_hung_up |= has_hung_up;
+    }
+
+    /// Whether messages of it aren't done yet.
+    pub fn has_asked(&self) -> bool
+        ensures { result ≡ not (is_empty self.now.inbox) }
+    {
+        !self.inbox.is_empty()
+    }
+
+    /// Puts back a message to be done later: in the next turn, or if it is held, when its user may.
+    pub fn put_back(&mut self, asked: Asked, is_held: bool) {
+        self.inbox.put_back(asked);
+        self.is_held = is_held;
+    }
+
+    /// Whether it is open and sent bytes that are no frame, and all messages before them are done.
+    pub fn is_faulty(&self) -> bool {
+        self.stage.is_open() && self.inbox.is_faulty()
+    }
+
+    /// It becomes a guest, and this to the session.
+    pub fn join(&mut self, role: Role, guest: Guest) {
+        self.role = role;
+        self.guest = Some(guest);
+    }
+
     /// Whether it is sent what the session says.
     pub fn listens(&self) -> bool
         ensures { result ≡ listens self.now.stage }
@@ -225,6 +258,25 @@ impl<S: Drop> Peer<S> {
     {
         let has_work = self.has_more() || !self.inbox.is_empty();
         has_work && self.stage.is_open() && !self.is_held
+    }
+
+    /// Whether it has something to read or to do. What was held is tried again.
+    pub fn is_due_again(&mut self) -> bool {
+        self.is_held = false;
+        self.is_due()
+    }
+
+    /// The client whose draw is to be asked for, if it is one.
+    pub fn wants_draw(&self) -> Option<u32> {
+        match self.role {
+            Role::Client(client) if self.stage.is_open() && self.turn.wants_draw() => Some(client),
+            _ => None,
+        }
+    }
+
+    /// Whether too many bytes wait for it.
+    pub fn is_laggard(&self) -> bool {
+        self.listens() && self.turn.unsent() > MOST_UNSENT
     }
 
     /// Whether it waits for this.

@@ -6,7 +6,7 @@ use std::io::{ErrorKind, Read, Write};
 
 /// What a read brought.
 #[derive(Clone, Copy, Debug, PartialEq, Eq)]
-pub enum Came {
+pub enum Arrival {
     /// As many bytes as the buffer takes: more may be there.
     Much,
     /// Fewer bytes.
@@ -29,33 +29,43 @@ impl<S: Read + Write + Drop> Peer<S> {
         self.has_more = has_more;
     }
 
-    /// Takes out the next message, or what is left of one.
+    /// Takes out the next message, or what is left of one. If the connection isn't open there is none.
     pub fn next_asked(&mut self) -> Option<Asked> {
+        if !self.stage.is_open() {
+            return None;
+        }
         self.inbox.next(&mut self.reader)
     }
 
-    /// Reads once. The caller does so only when all that was read before is done. If fewer bytes came
-    /// than the buffer takes, nothing is left for now; but if the other end was closed, the end comes
-    /// after them.
-    pub fn read(&mut self, buffer: &mut [u8]) -> Came {
+    /// Reads once, if the connection is open. The caller does so only when all that was read before is
+    /// done. If fewer bytes came than the buffer takes, nothing is left for now; but if the other end
+    /// was closed, the end comes after them.
+    pub fn read(&mut self, buffer: &mut [u8]) -> Arrival {
+        if !self.stage.is_open() || !self.has_more() {
+            return Arrival::Nothing;
+        }
         let Some(stream) = &mut self.stream else {
-            return Came::Nothing;
+            return Arrival::Nothing;
         };
         self.has_more = false;
         match stream.read(buffer) {
-            Ok(0) => Came::End,
+            Ok(0) => Arrival::End,
             Ok(count) => {
                 let is_much = count == buffer.len();
                 self.feed(&buffer[..count], is_much || self.has_hung_up);
-                if is_much { Came::Much } else { Came::Some }
+                if is_much {
+                    Arrival::Much
+                } else {
+                    Arrival::Some
+                }
             }
             Err(error) => match error.kind() {
-                ErrorKind::WouldBlock => Came::Nothing,
+                ErrorKind::WouldBlock => Arrival::Nothing,
                 ErrorKind::Interrupted => {
                     self.has_more = true;
-                    Came::Some
+                    Arrival::Some
                 }
-                _ => Came::End,
+                _ => Arrival::End,
             },
         }
     }

@@ -79,7 +79,9 @@ impl Turn {
             self.bytes.clear();
             self.sent = 0;
         } else if self.sent >= self.bytes.len() - self.sent {
-            self.bytes.drain(..self.sent);
+            let left = self.bytes.len() - self.sent;
+            self.bytes.copy_within(self.sent.., 0);
+            self.bytes.truncate(left);
             self.sent = 0;
         }
     }

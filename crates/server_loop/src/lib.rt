@@ -1,16 +1,22 @@
-//! One loop of the server: what it reads from its connections, and what their messages ask for.
+//! One loop of the server: its connections and its seat in the session, what it reads and does, what it
+//! sends and draws, and how connections leave.
 #![tactic(auto)]
 
-mod news_line;
+mod end;
+mod gate;
+mod leaving;
+mod own;
 mod pace;
 mod ration;
 mod requests;
+mod sending;
+mod submitting;
 mod turn;
 
-pub use news_line::NewsLine;
+pub use end::End;
+pub use gate::{Gate, Open};
+pub use own::{Loop, Pending};
 pub use pace::Pace;
-pub use server_peers::{
-    Answer, Connections, End, Gate, Guest, News, Open, Peers, Pending, SeatFault, SessionSeat,
-    Submitted,
-};
-pub use turn::{Loop, Reads, Writes};
+pub use server_connections::{Answer, Connections, Guest, Name, News, SeatFault, SessionSeat};
+pub use submitting::Submitted;
+pub use turn::{Reads, Writes};

@@ -1,5 +1,7 @@
 //! How many entries of the trail a user may cause.
 
+ghost use Rattle.std.specs.Prelude.{◌<◌, length, IfOk};
+
 use acl::UserId;
 use std::alloc::{AllocError, Global};
 use std::time::Duration;
@@ -40,24 +42,34 @@ impl Rations {
         }
     }
 
-    /// Whether a user may cause one more entry now.
-    pub fn may(&self, user: UserId, now: Duration) -> bool {
-        match self.list.iter().find(|ration| ration.user == user) {
-            Some(ration) => ration.until.saturating_sub(now) <= self.burst,
-            None => true,
+    // The place of a user's ration, of which nothing is taken yet if the user had none.
+    fn place_of(&mut self, user: UserId) -> Result<usize, AllocError>
+        ensures { IfOk result (λ place. place < length self.new.list.items) }
+    {
+        match self.list.iter().position(|ration| ration.user == user) {
+            Some(place) => Ok(place),
+            None => {
+                let until = Duration::ZERO;
+                self.list.push(Ration { user, until })?;
+                Ok(self.list.len() - 1)
+            }
         }
     }
 
-    /// Counts entries of a user.
-    pub fn count(&mut self, user: UserId, now: Duration, entries: u32) -> Result<(), AllocError> {
-        let taken = self.period.saturating_mul(entries);
-        match self.list.iter_mut().find(|ration| ration.user == user) {
-            Some(ration) => ration.until = ration.until.max(now).saturating_add(taken),
-            None => {
-                let until = now.saturating_add(taken);
-                self.list.push(Ration { user, until })?;
-            }
+    /// Whether a user may cause one more entry now. If there is no memory to count it, the user has to
+    /// wait.
+    pub fn may(&mut self, user: UserId, now: Duration) -> bool {
+        match self.place_of(user) {
+            Ok(place) => self.list[place].until.saturating_sub(now) <= self.burst,
+            Err(_) => false,
         }
-        Ok(())
+    }
+
+    /// Counts entries of a user who may cause them. It takes no memory.
+    pub fn count(&mut self, user: UserId, now: Duration, entries: u32) {
+        let taken = self.period.saturating_mul(entries);
+        if let Some(ration) = self.list.iter_mut().find(|ration| ration.user == user) {
+            ration.until = ration.until.max(now).saturating_add(taken);
+        }
     }
 }

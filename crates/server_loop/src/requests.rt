@@ -1,13 +1,14 @@
 //! What peers ask for.
 
-use crate::news_line::Name;
-use crate::turn::{Loop, PIECE, Went};
+use crate::end::End;
+use crate::gate::Gate;
+use crate::own::Loop;
+use crate::submitting::Unanswered;
+use crate::turn::{PIECE, Progress};
 use acl::UserId;
 use attach_proto::{Message, Text, Token, Why};
 use command_lang::{Command, FaultKind, parse};
-use server_peers::{
-    Answer, Asked, Gate, Guest, GuestKind, News, Role, Sending, SessionSeat, Unanswered,
-};
+use server_connections::{Answer, Asked, Guest, GuestKind, Name, News, Role, Sending, SessionSeat};
 use server_users::{Outcome, UNIT, authenticate, price};
 use session_model::{Done, Event, Refusal};
 use std::alloc::{AllocError, Global};
@@ -60,8 +61,8 @@ fn taken_of(answer: &Answer) -> usize {
 
 impl<S: Read + Write + Drop, G: Gate + Drop, J: SessionSeat + Drop> Loop<S, G, J> {
     /// Does a message of a connection, or a step of it.
-    pub(crate) fn obey(&mut self, rt: &impl Wait, key: usize, asked: &mut Asked) -> Went {
-        match (self.peers.role_of(key), &asked.message) {
+    pub(crate) fn obey(&mut self, rt: &impl Wait, key: usize, asked: &mut Asked) -> Progress {
+        match (self.role_of(key), &asked.message) {
             (Role::Stranger, _) => return self.begin(rt, key, &asked.message),
             (Role::Client(client), Message::Keys(_)) => {
                 return self.keys(rt, key, client, asked);
@@ -77,22 +78,22 @@ impl<S: Read + Write + Drop, G: Gate + Drop, J: SessionSeat + Drop> Loop<S, G, J
                 };
                 self.change(rt, key, event)
             }
-            (Role::Client(_) | Role::Window(_), Message::Detach) => self.peers.detach(rt, key),
-            _ => self.peers.fault(rt, key),
+            (Role::Client(_) | Role::Window(_), Message::Detach) => self.detach(rt, key),
+            _ => self.fault(rt, key),
         }
-        Went::Done
+        Progress::Done
     }
 
     // Submits an event whose answer nobody waits for. A refusal is passed over, unless there was no
     // memory.
     fn change(&mut self, rt: &impl Wait, key: usize, event: Event) {
-        if let Err(Unanswered::NoMemory) = self.peers.submit(rt, event) {
-            self.peers.fault(rt, key);
+        if let Err(Unanswered::NoMemory) = self.submit(rt, event) {
+            self.fault(rt, key);
         }
     }
 
     // Tries a step for a user, and counts what comes of it. There is no answer yet while the user has
-    // to wait. Entries aren't counted if there is no memory for that.
+    // to wait: too much was counted, or there is no memory to count.
     fn try_for(
         &mut self,
         rt: &impl Wait,
@@ -102,16 +103,16 @@ impl<S: Read + Write + Drop, G: Gate + Drop, J: SessionSeat + Drop> Loop<S, G, J
         let entries = entries_of(event);
         let cost = price(entries, kept_of(event));
         let now = self.now;
-        if !self.rations.may(user, now) || !self.peers.seat.pay(rt, user, now, cost) {
+        if !self.rations.may(user, now) || !self.seat.pay(rt, user, now, cost) {
             return Ok(None);
         }
-        let _ = self.rations.count(user, now, cost / UNIT);
-        let answer = self.peers.submit(rt, event);
+        self.rations.count(user, now, cost / UNIT);
+        let answer = self.submit(rt, event);
         let outcome = match &answer {
             Ok(answer) => answer.outcome,
             Err(_) => Outcome::Untaken,
         };
-        self.peers.seat.settle(rt, user, cost, outcome);
+        self.seat.settle(rt, user, cost, outcome);
         match answer {
             Ok(answer) => Ok(Some(answer)),
             Err(unanswered) => Err(unanswered),
@@ -119,61 +120,61 @@ impl<S: Read + Write + Drop, G: Gate + Drop, J: SessionSeat + Drop> Loop<S, G, J
     }
 
     // A step reads keys up to the first command; the rest is the next step's.
-    fn keys(&mut self, rt: &impl Wait, key: usize, client: u32, asked: &mut Asked) -> Went {
-        let peer = self.peers.connections.get(key);
+    fn keys(&mut self, rt: &impl Wait, key: usize, client: u32, asked: &mut Asked) -> Progress {
+        let peer = self.connections.get(key);
         let Some(user) = peer.and_then(|peer| peer.user) else {
-            return Went::Done;
+            return Progress::Done;
         };
         let bytes = asked.rest();
         let taken = match self.try_for(rt, user, Event::Keys { client, bytes }) {
-            Ok(None) => return Went::Held,
+            Ok(None) => return Progress::Held,
             Ok(Some(answer)) => taken_of(&answer),
             Err(Unanswered::NoMemory) => {
-                self.peers.fault(rt, key);
+                self.fault(rt, key);
                 0
             }
             Err(Unanswered::Over) => 0,
         };
-        self.has_typed = true;
+        self.reading.has_typed = true;
         asked.done = asked.done.saturating_add(taken);
         if taken == 0 || asked.rest().is_empty() {
-            Went::Done
+            Progress::Done
         } else {
-            Went::Part
+            Progress::Part
         }
     }
 
     // A step takes a piece of a window's output; the rest is the next turn's.
-    fn output(&mut self, rt: &impl Wait, key: usize, window: u32, asked: &mut Asked) -> Went {
+    fn output(&mut self, rt: &impl Wait, key: usize, window: u32, asked: &mut Asked) -> Progress {
         let rest = asked.rest();
         let bytes = rest.get(..PIECE).unwrap_or(rest);
         let taken = bytes.len();
         self.change(rt, key, Event::Output { window, bytes });
-        self.output_left = self.output_left.saturating_sub(taken);
+        self.reading.output_left = self.reading.output_left.saturating_sub(taken);
         asked.done = asked.done.saturating_add(taken);
         if asked.rest().is_empty() {
-            Went::Done
+            Progress::Done
         } else {
-            Went::Part
+            Progress::Part
         }
     }
 
     fn user_of(&self, name: &Text, token: &Token) -> Option<UserId> {
         let users = match &self.users {
             Some(users) => users,
-            None => self.peers.seat.users(),
+            None => self.seat.users(),
         };
         authenticate(users, name.as_str().as_bytes(), token).ok()
     }
 
     // A connection is told why it can't become a guest, and goes.
     fn turn_away(&mut self, rt: &impl Wait, key: usize, text: &str) {
-        self.peers.send(rt, key, Sending::Say(text.as_bytes()));
-        self.peers.dismiss(key, Why::Fault);
+        self.send(rt, key, Sending::Say(text.as_bytes()));
+        self.dismiss(key, Why::Fault);
     }
 
     fn why_unanswered(&self, unanswered: Unanswered) -> Why {
-        match (unanswered, self.peers.end()) {
+        match (unanswered, self.end()) {
             (Unanswered::Over, Some(end)) => end.why(),
             (Unanswered::Over, None) | (Unanswered::NoMemory, _) => Why::Fault,
         }
@@ -184,39 +185,39 @@ impl<S: Read + Write + Drop, G: Gate + Drop, J: SessionSeat + Drop> Loop<S, G, J
         let Some(looked) = self.looked else {
             return true;
         };
-        let peer = self.peers.connections.get(key);
+        let peer = self.connections.get(key);
         peer.is_some_and(|peer| peer.look.is_some_and(|look| look <= looked))
     }
 
     // Judges the first message of a connection.
-    fn begin(&mut self, rt: &impl Wait, key: usize, message: &Message) -> Went {
+    fn begin(&mut self, rt: &impl Wait, key: usize, message: &Message) -> Progress {
         let (Message::Attach { token, name, .. }
         | Message::Window { token, name, .. }
         | Message::Command { token, name, .. }) = message
         else {
-            self.peers.fault(rt, key);
-            return Went::Done;
+            self.fault(rt, key);
+            return Progress::Done;
         };
         if !self.may_judge(key) {
-            return Went::Held;
+            return Progress::Held;
         }
         let Some(user) = self.user_of(name, token) else {
-            self.peers.tell(News::WrongToken);
+            self.tell(News::WrongToken);
             self.turn_away(rt, key, UNKNOWN);
-            return Went::Done;
+            return Progress::Done;
         };
         let is_command = matches!(message, Message::Command { .. });
-        if let Some(peer) = self.peers.connections.touch(key) {
+        if let Some(peer) = self.connections.touch(key) {
             peer.user = Some(user);
             if peer.is_extra && !is_command {
                 self.turn_away(rt, key, NO_ROOM);
-                return Went::Done;
+                return Progress::Done;
             }
         }
         self.begin_as(rt, Newcomer { key, user }, message)
     }
 
-    fn begin_as(&mut self, rt: &impl Wait, newcomer: Newcomer, message: &Message) -> Went {
+    fn begin_as(&mut self, rt: &impl Wait, newcomer: Newcomer, message: &Message) -> Progress {
         let user = newcomer.user;
         match message {
             Message::Attach { rows, columns, .. } => {
@@ -246,39 +247,45 @@ impl<S: Read + Write + Drop, G: Gate + Drop, J: SessionSeat + Drop> Loop<S, G, J
             Message::Command { window, line, .. } => {
                 self.command(rt, newcomer, *window, line.as_slice())
             }
-            _ => Went::Done,
+            _ => Progress::Done,
         }
     }
 
     // A connection becomes a client or a window, unless its user has as many as a user may have.
-    fn join(&mut self, rt: &impl Wait, newcomer: Newcomer, kind: GuestKind, event: Event) -> Went {
+    fn join(
+        &mut self,
+        rt: &impl Wait,
+        newcomer: Newcomer,
+        kind: GuestKind,
+        event: Event,
+    ) -> Progress {
         let Newcomer { key, user } = newcomer;
-        if let Some(most) = self.peers.seat.add(rt, user, kind) {
+        if let Some(most) = self.seat.add(rt, user, kind) {
             self.say_too_many(rt, newcomer, kind, most);
-            return Went::Done;
+            return Progress::Done;
         }
         let answer = match self.try_for(rt, user, event) {
             Ok(answer) => answer,
             Err(unanswered) => {
                 let why = self.why_unanswered(unanswered);
-                self.peers.dismiss(key, why);
-                self.peers.seat.remove(rt, user, kind);
-                return Went::Done;
+                self.dismiss(key, why);
+                self.seat.remove(rt, user, kind);
+                return Progress::Done;
             }
         };
         let Some(answer) = answer else {
-            self.peers.seat.remove(rt, user, kind);
-            return Went::Held;
+            self.seat.remove(rt, user, kind);
+            return Progress::Held;
         };
         match &answer.reply {
             Ok(done) => self.let_in(rt, newcomer, kind, done),
             Err(refusal) => {
                 self.say_refusal(rt, key, refusal);
-                self.peers.dismiss(key, Why::Fault);
-                self.peers.seat.remove(rt, user, kind);
+                self.dismiss(key, Why::Fault);
+                self.seat.remove(rt, user, kind);
             }
         }
-        Went::Done
+        Progress::Done
     }
 
     fn let_in(&mut self, rt: &impl Wait, newcomer: Newcomer, kind: GuestKind, done: &Done) {
@@ -287,8 +294,11 @@ impl<S: Read + Write + Drop, G: Gate + Drop, J: SessionSeat + Drop> Loop<S, G, J
             GuestKind::Window => (Role::Window(done.made), Guest::Window(user, done.number)),
             GuestKind::Client => (Role::Client(done.made), Guest::Client(user, done.made)),
         };
-        self.peers.let_in(key, role, guest);
-        self.peers.send(rt, key, Sending::Welcome(done.number));
+        if let Some(peer) = self.connections.touch(key) {
+            peer.join(role, guest);
+        }
+        self.tell(News::Came(guest));
+        self.send(rt, key, Sending::Welcome(done.number));
     }
 
     // No effect tells of a `quit` if no window is open and nobody is attached, so its line is read
@@ -299,42 +309,42 @@ impl<S: Read + Write + Drop, G: Gate + Drop, J: SessionSeat + Drop> Loop<S, G, J
         newcomer: Newcomer,
         window: Option<u8>,
         line: &[u8],
-    ) -> Went {
+    ) -> Progress {
         let Newcomer { key, user } = newcomer;
         let Ok(is_quit) = is_quit(self.alloc, line) else {
-            self.peers.dismiss(key, Why::Fault);
-            return Went::Done;
+            self.dismiss(key, Why::Fault);
+            return Progress::Done;
         };
         match self.try_for(rt, user, Event::Command { user, window, line }) {
-            Ok(None) => return Went::Held,
+            Ok(None) => return Progress::Held,
             Ok(Some(answer)) => self.tell_answer(rt, newcomer, &answer, is_quit),
             Err(unanswered) => {
                 let why = self.why_unanswered(unanswered);
-                self.peers.dismiss(key, why);
+                self.dismiss(key, why);
             }
         }
-        Went::Done
+        Progress::Done
     }
 
     // Tells a connection the answer to its command.
     fn tell_answer(&mut self, rt: &impl Wait, newcomer: Newcomer, answer: &Answer, is_quit: bool) {
         let Newcomer { key, user } = newcomer;
-        self.peers.send(rt, key, Sending::Welcome(0));
+        self.send(rt, key, Sending::Welcome(0));
         match &answer.reply {
             Ok(done) => {
-                self.peers.tell(News::Done(user));
+                self.tell(News::Done(user));
                 if let Some(text) = &done.text {
-                    self.peers.send(rt, key, Sending::Say(text.as_slice()));
+                    self.send(rt, key, Sending::Say(text.as_slice()));
                 }
-                self.peers.dismiss(key, Why::Detached);
+                self.dismiss(key, Why::Detached);
                 if is_quit {
-                    self.peers.quit();
+                    self.end = Some(End::Quit);
                 }
             }
             Err(refusal) => {
-                self.peers.tell(News::Refused(user));
+                self.tell(News::Refused(user));
                 self.say_refusal(rt, key, refusal);
-                self.peers.dismiss(key, Why::Fault);
+                self.dismiss(key, Why::Fault);
             }
         }
     }
@@ -348,14 +358,14 @@ impl<S: Read + Write + Drop, G: Gate + Drop, J: SessionSeat + Drop> Loop<S, G, J
         };
         match format!(in self.alloc; "too many {what} of {}: at most {most}", Name(user)) {
             Ok(text) => self.turn_away(rt, key, &text),
-            Err(_) => self.peers.dismiss(key, Why::Fault),
+            Err(_) => self.dismiss(key, Why::Fault),
         }
     }
 
     fn say_refusal(&mut self, rt: &impl Wait, key: usize, refusal: &Refusal) {
         let mut text = Vec::new(self.alloc);
         if refusal.text(&mut text).is_ok() {
-            self.peers.send(rt, key, Sending::Say(&text));
+            self.send(rt, key, Sending::Say(&text));
         }
     }
 }

@@ -33,7 +33,7 @@ pub enum Act<'a> {
 
 /// How a loop stands.
 #[derive(Clone, Copy)]
-pub struct Standing {
+pub struct LoopState {
     /// How many connections it has.
     pub len: usize,
     /// Whether it has something to do, though nothing comes.
@@ -46,7 +46,7 @@ pub struct Standing {
 /// What is seen at a moment.
 #[derive(Drop)]
 pub struct Note {
-    pub standing: Standing,
+    pub standing: LoopState,
     /// The first connection of which something was noted.
     pub first: usize,
     pub sent: Vec<Sent>,
@@ -62,7 +62,7 @@ pub struct Seen {
 
 impl Seen {
     /// How the loop stood at a note.
-    pub fn standing(&self, note: usize) -> Option<Standing> {
+    pub fn standing(&self, note: usize) -> Option<LoopState> {
         match self.notes.get(note) {
             Some(note) => Some(note.standing),
             None => None,

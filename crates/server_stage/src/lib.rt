@@ -12,7 +12,7 @@ mod stage;
 mod stop;
 mod streams;
 
-pub use acts::{Act, Note, Seen, Standing};
+pub use acts::{Act, LoopState, Note, Seen};
 pub use attach_proto::{Message, Why};
 pub use frames::{
     ACLADD, ATTACH, ATTACH_BOB, DETACH, GONE_FAULT, MULTIUSER, QUIT, Received, WALL, WELCOME,

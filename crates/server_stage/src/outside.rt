@@ -1,6 +1,6 @@
 //! What is outside a loop: its peers, and the time.
 
-use crate::acts::{Act, Note, Standing};
+use crate::acts::{Act, LoopState, Note};
 use crate::stop::Stop;
 use crate::streams::{Far, Habit, Near, ends};
 use std::alloc::Global;
@@ -56,7 +56,7 @@ impl Outside {
         }
     }
 
-    pub(crate) fn note(&mut self, standing: Standing, first: usize) -> Result<(), Stop> {
+    pub(crate) fn note(&mut self, standing: LoopState, first: usize) -> Result<(), Stop> {
         let mut sent = Vec::new(self.alloc);
         for peer in self.peers.iter().skip(first) {
             sent.push(peer.sent(self.alloc)?)?;

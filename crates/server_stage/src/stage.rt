@@ -1,6 +1,6 @@
 //! Loops over a new session, on which acts are played.
 
-use crate::acts::{Act, Note, Seen, Standing};
+use crate::acts::{Act, LoopState, Note, Seen};
 use crate::frames::USERS;
 use crate::latch::{Calls, Latch};
 use crate::outside::Outside;
@@ -62,24 +62,26 @@ fn take<G: Gate + Drop, J: SessionSeat + Drop>(
 ) {
     let keys = if turns.are_quiet { 0 } else { KEYS };
     for _ in 0..turns.most {
-        if turns.are_quiet && !own.peers.is_due() {
+        if turns.are_quiet && !own.is_due() {
             return;
         }
         for key in 0..keys {
-            own.peers.mark_ready(key, true);
+            if let Some(peer) = own.connections.touch(key) {
+                peer.mark_ready(true);
+            }
         }
         own.now = own.now.saturating_add(tick);
         own.read_all(rt);
-        own.peers.end_turn(rt, false);
+        own.end_turn(rt, false);
     }
 }
 
-fn standing<G: Gate + Drop, J: SessionSeat + Drop>(own: &Loop<Near, G, J>) -> Standing {
-    Standing {
-        len: own.peers.connections.len(),
-        is_due: own.peers.is_due(),
-        has_waiting: own.peers.has_waiting(),
-        end: own.peers.end(),
+fn standing<G: Gate + Drop, J: SessionSeat + Drop>(own: &Loop<Near, G, J>) -> LoopState {
+    LoopState {
+        len: own.connections.len(),
+        is_due: own.is_due(),
+        has_waiting: own.has_waiting(),
+        end: own.end(),
     }
 }
 
@@ -92,11 +94,11 @@ fn perform_one<G: Gate + Drop, J: SessionSeat + Drop>(
     match act {
         Act::Connect(habit, bytes) => {
             let near = outside.connect(habit, bytes)?;
-            let _ = own.peers.connections.admit(near, false);
+            let _ = own.connections.admit(near, false);
         }
         Act::ConnectExtra(bytes) => {
             let near = outside.connect(Habit::Whole, bytes)?;
-            let _ = own.peers.connections.admit(near, true);
+            let _ = own.connections.admit(near, true);
         }
         Act::Turns(most) => take(rt, own, outside.tick, Turns::ready(most)),
         Act::QuietTurns(most) => take(rt, own, outside.tick, Turns::quiet(most)),
@@ -105,8 +107,8 @@ fn perform_one<G: Gate + Drop, J: SessionSeat + Drop>(
             own.now = Duration::from_secs(second);
             own.expire();
         }
-        Act::LetOldestGo(most) => own.peers.let_oldest_go(rt, most),
-        Act::Finish(end) => own.peers.finish(rt, end),
+        Act::LetOldestGo(most) => own.let_oldest_go(rt, most),
+        Act::Finish(end) => own.finish(rt, end),
         Act::Note(first) => outside.note(standing(own), first)?,
         _ => outside.perform(act)?,
     }

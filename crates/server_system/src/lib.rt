@@ -3,6 +3,7 @@
 #![tactic(auto)]
 
 mod fault;
+mod host;
 mod log;
 mod setup_file;
 mod socket;
@@ -11,9 +12,10 @@ mod watched;
 mod wired;
 
 pub use fault::ServeFault;
+pub use host::Host;
 pub use log::Log;
 pub use setup_file::Setup;
-pub use socket::Place;
-pub use users_file::{Seen, Stamp, UsersFile};
-pub use watched::{Known, Watched};
+pub use socket::SocketPath;
+pub use users_file::{LastLook, Stamp, UsersFile};
+pub use watched::{KnownUsers, WatchedUsers};
 pub use wired::Wired;

@@ -15,7 +15,7 @@ const LOOK: u64 = 3_600;
 
 // Lines that weren't written yet.
 #[derive(Drop)]
-struct Waiting {
+struct UnwrittenLines {
     text: Vec<u8>,
     left_out: u64,
     // How many loops run.
@@ -27,7 +27,7 @@ struct Waiting {
 #[derive(Drop)]
 pub struct Log {
     alloc: Global,
-    waiting: Mutex<Waiting>,
+    waiting: Mutex<UnwrittenLines>,
     news: Condvar,
 }
 
@@ -36,7 +36,7 @@ impl Log {
     pub fn new(alloc: Global, loops: usize) -> Log {
         Log {
             alloc,
-            waiting: Mutex::new(Waiting {
+            waiting: Mutex::new(UnwrittenLines {
                 text: Vec::new(alloc),
                 left_out: 0,
                 loops,

@@ -1,9 +1,9 @@
 //! The file of the owner's first commands, and its faults.
 
 use crate::fault::{ServeFault, SystemError};
+use crate::host::Host;
 use program_words::{RefusedLine, SetupFault, SetupLine, read_setup};
 use std::alloc::Global;
-use std::fs::Files;
 use std::{fs, str};
 
 /// A setup: the path of its file, and the file's bytes.
@@ -23,10 +23,7 @@ fn text_of<'a>(lines: &[SetupLine<'a>], number: usize) -> &'a str {
 
 impl<'a> Setup<'a> {
     /// Reads the setup at a path. Without a path it has no lines.
-    pub fn read<R: Files + AllocGlobal>(
-        rt: &R,
-        path: Option<&'a str>,
-    ) -> Result<Setup<'a>, ServeFault> {
+    pub fn read<R: Host>(rt: &R, path: Option<&'a str>) -> Result<Setup<'a>, ServeFault> {
         let alloc = rt.alloc();
         let Some(path) = path else {
             return Ok(Setup {

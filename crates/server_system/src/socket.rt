@@ -1,11 +1,11 @@
 //! The socket that a server listens on.
 
 use crate::fault::{ServeFault, SocketFault};
+use crate::host::Host;
 use mio::net::{UnixListener, UnixStream};
 use std::alloc::Global;
-use std::fs::{File, Files, OpenOptions, TryLockError};
+use std::fs::{File, OpenOptions, TryLockError};
 use std::io::ErrorKind;
-use std::net::Net;
 use std::os::unix::fs::{FileTypeExt, MetadataExt, OpenOptionsExt};
 use std::sync::{Mutex, Wait};
 use std::{fs, io};
@@ -13,14 +13,14 @@ use std::{fs, io};
 /// The path of a server's socket. Only the server that holds the lock beside it makes, replaces and
 /// removes the socket.
 #[derive(Drop)]
-pub struct Place<'a> {
+pub struct SocketPath<'a> {
     path: &'a str,
     // None after the place was left.
     lock: Mutex<Option<File>>,
 }
 
 // Whether there is a socket. Another file is a fault.
-fn is_there<R: Files>(rt: &R, path: &str) -> Result<bool, SocketFault> {
+fn is_there<R: Host>(rt: &R, path: &str) -> Result<bool, SocketFault> {
     match fs::symlink_metadata(rt, path) {
         Ok(found) if found.file_type().is_socket() => Ok(true),
         Ok(_) => Err(SocketFault::NoSocket),
@@ -30,7 +30,7 @@ fn is_there<R: Files>(rt: &R, path: &str) -> Result<bool, SocketFault> {
 }
 
 // Whether a server listens, even if it lets nobody in at the moment.
-fn is_served<R: Net>(rt: &R, path: &str) -> Result<bool, SocketFault> {
+fn is_served<R: Host>(rt: &R, path: &str) -> Result<bool, SocketFault> {
     match UnixStream::connect(rt, path) {
         Ok(_) => Ok(true),
         Err(error) => match error.kind() {
@@ -42,7 +42,7 @@ fn is_served<R: Net>(rt: &R, path: &str) -> Result<bool, SocketFault> {
 }
 
 // Whether the file is the one of this name, which is no link.
-fn is_its_file<R: Files>(rt: &R, file: &File, name: &str) -> io::Result<bool> {
+fn is_its_file<R: Host>(rt: &R, file: &File, name: &str) -> io::Result<bool> {
     let named = fs::symlink_metadata(rt, name)?;
     let opened = file.metadata()?;
     let is_same = named.dev() == opened.dev() && named.ino() == opened.ino();
@@ -51,7 +51,7 @@ fn is_its_file<R: Files>(rt: &R, file: &File, name: &str) -> io::Result<bool> {
 
 // Opens the lock's file that is there, unless it is a link or another kind of file. Whatever takes its
 // place before it is opened isn't written to.
-fn open_there<R: Files<File = File>>(rt: &R, name: String) -> Result<File, SocketFault> {
+fn open_there<R: Host>(rt: &R, name: String) -> Result<File, SocketFault> {
     let found = fs::symlink_metadata(rt, name.as_str())?;
     if !found.file_type().is_file() {
         return Err(SocketFault::NoLock(name));
@@ -65,7 +65,7 @@ fn open_there<R: Files<File = File>>(rt: &R, name: String) -> Result<File, Socke
 }
 
 // Makes the lock's file, through no link, or opens the one that is there.
-fn open_lock<R: Files<File = File>>(rt: &R, name: String) -> Result<File, SocketFault> {
+fn open_lock<R: Host>(rt: &R, name: String) -> Result<File, SocketFault> {
     let made = OpenOptions::new()
         .write(true)
         .create_new(true)
@@ -78,7 +78,7 @@ fn open_lock<R: Files<File = File>>(rt: &R, name: String) -> Result<File, Socket
     }
 }
 
-fn lock<R: Files<File = File>>(rt: &R, alloc: Global, path: &str) -> Result<File, SocketFault> {
+fn lock<R: Host>(rt: &R, alloc: Global, path: &str) -> Result<File, SocketFault> {
     let Ok(name) = format!(in alloc; "{path}.lock") else {
         return Err(SocketFault::NoMemory);
     };
@@ -91,11 +91,7 @@ fn lock<R: Files<File = File>>(rt: &R, alloc: Global, path: &str) -> Result<File
 }
 
 // Takes the lock beside the path, and makes a new socket there. One that nobody listens on is removed.
-fn listen<R: Net + Files<File = File>>(
-    rt: &R,
-    alloc: Global,
-    path: &str,
-) -> Result<(File, UnixListener), SocketFault> {
+fn listen<R: Host>(rt: &R, alloc: Global, path: &str) -> Result<(File, UnixListener), SocketFault> {
     is_there(rt, path)?;
     let lock = lock(rt, alloc, path)?;
     if is_there(rt, path)? {
@@ -107,18 +103,18 @@ fn listen<R: Net + Files<File = File>>(
     Ok((lock, UnixListener::bind(rt, path)?))
 }
 
-impl Place<'_> {
+impl SocketPath<'_> {
     /// Listens on a new socket at the path, as long as the place is held. A socket there that nobody
     /// listens on is removed.
-    pub fn listen<'a, R: Net + Files<File = File>>(
+    pub fn listen<'a, R: Host>(
         rt: &R,
         alloc: Global,
         path: &'a str,
-    ) -> Result<(Place<'a>, UnixListener), ServeFault> {
+    ) -> Result<(SocketPath<'a>, UnixListener), ServeFault> {
         match listen(rt, alloc, path) {
             Ok((lock, listener)) => {
                 let lock = Mutex::new(Some(lock));
-                Ok((Place { path, lock }, listener))
+                Ok((SocketPath { path, lock }, listener))
             }
             Err(fault) => Err(ServeFault::of_socket(alloc, path, fault)),
         }
@@ -126,7 +122,7 @@ impl Place<'_> {
 
     /// Removes the socket, once, and then releases the lock, so that another server may listen there.
     /// A socket that can't be removed is no fault of the session.
-    pub fn leave<F: Files>(&self, rt: &impl Wait, files: &F) {
+    pub fn leave<F: Host>(&self, rt: &impl Wait, files: &F) {
         let lock = self.lock.lock(rt).take();
         if lock.is_some() {
             let _: io::Result<()> = fs::remove_file(files, self.path);

@@ -81,17 +81,17 @@ impl<'p> UsersFile<'p> {
 
 /// What the last look at a users' file found.
 #[derive(Clone, Copy, Debug)]
-pub struct Seen {
+pub struct LastLook {
     // The file as it was when it was read. None if there was none, or if it must be read again.
     stamp: Option<Stamp>,
     // The file as it was when it couldn't be read, if that has been told.
     failed: Option<Option<Stamp>>,
 }
 
-impl Seen {
+impl LastLook {
     /// The file was read when it had this stamp.
-    pub fn read(stamp: Stamp) -> Seen {
-        Seen {
+    pub fn read(stamp: Stamp) -> LastLook {
+        LastLook {
             stamp: Some(stamp),
             failed: None,
         }
@@ -120,7 +120,7 @@ impl Seen {
 impl UsersFile<'_> {
     /// The users, or why they can't be read. None if the file is as it was at the last look, or if
     /// the fault has been told.
-    pub fn look(&self, seen: &mut Seen) -> Option<Result<Users, ServeFault>> {
+    pub fn look(&self, seen: &mut LastLook) -> Option<Result<Users, ServeFault>> {
         let found = fs::metadata(&self.files, self.path).ok();
         let found = found.map(|found| Stamp::of(&found));
         if found == seen.stamp {

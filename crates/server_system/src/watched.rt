@@ -2,7 +2,7 @@
 
 use crate::fault::ServeFault;
 use crate::log::Log;
-use crate::users_file::{Seen, UsersFile};
+use crate::users_file::{LastLook, UsersFile};
 use acl::UserId;
 use server_users::Users;
 use std::alloc::{AllocError, Global};
@@ -17,29 +17,29 @@ const PAUSE: u64 = 20;
 
 // What a look found.
 #[derive(Drop)]
-enum Told {
+enum UsersNews {
     Anew,
     OtherOwner,
     Faulty(ServeFault),
 }
 
-// What is told of the users' file at a path.
+// What a look found of the users' file at this path, as a line of the log.
 #[derive(Clone, Copy)]
-struct News<'a> {
+struct UsersLine<'a> {
     path: &'a str,
-    told: &'a Told,
+    news: &'a UsersNews,
 }
 
-impl Display for News<'_> {
+impl Display for UsersLine<'_> {
     fn fmt<W: fmt::Write>(&self, f: &mut Formatter<W>) -> fmt::Result {
-        let News { path, told } = *self;
-        match told {
-            Told::Anew => write!(f, "users' file {path} was read again"),
-            Told::OtherOwner => write!(
+        let UsersLine { path, news } = *self;
+        match news {
+            UsersNews::Anew => write!(f, "users' file {path} was read again"),
+            UsersNews::OtherOwner => write!(
                 f,
                 "users' file {path} has another owner: who may connect stays as it was"
             ),
-            Told::Faulty(fault) => write!(f, "{fault}: who may connect stays as it was"),
+            UsersNews::Faulty(fault) => write!(f, "{fault}: who may connect stays as it was"),
         }
     }
 }
@@ -54,7 +54,7 @@ struct Looks {
     // How many sound files were read after the first one, and the users of the last of them.
     count: u64,
     users: Option<Users>,
-    told: Option<Told>,
+    news: Option<UsersNews>,
     is_over: bool,
 }
 
@@ -66,17 +66,17 @@ impl Looks {
             Ok(users) if users.owner() == owner => {
                 self.users = Some(users);
                 self.count = self.count.saturating_add(1);
-                self.told = Some(Told::Anew);
+                self.news = Some(UsersNews::Anew);
             }
-            Ok(_) => self.told = Some(Told::OtherOwner),
-            Err(fault) => self.told = Some(Told::Faulty(fault)),
+            Ok(_) => self.news = Some(UsersNews::OtherOwner),
+            Err(fault) => self.news = Some(UsersNews::Faulty(fault)),
         }
     }
 }
 
 /// What a loop learns of who may connect.
 #[derive(Drop)]
-pub struct Known {
+pub struct KnownUsers {
     /// The last look that is done.
     pub look: u64,
     /// The users, if the loop has others.
@@ -86,7 +86,7 @@ pub struct Known {
 /// The users' file. When somebody connects, a separate thread looks at it, so that no loop waits for
 /// the file's disk.
 #[derive(Drop)]
-pub struct Watched {
+pub struct WatchedUsers {
     files: HostRuntime,
     alloc: Global,
     path: String,
@@ -95,10 +95,10 @@ pub struct Watched {
     asked: Condvar,
 }
 
-impl Watched {
+impl WatchedUsers {
     /// A file that was read once. Its owner is the session's.
-    pub fn new(file: UsersFile, owner: UserId) -> Result<Watched, AllocError> {
-        Ok(Watched {
+    pub fn new(file: UsersFile, owner: UserId) -> Result<WatchedUsers, AllocError> {
+        Ok(WatchedUsers {
             files: file.files,
             alloc: file.alloc,
             path: String::from_str(file.alloc, file.path)?,
@@ -109,7 +109,7 @@ impl Watched {
                 done: 0,
                 count: 0,
                 users: None,
-                told: None,
+                news: None,
                 is_over: false,
             }),
             asked: Condvar::new(),
@@ -152,7 +152,11 @@ impl Watched {
     }
 
     // Looks at the file, again and again as long as memory is refused.
-    fn found<R: Clock + Wait>(&self, rt: &R, seen: &mut Seen) -> Option<Result<Users, ServeFault>> {
+    fn found<R: Clock + Wait>(
+        &self,
+        rt: &R,
+        seen: &mut LastLook,
+    ) -> Option<Result<Users, ServeFault>> {
         let file = UsersFile::new(self.files, self.alloc, self.path.as_str());
         for _ in rt.forever() {
             let found = file.look(seen);
@@ -166,7 +170,7 @@ impl Watched {
 
     /// Looks at the file as soon as somebody asks for it. The answer is false once nobody waits any
     /// more.
-    pub fn look<R: Clock + Wait>(&self, rt: &R, seen: &mut Seen) -> bool {
+    pub fn look<R: Clock + Wait>(&self, rt: &R, seen: &mut LastLook) -> bool {
         if !self.begin(rt) {
             return false;
         }
@@ -177,11 +181,16 @@ impl Watched {
 
     /// What is known now, for a loop that has the users of this count; None if there is no memory for
     /// a copy of the users.
-    pub fn newest<R: Clock + Wait>(&self, rt: &R, log: &Log, count: &mut u64) -> Option<Known> {
+    pub fn newest<R: Clock + Wait>(
+        &self,
+        rt: &R,
+        log: &Log,
+        count: &mut u64,
+    ) -> Option<KnownUsers> {
         let mut looks = self.looks.lock(rt);
-        if let Some(told) = looks.told.take() {
+        if let Some(news) = looks.news.take() {
             let path = self.path.as_str();
-            log.put(rt, &News { path, told: &told });
+            log.put(rt, &UsersLine { path, news: &news });
         }
         let users = if looks.count == *count {
             None
@@ -189,7 +198,7 @@ impl Watched {
             Some(looks.users.as_ref()?.copy(self.alloc).ok()?)
         };
         *count = looks.count;
-        Some(Known {
+        Some(KnownUsers {
             look: looks.done,
             users,
         })

@@ -1,6 +1,6 @@
 //! Plays, and rows that say what is to be seen of them.
 
-use server_stage::{Act, End, Received, Seen, Standing, System, Why, perform, shows};
+use server_stage::{Act, End, LoopState, Received, Seen, System, Why, perform, shows};
 use std::alloc::Global;
 
 /// What is to be seen at a note. Connections count from 0, in the order in which they came.
@@ -68,7 +68,7 @@ fn is_gone(alloc: Global, bytes: &[u8], why: Option<Why>) -> bool {
 }
 
 // Whether the loop stands as wanted.
-fn stands(standing: Standing, wanted: Wanted) -> bool {
+fn stands(standing: LoopState, wanted: Wanted) -> bool {
     match wanted {
         Wanted::Len(len) => standing.len == len,
         Wanted::IsDue(is_due) => standing.is_due == is_due,

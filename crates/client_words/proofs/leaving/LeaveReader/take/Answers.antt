@@ -1,6 +1,6 @@
 use Rattle.std.proofs.Common.{◌≡◌, ◌==◌, ◌∷◌, [], true, false, arith, sym, ◌∙◌}
 use Rattle.std.proofs.lemmas.Bool.Decides.{nat_tests}
-use Rattle.client_words.specs.declared.leaving.Stage.TheVariants.{Reading, Waiting, Left}
+use Rattle.client_words.specs.declared.leaving.InputStage.TheVariants.{Reading, Waiting, Left}
 use Rattle.client_words.proofs.Pairs.{reads-more, reads-same, sends-more, next-yes, next-no, next-pair, next-lone}
 use Rattle.client_words.proofs.Pairs.{next-left, more-yes, more-no, more-pair, more-lone, more-left}
 use Rattle.client_words.proofs.leaving.LeaveReader.take.Goals as goal

@@ -6,6 +6,5 @@ use Rattle.hub_ledger.proofs.waiting.Waiting.take.Goals as goal
 
 pub returns-clause-lists : goal.returns-clause-lists
 returns-clause-lists c =
-    map-set (λ v. v.items) c.args.self.now.lists.items c.args.seat c.replace-effects.new.dest
-    ∙ ap (λ w. slice_set (views c.args.self.now.lists.items) c.args.seat w)
-    (ap (λ v. v.items) c.replace-effects.ensures.after ∙ c.new.ensures.items)
+    map-set (λ v. v.items) c.args.self.now.lists.items c.args.seat c.emptied-effects.new.list
+    ∙ ap (λ w. slice_set (views c.args.self.now.lists.items) c.args.seat w) c.emptied-effects.ensures.rest

@@ -1,20 +1,9 @@
 //! News as a line of the log.
 
-use acl::UserId;
 use attach_proto::Why;
-use server_peers::{Guest, News};
+use server_loop::{Guest, Name, News};
 use std::fmt;
 use std::fmt::{Display, Formatter};
-
-/// A user's name.
-#[derive(Clone, Copy)]
-pub(crate) struct Name(pub(crate) UserId);
-
-impl Display for Name {
-    fn fmt<W: fmt::Write>(&self, f: &mut Formatter<W>) -> fmt::Result {
-        f.write_str(str::from_utf8(self.0.as_bytes()).unwrap_or("?"))
-    }
-}
 
 /// A guest, as the log names it.
 #[derive(Clone, Copy)]

@@ -2,14 +2,14 @@
 
 use crate::end::End;
 use crate::gate::Gate;
-use crate::peers::{Peers, Unanswered};
+use crate::own::Loop;
+use crate::submitting::Unanswered;
 use attach_proto::Why;
 use server_connections::{Guest, News, Role, SessionSeat, Stage, each_awake};
 use std::io::{Read, Write};
 use std::sync::Wait;
-use std::time::Duration;
 
-impl<S: Read + Write + Drop, G: Gate + Drop, J: SessionSeat + Drop> Peers<S, G, J> {
+impl<S: Read + Write + Drop, G: Gate + Drop, J: SessionSeat + Drop> Loop<S, G, J> {
     // Tells the session that a connection left it. If there is no memory, it is told in a later turn.
     pub(crate) fn tell_leaving(&mut self, rt: &impl Wait, key: usize) -> Result<(), Unanswered> {
         let Some(peer) = self.connections.get(key) else {
@@ -20,7 +20,7 @@ impl<S: Read + Write + Drop, G: Gate + Drop, J: SessionSeat + Drop> Peers<S, G, 
         };
         match self.submit(rt, event) {
             Err(Unanswered::NoMemory) => {
-                self.has_waiting = true;
+                self.has_refused = true;
                 return Err(Unanswered::NoMemory);
             }
             Ok(_) | Err(Unanswered::Over) => {}
@@ -32,8 +32,8 @@ impl<S: Read + Write + Drop, G: Gate + Drop, J: SessionSeat + Drop> Peers<S, G, 
     }
 
     pub(crate) fn tell_all_leaving(&mut self, rt: &impl Wait) {
-        each_awake(self, |peers, key| {
-            let _ = peers.tell_leaving(rt, key);
+        each_awake(self, |own, key| {
+            let _ = own.tell_leaving(rt, key);
         });
     }
 
@@ -46,8 +46,8 @@ impl<S: Read + Write + Drop, G: Gate + Drop, J: SessionSeat + Drop> Peers<S, G, 
         let _ = self.tell_leaving(rt, key);
     }
 
-    /// A connection that is no guest is told to go, unless it was told before.
-    pub fn dismiss(&mut self, key: usize, why: Why) {
+    // A connection that is no guest is told to go, unless it was told before.
+    pub(crate) fn dismiss(&mut self, key: usize, why: Why) {
         if let Some(peer) = self.connections.touch(key) {
             if peer.listens() {
                 peer.end(why);
@@ -55,9 +55,9 @@ impl<S: Read + Write + Drop, G: Gate + Drop, J: SessionSeat + Drop> Peers<S, G, 
         }
     }
 
-    /// A connection sent what it mustn't: it is told to go, after all that came of what it sent
-    /// before.
-    pub fn fault(&mut self, rt: &impl Wait, key: usize) {
+    // A connection sent what it mustn't: it is told to go, after all that came of what it sent
+    // before.
+    pub(crate) fn fault(&mut self, rt: &impl Wait, key: usize) {
         self.hand_out(rt);
         let peer = self.connections.get(key);
         if peer.is_some_and(|peer| peer.stage.is_open()) {
@@ -68,8 +68,8 @@ impl<S: Read + Write + Drop, G: Gate + Drop, J: SessionSeat + Drop> Peers<S, G, 
         }
     }
 
-    /// A connection asked to go. The session answers with the effect that ends it.
-    pub fn detach(&mut self, rt: &impl Wait, key: usize) {
+    // A connection asked to go. The session answers with the effect that ends it.
+    pub(crate) fn detach(&mut self, rt: &impl Wait, key: usize) {
         if let Some(peer) = self.connections.touch(key) {
             peer.stage = Stage::Leaving;
             peer.leaves = peer.role;
@@ -79,8 +79,8 @@ impl<S: Read + Write + Drop, G: Gate + Drop, J: SessionSeat + Drop> Peers<S, G, 
         }
     }
 
-    /// A connection ended or failed: what still waits for it is given up.
-    pub fn lose(&mut self, rt: &impl Wait, key: usize) {
+    // A connection ended or failed: what still waits for it is given up.
+    pub(crate) fn lose(&mut self, rt: &impl Wait, key: usize) {
         if let Some(peer) = self.connections.touch(key) {
             peer.close();
         }
@@ -122,9 +122,10 @@ impl<S: Read + Write + Drop, G: Gate + Drop, J: SessionSeat + Drop> Peers<S, G, 
 
     /// Connections whose first message didn't come in time are told to go, and those that were told
     /// so and didn't read it in time are closed.
-    pub fn expire(&mut self, now: Duration) {
-        each_awake(self, |peers, key| {
-            if let Some(peer) = peers.connections.touch(key) {
+    pub fn expire(&mut self) {
+        each_awake(self, |own, key| {
+            let now = own.now;
+            if let Some(peer) = own.connections.touch(key) {
                 peer.expire(now);
             }
         });
@@ -147,7 +148,7 @@ impl<S: Read + Write + Drop, G: Gate + Drop, J: SessionSeat + Drop> Peers<S, G, 
     }
 
     pub(crate) fn sweep(&mut self, rt: &impl Wait) {
-        each_awake(self, |peers, key| peers.settle(rt, key));
+        each_awake(self, |own, key| own.settle(rt, key));
     }
 
     /// The server ends: guests are told so, and strangers are closed.

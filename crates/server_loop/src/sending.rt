@@ -2,27 +2,21 @@
 
 use crate::end::End;
 use crate::gate::Gate;
-use crate::peers::{Peers, Unanswered};
+use crate::own::Loop;
+use crate::submitting::Unanswered;
 use attach_proto::Why;
-use server_connections::{Peer, Role, Sending, SessionSeat, Stage, each_awake, put, why_of};
+use server_connections::{Role, Sending, SessionSeat, Stage, each_awake, put, why_of};
 use session_model::{Effect, Event, Reason};
 use std::io::{Read, Write};
 use std::sync::Wait;
-
-// A connection for which more bytes wait is told to go.
-const MOST_UNSENT: usize = 1_048_576;
 
 // At most this many draws are asked for in a turn. The others follow in the next turns, and keys are
 // read between.
 const DRAWS: usize = 16;
 
-fn is_laggard<S: Drop>(peer: &Peer<S>) -> bool {
-    peer.listens() && peer.turn.unsent() > MOST_UNSENT
-}
-
-impl<S: Read + Write + Drop, G: Gate + Drop, J: SessionSeat + Drop> Peers<S, G, J> {
-    /// Puts something after what waits for a connection, which is told to go if that can't be done.
-    pub fn send(&mut self, rt: &impl Wait, key: usize, sending: Sending) {
+impl<S: Read + Write + Drop, G: Gate + Drop, J: SessionSeat + Drop> Loop<S, G, J> {
+    // Puts something after what waits for a connection, which is told to go if that can't be done.
+    pub(crate) fn send(&mut self, rt: &impl Wait, key: usize, sending: Sending) {
         let alloc = self.alloc;
         let Some(peer) = self.connections.touch(key) else {
             return;
@@ -52,7 +46,7 @@ impl<S: Read + Write + Drop, G: Gate + Drop, J: SessionSeat + Drop> Peers<S, G, 
         }
     }
 
-    /// Takes the effects that wait for the loop's peers, and puts them into their connections.
+    // Takes the effects that wait for the loop's peers, and puts them into their connections.
     pub(crate) fn hand_out(&mut self, rt: &impl Wait) {
         self.is_behind = false;
         let (effects, is_told) = self.seat.take(rt);
@@ -82,11 +76,11 @@ impl<S: Read + Write + Drop, G: Gate + Drop, J: SessionSeat + Drop> Peers<S, G, 
                 Effect::GoneClient(client, reason) => self.let_go(Role::Client(*client), *reason),
             }
         }
-        self.is_told |= is_told;
+        self.draws.is_told |= is_told;
     }
 
-    /// Writes what waits for a connection, until it takes no more for now.
-    pub fn write_to(&mut self, rt: &impl Wait, key: usize) {
+    // Writes what waits for a connection, until it takes no more for now.
+    fn write_to(&mut self, rt: &impl Wait, key: usize) {
         if let Some(peer) = self.connections.touch(key) {
             peer.write();
             if peer.stage == Stage::Closed {
@@ -95,19 +89,8 @@ impl<S: Read + Write + Drop, G: Gate + Drop, J: SessionSeat + Drop> Peers<S, G, 
         }
     }
 
-    fn write_all(&mut self, rt: &impl Wait) {
-        each_awake(self, |peers, key| peers.write_to(rt, key));
-    }
-
-    // The client of this key, if a draw is to be asked for.
-    fn wants_draw(&self, key: usize) -> Option<u32> {
-        match self.connections.get(key) {
-            Some(peer) if peer.stage.is_open() && peer.turn.wants_draw() => match peer.role {
-                Role::Client(client) => Some(client),
-                Role::Stranger | Role::Window(_) => None,
-            },
-            _ => None,
-        }
+    pub(crate) fn write_all(&mut self, rt: &impl Wait) {
+        each_awake(self, |own, key| own.write_to(rt, key));
     }
 
     // Asks for a client's draw. If there is no memory for it, it is asked for in a later turn.
@@ -117,9 +100,9 @@ impl<S: Read + Write + Drop, G: Gate + Drop, J: SessionSeat + Drop> Peers<S, G, 
                 if let Some(peer) = self.connections.touch(key) {
                     peer.turn.drawn();
                 }
-                self.drawn = self.drawn.saturating_add(1);
+                self.draws.made = self.draws.made.saturating_add(1);
             }
-            Err(Unanswered::NoMemory) => self.has_waiting = true,
+            Err(Unanswered::NoMemory) => self.has_refused = true,
             Err(Unanswered::Over) => {}
         }
     }
@@ -129,7 +112,8 @@ impl<S: Read + Write + Drop, G: Gate + Drop, J: SessionSeat + Drop> Peers<S, G, 
     fn draw_some(&mut self, rt: &impl Wait, from: usize) -> Option<usize> {
         let mut left = DRAWS;
         for key in from..self.connections.end() {
-            let Some(client) = self.wants_draw(key) else {
+            let peer = self.connections.get(key);
+            let Some(client) = peer.and_then(|peer| peer.wants_draw()) else {
                 continue;
             };
             if left == 0 {
@@ -142,17 +126,17 @@ impl<S: Read + Write + Drop, G: Gate + Drop, J: SessionSeat + Drop> Peers<S, G, 
     }
 
     // Asks for draws unless they are held, or goes on with those that were begun, and hands them out.
-    fn draw_all(&mut self, rt: &impl Wait, holds_draws: bool) {
-        let from = match self.draws_from {
+    pub(crate) fn draw_all(&mut self, rt: &impl Wait, holds_draws: bool) {
+        let from = match self.draws.from {
             Some(from) => from,
             None if holds_draws => return,
             None => 0,
         };
-        if self.is_told {
-            self.is_told = false;
+        if self.draws.is_told {
+            self.draws.is_told = false;
             self.connections.tell();
         }
-        self.draws_from = match self.draw_some(rt, from) {
+        self.draws.from = match self.draw_some(rt, from) {
             Some(next) => Some(next),
             // Clients before that key may wait for one again.
             None if 0 < from && !holds_draws => Some(0),
@@ -167,7 +151,7 @@ impl<S: Read + Write + Drop, G: Gate + Drop, J: SessionSeat + Drop> Peers<S, G, 
     // A connection for which too much waits is told so, and closed once it takes no more.
     fn drop_laggard(&mut self, rt: &impl Wait, key: usize) {
         let peer = self.connections.get(key);
-        if peer.is_some_and(|peer| is_laggard(peer)) {
+        if peer.is_some_and(|peer| peer.is_laggard()) {
             self.expel(rt, key, Why::TooFarBehind);
             if let Some(peer) = self.connections.touch(key) {
                 peer.stage = Stage::Cut;
@@ -176,19 +160,7 @@ impl<S: Read + Write + Drop, G: Gate + Drop, J: SessionSeat + Drop> Peers<S, G, 
         }
     }
 
-    fn drop_laggards(&mut self, rt: &impl Wait) {
-        each_awake(self, |peers, key| peers.drop_laggard(rt, key));
-    }
-
-    /// Ends a turn: hands out what came of it, writes, asks for draws unless they are held, and lets
-    /// go what is closed. It goes on with a crowd's draws that were begun, even if draws are held.
-    pub fn end_turn(&mut self, rt: &impl Wait, holds_draws: bool) {
-        self.has_waiting = false;
-        self.tell_all_leaving(rt);
-        self.hand_out(rt);
-        self.write_all(rt);
-        self.draw_all(rt, holds_draws);
-        self.drop_laggards(rt);
-        self.sweep(rt);
+    pub(crate) fn drop_laggards(&mut self, rt: &impl Wait) {
+        each_awake(self, |own, key| own.drop_laggard(rt, key));
     }
 }

@@ -1,0 +1,195 @@
+//! One loop: its connections, its seat in the session, and what it still has to do.
+
+use crate::end::End;
+use crate::gate::Gate;
+use crate::ration::Rations;
+use crate::submitting::Submitted;
+use crate::turn::PIECE;
+use server_connections::{Awaits, Connections, HasConnections, News, SessionSeat};
+use server_users::Users;
+use std::alloc::{AllocError, Global};
+use std::time::Duration;
+
+// A read takes at most this many bytes. The longest frame has a little more than half of them.
+const READ_SIZE: usize = 16_384;
+
+// At most this many news wait until they are taken. Later ones are left out.
+const MOST_NEWS: usize = 1_024;
+
+/// What a loop has to do, though no event will tell of it.
+#[derive(Clone, Copy, PartialEq, Eq)]
+pub enum Pending {
+    /// To do something at once.
+    Work,
+    /// To try something again soon.
+    Retry,
+    /// To look whether a connection used up its time.
+    Patience,
+    Nothing,
+}
+
+// The reads of a turn.
+#[derive(Drop)]
+pub(crate) struct ReadState {
+    pub(crate) buffer: Vec<u8>,
+    pub(crate) has_typed: bool,
+    pub(crate) has_much: bool,
+    // How many bytes of output may still be done in this turn.
+    pub(crate) output_left: usize,
+    // The key from which windows have their turn.
+    pub(crate) next: usize,
+}
+
+// The draws that a loop asks for.
+#[derive(Clone, Copy)]
+pub(crate) struct Draws {
+    // A step other than a draw was made, by any loop, since draws were last asked for.
+    pub(crate) is_told: bool,
+    // While draws are asked for: the first key that wasn't looked at yet.
+    pub(crate) from: Option<usize>,
+    // How many were made in this turn.
+    pub(crate) made: usize,
+}
+
+/// One loop and its connections. It never waits for a peer.
+#[derive(Drop)]
+pub struct Loop<S, G, J> {
+    pub(crate) alloc: Global,
+    pub seat: J,
+    pub(crate) gate: G,
+    pub connections: Connections<S>,
+    /// The users who may connect, if the users' file changed since the server started.
+    pub users: Option<Users>,
+    /// The number of the look at the users' file by which these are known; None if nobody looks.
+    pub looked: Option<u64>,
+    pub(crate) rations: Rations,
+    /// The time of this turn.
+    pub now: Duration,
+    pub(crate) reading: ReadState,
+    pub(crate) submitted: Submitted,
+    // A step was submitted since the effects that wait were last taken.
+    pub(crate) is_behind: bool,
+    // Something was refused for want of memory, and is tried again in the next turn.
+    pub(crate) has_refused: bool,
+    pub(crate) draws: Draws,
+    pub(crate) end: Option<End>,
+    /// Whether news is told.
+    pub tells: bool,
+    news: Vec<News>,
+}
+
+impl<S, G, J> HasConnections<S> for Loop<S, G, J> {
+    ghost held = { λ own. own.connections };
+
+    fn connections(&self) -> &Connections<S> {
+        &self.connections
+    }
+}
+
+impl<S: Drop, G: Gate + Drop, J: SessionSeat + Drop> Loop<S, G, J> {
+    /// One of this many loops.
+    pub fn new(alloc: Global, seat: J, gate: G, loops: usize) -> Result<Loop<S, G, J>, AllocError> {
+        Ok(Loop {
+            alloc,
+            seat,
+            gate,
+            connections: Connections::new(alloc),
+            users: None,
+            looked: None,
+            rations: Rations::new(alloc, loops),
+            now: Duration::ZERO,
+            reading: ReadState {
+                buffer: vec![in alloc; 0; READ_SIZE]?,
+                has_typed: false,
+                has_much: false,
+                output_left: PIECE,
+                next: 0,
+            },
+            submitted: Submitted::NOTHING,
+            is_behind: false,
+            has_refused: false,
+            draws: Draws {
+                is_told: false,
+                from: None,
+                made: 0,
+            },
+            end: None,
+            tells: false,
+            news: Vec::new(alloc),
+        })
+    }
+
+    /// The seat, once the loop is over.
+    pub fn into_seat(self) -> J {
+        self.seat
+    }
+
+    /// Whether something is to be done at once, though no event will tell of it.
+    pub fn is_due(&self) -> bool {
+        let is_begun = self.is_behind || self.draws.from.is_some();
+        is_begun || self.connections.any_awaits(Awaits::Work)
+    }
+
+    /// Whether something is to be tried again soon, though no event will tell of it.
+    pub fn has_waiting(&self) -> bool {
+        self.has_refused || self.has_held()
+    }
+
+    /// Whether a message waits: for a look at the users' file, or until its user may cause more
+    /// entries.
+    pub fn has_held(&self) -> bool {
+        self.connections.any_awaits(Awaits::Ration)
+    }
+
+    /// What the loop is to do next, if no event comes.
+    pub fn pending(&self) -> Pending {
+        if self.is_due() {
+            Pending::Work
+        } else if self.has_waiting() {
+            Pending::Retry
+        } else if self.connections.any_awaits(Awaits::End) {
+            Pending::Patience
+        } else {
+            Pending::Nothing
+        }
+    }
+
+    /// Whether a first message waits for a look at the users' file that nobody asked for yet.
+    pub fn awaits_look(&self) -> bool {
+        self.connections.any_awaits(Awaits::Look)
+    }
+
+    /// The first messages that came wait for the look of this number.
+    pub fn set_look(&mut self, look: u64) {
+        for key in 0..self.connections.end() {
+            let peer = self.connections.get(key);
+            if peer.is_some_and(|peer| peer.awaits(Awaits::Look)) {
+                if let Some(peer) = self.connections.touch(key) {
+                    peer.look = Some(look);
+                }
+            }
+        }
+    }
+
+    /// Why the server is to end, if it is. It ends as at a full trail if nothing is written to the
+    /// trail's file any more.
+    pub fn end(&self) -> Option<End> {
+        match self.end {
+            None if self.seat.has_stopped() => Some(End::TrailFull),
+            end => end,
+        }
+    }
+
+    // Notes what happened. It is left out if there is no memory for it or if news aren't told.
+    pub(crate) fn tell(&mut self, news: News) {
+        if self.tells && self.news.len() < MOST_NEWS {
+            let _ = self.news.push(news);
+        }
+    }
+
+    /// Takes the news since the last call.
+    pub fn take_news(&mut self) -> Vec<News> {
+        let none = Vec::new(self.alloc);
+        std::mem::replace(&mut self.news, none)
+    }
+}
