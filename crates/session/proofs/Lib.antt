@@ -8,7 +8,7 @@ pub mod Parts
 pub mod Giving
 mod Cutting
 mod Events
-mod Lines
+mod ScriptLines
 mod ReadBack
-mod Texts
-mod Words
+mod LineTexts
+mod EventWords

@@ -28,7 +28,7 @@ use Rattle.session.specs.Printed.{escaped}
 use Rattle.session.specs.ReadBack.{IsText, IsNamed, IsNumber, IsWindow, window_field, printed, all_printed}
 use Rattle.session.specs.ReadBack.{CanSay, CanSayAll, line_of, ReadsEvents}
 use Rattle.session.proofs.ReadBack.{reads_texts}
-use Rattle.session.proofs.Words.{IsWord, first_field, last_field}
+use Rattle.session.proofs.EventWords.{IsWord, first_field, last_field}
 
 -- ---- numbers
 
