@@ -3,3 +3,4 @@ pub mod Digits
 pub mod Spelled
 pub mod ReadBack
 pub mod Again
+pub mod Joined

@@ -4,3 +4,5 @@ pub mod Texts
 pub mod Parts
 pub mod Acts
 pub mod Sayable
+pub mod Meaning
+pub mod Dates

@@ -1,10 +1,22 @@
 //! `mux-trail check|log|show|who|why FILE`: reads the trail of a session.
 #![tactic(auto)]
 
+mod ask;
+mod check;
+mod diary;
+mod fault;
+mod following;
+mod heading;
+mod outlet;
+mod program;
+mod reading;
+mod tell;
+mod words;
+
+use crate::program::trail;
 use program_words::{given, not_given};
 use std::io;
 use std::process::ExitCode;
-use trail_program::trail;
 
 fn main(rt: HostRuntime) -> ExitCode {
     let words = match given(&rt, "mux-trail") {

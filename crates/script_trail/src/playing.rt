@@ -17,7 +17,7 @@ enum Fault<'a> {
     Io(io::Error),
     #[error("{0}")]
     Setup(SetupUnread<'a>),
-    #[error("trail {0}: {1}")]
+    #[error("trail {0}: {1} (set --trail to a new file)")]
     Trail(&'a str, io::Error),
 }
 

@@ -14,7 +14,7 @@ use thiserror::Error;
 #[derive(Debug, Drop, Error)]
 pub enum SetupUnread<'a> {
     /// The file of this path can't be read, or memory ran out for it.
-    #[error("setup {0}: {1}")]
+    #[error("setup {0}: {1} (set --setup)")]
     File(&'a str, io::Error),
     #[error("out of memory")]
     NoMemory,

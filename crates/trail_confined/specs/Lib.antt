@@ -1,4 +1,3 @@
 pub mod Confining
-pub mod Dates
 pub mod Reasons
 pub mod Telling

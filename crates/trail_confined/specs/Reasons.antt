@@ -14,7 +14,7 @@ use Rattle.line_fields.specs.Acts.{act_text}
 use Rattle.trail_rights.specs.declared.decider.Decider.{Decider}
 use Rattle.trail_rights.specs.declared.mark.Mark.{Mark}
 use Rattle.trail_confined.specs.declared.why.Question.{Question}
-use Rattle.trail_confined.specs.Dates.{when_text}
+use Rattle.line_fields.specs.Dates.{when_text}
 
 abbrev pub giver_text : Option UserId → List ℕ
 giver_text None = codes ": "

@@ -2,15 +2,13 @@
 #![tactic(auto)]
 
 mod confined;
-mod dates;
 mod failing;
 mod laws;
 mod premises;
 mod why;
 
 pub use confined::{failing_of, is_confined};
-pub use dates::push_day;
 pub use failing::{power_deciders, push_confinement};
-pub use laws::{confinement_is_decided, times_worked};
+pub use laws::confinement_is_decided;
 pub use premises::{Premise, may_open, openers_of, premises_of};
 pub use why::{Question, bit_of, push_reasons};

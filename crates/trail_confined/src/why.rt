@@ -11,11 +11,11 @@ ghost use Rattle.trail_confined.specs.Reasons.{found_text, giver_text, is_listed
 ghost use Rattle.trail_confined.specs.Reasons.{mark_text, owner_text, reasons_text, yes_text};
 ghost use Rattle.trail_rights.specs.Windows.{windows_of};
 
-use crate::dates::push_when;
 use acl::{Act, Bit, CommandName, Object, UserId};
 use command_lang::name_text;
 use hub_check::Replay;
 use line_fields::acts::push_act;
+use line_fields::push_when;
 use session_model::push_decimal;
 use std::alloc::AllocError;
 use trail_rights::{Decider, Mark, Sight, may};

@@ -17,8 +17,7 @@ use acl::{Edition, UserId};
 use hub_check::{Judge, Replay};
 use std::alloc::{AllocError, Global};
 
-/// Reads the lines of entries, one after another, and judges the entries. It keeps tables of rights,
-/// locks and clients, and no entry.
+/// Reads and judges entries, line by line. It keeps tables of rights, locks and clients, and no entry.
 pub struct Audit {
     alloc: Global,
     judge: Judge,
@@ -73,8 +72,7 @@ impl Audit {
         ensures tells { (edition : Edition) (owner : UserId) (entries : List Entry) →
             HasRead self.old edition owner entries →
             Tells result self.new line.now edition owner entries }
-        ensures times { IfOk result
-            (λ l. self.new.times ≡ time_after self.old.times l.place l.ms) }
+        ensures times { IfOk result (λ l. self.new.times ≡ time_after self.old.times l.place l.ms) }
     {
         let said = match read_line(self.alloc, line) {
             Ok(said) => said,

@@ -2,8 +2,7 @@
 
 ghost use Rattle.std.specs.Prelude.{◌≡◌, ◌++◌, OnOk};
 ghost use Rattle.trail_lines.specs.Unreadable.{Gives};
-ghost use Rattle.trail_lines.specs.Heading.{cause_text, cause_in, end_text};
-ghost use Rattle.trail_lines.specs.Heading.{end_fields, read_end};
+ghost use Rattle.trail_lines.specs.Heading.{cause_text, cause_in, end_text, end_fields, read_end};
 
 use crate::unread::Unread;
 use line_fields::{cut, u64_at};

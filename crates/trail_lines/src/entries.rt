@@ -5,8 +5,7 @@ ghost use Rattle.std.specs.List.{flat_map};
 ghost use Rattle.line_fields.specs.Cutting.{words_behind};
 ghost use Rattle.line_fields.specs.Parts.{blank};
 ghost use Rattle.trail_lines.specs.Entries.{checked_text, done_text, tail_text, line_of, note_in};
-ghost use Rattle.trail_lines.specs.Entries.{noting, notes_of, tail_in, said_in, if_spelled};
-ghost use Rattle.trail_lines.specs.Entries.{read_line, noted, said};
+ghost use Rattle.trail_lines.specs.Entries.{noting, notes_of, tail_in, said_in, if_spelled, read_line, noted, said};
 ghost use Rattle.trail_lines.specs.Unreadable.{Gives};
 
 use crate::events::{event_at, push_count, push_event};
@@ -130,8 +129,7 @@ impl Notes {
 
     /// The verdicts and acts that the words after a reply say.
     fn read(alloc: Global, words: Option<&[u8]>) -> Result<Notes, Unread>
-        ensures { Gives noted result
-            (notes_of (words_behind blank (option_copied words.entry)) ([], [])) }
+        ensures { Gives noted result (notes_of (words_behind blank (option_copied words.entry)) ([], [])) }
     {
         let mut notes = Notes::new(alloc);
         let mut rest = words;

@@ -67,8 +67,7 @@ fn push_size(rows: u16, columns: u16, out: &mut Vec<u8>) -> Result<(), AllocErro
 
 /// `attach USER ROWS COLS`
 fn push_attach(user: UserId, rows: u16, columns: u16, out: &mut Vec<u8>) -> Result<(), AllocError>
-    ensures { OnOk result (out.new.items
-        ≡ out.old.items ++ event_then (Attach user rows columns) []) }
+    ensures { OnOk result (out.new.items ≡ out.old.items ++ event_then (Attach user rows columns) []) }
 {
     out.extend_from_slice(b"attach ")?;
     push_user(user, out)?;
@@ -82,8 +81,7 @@ fn push_command(
     line: &[u8],
     out: &mut Vec<u8>,
 ) -> Result<(), AllocError>
-    ensures { OnOk result (out.new.items
-        ≡ out.old.items ++ event_then (Command user window line.now) []) }
+    ensures { OnOk result (out.new.items ≡ out.old.items ++ event_then (Command user window line.now) []) }
 {
     out.extend_from_slice(b"command ")?;
     push_user(user, out)?;
@@ -112,8 +110,7 @@ fn push_open(
 
 /// The kind of an event, and a number.
 fn push_kind(kind: &[u8], number: u32, out: &mut Vec<u8>) -> Result<(), AllocError>
-    ensures { OnOk result (out.new.items
-        ≡ out.old.items ++ kind.now ++ field blank (decimal number) []) }
+    ensures { OnOk result (out.new.items ≡ out.old.items ++ kind.now ++ field blank (decimal number) []) }
 {
     out.extend_from_slice(kind)?;
     push_count(u64::from(number), out)
@@ -121,8 +118,7 @@ fn push_kind(kind: &[u8], number: u32, out: &mut Vec<u8>) -> Result<(), AllocErr
 
 /// Appends an event's fields.
 pub fn push_event(event: KeptRef<'_>, out: &mut Vec<u8>) -> Result<(), AllocError>
-    ensures { OnOk result (out.new.items
-        ≡ out.old.items ++ event_then (kept_lent event.entry) []) }
+    ensures { OnOk result (out.new.items ≡ out.old.items ++ event_then (kept_lent event.entry) []) }
 {
     match event {
         KeptRef::Attach {
@@ -182,17 +178,12 @@ fn attach_at(alloc: Global, bytes: &[u8]) -> Result<(KeptEvent, &[u8]), Unread>
     let (user, rest) = user_at(bytes, b' ').ok_or(Unread::Malformed)?;
     let (rows, rest) = u16_at(rest, b' ').ok_or(Unread::Malformed)?;
     let (columns, rest) = u16_at(rest, b' ').ok_or(Unread::Malformed)?;
-    Ok((
-        keep(
-            alloc,
-            Event::Attach {
-                user,
-                rows,
-                columns,
-            },
-        )?,
-        rest,
-    ))
+    let event = Event::Attach {
+        user,
+        rows,
+        columns,
+    };
+    Ok((keep(alloc, event)?, rest))
 }
 
 /// `CLIENT`
@@ -265,8 +256,7 @@ fn keep_open(
     shape: (u16, u16, u16),
     word: &[u8],
 ) -> Result<KeptEvent, Unread>
-    ensures { Gives (λ kept. kept) result
-        (option_map (Open user shape.0 shape.1 shape.2) (title_in word.now)) }
+    ensures { Gives (λ kept. kept) result (option_map (Open user shape.0 shape.1 shape.2) (title_in word.now)) }
 {
     let (rows, columns, keep_lines) = shape;
     let title = read_text(alloc, word)?;

@@ -46,8 +46,7 @@ pub fn next_entry<R: BufRead>(
     Ok(Some(halt))
 }
 
-/// Reads the entries of a reader, from the file's line 2 on. The line that halts the reading is left in
-/// `line`.
+/// Reads a reader's entries, from the file's line 2 on. The line that halts the reading stays in `line`.
 pub fn read_entries<R: BufRead>(
     audit: &mut Audit,
     reader: &mut R,

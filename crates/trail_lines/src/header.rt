@@ -2,8 +2,7 @@
 
 ghost use Rattle.std.specs.Prelude.{◌≡◌, ◌++◌, OnOk};
 ghost use Rattle.trail_lines.specs.Unreadable.{Gives};
-ghost use Rattle.trail_lines.specs.Heading.{edition_in, form_text, header_text};
-ghost use Rattle.trail_lines.specs.Heading.{header_fields, read_header};
+ghost use Rattle.trail_lines.specs.Heading.{edition_in, form_text, header_text, header_fields, read_header};
 
 use crate::unread::Unread;
 use acl::{Edition, UserId};

@@ -6,8 +6,7 @@ ghost use Rattle.acl.specs.Names.{name_of};
 ghost use Rattle.session_model.specs.Texts.{behind};
 ghost use Rattle.line_fields.specs.Cutting.{words};
 ghost use Rattle.line_fields.specs.Parts.{colon, comma, field};
-ghost use Rattle.trail_lines.specs.Replies.{leaders_text, with_leader, leaders_of, leaders_in};
-ghost use Rattle.trail_lines.specs.Replies.{denied_then};
+ghost use Rattle.trail_lines.specs.Replies.{leaders_text, with_leader, leaders_of, leaders_in, denied_then};
 ghost use Rattle.trail_lines.specs.Replies.{denied_of, denied_at, entry_in, lock_denied_in};
 ghost use Rattle.trail_lines.specs.Replies.{acl_fault, windows_fault, regions_fault, line_fault};
 ghost use Rattle.trail_lines.specs.Replies.{line_in, why_text, plain_in, caused_in, why_in};
@@ -32,8 +31,7 @@ fn push_number(number: u64, out: &mut Vec<u8>) -> Result<(), AllocError>
 
 /// Appends names, each after a comma.
 fn push_others(others: &[UserId], out: &mut Vec<u8>) -> Result<(), AllocError>
-    ensures { OnOk result (out.new.items
-        ≡ out.old.items ++ behind (codes ",") (map name_of others.now)) }
+    ensures { OnOk result (out.new.items ≡ out.old.items ++ behind (codes ",") (map name_of others.now)) }
 {
     for leader in others {
         out.extend_from_slice(b",")?;
@@ -226,8 +224,7 @@ fn read_line_fault(rest: &[u8]) -> Option<Refusal>
 
 /// Appends an entry that denies a bit.
 fn push_entry_denied(denied: &EntryDenied, out: &mut Vec<u8>) -> Result<(), AllocError>
-    ensures { OnOk result (out.new.items
-        ≡ out.old.items ++ why_text (refusal.EntryDenied denied.now)) }
+    ensures { OnOk result (out.new.items ≡ out.old.items ++ why_text (refusal.EntryDenied denied.now)) }
 {
     out.extend_from_slice(b"entry:")?;
     push_name(denied.user, out)?;

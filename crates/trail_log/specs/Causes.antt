@@ -9,6 +9,7 @@ use Rattle.session_model.specs.declared.refusal.EntryDenied.{EntryDenied as Entr
 use Rattle.session_model.specs.declared.verdict.Verdict.{Verdict}
 use Rattle.session_model.specs.declared.verdict.Verdict.TheVariants.{Right as right, Lock as lock}
 use Rattle.session_model.specs.Texts.{missing_text, leader_text, text_of}
+use Rattle.line_fields.specs.Meaning.{meaning_text}
 
 -- `entry bob -w; leader ann -w`
 abbrev pub entry_cause : EntryDenial → List ℕ
@@ -19,11 +20,11 @@ entry_cause d =
 abbrev pub lock_cause : UserId → List ℕ
 lock_cause holder = codes "locked by " ++ name_of holder
 
--- of a reply
-abbrev pub cause_text : Refusal → List ℕ
-cause_text (refusal.EntryDenied d) = entry_cause d
-cause_text (refusal.LockDenied d) = lock_cause d.holder
-cause_text r = text_of r
+-- of a reply to a command of this line, or to another event, whose line is empty
+abbrev pub cause_text : List ℕ → Refusal → List ℕ
+cause_text line (refusal.EntryDenied d) = entry_cause d
+cause_text line (refusal.LockDenied d) = lock_cause d.holder
+cause_text line r = text_of r ++ meaning_text r line
 
 -- of a check that fails; it names no leaders
 abbrev pub check_cause : Verdict → List ℕ

@@ -1,5 +1,5 @@
 -- What a log tells of an entry: the time of day (UTC), who, and what; a row an event.
-use Rattle.std.specs.Prelude.{ℕ, ◌+◌, ◌/◌, ◌%◌, ◌==◌, if◌then◌else◌, List, [], ◌∷◌, ◌++◌}
+use Rattle.std.specs.Prelude.{ℕ, ◌==◌, if◌then◌else◌, List, [], ◌∷◌, ◌++◌}
 use Rattle.std.specs.Prelude.{Option, Some, None, Ok, Err, codes, decimal, find, not}
 use Rattle.acl.specs.Names.{name_of}
 use Rattle.acl.specs.declared.user_id.UserId.{UserId}
@@ -11,6 +11,7 @@ use Rattle.hub_trail.specs.Legal.{failed, from_command}
 use Rattle.hub_trail.specs.Trails.{Ending}
 use Rattle.trail_lines.specs.declared.ending.Ended.{Ended}
 use Rattle.trail_lines.specs.Heading as heading
+use Rattle.line_fields.specs.Dates.{clock_text}
 use Rattle.trail_log.specs.declared.titles.Titled.{Titled}
 use Rattle.trail_log.specs.Naming.{Names, title_in}
 use Rattle.trail_log.specs.Causes.{cause_text, check_cause, refused_verb}
@@ -78,31 +79,31 @@ pressed_text titles taken (u ∷ typed) (v ∷ asked) =
 abbrev pub keys_text : List Titled → List Verdict → Ending → List ℕ
 keys_text titles verdicts (Ok f) =
     pressed_text titles f.taken (before_command verdicts) (from_command verdicts)
-keys_text titles verdicts (Err r) = codes " couldn't type: " ++ cause_text r
+keys_text titles verdicts (Err r) = codes " couldn't type: " ++ cause_text [] r
 
 -- ---- other events
 
 abbrev pub attach_text : Ending → List ℕ
 attach_text (Ok f) = codes " attached (client " ++ (decimal f.made ++ codes ")")
-attach_text (Err r) = codes " couldn't attach: " ++ cause_text r
+attach_text (Err r) = codes " couldn't attach: " ++ cause_text [] r
 
 abbrev pub detach_text : ℕ → Ending → List ℕ
 detach_text client (Ok f) = codes " detached (client " ++ (decimal client ++ codes ")")
-detach_text client (Err r) = codes " couldn't detach: " ++ cause_text r
+detach_text client (Err r) = codes " couldn't detach: " ++ cause_text [] r
 
 abbrev pub command_line : List Titled → List ℕ → Option ℕ → Ending → List ℕ
 command_line titles line window (Ok f) = codes " ran " ++ (line ++ on_text titles window)
 command_line titles line window (Err r) =
-    refused_verb r ++ (line ++ (on_text titles window ++ (codes ": " ++ cause_text r)))
+    refused_verb r ++ (line ++ (on_text titles window ++ (codes ": " ++ cause_text line r)))
 
 abbrev pub open_text : List ℕ → Ending → List ℕ
 open_text title (Ok f) =
     codes " opened " ++ (title ++ (codes " (window " ++ (decimal f.made ++ codes ")")))
-open_text title (Err r) = codes " couldn't open " ++ (title ++ (codes ": " ++ cause_text r))
+open_text title (Err r) = codes " couldn't open " ++ (title ++ (codes ": " ++ cause_text [] r))
 
 abbrev pub ended_text : Ending → List ℕ
 ended_text (Ok f) = codes " ended"
-ended_text (Err r) = codes " ended: " ++ cause_text r
+ended_text (Err r) = codes " ended: " ++ cause_text [] r
 
 abbrev pub closed_text : List Titled → ℕ → Ending → List ℕ
 closed_text titles w reply =
@@ -121,17 +122,6 @@ deed_text n (kept.Command user window line) verdicts reply =
 deed_text n (kept.Open user rows columns keep title) verdicts reply =
     name_of user ++ open_text title reply
 deed_text n (kept.Closed window) verdicts reply = closed_text n.1 window reply
-
--- ---- times
-
-abbrev pub two : ℕ → List ℕ
-two n = (0x30 + n / 10) ∷ (0x30 + n % 10) ∷ []
-
--- the time of day of milliseconds since 1970: `04:23:49`
-abbrev pub clock_text : ℕ → List ℕ
-clock_text ms =
-    two (ms / 3600000 % 24) ++ (codes ":" ++ (two (ms / 60000 % 60)
-    ++ (codes ":" ++ two (ms / 1000 % 60))))
 
 -- ---- the line of a trail's end
 

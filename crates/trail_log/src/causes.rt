@@ -4,8 +4,10 @@ ghost use Rattle.std.specs.Prelude.{◌≡◌, ◌++◌, OnOk, codes};
 ghost use Rattle.std.specs.List.{flat_map};
 ghost use Rattle.session_model.specs.Texts.{leader_text, letter, missing_text};
 ghost use Rattle.trail_log.specs.Causes.{cause_text, check_cause, entry_cause, lock_cause, refused_verb};
+ghost use Rattle.line_fields.specs.Meaning.{meaning_text};
 
 use acl::{Bit, Leaders, UserId};
+use line_fields::push_meaning;
 use session_model::{EntryDenied, Refusal, Verdict};
 use std::alloc::AllocError;
 
@@ -31,8 +33,7 @@ fn push_missing(user: UserId, bit: Bit, out: &mut Vec<u8>) -> Result<(), AllocEr
 
 /// Appends the entries of leaders, which lack the bit too.
 fn push_leaders(leaders: &Leaders, bit: Bit, out: &mut Vec<u8>) -> Result<(), AllocError>
-    ensures { OnOk result (out.new.items
-        ≡ out.old.items ++ flat_map (leader_text bit) leaders.now) }
+    ensures { OnOk result (out.new.items ≡ out.old.items ++ flat_map (leader_text bit) leaders.now) }
 {
     for leader in leaders.as_slice() {
         out.extend_from_slice(b"; leader ")?;
@@ -58,14 +59,17 @@ fn push_holder(holder: UserId, out: &mut Vec<u8>) -> Result<(), AllocError>
     out.extend_from_slice(holder.as_bytes())
 }
 
-/// Appends why an event was refused.
-pub fn push_cause(refusal: &Refusal, out: &mut Vec<u8>) -> Result<(), AllocError>
-    ensures { OnOk result (out.new.items ≡ out.old.items ++ cause_text refusal.now) }
+/// Appends why an event was refused. The line is that of a command, and empty for another event.
+pub fn push_cause(refusal: &Refusal, line: &[u8], out: &mut Vec<u8>) -> Result<(), AllocError>
+    ensures { OnOk result (out.new.items ≡ out.old.items ++ cause_text line.now refusal.now) }
 {
     match refusal {
         Refusal::EntryDenied(denied) => push_entry(denied, out),
         Refusal::LockDenied(denied) => push_holder(denied.holder, out),
-        other => other.text(out),
+        other => {
+            other.text(out)?;
+            push_meaning(other, line, out)
+        }
     }
 }
 

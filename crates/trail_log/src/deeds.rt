@@ -1,6 +1,6 @@
 //! What a log tells of an event: who, and what.
 
-ghost use Rattle.std.specs.Prelude.{◌≡◌, ◌++◌, OnOk, codes, decimal};
+ghost use Rattle.std.specs.Prelude.{◌≡◌, ◌++◌, [], OnOk, codes, decimal};
 ghost use Rattle.hub_check.specs.Clients.{user_in};
 ghost use Rattle.hub_record.specs.Stored.{kept_lent};
 ghost use Rattle.trail_log.specs.Causes.{cause_text};
@@ -33,8 +33,7 @@ pub fn push_client(user: Option<UserId>, client: u32, out: &mut Vec<u8>) -> Resu
 
 /// Appends words and a client's serial.
 fn push_serial(words: &[u8], client: u32, out: &mut Vec<u8>) -> Result<(), AllocError>
-    ensures { OnOk result
-        (out.new.items ≡ out.old.items ++ (words.now ++ (decimal client ++ codes ")"))) }
+    ensures { OnOk result (out.new.items ≡ out.old.items ++ (words.now ++ (decimal client ++ codes ")"))) }
 {
     out.extend_from_slice(words)?;
     push_decimal(u64::from(client), out)?;
@@ -43,11 +42,10 @@ fn push_serial(words: &[u8], client: u32, out: &mut Vec<u8>) -> Result<(), Alloc
 
 /// Appends words, and why something was refused.
 fn push_refused(words: &[u8], refusal: &Refusal, out: &mut Vec<u8>) -> Result<(), AllocError>
-    ensures { OnOk result
-        (out.new.items ≡ out.old.items ++ (words.now ++ cause_text refusal.now)) }
+    ensures { OnOk result (out.new.items ≡ out.old.items ++ (words.now ++ cause_text [] refusal.now)) }
 {
     out.extend_from_slice(words)?;
-    push_cause(refusal, out)
+    push_cause(refusal, &[], out)
 }
 
 /// Appends whether a client was attached, or why not.
@@ -78,8 +76,7 @@ fn push_command(
     ending: Ending,
     out: &mut Vec<u8>,
 ) -> Result<(), AllocError>
-    ensures { OnOk result
-        (out.new.items ≡ out.old.items ++ command_line titles.now line.now window ending) }
+    ensures { OnOk result (out.new.items ≡ out.old.items ++ command_line titles.now line.now window ending) }
 {
     let Err(refusal) = ending else {
         out.extend_from_slice(b" ran ")?;
@@ -89,7 +86,8 @@ fn push_command(
     out.extend_from_slice(refused_verb(&refusal))?;
     out.extend_from_slice(line)?;
     push_on(titles, window, out)?;
-    push_refused(b": ", &refusal, out)
+    out.extend_from_slice(b": ")?;
+    push_cause(&refusal, line, out)
 }
 
 /// Appends whether a window was opened, or why not.

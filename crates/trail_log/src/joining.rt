@@ -101,8 +101,7 @@ pub fn chosen_line(
     names: &Names,
     line: &Line,
 ) -> Result<Option<LogLine>, AllocError>
-    ensures { IfOk result
-        (λ next. next ≡ chosen_line choice.now names.now (said line.now)) }
+    ensures { IfOk result (λ next. next ≡ chosen_line choice.now names.now (said line.now)) }
 {
     if !choice.is_chosen(names, line) {
         return Ok(None);

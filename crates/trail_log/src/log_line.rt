@@ -8,13 +8,14 @@ ghost use Rattle.trail_log.specs.Joining.{typed_in, typed_line};
 
 use crate::checks::window_in;
 use crate::deeds::{push_client, push_deed};
-use crate::lines::{push_clock, push_text};
+use crate::lines::push_text;
 use crate::names::Names;
 use crate::pressed::{push_count, push_typed_rest, typed_verb};
 use client_words::put_visible;
 use hub_check::failed;
 use hub_record::KeptRef;
 use hub_trail::{Ending, from_command};
+use line_fields::push_clock;
 use session_model::{Bytes, Verdict};
 use std::alloc::{AllocError, Global};
 use trail_lines::Line;
@@ -54,8 +55,7 @@ fn push_typed_head(
     verdicts: &[Verdict],
     out: &mut Vec<u8>,
 ) -> Result<(), AllocError>
-    ensures { OnOk result
-        (out.new.items ≡ out.old.items ++ typed_head names.now client verdicts.now) }
+    ensures { OnOk result (out.new.items ≡ out.old.items ++ typed_head names.now client verdicts.now) }
 {
     push_client(names.user_of(client), client, out)?;
     out.extend_from_slice(typed_verb(failed(verdicts)))?;

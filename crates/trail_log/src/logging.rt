@@ -45,13 +45,6 @@ impl Log {
         self.audit.count()
     }
 
-    /// What clients and windows are called after the entries that were read.
-    pub fn names(&self) -> &Names
-        ensures { result.now ≡ self.now.names }
-    {
-        &self.names
-    }
-
     /// Takes the line of the next entry, without its line feed. If the entry is asked for, its line is
     /// held, and the line that was held is appended and its time returned; or the two are joined.
     /// After an `Err` the log takes no line; the line that was held before is held, and can be printed.

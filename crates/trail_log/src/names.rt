@@ -121,8 +121,7 @@ fn change_by(
     verdicts: &[Verdict],
     ending: Ending,
 ) -> Result<Option<Change>, AllocError>
-    ensures { IfOk result (λ change.
-        change ≡ change_by (kept_lent event.entry) verdicts.now ending) }
+    ensures { IfOk result (λ change. change ≡ change_by (kept_lent event.entry) verdicts.now ending) }
 {
     let Ok(finished) = ending else {
         return Ok(None);

@@ -58,8 +58,7 @@ fn push_typed_by(
     denied: Option<Verdict>,
     out: &mut Vec<u8>,
 ) -> Result<(), AllocError>
-    ensures { OnOk result
-        (out.new.items ≡ out.old.items ++ typed_by titles.now taken window denied) }
+    ensures { OnOk result (out.new.items ≡ out.old.items ++ typed_by titles.now taken window denied) }
 {
     out.extend_from_slice(typed_verb(denied))?;
     push_count(taken as u64, out)?;
@@ -86,8 +85,7 @@ fn push_asked_by(
     denied: Option<Verdict>,
     out: &mut Vec<u8>,
 ) -> Result<(), AllocError>
-    ensures { OnOk result
-        (out.new.items ≡ out.old.items ++ asked_by titles.now name.now window denied) }
+    ensures { OnOk result (out.new.items ≡ out.old.items ++ asked_by titles.now name.now window denied) }
 {
     let Some(verdict) = denied else {
         out.extend_from_slice(b" ran ")?;
@@ -122,8 +120,7 @@ fn push_pressed(
     asked: &[Verdict],
     out: &mut Vec<u8>,
 ) -> Result<(), AllocError>
-    ensures { OnOk result (out.new.items
-        ≡ out.old.items ++ pressed_text titles.now taken typed.now asked.now) }
+    ensures { OnOk result (out.new.items ≡ out.old.items ++ pressed_text titles.now taken typed.now asked.now) }
 {
     match (typed, asked) {
         (_, []) => push_typed(titles, taken, typed, out),
@@ -143,8 +140,7 @@ pub fn push_keys(
     ending: Ending,
     out: &mut Vec<u8>,
 ) -> Result<(), AllocError>
-    ensures { OnOk result
-        (out.new.items ≡ out.old.items ++ keys_text titles.now verdicts.now ending) }
+    ensures { OnOk result (out.new.items ≡ out.old.items ++ keys_text titles.now verdicts.now ending) }
 {
     match ending {
         Ok(finished) => {
@@ -154,7 +150,7 @@ pub fn push_keys(
         }
         Err(refusal) => {
             out.extend_from_slice(b" couldn't type: ")?;
-            push_cause(&refusal, out)
+            push_cause(&refusal, &[], out)
         }
     }
 }

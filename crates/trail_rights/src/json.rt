@@ -2,7 +2,8 @@
 
 use crate::lines::Said;
 use crate::shown_texts::{behind_words, first_word};
-use crate::texts::time_of;
+use crate::texts::write_when;
+use std::alloc::Global;
 use std::io::{self, Write};
 use trail_lines::Ended;
 
@@ -25,12 +26,18 @@ fn write_string<W: Write>(bytes: &[u8], output: &mut W) -> io::Result<()> {
 
 /// Writes the beginning of an object, a number and a time: its milliseconds since 1970 and, if it has
 /// one, its form of RFC 3339.
-fn begin<W: Write>(begin: &str, number: u64, ms: u64, output: &mut W) -> io::Result<()> {
+fn begin<W: Write>(
+    alloc: Global,
+    begin: &str,
+    number: u64,
+    ms: u64,
+    output: &mut W,
+) -> io::Result<()> {
     write!(output, "{begin}{number},\"ms\":{ms}")?;
-    match time_of(ms) {
-        Some(time) => write!(output, ",\"time\":\"{time}\""),
-        None => Ok(()),
+    if write_when(alloc, b",\"time\":\"", ms, output)? {
+        output.write_all(b"\"")?;
     }
+    Ok(())
 }
 
 /// Writes the next string of a list.
@@ -72,27 +79,46 @@ fn write_notes<W: Write>(begin: &[u8], text: &[u8], mark: u8, output: &mut W) ->
     output.write_all(b"]")
 }
 
-/// Writes the word of a reply, and the checks and acts that follow it.
-fn write_reply<W: Write>(text: &[u8], output: &mut W) -> io::Result<()> {
+/// Writes what the number of a refusal means, if it has one.
+fn write_means<W: Write>(means: &[u8], output: &mut W) -> io::Result<()> {
+    if means.is_empty() {
+        return Ok(());
+    }
+    output.write_all(b",\"means\":")?;
+    write_string(means, output)
+}
+
+/// Writes the word of a reply and what it means, and the checks and acts that follow it.
+fn write_reply<W: Write>(means: &[u8], text: &[u8], output: &mut W) -> io::Result<()> {
     let (reply, notes) = first_word(text);
     output.write_all(b",\"reply\":")?;
     write_string(reply, output)?;
+    write_means(means, output)?;
     write_notes(b",\"checks\":[", notes, b'?', output)?;
     write_notes(b",\"acts\":[", notes, b'!', output)
 }
 
 /// Writes the entry of a line.
-pub fn write_entry<W: Write>(said: Said, text: &[u8], output: &mut W) -> io::Result<()> {
+pub fn write_entry<W: Write>(
+    alloc: Global,
+    said: &Said,
+    text: &[u8],
+    output: &mut W,
+) -> io::Result<()> {
     let event = behind_words(text, 2);
-    begin("{\"place\":", said.place, said.ms, output)?;
+    begin(alloc, "{\"place\":", said.place, said.ms, output)?;
     write_event(event, said.words, output)?;
-    write_reply(behind_words(event, said.words), output)?;
+    write_reply(
+        said.means.as_slice(),
+        behind_words(event, said.words),
+        output,
+    )?;
     output.write_all(b"}\n")
 }
 
 /// Writes a last line.
-pub fn write_end<W: Write>(ended: Ended, output: &mut W) -> io::Result<()> {
-    begin("{\"end\":", ended.entries, ended.ms, output)?;
+pub fn write_end<W: Write>(alloc: Global, ended: Ended, output: &mut W) -> io::Result<()> {
+    begin(alloc, "{\"end\":", ended.entries, ended.ms, output)?;
     output.write_all(b",\"why\":")?;
     write_string(ended.cause.word(), output)?;
     output.write_all(b"}\n")

@@ -24,6 +24,6 @@ pub use masks::{letter, settings_of};
 pub use rights::{holder, may, users_of};
 pub use settler::{Setting, Settler, settler_in};
 pub use sight::Sight;
-pub use texts::{When, text_of, time_of};
+pub use texts::{text_of, write_when};
 pub use watch::{Watch, watch_entries};
 pub use who::write_rights;

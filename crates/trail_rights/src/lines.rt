@@ -2,24 +2,27 @@
 
 use crate::json::{write_end, write_entry};
 use crate::shown_texts::behind_words;
-use crate::texts::time_of;
+use crate::texts::write_when;
 use hub_record::KeptRef;
+use line_fields::{push_escaped, push_means};
 use std::alloc::{AllocError, Global};
 use std::io::{self, BufRead, Write};
-use trail_lines::{Came, Ended, Unread, next_line, read_end, read_line};
+use trail_lines::{Came, Ended, Line, Unread, next_line, read_end, read_line};
 
 /// What an entry's line says, as it is shown.
-#[derive(Clone, Copy)]
+#[derive(Drop)]
 pub struct Said {
     pub place: u64,
     pub ms: u64,
     /// How many words its event has.
     pub words: usize,
+    /// What the number of its refusal means. Empty if it has none.
+    pub means: Vec<u8>,
 }
 
 /// A line after the first one.
-#[derive(Clone, Copy)]
-enum Told {
+#[derive(Drop)]
+enum Shown {
     Entry(Said),
     End(Ended),
     /// A line that isn't a line of a trail.
@@ -35,29 +38,47 @@ fn count_words(event: KeptRef<'_>) -> usize {
     }
 }
 
-/// What an entry's line says.
-fn read_said(alloc: Global, text: &[u8]) -> Result<Said, Unread> {
-    match read_line(alloc, text) {
-        Ok(line) => Ok(Said {
-            place: line.place,
-            ms: line.ms,
-            words: count_words(line.entry.event().get()),
-        }),
-        Err(unread) => Err(unread),
+/// The line of a command. Empty for other events.
+fn line_of(event: KeptRef<'_>) -> &[u8] {
+    match event {
+        KeptRef::Command { line, .. } => line,
+        _ => &[],
     }
 }
 
+/// What the number of an entry's refusal means, in bytes of 20 to 7E. Empty if it has none.
+fn means_of(alloc: Global, line: &Line) -> Result<Vec<u8>, AllocError> {
+    let mut means = Vec::new(alloc);
+    if let Err(refusal) = line.entry.ending() {
+        push_means(&refusal, line_of(line.entry.event().get()), &mut means)?;
+    }
+    let mut text = Vec::new(alloc);
+    push_escaped(0x20, means.as_slice(), &mut text)?;
+    Ok(text)
+}
+
+/// What an entry's line says.
+fn read_said(alloc: Global, text: &[u8]) -> Result<Said, Unread> {
+    let line = read_line(alloc, text)?;
+    Ok(Said {
+        place: line.place,
+        ms: line.ms,
+        words: count_words(line.entry.event().get()),
+        means: means_of(alloc, &line)?,
+    })
+}
+
 /// What a line is.
-fn read_told(alloc: Global, text: &[u8]) -> Result<Told, AllocError> {
+fn read_told(alloc: Global, text: &[u8]) -> Result<Shown, AllocError> {
     match read_said(alloc, text) {
-        Ok(said) => return Ok(Told::Entry(said)),
+        Ok(said) => return Ok(Shown::Entry(said)),
         Err(Unread::NoMemory) => return Err(AllocError),
         Err(Unread::Malformed) => {}
     }
     match read_end(alloc, text) {
-        Ok(ended) => Ok(Told::End(ended)),
+        Ok(ended) => Ok(Shown::End(ended)),
         Err(Unread::NoMemory) => Err(AllocError),
-        Err(Unread::Malformed) => Ok(Told::Nothing),
+        Err(Unread::Malformed) => Ok(Shown::Nothing),
     }
 }
 
@@ -71,18 +92,30 @@ pub enum Form {
 }
 
 /// Writes a place and a time.
-fn write_times<W: Write>(place: u64, ms: u64, output: &mut W) -> io::Result<()> {
+fn write_times<W: Write>(alloc: Global, place: u64, ms: u64, output: &mut W) -> io::Result<()> {
     write!(output, "{place} ")?;
-    match time_of(ms) {
-        Some(time) => write!(output, "{time} "),
-        None => write!(output, "{ms} "),
+    if !write_when(alloc, &[], ms, output)? {
+        write!(output, "{ms}")?;
     }
+    output.write_all(b" ")
 }
 
-/// Writes an entry as the file has it, but with its time in the form of RFC 3339.
-fn show_entry<W: Write>(said: Said, text: &[u8], output: &mut W) -> io::Result<()> {
-    write_times(said.place, said.ms, output)?;
+/// Writes what the number of a refusal means, if it has one.
+fn show_means<W: Write>(means: &[u8], output: &mut W) -> io::Result<()> {
+    if means.is_empty() {
+        return Ok(());
+    }
+    output.write_all(b" (")?;
+    output.write_all(means)?;
+    output.write_all(b")")
+}
+
+/// Writes an entry as the file has it, but with its time in the form of RFC 3339. What the number of its
+/// refusal means is at the end.
+fn show_entry<W: Write>(alloc: Global, said: &Said, text: &[u8], output: &mut W) -> io::Result<()> {
+    write_times(alloc, said.place, said.ms, output)?;
     output.write_all(behind_words(text, 2))?;
+    show_means(said.means.as_slice(), output)?;
     output.write_all(b"\n")
 }
 
@@ -93,20 +126,31 @@ fn show_end<W: Write>(text: &[u8], output: &mut W) -> io::Result<()> {
 }
 
 /// Writes a line, by what it is.
-fn show_told<W: Write>(form: Form, told: Told, text: &[u8], output: &mut W) -> io::Result<()> {
+fn show_told<W: Write>(
+    alloc: Global,
+    form: Form,
+    told: &Shown,
+    text: &[u8],
+    output: &mut W,
+) -> io::Result<()> {
     match (told, form) {
-        (Told::Entry(said), Form::Plain) => show_entry(said, text, output),
-        (Told::Entry(said), Form::Json) => write_entry(said, text, output),
-        (Told::End(_), Form::Plain) => show_end(text, output),
-        (Told::End(ended), Form::Json) => write_end(ended, output),
-        (Told::Nothing, _) => Ok(()),
+        (Shown::Entry(said), Form::Plain) => show_entry(alloc, said, text, output),
+        (Shown::Entry(said), Form::Json) => write_entry(alloc, said, text, output),
+        (Shown::End(_), Form::Plain) => show_end(text, output),
+        (Shown::End(ended), Form::Json) => write_end(alloc, *ended, output),
+        (Shown::Nothing, _) => Ok(()),
     }
 }
 
 /// Writes a line at once, and gives what it is.
-fn show_text<W: Write>(alloc: Global, form: Form, text: &[u8], output: &mut W) -> io::Result<Told> {
+fn show_text<W: Write>(
+    alloc: Global,
+    form: Form,
+    text: &[u8],
+    output: &mut W,
+) -> io::Result<Shown> {
     let told = read_told(alloc, text)?;
-    show_told(form, told, text, output)?;
+    show_told(alloc, form, &told, text, output)?;
     output.flush()?;
     Ok(told)
 }
@@ -125,9 +169,9 @@ pub fn show_lines<R: BufRead, W: Write>(
             break;
         };
         match show_text(alloc, form, text.as_slice(), output)? {
-            Told::Entry(_) => {}
-            Told::End(_) => break,
-            Told::Nothing => return Ok(Some(number)),
+            Shown::Entry(_) => {}
+            Shown::End(_) => break,
+            Shown::Nothing => return Ok(Some(number)),
         }
     }
     Ok(None)

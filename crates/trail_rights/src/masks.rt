@@ -4,7 +4,7 @@ ghost use Rattle.std.specs.Prelude.{◌≡◌, ◌++◌, OnOk};
 ghost use Rattle.std.specs.List.{flat_map};
 ghost use Rattle.session_model.specs.Texts.{letter};
 ghost use Rattle.trail_rights.specs.Masking.{given_text, mask_letter, mask_text, masks_text};
-ghost use Rattle.trail_rights.specs.Masking.{newcomer_text, other_text, preset_text, setting_text};
+ghost use Rattle.trail_rights.specs.Masking.{newcomer_text, other_text, preset_letter, preset_text, setting_text};
 
 use crate::settler::{Setting, Settler, settler_in};
 use acl::{Bit, PresetKind, UserId};
@@ -102,8 +102,7 @@ fn push_mask_bit(
     bit: Bit,
     out: &mut Vec<u8>,
 ) -> Result<(), AllocError>
-    ensures { OnOk result
-        (out.new.items ≡ out.old.items ++ mask_letter settlers.now by user bit) }
+    ensures { OnOk result (out.new.items ≡ out.old.items ++ mask_letter settlers.now by user bit) }
 {
     push_setting(settlers, Setting::Mask { by, user, bit }, bit, out)
 }
@@ -147,8 +146,7 @@ fn push_others(
     by: UserId,
     out: &mut Vec<u8>,
 ) -> Result<(), AllocError>
-    ensures { OnOk result (out.new.items
-        ≡ out.old.items ++ flat_map (other_text settlers.now by) users.now) }
+    ensures { OnOk result (out.new.items ≡ out.old.items ++ flat_map (other_text settlers.now by) users.now) }
 {
     for user in users {
         push_other(settlers, by, *user, out)?;
@@ -171,37 +169,25 @@ pub fn push_mask_line(
     out.extend_from_slice(b"\n")
 }
 
+/// Appends the letter of a bit if a preset gives it.
+fn push_preset_bit(
+    settlers: &[Settler],
+    kind: PresetKind,
+    bit: Bit,
+    out: &mut Vec<u8>,
+) -> Result<(), AllocError>
+    ensures { OnOk result (out.new.items ≡ out.old.items ++ preset_letter settlers.now kind bit) }
+{
+    push_setting(settlers, Setting::Preset { kind, bit }, bit, out)
+}
+
 /// Appends the bits of a preset.
 fn push_preset(settlers: &[Settler], kind: PresetKind, out: &mut Vec<u8>) -> Result<(), AllocError>
     ensures { OnOk result (out.new.items ≡ out.old.items ++ preset_text settlers.now kind) }
 {
-    push_setting(
-        settlers,
-        Setting::Preset {
-            kind,
-            bit: Bit::Read,
-        },
-        Bit::Read,
-        out,
-    )?;
-    push_setting(
-        settlers,
-        Setting::Preset {
-            kind,
-            bit: Bit::Write,
-        },
-        Bit::Write,
-        out,
-    )?;
-    push_setting(
-        settlers,
-        Setting::Preset {
-            kind,
-            bit: Bit::Execute,
-        },
-        Bit::Execute,
-        out,
-    )
+    push_preset_bit(settlers, kind, Bit::Read, out)?;
+    push_preset_bit(settlers, kind, Bit::Write, out)?;
+    push_preset_bit(settlers, kind, Bit::Execute, out)
 }
 
 /// Appends what a user gets who becomes known now: on open windows, on commands, and on windows that are

@@ -3,8 +3,7 @@
 ghost use Rattle.std.specs.Prelude.{◌≡◌, ◌||◌, [], None, true, false, map};
 ghost use Rattle.acl.specs.Same.{same_user, same_bit, same_preset};
 ghost use Rattle.acl.specs.History.{decided, decides_mask, decides_preset};
-ghost use Rattle.trail_rights.specs.Settling.{HasSettled, same_setting, settler_after};
-ghost use Rattle.trail_rights.specs.Settling.{settler_in, settles};
+ghost use Rattle.trail_rights.specs.Settling.{HasSettled, same_setting, settler_after, settler_in, settles};
 
 use crate::decider::decides_known;
 use crate::mark::Mark;

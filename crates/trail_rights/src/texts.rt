@@ -1,8 +1,9 @@
 //! Names and times as text.
 
 use acl::{Bit, UserId};
-use jiff::Timestamp;
-use std::fmt::{self, Display, Formatter};
+use line_fields::push_when;
+use std::alloc::Global;
+use std::io::{self, Write};
 use std::str;
 
 /// A name as text.
@@ -19,20 +20,16 @@ pub fn letter_of(bit: Bit) -> char {
     }
 }
 
-/// The time of milliseconds since 1970, if it has a form of RFC 3339.
-pub fn time_of(ms: u64) -> Option<Timestamp> {
-    Timestamp::from_millisecond(i64::try_from(ms).ok()?).ok()
-}
-
-/// A time after a text. Nothing if the time has no form of RFC 3339.
-#[derive(Clone, Copy)]
-pub struct When(pub &'static str, pub u64);
-
-impl Display for When {
-    fn fmt<W: fmt::Write>(&self, f: &mut Formatter<W>) -> fmt::Result {
-        match time_of(self.1) {
-            Some(time) => write!(f, "{}{time}", self.0),
-            None => Ok(()),
-        }
-    }
+/// Writes words and a time in milliseconds since 1970, or nothing if its year has more than four digits.
+/// The answer is whether it has.
+pub fn write_when<W: Write>(
+    alloc: Global,
+    words: &[u8],
+    ms: u64,
+    output: &mut W,
+) -> io::Result<bool> {
+    let mut text = Vec::new(alloc);
+    push_when(words, ms, &mut text)?;
+    output.write_all(text.as_slice())?;
+    Ok(!text.is_empty())
 }

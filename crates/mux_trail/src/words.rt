@@ -3,7 +3,7 @@
 use acl::{Bit, UserId};
 use clap::{ArgMatches, Error};
 use jiff::Timestamp;
-use line_fields::{cut, read_u32, read_u64};
+use line_fields::{read_u32, read_u64};
 use program_words::of_trail;
 use std::alloc::{AllocError, Global};
 use trail_confined::{Question, bit_of};
@@ -31,7 +31,7 @@ pub enum Window<'a> {
 
 /// A bit of a user on the window of a title.
 #[derive(Clone, Copy)]
-pub struct Titled<'a> {
+pub struct TitledBit<'a> {
     pub user: UserId,
     pub bit: Bit,
     pub title: &'a str,
@@ -48,7 +48,7 @@ pub struct Asked<'a> {
     /// The question of `why`.
     pub question: Option<Question>,
     /// The question of `why` about a title, before it is known which window has it.
-    pub titled: Option<Titled<'a>>,
+    pub titled: Option<TitledBit<'a>>,
     /// The names of the users of `who --confined`.
     pub confined: Option<&'a str>,
     pub form: Form,
@@ -107,62 +107,71 @@ pub fn given_in<'a>(alloc: Global, words: &'a [String]) -> Result<Option<Given<'
     }
 }
 
-/// A word that isn't understood: what is wrong, and what to do.
+/// A word that isn't understood: what is wrong, the word, and what to do.
 #[derive(Clone, Copy)]
-pub struct Mistake(pub &'static str, pub &'static str);
+pub struct Mistake<'a> {
+    pub what: &'static str,
+    pub word: &'a str,
+    pub advice: &'static str,
+}
 
 /// What a user's name looks like.
 const NAMES: &str = "a name has 1 to 20 lower-case letters, digits and _, and begins with a letter";
 
-/// The user of a word, if it is given.
-fn user_named(name: Option<&str>, mistake: &'static str) -> Result<Option<UserId>, Mistake> {
-    let Some(name) = name else {
-        return Ok(None);
-    };
-    match UserId::of(name.as_bytes()) {
-        Some(user) => Ok(Some(user)),
-        None => Err(Mistake(mistake, NAMES)),
+/// The user of a name.
+fn user_named<'a>(word: &'a str, what: &'static str) -> Result<UserId, Mistake<'a>> {
+    match UserId::of(word.as_bytes()) {
+        Some(user) => Ok(user),
+        None => Err(Mistake {
+            what,
+            word,
+            advice: NAMES,
+        }),
     }
 }
 
-fn place_of(place: Option<&str>) -> Result<Option<u64>, Mistake> {
-    match place {
-        Some(place) => match read_u64(place.as_bytes()) {
-            Some(place) => Ok(Some(place)),
-            None => Err(Mistake(
-                "--at names no entry",
-                "give the place of an entry, a number from 0 on",
-            )),
-        },
+/// The user of a name, if one is given.
+fn user_in<'a>(name: Option<&'a str>, what: &'static str) -> Result<Option<UserId>, Mistake<'a>> {
+    match name {
+        Some(name) => Ok(Some(user_named(name, what)?)),
         None => Ok(None),
     }
 }
 
-/// The first name of a list with commas between, and what follows its comma.
-fn first_name(names: &[u8]) -> (&[u8], Option<&[u8]>) {
-    match cut(names, b',') {
-        Some((name, rest)) => (name, Some(rest)),
-        None => (names, None),
+fn place_of(word: Option<&str>) -> Result<Option<u64>, Mistake<'_>> {
+    let Some(word) = word else {
+        return Ok(None);
+    };
+    match read_u64(word.as_bytes()) {
+        Some(place) => Ok(Some(place)),
+        None => Err(Mistake {
+            what: "--at names no entry",
+            word,
+            advice: "give the place of an entry, a number from 0 on",
+        }),
     }
 }
 
-/// The users of a list of names. None if something in the list is no name.
-pub fn users_named(alloc: Global, names: &str) -> Result<Option<Vec<UserId>>, AllocError> {
-    let mut users = Vec::new(alloc);
-    let mut rest = Some(names.as_bytes());
-    // There is no name without a byte.
-    for _ in 0..=names.len() {
-        let Some(names) = rest else {
-            break;
-        };
-        let (name, others) = first_name(names);
-        let Some(user) = UserId::of(name) else {
-            return Ok(None);
-        };
-        users.push(user)?;
-        rest = others;
+/// A list of names with commas between, if one is given and each of them is a name.
+fn names_in(names: Option<&str>) -> Result<Option<&str>, Mistake<'_>> {
+    if let Some(names) = names {
+        for name in names.split(',') {
+            let shown = if name.is_empty() { names } else { name };
+            let _user = user_named(shown, "--confined names no user")?;
+        }
     }
-    Ok(Some(users))
+    Ok(names)
+}
+
+/// The users of a list of names with commas between.
+pub fn users_named(alloc: Global, names: &str) -> Result<Vec<UserId>, AllocError> {
+    let mut users = Vec::new(alloc);
+    for name in names.split(',') {
+        if let Some(user) = UserId::of(name.as_bytes()) {
+            users.push(user)?;
+        }
+    }
+    Ok(users)
 }
 
 /// The question of `why`, if it names a window's serial or a command.
@@ -178,33 +187,34 @@ fn question_of(given: Given<'_>) -> Option<Question> {
     )
 }
 
-/// The question about the window of a title.
-fn titled_by<'a>(given: Given<'a>) -> Option<Titled<'a>> {
-    Some(Titled {
-        user: UserId::of(given.user?.as_bytes())?,
-        bit: bit_of(given.bit.as_bytes())?,
-        title: given.object,
-    })
+/// The bit of a letter.
+fn bit_named(word: &str) -> Result<Bit, Mistake<'_>> {
+    match bit_of(word.as_bytes()) {
+        Some(bit) => Ok(bit),
+        None => Err(Mistake {
+            what: "BIT is no bit",
+            word,
+            advice: "give r, w or x",
+        }),
+    }
 }
 
 /// The question of `why`, if it names a window's title. Other ways have none.
-fn titled_of<'a>(given: Given<'a>) -> Result<Option<Titled<'a>>, Mistake> {
+fn titled_of<'a>(given: Given<'a>) -> Result<Option<TitledBit<'a>>, Mistake<'a>> {
     if given.way != "why" || question_of(given).is_some() {
         return Ok(None);
     }
-    match titled_by(given) {
-        Some(titled) => Ok(Some(titled)),
-        None => Err(Mistake(
-            "USER and BIT name no user's bit",
-            "give a user's name, and then r, w or x",
-        )),
-    }
+    Ok(Some(TitledBit {
+        user: user_named(given.user.unwrap_or(""), "USER is no user")?,
+        bit: bit_named(given.bit)?,
+        title: given.object,
+    }))
 }
 
 /// The user of `log`. Other ways have none.
-fn user_of(given: Given<'_>) -> Result<Option<UserId>, Mistake> {
+fn user_of<'a>(given: Given<'a>) -> Result<Option<UserId>, Mistake<'a>> {
     let name = if given.way == "log" { given.user } else { None };
-    user_named(name, "--user names no user")
+    user_in(name, "--user names no user")
 }
 
 /// A window's serial or title.
@@ -222,13 +232,17 @@ fn ms_of(time: &str) -> Option<u64> {
     u64::try_from(time.as_millisecond()).ok()
 }
 
-fn since_of(time: Option<&str>) -> Result<u64, Mistake> {
-    match time {
-        Some(time) => match ms_of(time) {
-            Some(ms) => Ok(ms),
-            None => Err(Mistake("--since is no time", "give a time as 2025-11-24T16:00:02Z")),
-        },
-        None => Ok(0),
+fn since_of(word: Option<&str>) -> Result<u64, Mistake<'_>> {
+    let Some(word) = word else {
+        return Ok(0);
+    };
+    match ms_of(word) {
+        Some(ms) => Ok(ms),
+        None => Err(Mistake {
+            what: "--since is no time",
+            word,
+            advice: "give a time as 2025-11-24T16:00:02Z",
+        }),
     }
 }
 
@@ -246,12 +260,13 @@ fn form_of(is_json: bool) -> Form {
 }
 
 /// What the words of a way ask, or the word that isn't understood.
-pub fn asked_of(given: Given<'_>) -> Result<Asked<'_>, Mistake> {
-    let owner = user_named(given.owner, "--owner names no user")?;
+pub fn asked_of<'a>(given: Given<'a>) -> Result<Asked<'a>, Mistake<'a>> {
+    let owner = user_in(given.owner, "--owner names no user")?;
     let place = place_of(given.place)?;
     let titled = titled_of(given)?;
     let user = user_of(given)?;
     let since = since_of(given.since)?;
+    let confined = names_in(given.confined)?;
     Ok(Asked {
         way: way_of(given.way),
         path: given.path,
@@ -259,7 +274,7 @@ pub fn asked_of(given: Given<'_>) -> Result<Asked<'_>, Mistake> {
         place,
         question: question_of(given),
         titled,
-        confined: given.confined,
+        confined,
         form: form_of(given.is_json),
         follows: given.follows,
         user,

@@ -3,11 +3,11 @@
 use crate::check::Finish;
 use crate::heading::Heading;
 use acl::UserId;
-use std::alloc::AllocError;
+use std::alloc::{AllocError, Global};
 use std::io::{self, Write};
 use std::str;
 use trail_lines::{Ended, Wrong};
-use trail_rights::{When, text_of};
+use trail_rights::{text_of, write_when};
 
 /// The file is legal and whole.
 pub const LEGAL: u8 = 0;
@@ -49,13 +49,11 @@ fn tell_wrong<W: Write>(
 }
 
 /// Writes that a file is whole.
-fn tell_ended<W: Write>(ended: Ended, count: u64, output: &mut W) -> io::Result<()> {
+fn tell_ended<W: Write>(alloc: Global, ended: Ended, count: u64, output: &mut W) -> io::Result<()> {
     let why = str::from_utf8(ended.cause.word()).unwrap_or("?");
-    let when = When(" at ", ended.ms);
-    writeln!(
-        output,
-        "legal: {count} entries\nwhole: it ended ({why}){when}"
-    )
+    write!(output, "legal: {count} entries\nwhole: it ended ({why})")?;
+    let _has_time = write_when(alloc, b" at ", ended.ms, output)?;
+    output.write_all(b"\n")
 }
 
 /// Writes that the entries are legal, and why the file isn't whole.
@@ -81,6 +79,7 @@ fn tell_continued<W: Write>(line: u64, output: &mut W) -> io::Result<()> {
 
 /// Writes how a file ends, and gives the status to exit with.
 pub fn tell_finish<W: Write>(
+    alloc: Global,
     finish: Finish,
     count: u64,
     owner: UserId,
@@ -88,7 +87,7 @@ pub fn tell_finish<W: Write>(
 ) -> io::Result<u8> {
     let (status, told) = match finish {
         Finish::Stopped { line, wrong } => return tell_wrong(line, wrong, count, owner, output),
-        Finish::Ended { ended } => (LEGAL, tell_ended(ended, count, output)),
+        Finish::Ended { ended } => (LEGAL, tell_ended(alloc, ended, count, output)),
         Finish::Miscounted { line } => (ILLEGAL, tell_miscounted(line, count, output)),
         Finish::Continued { line } => (ILLEGAL, tell_continued(line, output)),
         Finish::Torn => (
@@ -118,8 +117,8 @@ pub fn tell_back<W: Write>(back: Option<u64>, output: &mut W) -> io::Result<()> 
 }
 
 /// Writes what the first line says.
-pub fn tell_heading<W: Write>(heading: Heading, output: &mut W) -> io::Result<()> {
-    let owner = text_of(&heading.owner);
-    let when = When(", begun at ", heading.ms);
-    writeln!(output, "owner {owner}{when}")
+pub fn tell_heading<W: Write>(alloc: Global, heading: Heading, output: &mut W) -> io::Result<()> {
+    write!(output, "owner {}", text_of(&heading.owner))?;
+    let _has_time = write_when(alloc, b", begun at ", heading.ms, output)?;
+    output.write_all(b"\n")
 }

@@ -1,15 +1,17 @@
 //! What the program does with its words.
 
+use crate::ask::ask;
 use crate::check::check_lines;
 use crate::diary::tell_log;
 use crate::fault::Fault;
 use crate::following::Following;
 use crate::heading::{Heading, heading_of};
+use crate::outlet::Outlet;
 use crate::tell::{ILLEGAL, LEGAL, TROUBLE, tell_back, tell_finish, tell_heading};
-use crate::twice::ask;
 use crate::words::{Asked, Given, Mistake, Way, asked_of, given_in};
 use acl::{Edition, UserId};
 use clap::Error;
+use client_words::put_visible;
 use std::alloc::Global;
 use std::fs;
 use std::io::{self, BufRead, BufReader, Read, Write};
@@ -28,7 +30,7 @@ fn judge<R: BufRead, W: Write>(
 ) -> io::Result<u8> {
     let mut audit = Audit::new(alloc, edition, owner)?;
     let finish = check_lines(alloc, &mut audit, reader)?;
-    let status = tell_finish(finish, audit.count(), owner, output)?;
+    let status = tell_finish(alloc, finish, audit.count(), owner, output)?;
     if !finish.is_bad() {
         tell_back(audit.times().back(), output)?;
     }
@@ -60,7 +62,7 @@ fn show_all<R: BufRead, W: Write>(
     output: &mut W,
 ) -> io::Result<Option<u64>> {
     match form {
-        Form::Plain => tell_heading(heading, output)?,
+        Form::Plain => tell_heading(alloc, heading, output)?,
         Form::Json => {}
     }
     show_lines(alloc, form, reader, output)
@@ -81,7 +83,7 @@ fn show<R: BufRead, W: Write>(
     }
 }
 
-/// Judges a file, or shows or logs it.
+/// Judges, shows or logs a file, or answers by it.
 fn read_file<F: Read + Drop, W: Write>(
     alloc: Global,
     asked: Asked<'_>,
@@ -92,7 +94,8 @@ fn read_file<F: Read + Drop, W: Write>(
     match asked.way {
         Way::Check => check(alloc, asked.owner, &mut reader, output),
         Way::Log => tell_log(alloc, asked, &mut reader, output),
-        Way::Show | Way::Ask => show(alloc, asked.form, &mut reader, output),
+        Way::Show => show(alloc, asked.form, &mut reader, output),
+        Way::Ask => ask(alloc, asked, &mut reader, output),
     }
 }
 
@@ -103,11 +106,10 @@ fn run<R: Clock + Files + AllocGlobal, W: Write>(
     output: &mut W,
 ) -> Result<u8, Fault> {
     let file = fs::open(rt, asked.path).map_err(Fault::NotOpened)?;
-    match asked.way {
-        Way::Ask => ask(rt, asked, file, output),
-        _ if asked.follows => read_file(rt.alloc(), asked, Following { rt, file }, output),
-        Way::Check | Way::Log | Way::Show => read_file(rt.alloc(), asked, file, output),
+    if asked.follows {
+        return read_file(rt.alloc(), asked, Following { rt, file }, output);
     }
+    read_file(rt.alloc(), asked, file, output)
 }
 
 /// Writes the help, with status 0, or which words aren't understood, with status 2.
@@ -122,12 +124,26 @@ fn tell<W: Write, E: Write>(error: &Error, output: &mut W, errors: &mut E) -> u8
     }
 }
 
+/// Writes which word isn't understood, and what to do. Control characters of the word are escaped.
+fn tell_mistake<E: Write>(alloc: Global, mistake: Mistake<'_>, errors: &mut E) -> io::Result<()> {
+    let Mistake { what, word, advice } = mistake;
+    let mut visible = Vec::new(alloc);
+    put_visible(word.as_bytes(), &mut visible)?;
+    write!(errors, "mux-trail: {what}: ")?;
+    errors.write_all(visible.as_slice())?;
+    writeln!(errors, ": {advice}")
+}
+
 /// What words ask. If a word isn't understood, writes which one, and gives the status to exit with.
-fn understand<'a, E: Write>(given: Given<'a>, errors: &mut E) -> Result<Asked<'a>, u8> {
+fn understand<'a, E: Write>(
+    alloc: Global,
+    given: Given<'a>,
+    errors: &mut E,
+) -> Result<Asked<'a>, u8> {
     match asked_of(given) {
         Ok(asked) => Ok(asked),
-        Err(Mistake(what, advice)) => {
-            let _ = writeln!(errors, "mux-trail: {what}: {}: {advice}", given.path);
+        Err(mistake) => {
+            let _ = tell_mistake(alloc, mistake, errors);
             Err(TROUBLE)
         }
     }
@@ -141,7 +157,7 @@ fn asked_by<'a, W: Write, E: Write>(
     errors: &mut E,
 ) -> Result<Asked<'a>, u8> {
     match given_in(alloc, words) {
-        Ok(Some(given)) => understand(given, errors),
+        Ok(Some(given)) => understand(alloc, given, errors),
         Ok(None) => Err(TROUBLE),
         Err(error) => Err(tell(&error, output, errors)),
     }
@@ -152,8 +168,7 @@ fn tell_fault<E: Write>(fault: Fault, path: &str, errors: &mut E) -> u8 {
     let _ = fault.write(path, errors);
     match fault {
         Fault::NoHeader(_) | Fault::NoLine(_) => ILLEGAL,
-        Fault::NotOpened(_) | Fault::Io(_) | Fault::NoPlace(_) | Fault::NoUsers | Fault::Changed =>
-            TROUBLE,
+        _ => TROUBLE,
     }
 }
 
@@ -170,8 +185,9 @@ pub fn trail<R: Clock + Files + AllocGlobal, W: Write, E: Write>(
         Ok(asked) => asked,
         Err(status) => return status,
     };
-    match run(rt, asked, output) {
+    let mut outlet = Outlet::new(output);
+    match run(rt, asked, &mut outlet) {
         Ok(status) => status,
-        Err(fault) => tell_fault(fault, asked.path, errors),
+        Err(fault) => tell_fault(outlet.fault_of(fault), asked.path, errors),
     }
 }

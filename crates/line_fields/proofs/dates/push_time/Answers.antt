@@ -1,7 +1,7 @@
 use Rattle.std.specs.Prelude.{◌/◌, codes}
-use Rattle.trail_confined.specs.Dates.{clock_text, date_text, end_text}
-use Rattle.trail_confined.proofs.Texts.{four_parts, same_text}
-use Rattle.trail_confined.proofs.dates.push_time.Goals as goal
+use Rattle.line_fields.specs.Dates.{clock_text, date_text, end_text}
+use Rattle.line_fields.proofs.Joined.{four_parts, same_text}
+use Rattle.line_fields.proofs.dates.push_time.Goals as goal
 
 pub returns : goal.returns
 returns c =

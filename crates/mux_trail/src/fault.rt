@@ -7,18 +7,18 @@ use std::io::{self, Write};
 pub enum Fault {
     /// The file can't be opened.
     NotOpened(io::Error),
-    /// Reading or writing failed, or memory was refused.
+    /// Reading failed, or memory was refused.
     Io(io::Error),
+    /// Standard output took no more.
+    NotWritten(io::Error),
     /// This line isn't the first line of a trail.
     NoHeader(u64),
     /// This line isn't a line of a trail.
     NoLine(u64),
-    /// `--at` names none of this many entries.
-    NoPlace(u64),
-    /// `--confined` names no users.
-    NoUsers,
-    /// The file changed between two passes.
-    Changed,
+    /// `--at` names this place, and there are only this many entries.
+    NoPlace(u64, u64),
+    /// A mask wasn't looked for.
+    NotSought,
 }
 
 impl Fault {
@@ -28,6 +28,7 @@ impl Fault {
         match self {
             Fault::NotOpened(error) => writeln!(output, "can't open the file: {path}: {error}"),
             Fault::Io(error) => writeln!(output, "can't go on: {path}: {error}"),
+            Fault::NotWritten(error) => writeln!(output, "can't write to standard output: {error}"),
             Fault::NoHeader(line) => writeln!(
                 output,
                 "line {line} isn't the first line of a trail: {path}: give a file that muxd --trail wrote"
@@ -36,20 +37,18 @@ impl Fault {
                 output,
                 "line {line} isn't a line of a trail: {path}: mux-trail check says more"
             ),
-            Fault::NoPlace(count) => writeln!(
+            Fault::NoPlace(place, 0) => writeln!(
                 output,
-                "--at names no entry: {path}: give a place below {count}, the number of entries"
+                "--at names no entry: {place}: {path} has none yet: leave --at out"
             ),
-            Fault::NoUsers => writeln!(
+            Fault::NoPlace(place, count) => writeln!(
                 output,
-                "--confined names no users: {path}: give names with commas between, as ann,bob"
+                "--at names no entry: {place}: {path} has {count}: give a place below {count}"
             ),
-            Fault::Changed => {
-                writeln!(
-                    output,
-                    "the file changed while it was read: {path}: try again"
-                )
-            }
+            Fault::NotSought => writeln!(
+                output,
+                "a mask wasn't looked for: {path}: this is a fault of mux-trail"
+            ),
         }
     }
 }

@@ -1,10 +1,10 @@
 //! Times in the form of RFC 3339, as 2025-11-24T16:00:02.74Z.
 
 ghost use Rattle.std.specs.Prelude.{◌≡◌, ◌++◌, ◌<◌, ◌≤◌, ◌/◌, OnOk};
-ghost use Rattle.trail_confined.specs.Dates.{carry, clock_text, date_text, day_of_era, day_of_month, day_text};
-ghost use Rattle.trail_confined.specs.Dates.{day_of_year, digit, end_text, era_of, fraction_text, month_index};
-ghost use Rattle.trail_confined.specs.Dates.{month_of, time_text, two, when_text, year_of};
-ghost use Rattle.trail_confined.specs.Dates.{year_of_era};
+ghost use Rattle.line_fields.specs.Dates.{carry, clock_text, date_text, day_of_era, day_of_month, day_text};
+ghost use Rattle.line_fields.specs.Dates.{day_of_year, digit, end_text, era_of, fraction_text, month_index};
+ghost use Rattle.line_fields.specs.Dates.{month_of, time_text, two, when_text, year_of};
+ghost use Rattle.line_fields.specs.Dates.{year_of_era};
 
 use session_model::push_decimal;
 use std::alloc::AllocError;
@@ -114,8 +114,8 @@ fn push_date(days: u64, out: &mut Vec<u8>) -> Result<(), AllocError>
     push_two(day_of_month(day), out)
 }
 
-/// Appends the time of day.
-fn push_clock(ms: u64, out: &mut Vec<u8>) -> Result<(), AllocError>
+/// Appends the time of day (UTC) of milliseconds since 1970.
+pub fn push_clock(ms: u64, out: &mut Vec<u8>) -> Result<(), AllocError>
     ensures { OnOk result (out.new.items ≡ out.old.items ++ clock_text ms) }
 {
     push_two(ms / 3_600_000 % 24, out)?;

@@ -7,10 +7,10 @@ use crate::heading::heading_of;
 use crate::tell::{LEGAL, tell_finish};
 use crate::words::{Asked, Window};
 use acl::{Edition, UserId};
+use line_fields::push_day;
 use session_model::Bytes;
 use std::alloc::{AllocError, Global};
 use std::io::{self, BufRead, Write};
-use trail_confined::push_day;
 use trail_lines::{Halt, Wrong, next_entry};
 use trail_log::{Choice, Log, Wanted, push_end};
 
@@ -135,7 +135,7 @@ impl Diary {
                 Ok(LEGAL)
             }
             Finish::Open | Finish::Torn => Ok(LEGAL),
-            bad => tell_finish(bad, self.log.count(), owner, output),
+            bad => tell_finish(self.alloc, bad, self.log.count(), owner, output),
         }
     }
 }
