@@ -3,12 +3,12 @@ use Rattle.std.proofs.Common.{◌≡◌, ℕ, ◌++◌, Bool, List, Some, None, 
 use Rattle.redraw.specs.Frames.{Made}
 use Rattle.session_model.specs.declared.event.Effect.{Effect}
 use Rattle.session_model.specs.declared.refusal.Refusal.{Refusal}
-use Rattle.session_model.specs.declared.verdict.Verdict.{Verdict}
 use Rattle.session_model.specs.Trace.{Draw, Reply}
 use Rattle.session_model.specs.Tables.{Tables, Client, client_at}
 use Rattle.session_model.specs.Granted.{granted_view}
 use Rattle.session_model.specs.Outcomes.{done}
 use Rattle.session_model.specs.Run.{drawn_on}
+use Rattle.session_state.specs.declared.step_notes.Step.{Step}
 use Rattle.session_state.specs.declared.step_output.StepOutput.{StepOutput}
 use Rattle.session_state.specs.declared.state.State.{State}
 use Rattle.session_state.specs.Stands.{Stands}
@@ -92,25 +92,26 @@ module _ (client : ℕ) (old new : State) (shared shares : Sharing) (before afte
           ),
         )
 
-  -- ---- steps
+-- ---- steps
 
-  pub draw_step : (reply : Reply) (past : List Verdict) → done ≡ reply
-      → DrawsSharing client old shared new shares before after
-      → Takes (Draw client) old shared reply new shares before after past past
-  draw_step reply past same draws = λ t st fit is other. on t (draws t st fit is) where
+module _ (client : ℕ) (old new : State) (shared shares : Sharing) (before : Step) (made : StepOutput) where
+  pub draw_step : (reply : Reply) → done ≡ reply → DrawsSharing client old shared new shares before.made made
+      → Takes (Draw client) old shared reply new shares before (record before { made = made })
+  draw_step reply same draws = λ t st fit is other. on t (draws t st fit is) where
     on : (t : Tables)
         →
         ((c : Client) × (client_at t client ≡ Some c)
-        × HasDrawnSo (λ effects. IsShared (drawn_on (Some c) effects t) shares) t c new before after)
-        → TakenAs (Draw client) reply t (StayShared (Draw client) shared shares) new before after past past
-    on t (c, there, (drawn, holds)) = drawn_taken t client c reply new before after past
+        × HasDrawnSo (λ effects. IsShared (drawn_on (Some c) effects t) shares) t c new before.made made)
+        → TakenAs (Draw client) reply t (StayShared (Draw client) shared shares) new before
+        (record before { made = made })
+    on t (c, there, (drawn, holds)) = drawn_taken t client c reply new before made
         (StayShared (Draw client) shared shares) there same drawn holds
 
-  pub refused_step : (X : Type 0) (r : Refusal) (past : List Verdict) → IsRefusedFor {X = X} client old (Err r)
-      → IsAsBefore old new before after
-      → shares ≡ shared → Takes (Draw client) old shared (Err r) new shares before after past past
-  refused_step X r past why same unshared = λ t st fit is other.
-      undrawn_or t client r old new before after past (StayShared (Draw client) shared shares) (why t st fit) st same
+  pub refused_step : (X : Type 0) (r : Refusal) → IsRefusedFor {X = X} client old (Err r)
+      → IsAsBefore old new before.made made → shares ≡ shared
+      → Takes (Draw client) old shared (Err r) new shares before (record before { made = made })
+  refused_step X r why same unshared = λ t st fit is other.
+      undrawn_or t client r old new before made (StayShared (Draw client) shared shares) (why t st fit) st same
       (subst (IsShared t) (sym unshared) is) other
 
 -- ---- what changed nothing

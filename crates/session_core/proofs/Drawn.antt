@@ -7,13 +7,13 @@ use Rattle.acl.specs.History.{followed_by}
 use Rattle.session_model.specs.declared.event.Effect.{Effect}
 use Rattle.session_model.specs.declared.refusal.Refusal.{Refusal}
 use Rattle.session_model.specs.declared.refusal.Refusal.TheVariants.{NoMemory, NoWindow}
-use Rattle.session_model.specs.declared.verdict.Verdict.{Verdict}
 use Rattle.session_model.specs.Trace.{Entry, Draw, Reply}
 use Rattle.session_model.specs.Tables.{Client, Tables, client_at}
 use Rattle.session_model.specs.Deeds.{changing}
 use Rattle.session_model.specs.Outcomes.{Outcome, finished, refused, done, left_acts}
 use Rattle.session_model.specs.Events.{outcome}
 use Rattle.session_model.specs.Run.{IsDraw, drawn_on}
+use Rattle.session_state.specs.declared.step_notes.Step.{Step}
 use Rattle.session_state.specs.declared.step_output.StepOutput.{StepOutput}
 use Rattle.session_state.specs.declared.state.State.{State}
 use Rattle.session_state.specs.Stands.{Stands}
@@ -41,11 +41,11 @@ module _ (t : Tables) (client : ℕ) where
   left : left_acts t.clients t.clients ≡ []
   left = none_left t.clients t.clients (λ user w is. is)
 
-  pub drawn_taken : (c : Client) (reply : Reply) (new : State) (before after : StepOutput)
-      (past : List Verdict) (P : Tables → Type 0) → client_at t client ≡ Some c → done ≡ reply
-      → (drawn : HasDrawn t c new before after) → P (drawn_on (Some c) drawn.effects t)
-      → TakenAs (Draw client) reply t P new before after past past
-  drawn_taken c reply new before after past P at same drawn holds =
+  pub drawn_taken : (c : Client) (reply : Reply) (new : State) (before : Step) (made : StepOutput)
+      (P : Tables → Type 0) → client_at t client ≡ Some c → done ≡ reply
+      → (drawn : HasDrawn t c new before.made made) → P (drawn_on (Some c) drawn.effects t)
+      → TakenAs (Draw client) reply t P new before (record before { made = made })
+  drawn_taken c reply new before made P at same drawn holds =
       let is : outcome t (Draw client) ≡ finished t [] done (changing t) = ap outcome_of at in
       let kept : (outcome t (Draw client)).tables ≡ t =
       ap (λ (o : Outcome). o.tables) is
@@ -67,19 +67,19 @@ module _ (t : Tables) (client : ℕ) where
                 (IsDraw t drawn.effects)) (sym at) drawn.is_draw;
           };
           stands = subst (λ (u : Tables). Stands u new) (sym then) drawn.stands;
-          acts = drawn.acts_are ∙ sym (append-nil before.acts.items);
+          acts = drawn.acts_are ∙ sym (append-nil before.made.acts.items);
           effects = drawn.effects_are;
-          verdicts = sym (append-nil past);
+          verdicts = sym (append-nil before.verdicts.items);
         },
         subst P (sym then) holds,
       )
 
   -- no client has the serial
-  undrawn_taken : (r : Refusal) (old new : State) (before after : StepOutput) (past : List Verdict)
+  undrawn_taken : (r : Refusal) (old new : State) (before : Step) (made : StepOutput)
       (P : Tables → Type 0) → client_at t client ≡ None → r ≡ NoWindow → Stands t old
-      → IsAsBefore old new before after → P t
-      → TakenAs (Draw client) (Err r) t P new before after past past
-  undrawn_taken r old new before after past P at why st same holds =
+      → IsAsBefore old new before.made made → P t
+      → TakenAs (Draw client) (Err r) t P new before (record before { made = made })
+  undrawn_taken r old new before made P at why st same holds =
       let none : List Effect = [] in
       let is : outcome t (Draw client) ≡ refused t [] NoWindow = ap outcome_of at in
       let then : drawn_on (client_at (outcome t (Draw client)).tables client) [] (outcome t (Draw client)).tables ≡ t =
@@ -98,19 +98,19 @@ module _ (t : Tables) (client : ℕ) where
           };
           stands = subst (λ (u : Tables). Stands u new) (sym then)
               (subst (λ (s : State). Stands t s) (sym same.state) st);
-          acts = same.acts ∙ sym (append-nil before.acts.items);
-          effects = same.effects ∙ sym (append-nil before.effects.items);
-          verdicts = sym (append-nil past);
+          acts = same.acts ∙ sym (append-nil before.made.acts.items);
+          effects = same.effects ∙ sym (append-nil before.made.effects.items);
+          verdicts = sym (append-nil before.verdicts.items);
         },
         subst P (sym then) holds,
       )
 
-  pub undrawn_or : (r : Refusal) (old new : State) (before after : StepOutput) (past : List Verdict)
+  pub undrawn_or : (r : Refusal) (old new : State) (before : Step) (made : StepOutput)
       (P : Tables → Type 0) → (r ≡ NoMemory) ⊎ ((r ≡ NoWindow) × (client_at t client ≡ None))
-      → Stands t old → IsAsBefore old new before after → P t → wants_memory (Err r) ≡ false
-      → TakenAs (Draw client) (Err r) t P new before after past past
-  undrawn_or r old new before after past P (inr why) st same holds other =
-      undrawn_taken r old new before after past P why.1 why.0 st same holds
-  undrawn_or r old new before after past P (inl full) st same holds other =
+      → Stands t old → IsAsBefore old new before.made made → P t → wants_memory (Err r) ≡ false
+      → TakenAs (Draw client) (Err r) t P new before (record before { made = made })
+  undrawn_or r old new before made P (inr why) st same holds other =
+      undrawn_taken r old new before made P why.1 why.0 st same holds
+  undrawn_or r old new before made P (inl full) st same holds other =
       let want : wants_memory (Err r) ≡ true = ap (λ (f : Refusal). wants_memory (Err f)) full in
       absurd (cc (want, other))

@@ -3,13 +3,12 @@ use Rattle.std.proofs.Common.{◌≡◌, Bool, true, false, List, Ok, Err, refl,
 use Rattle.std.specs.Prelude.{OnErr}
 use Rattle.session_model.specs.declared.event.Effect.{Effect}
 use Rattle.session_model.specs.declared.refusal.Refusal.{Refusal}
-use Rattle.session_model.specs.declared.verdict.Verdict.{Verdict}
 use Rattle.session_model.specs.Trace.{EventValue, Draw, Reply}
 use Rattle.session_model.specs.Tables.{Tables}
 use Rattle.session_model.specs.Outcomes.{Outcome}
 use Rattle.session_model.specs.Events.{outcome}
 use Rattle.session_model.specs.Run.{HasEffects, drawn}
-use Rattle.session_state.specs.declared.step_output.StepOutput.{StepOutput}
+use Rattle.session_state.specs.declared.step_notes.Step.{Step}
 use Rattle.session_state.specs.declared.state.State.{State}
 use Rattle.session_state.specs.Stands.{Stands}
 use Rattle.session_input.specs.Stepping.{HasHappened, Stepped, Steps}
@@ -32,10 +31,10 @@ not_drawn (Draw client) effects t plain = absurd (cc (plain))
 not_drawn event effects t plain = refl
 
 happened_taken : (t : Tables) (event : EventValue) (reply : Reply) (P : Tables → Type 0)
-    (new : State) (before after : StepOutput) (past noted : List Verdict) → is_draw event ≡ false
-    → ((u : Tables) → P u) → HasHappened (outcome t event) reply new before after past noted
-    → TakenAs event reply t P new before after past noted
-happened_taken t event reply P new before after past noted plain holds h =
+    (new : State) (before after : Step) → is_draw event ≡ false
+    → ((u : Tables) → P u) → HasHappened (outcome t event) reply new before after
+    → TakenAs event reply t P new before after
+happened_taken t event reply P new before after plain holds h =
     let o : Outcome = outcome t event in (
       record {
         event = event;
@@ -62,13 +61,11 @@ happened_taken t event reply P new before after past noted plain holds h =
       holds _,
     )
 
-unless_memory : (o : Outcome) (reply : Reply) (new : State) (before after : StepOutput)
-    (past noted : List Verdict) → wants_memory reply ≡ false
-    → Stepped o reply new before after past noted
-    → HasHappened o reply new before after past noted
-unless_memory o (Ok d) new before after past noted other stepped = stepped
-unless_memory o (Err r) new before after past noted other (inr h) = h
-unless_memory o (Err r) new before after past noted other (inl full) =
+unless_memory : (o : Outcome) (reply : Reply) (new : State) (before after : Step) → wants_memory reply ≡ false
+    → Stepped o reply new before after → HasHappened o reply new before after
+unless_memory o (Ok d) new before after other stepped = stepped
+unless_memory o (Err r) new before after other (inr h) = h
+unless_memory o (Err r) new before after other (inl full) =
     let want : wants_memory (Err r) ≡ true = ap (λ (f : Refusal). wants_memory (Err f)) full in
     absurd (cc (want, other))
 
@@ -79,14 +76,13 @@ still_shared event shared t plain = refl
 
 -- an event that is no draw
 pub taken : (event told : EventValue) (old new : State) (shared : Sharing) (reply : Reply)
-    (before after : StepOutput) (past noted : List Verdict) → event ≡ told
-    → is_draw told ≡ false → Steps told old reply new before after past noted
-    → Takes event old shared reply new shared before after past noted
-taken event told old new shared reply before after past noted is plain steps =
-    subst (λ (e : EventValue). Takes e old shared reply new shared before after past noted) (sym is)
-    (λ t st fit so other. happened_taken t told reply (StayShared told shared shared) new before after past
-    noted plain (λ u. still_shared told shared u plain)
-    (unless_memory (outcome t told) reply new before after past noted other (steps t st fit)))
+    (before after : Step) → event ≡ told → is_draw told ≡ false → Steps told old reply new before after
+    → Takes event old shared reply new shared before after
+taken event told old new shared reply before after is plain steps =
+    subst (λ (e : EventValue). Takes e old shared reply new shared before after) (sym is)
+    (λ t st fit so other. happened_taken t told reply (StayShared told shared shared) new before after
+    plain (λ u. still_shared told shared u plain)
+    (unless_memory (outcome t told) reply new before after other (steps t st fit)))
 
 pub wanted : {P : Type 0} (reply : Reply) (r : Refusal) → OnErr reply P → reply ≡ Err r → P
 wanted (Ok d) r p is = absurd (cc (is))

@@ -16,7 +16,7 @@ use Rattle.session_model.specs.Outcomes.{done}
 use Rattle.session_model.specs.Run as run
 use Rattle.session_model.specs.Run.{IsRun, IsStep, tables_of}
 use Rattle.session_laws.proofs.Promising.{step_keeps}
-use Rattle.session_state.specs.declared.step_output.StepOutput.{StepOutput}
+use Rattle.session_state.specs.declared.step_notes.Step.{Step}
 use Rattle.session_state.specs.declared.state.State.{State}
 use Rattle.session_state.specs.Stands.{Stands}
 use Rattle.session_core.specs.declared.sharing.Sharing.{Sharing}
@@ -98,17 +98,21 @@ same_entry e event reply acts verdicts event_is reply_is acts_are verdicts_are =
     ∙ ap (λ x. let d : Entry = record e { event = event; reply = reply; acts = x } in d) acts_are
     ∙ ap (λ x. let d : Entry = record e { event = event; reply = reply; acts = acts; verdicts = x } in d) verdicts_are
 
+-- what a step has noted
+abbrev pub noted_in : Step → Noted
+noted_in step = record { acts = step.made.acts.items; verdicts = step.verdicts.items }
+
 -- what was made from nothing is the entry's
 taken_as : (event : EventValue) (reply : Reply) (t : Tables) (P : Tables → Type 0) (new : State)
-    (before after : StepOutput) (old noted : List Verdict) → before.acts.items ≡ [] → old ≡ []
-    → TakenAs event reply t P new before after old noted
-    → (made : List Effect) × (after.effects.items ≡ before.effects.items ++ made)
-    × IsStep t (entry_of event reply (record { acts = after.acts.items; verdicts = noted }) made)
-    × Stands (run.after t (entry_of event reply (record { acts = after.acts.items; verdicts = noted }) made)) new
-    × P (run.after t (entry_of event reply (record { acts = after.acts.items; verdicts = noted }) made))
-taken_as event reply t P new before after old noted no_acts none (e, event_is, reply_is, taken, holds) =
-    let same : e ≡ entry_of event reply (record { acts = after.acts.items; verdicts = noted }) e.effects =
-    same_entry e event reply after.acts.items noted event_is reply_is
+    (before after : Step) → before.made.acts.items ≡ [] → before.verdicts.items ≡ []
+    → TakenAs event reply t P new before after
+    → (made : List Effect) × (after.made.effects.items ≡ before.made.effects.items ++ made)
+    × IsStep t (entry_of event reply (noted_in after) made)
+    × Stands (run.after t (entry_of event reply (noted_in after) made)) new
+    × P (run.after t (entry_of event reply (noted_in after) made))
+taken_as event reply t P new before after no_acts none (e, event_is, reply_is, taken, holds) =
+    let same : e ≡ entry_of event reply (noted_in after) e.effects =
+    same_entry e event reply after.made.acts.items after.verdicts.items event_is reply_is
     (sym (taken.acts ∙ ap (λ xs. xs ++ e.acts) no_acts)) (sym (taken.verdicts ∙ ap (λ xs. xs ++ e.verdicts) none)) in (
       e.effects,
       taken.effects,
@@ -120,17 +124,16 @@ taken_as event reply t P new before after old noted no_acts none (e, event_is, r
 
 -- what the state takes the session takes
 pub step_taken : (h : Trace) (old new : Session) (shared : Sharing) (event : EventValue) (reply : Reply) (noted : Noted)
-    (before after : StepOutput) (past verdicts : List Verdict)
-    → noted ≡ record { acts = after.acts.items; verdicts = verdicts } → before.acts.items ≡ [] → past ≡ []
+    (before after : Step) → noted ≡ noted_in after → before.made.acts.items ≡ [] → before.verdicts.items ≡ []
     → StandsFor h old → AreNoted reply event old.drawn.items new.drawn.items
     → AreLeft reply event shared new.sharing
-    → TakenAs event reply (tables_of h) (StayShared event old.sharing shared) new.state before after past verdicts
-    → (made : List Effect) × (after.effects.items ≡ before.effects.items ++ made)
+    → TakenAs event reply (tables_of h) (StayShared event old.sharing shared) new.state before after
+    → (made : List Effect) × (after.made.effects.items ≡ before.made.effects.items ++ made)
     × StandsFor (with_step h (entry_of event reply noted made)) new
-step_taken h old new shared event reply noted before after past verdicts noted_is no_acts none st drawn left taken =
-    let made = taken_as event reply (tables_of h) (StayShared event old.sharing shared) new.state before after past
-    verdicts no_acts none taken in
-    let e : Entry = entry_of event reply (record { acts = after.acts.items; verdicts = verdicts }) made.0 in
+step_taken h old new shared event reply noted before after noted_is no_acts none st drawn left taken =
+    let made = taken_as event reply (tables_of h) (StayShared event old.sharing shared) new.state before after
+    no_acts none taken in
+    let e : Entry = entry_of event reply (noted_in after) made.0 in
     let stands : StandsFor (with_step h e) new = record {
       run = (st.run, made.2);
       stands = made.3;

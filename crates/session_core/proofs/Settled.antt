@@ -3,11 +3,11 @@ use Rattle.std.proofs.Common.{◌≡◌, List, [], Option, Some, None, Ok, Err, 
 use Rattle.std.specs.Prelude.{◌⊎◌}
 use Rattle.session_model.specs.declared.refusal.Refusal.{Refusal}
 use Rattle.session_model.specs.declared.refusal.Refusal.TheVariants.{NoMemory, NoWindow}
-use Rattle.session_model.specs.declared.verdict.Verdict.{Verdict}
 use Rattle.session_model.specs.Trace.{Reply}
 use Rattle.session_model.specs.Tables.{Tables}
 use Rattle.session_model.specs.Deeds.{Deed, given}
 use Rattle.session_model.specs.Outcomes.{Outcome, finished, refused, done}
+use Rattle.session_state.specs.declared.step_notes.Step.{Step}
 use Rattle.session_state.specs.declared.step_output.StepOutput.{StepOutput}
 use Rattle.session_state.specs.declared.state.State.{State}
 use Rattle.session_state.specs.Stands.{Stands}
@@ -36,18 +36,18 @@ module _ {X : Type 0} (t : Tables) (f : X → Deed) where
   row_refused (Some x) r is = absurd (cc (is))
 
   pub was_settled : (o : Option X) (d : Deed) (said : Reply) (middle new : State)
-      (before second after : StepOutput) (past : List Verdict)
-      → given o NoWindow (λ x. Ok (f x)) ≡ Ok d → done ≡ said → HasDone t d middle before second
-      → HasLeft t d new second after → HasHappened (of_row t f o) said new before after past past
-  was_settled o d said middle new before second after past is same did left =
-      was_done t [] d (of_row t f o) done said middle new before before second after past past
-      (row_done o d is) same refl refl did left (sym (append-nil past))
+      (before : Step) (second made : StepOutput) → given o NoWindow (λ x. Ok (f x)) ≡ Ok d
+      → done ≡ said → HasDone t d middle before.made second → HasLeft t d new second made
+      → HasHappened (of_row t f o) said new before (record before { made = made })
+  was_settled o d said middle new before second made is same did left =
+      was_done t [] d (of_row t f o) done said middle new before (record before { made = made }) before.made second
+      (row_done o d is) same refl refl did left (sym (append-nil before.verdicts.items))
 
-  pub was_unsettled : (o : Option X) (r : Refusal) (old new : State) (before after : StepOutput)
-      (past : List Verdict) → (r ≡ NoMemory) ⊎ (given o NoWindow (λ x. Ok (f x)) ≡ Err r)
-      → Stands t old → IsAsBefore old new before after
-      → Stepped (of_row t f o) (Err r) new before after past past
-  was_unsettled o r old new before after past (inl full) st same = inl full
-  was_unsettled o r old new before after past (inr is) st same =
-      inr (was_refused t [] r (of_row t f o) old new before after past past (row_refused o r is) st same
-      (sym (append-nil past)))
+  pub was_unsettled : (o : Option X) (r : Refusal) (old new : State) (before : Step) (made : StepOutput)
+      → (r ≡ NoMemory) ⊎ (given o NoWindow (λ x. Ok (f x)) ≡ Err r)
+      → Stands t old → IsAsBefore old new before.made made
+      → Stepped (of_row t f o) (Err r) new before (record before { made = made })
+  was_unsettled o r old new before made (inl full) st same = inl full
+  was_unsettled o r old new before made (inr is) st same =
+      inr (was_refused t [] r (of_row t f o) old new before (record before { made = made }) (row_refused o r is)
+      st same (sym (append-nil before.verdicts.items)))

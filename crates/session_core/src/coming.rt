@@ -32,8 +32,7 @@ pub(crate) fn attach_client(
     columns: u16,
     step: &mut Step,
 ) -> Reply
-    ensures step { Steps (Attach user rows columns) state.old result state.new
-        step.old.made step.new.made step.old.verdicts.items step.new.verdicts.items }
+    ensures step { Steps (Attach user rows columns) state.old result state.new step.old step.new }
     ensures err { OnErr result (IsAsBefore state.old state.new step.old.made step.new.made) }
 {
     let focuses = Focuses::of(state);
@@ -52,8 +51,7 @@ pub(crate) fn resize_client(
     columns: u16,
     step: &mut Step,
 ) -> Reply
-    ensures step { Steps (Resize client rows columns) state.old result state.new
-        step.old.made step.new.made step.old.verdicts.items step.new.verdicts.items }
+    ensures step { Steps (Resize client rows columns) state.old result state.new step.old step.new }
     ensures err { OnErr result (IsAsBefore state.old state.new step.old.made step.new.made) }
 {
     let Some(_client) = state.clients.get(client) else {
@@ -76,8 +74,7 @@ pub(crate) fn open_window(
     step: &mut Step,
 ) -> Reply
     ensures step { Steps (Open user size.rows size.columns size.keep title.now)
-        state.old result state.new step.old.made step.new.made
-        step.old.verdicts.items step.new.verdicts.items }
+        state.old result state.new step.old step.new }
     ensures err { OnErr result (IsAsBefore state.old state.new step.old.made step.new.made) }
 {
     let focuses = Focuses::of(state);

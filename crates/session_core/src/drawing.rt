@@ -1,7 +1,6 @@
 //! How clients are drawn.
 
-ghost use Rattle.std.specs.Prelude.{◌≡◌, List, IfOk, OnOk, OnErr, true, false};
-ghost use Rattle.session_model.specs.declared.verdict.Verdict.{Verdict};
+ghost use Rattle.std.specs.Prelude.{◌≡◌, IfOk, OnOk, OnErr, true, false};
 ghost use Rattle.session_model.specs.Trace.{Draw, happening};
 ghost use Rattle.session_state.specs.Doing.{IsAsBefore};
 ghost use Rattle.session_view.specs.Drawn.{IsRefusedFor};
@@ -13,7 +12,7 @@ use crate::coming::made_so;
 use crate::sharing::{Sharing, keep_memory};
 use redraw::Frame;
 use session_model::{Event, Refusal, Reply};
-use session_state::{State, StepOutput};
+use session_state::{State, Step, StepOutput};
 use session_view::{Lead, draw, draw_like};
 
 /// Draws for a client by the frame that others follow, if the client sees the same, and else does
@@ -83,17 +82,17 @@ pub(crate) fn draw_client(
     state: &mut State,
     sharing: &mut Sharing,
     client: u32,
-    made: &mut StepOutput,
+    step: &mut Step,
 ) -> Reply
-    ensures step { (past : List Verdict) → Takes (Draw client) state.old sharing.old result
-        state.new sharing.new made.old made.new past past }
-    ensures err { OnErr result (IsAsBefore state.old state.new made.old made.new) }
+    ensures step { Takes (Draw client) state.old sharing.old result
+        state.new sharing.new step.old step.new }
+    ensures err { OnErr result (IsAsBefore state.old state.new step.old.made step.new.made) }
     ensures unshared { OnErr result (sharing.new ≡ sharing.old) }
 {
-    if follow(state, sharing, client, made)? {
+    if follow(state, sharing, client, &mut step.made)? {
         return Ok(made_so(0, 0));
     }
-    draw_alone(state, sharing, client, made)?;
+    draw_alone(state, sharing, client, &mut step.made)?;
     Ok(made_so(0, 0))
 }
 

@@ -1,7 +1,6 @@
 //! The output of windows' programs.
 
-ghost use Rattle.std.specs.Prelude.{List, OnErr};
-ghost use Rattle.session_model.specs.declared.verdict.Verdict.{Verdict};
+ghost use Rattle.std.specs.Prelude.{OnErr};
 ghost use Rattle.session_model.specs.Trace.{Output};
 ghost use Rattle.session_state.specs.Doing.{IsAsBefore};
 ghost use Rattle.session_input.specs.Stepping.{Steps};
@@ -9,18 +8,17 @@ ghost use Rattle.session_input.specs.Stepping.{Steps};
 use crate::coming::made_so;
 use session_events::output;
 use session_model::{Refusal, Reply};
-use session_state::{State, StepOutput};
+use session_state::{State, Step};
 
 /// Takes what a window's program writes. No client's page changes, so nobody leaves a window.
-pub(crate) fn write(state: &mut State, window: u32, bytes: &[u8], made: &mut StepOutput) -> Reply
-    ensures step { (past : List Verdict) → Steps (Output window bytes.now) state.old result
-        state.new made.old made.new past past }
-    ensures err { OnErr result (IsAsBefore state.old state.new made.old made.new) }
+pub(crate) fn write(state: &mut State, window: u32, bytes: &[u8], step: &mut Step) -> Reply
+    ensures step { Steps (Output window bytes.now) state.old result state.new step.old step.new }
+    ensures err { OnErr result (IsAsBefore state.old state.new step.old.made step.new.made) }
 {
     let Some(_window) = state.windows.get(window) else {
         return Err(Refusal::NoWindow);
     };
-    made.acts.reserve(256)?;
-    output(state, window, bytes, made)?;
+    step.made.acts.reserve(256)?;
+    output(state, window, bytes, &mut step.made)?;
     Ok(made_so(0, 0))
 }

@@ -20,7 +20,7 @@ use session_state::{State, Step, WindowSize};
 /// no memory leaves nothing but the notes of what was checked.
 pub fn take(state: &mut State, sharing: &mut Sharing, event: Event, step: &mut Step) -> Reply
     ensures step { Takes (happening event.entry) state.old sharing.old result state.new sharing.new
-        step.old.made step.new.made step.old.verdicts.items step.new.verdicts.items }
+        step.old step.new }
     ensures memory { result ≡ Err NoMemory → IsAsBefore state.old state.new
         step.old.made step.new.made }
     ensures unshared { result ≡ Err NoMemory → sharing.new ≡ sharing.old }
@@ -31,7 +31,7 @@ pub fn take(state: &mut State, sharing: &mut Sharing, event: Event, step: &mut S
             rows,
             columns,
         } => attach_client(state, user, rows, columns, step),
-        Event::Detach { client } => let_go(state, client, &mut step.made),
+        Event::Detach { client } => let_go(state, client, step),
         Event::Keys { client, bytes } => give_keys(state, client, bytes, step),
         Event::Command { user, window, line } => give_line(state, user, window, line, step),
         Event::Resize {
@@ -53,8 +53,8 @@ pub fn take(state: &mut State, sharing: &mut Sharing, event: Event, step: &mut S
             };
             open_window(state, user, size, title, step)
         }
-        Event::Output { window, bytes } => write(state, window, bytes, &mut step.made),
-        Event::Closed { window } => end_window(state, window, &mut step.made),
-        Event::Draw { client } => draw_client(state, sharing, client, &mut step.made),
+        Event::Output { window, bytes } => write(state, window, bytes, step),
+        Event::Closed { window } => end_window(state, window, step),
+        Event::Draw { client } => draw_client(state, sharing, client, step),
     }
 }

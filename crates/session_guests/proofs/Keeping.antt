@@ -35,7 +35,7 @@ use Rattle.session_guests.proofs.Events.{gives_commands}
 use Rattle.session_guests.proofs.Gating.{Below, obeys_of, then_passed}
 use Rattle.session_guests.proofs.Holding.{kept as kept_tables, by_acts, givers}
 use Rattle.session_guests.proofs.Parting.{did_x}
-use Rattle.session_guests.proofs.KeptLocks.{IsOf, callers}
+use Rattle.session_guests.proofs.Callers.{IsOf, callers}
 use Rattle.session_guests.specs.Keeping.{LosesIn, FreesBy, Frees, IsFreed, LocksStayIn}
 use Rattle.session_guests.proofs.Leaving.{left_read}
 use Rattle.session_guests.proofs.HolderActs.{moves, IsCalm, KeepsWindow, stays_calm, able_calm, loses_or_keeps}

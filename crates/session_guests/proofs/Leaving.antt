@@ -16,7 +16,7 @@ use Rattle.session_model.specs.Promises.{unread}
 use Rattle.session_model.specs.Tables.{Window, Client, row_of, with_row, focused, is_window, shows, is_in_focus}
 use Rattle.session_laws.proofs.Lists.{equal, itself, contradicts, all_weaken, all_append}
 use Rattle.session_laws.proofs.Showing.{at_place}
-use Rattle.session_guests.proofs.KeptLocks.{focus_read}
+use Rattle.session_guests.proofs.Callers.{focus_read}
 
 pub or_early : (a b : Bool) → a ≡ true → (a || b) ≡ true
 or_early true b is = refl

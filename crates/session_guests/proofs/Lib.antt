@@ -11,6 +11,7 @@ pub mod Holding
 pub mod Parting
 pub mod Harmless
 pub mod Focusing
+pub mod Callers
 pub mod KeptLocks
 pub mod CommandLabels
 pub mod KeptLabels
@@ -39,3 +40,4 @@ pub mod Watching
 pub mod Spectating
 pub mod Granting
 pub mod Spectators
+pub mod OthersOfSpectators

@@ -34,7 +34,7 @@ use Rattle.session_model.specs.Tables.{Tables, Window, Client}
 use Rattle.session_laws.proofs.Lists.{contradicts, equal, all_weaken, all_append, all_map}
 use Rattle.session_guests.proofs.Listing.{is_listing}
 use Rattle.session_guests.proofs.Harmless.{NoneOf}
-use Rattle.session_guests.proofs.KeptLocks.{Own, above, all_reverse, all_mapped}
+use Rattle.session_guests.proofs.Callers.{Own, above, all_reverse, all_mapped}
 use Rattle.session_guests.proofs.Leaving.{LeftBy}
 use Rattle.session_guests.proofs.HolderActs.{IsCalm}
 

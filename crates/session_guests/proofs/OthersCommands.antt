@@ -41,7 +41,7 @@ use Rattle.session_guests.proofs.Listing.{is_listing, AllListing, change_list, a
 use Rattle.session_guests.proofs.CommandActs.{IsCaller}
 use Rattle.session_guests.proofs.Steps.{with_clients}
 use Rattle.session_guests.proofs.Events.{all_left}
-use Rattle.session_guests.proofs.KeptLocks.{Own, IsOf, unique, all_mapped, own_read}
+use Rattle.session_guests.proofs.Callers.{Own, IsOf, unique, all_mapped, own_read}
 use Rattle.session_guests.specs.Keeping.{FreesBy}
 use Rattle.session_guests.proofs.Leaving.{Leaves, left_where, parted, turned, shut}
 use Rattle.session_guests.proofs.HolderActs.{moves, IsCalm, KeepsWindow}

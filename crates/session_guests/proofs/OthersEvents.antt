@@ -27,7 +27,7 @@ use Rattle.session_laws.proofs.Unread.{row_at}
 use Rattle.session_guests.specs.Contained.{stood}
 use Rattle.session_guests.specs.Locking.{user_of, client_user}
 use Rattle.session_guests.proofs.Events.{gives_commands, all_left, changed_by}
-use Rattle.session_guests.proofs.KeptLocks.{Own, unique}
+use Rattle.session_guests.proofs.Callers.{Own, unique}
 use Rattle.session_guests.proofs.Leaving.{left_where, nobody, parted, turned, appended, shut}
 use Rattle.session_guests.proofs.HolderActs.{moves, IsCalm}
 use Rattle.session_guests.proofs.OthersActs.{both_all, Alone, alone, Silent, Others, Elsewhere, others_part}

@@ -1,5 +1,5 @@
 -- What a line or keys answered is the outcome of their event.
-use Rattle.std.proofs.Common.{◌≡◌, ℕ, true, false, List, [], Option, Some, None}
+use Rattle.std.proofs.Common.{◌≡◌, ℕ, true, List, [], Option, Some, None}
 use Rattle.std.proofs.Common.{Result, Ok, Err, refl, ap, sym, ◌∙◌, append-nil, inl, inr}
 use Rattle.std.specs.Prelude.{◌⊎◌}
 use Rattle.command_lang.specs.declared.command.Command.{Command}
@@ -12,8 +12,7 @@ use Rattle.command_lang.proofs.OneReading.{relates-reads, refuses-reads}
 use Rattle.acl.specs.declared.user_id.UserId.{UserId}
 use Rattle.session_model.specs.declared.refusal.Refusal.{Refusal}
 use Rattle.session_model.specs.declared.refusal.Refusal.TheVariants.{NoMemory, NoWindow}
-use Rattle.session_model.specs.declared.refusal.Refusal.TheVariants.{UnknownUser, Line}
-use Rattle.session_model.specs.declared.verdict.Verdict.{Verdict}
+use Rattle.session_model.specs.declared.refusal.Refusal.TheVariants.{Line}
 use Rattle.session_model.specs.Trace.{Reply, Command as Given}
 use Rattle.session_model.specs.Tables.{Tables, Client, is_known}
 use Rattle.session_model.specs.Lines.{Caller, line_caller}
@@ -22,7 +21,8 @@ use Rattle.session_model.specs.Deeds.{Deed, Answer}
 use Rattle.session_model.specs.Outcomes.{Outcome, refused, reply_of}
 use Rattle.session_model.specs.Events.{outcome}
 use Rattle.session_model.specs.Answering.{answered, commanded, line_ruling, keys_outcome}
-use Rattle.windows_model.proofs.Serials.{if_true, if_false}
+use Rattle.windows_model.proofs.Serials.{if_true}
+use Rattle.session_state.specs.declared.step_notes.Step.{Step}
 use Rattle.session_state.specs.declared.step_output.StepOutput.{StepOutput}
 use Rattle.session_state.specs.declared.state.State.{State}
 use Rattle.session_state.specs.Stands.{Stands}
@@ -32,7 +32,7 @@ use Rattle.session_input.specs.Reads.{Ruled}
 use Rattle.session_input.specs.Reads.{ReadFor, read_of}
 use Rattle.session_input.specs.Lines.{Parses, line_refusal, refusal_by}
 use Rattle.session_input.specs.Stepping.{HasHappened, Stepped}
-use Rattle.session_input.proofs.Outcomes.{was_refused, was_done, nothing_done}
+use Rattle.session_input.proofs.Outcomes.{was_refused, was_done}
 
 -- ---- lines
 
@@ -56,12 +56,6 @@ module _ (t : Tables) (user : UserId) (number : Option ℕ) (line : List ℕ) wh
   abbrev outcome_here : Outcome
   outcome_here = outcome t (Given user number line)
 
-  pub user_unknown : (s : State) (m : StepOutput) (past : List Verdict) → is_known t user ≡ false
-      → Stands t s → HasHappened outcome_here (Err UnknownUser) s m m past past
-  user_unknown s m past other st =
-      was_refused t [] UnknownUser outcome_here s s m m past past
-      (if_false (is_known t user) _ _ other) st (nothing_done s m) (sym (append-nil past))
-
   module _ (known : is_known t user ≡ true) where
     read_so : (r : Result Command ParseFault) → read_line line ≡ r
         → outcome_here ≡ commanded t (line_ruling t who r)
@@ -69,41 +63,30 @@ module _ (t : Tables) (user : UserId) (number : Option ℕ) (line : List ℕ) wh
         if_true (is_known t user) _ _ known
         ∙ ap (λ (a : Result Command ParseFault). commanded t (line_ruling t who a)) is
 
-    -- a line has a fault
-    pub line_faulty : (r : Refusal) (s : State) (m : StepOutput) (past : List Verdict)
-        → Parses line (Err r) → Stands t s → Stepped outcome_here (Err r) s m m past past
-    line_faulty r s m past (inl full) st = inl full
-    line_faulty r s m past (inr why) st =
-        inr (was_refused t [] r outcome_here s s m m past past
-        (read_so (Err why.0) why.1 ∙ ap (λ (f : Refusal). refused t [] f) (sym why.2)) st
-        (nothing_done s m) (sym (append-nil past)))
-
     module _ (order : Command) (says : read_line line ≡ Ok order) where
       abbrev by_table : Ruling
       by_table = ruling t who order
 
       -- a command is refused
-      pub was_ruled_out : (r : Refusal) (old new : State) (before after : StepOutput)
-          (past noted : List Verdict) → Ruled t by_table (Err r) new before after past noted
-          → Stands t old → IsAsBefore old new before after
-          → Stepped outcome_here (Err r) new before after past noted
-      was_ruled_out r old new before after past noted (inl full) st same = inl full
-      was_ruled_out r old new before after past noted (inr ruled) st same =
-          inr (was_refused t by_table.verdicts r outcome_here old new before after past noted
+      pub was_ruled_out : (r : Refusal) (old new : State) (before after : Step)
+          → Ruled t by_table (Err r) new before after → Stands t old
+          → IsAsBefore old new before.made after.made → Stepped outcome_here (Err r) new before after
+      was_ruled_out r old new before after (inl full) st same = inl full
+      was_ruled_out r old new before after (inr ruled) st same =
+          inr (was_refused t by_table.verdicts r outcome_here old new before after
           (read_so (Ok order) says ∙ ap (λ (a : Answer). answered t by_table.verdicts a) ruled.0) st
           same ruled.1)
 
       -- a command is obeyed
       pub was_obeyed : (lists : Option (List ℕ)) (said : Reply) (middle new : State)
-          (before second after : StepOutput) (past noted : List Verdict)
-          → Ruled t by_table (Ok lists) middle before second past noted
-          → reply_of 0 0 0 lists ≡ said
-          → ((d : Deed) → Stands (did t d) middle → HasLeft t d new second after)
-          → HasHappened outcome_here said new before after past noted
-      was_obeyed lists said middle new before second after past noted ruled same left =
+          (before second : Step) (made : StepOutput)
+          → Ruled t by_table (Ok lists) middle before second → reply_of 0 0 0 lists ≡ said
+          → ((d : Deed) → Stands (did t d) middle → HasLeft t d new second.made made)
+          → HasHappened outcome_here said new before (record second { made = made })
+      was_obeyed lists said middle new before second made ruled same left =
           let d : Deed = ruled.0.0 in
           was_done t by_table.verdicts d outcome_here (reply_of 0 0 0 d.lists) said middle new before
-          before second after past noted
+          (record second { made = made }) before.made second.made
           (read_so (Ok order) says ∙ ap (λ (a : Answer). answered t by_table.verdicts a) ruled.0.1)
           (ap (λ (l : Option (List ℕ)). reply_of 0 0 0 l) (sym ruled.0.2) ∙ same) refl refl ruled.0.3
           (left d ruled.0.3.stands) ruled.1
@@ -118,11 +101,10 @@ of_keys t bytes o = elim o [
 ]
 
 pub was_read : (t : Tables) (o : Option Client) (bytes : List ℕ) (count : ℕ) (said : Reply)
-    (new : State) (before after : StepOutput) (past noted : List Verdict)
-    → ReadFor t o bytes (Ok count) new before after past noted → reply_of count 0 0 None ≡ said
-    → HasHappened (of_keys t bytes o) said new before after past noted
-was_read t None bytes count said new before after past noted read same = absurd read
-was_read t (Some c) bytes count said new before after past noted read same = record {
+    (new : State) (before after : Step) → ReadFor t o bytes (Ok count) new before after
+    → reply_of count 0 0 None ≡ said → HasHappened (of_keys t bytes o) said new before after
+was_read t None bytes count said new before after read same = absurd read
+was_read t (Some c) bytes count said new before after read same = record {
   replied = ap (λ (n : ℕ). reply_of n 0 0 None) (sym read.count_is) ∙ same;
   stands = read.ended.stands;
   acts = read.ended.acts;
@@ -131,11 +113,11 @@ was_read t (Some c) bytes count said new before after past noted read same = rec
 }
 
 pub was_unread : (t : Tables) (o : Option Client) (bytes : List ℕ) (r : Refusal)
-    (old new : State) (before after : StepOutput) (past noted : List Verdict)
-    → ReadFor t o bytes (Err r) new before after past noted → Stands t old
-    → IsAsBefore old new before after
-    → Stepped (of_keys t bytes o) (Err r) new before after past noted
-was_unread t None bytes r old new before after past noted why st same =
-    inr (was_refused t [] r (refused t [] NoWindow) old new before after past noted
-    (ap (λ (f : Refusal). refused t [] f) (sym why.0)) st same (why.1 ∙ sym (append-nil past)))
-was_unread t (Some c) bytes r old new before after past noted full st same = inl full
+    (old new : State) (before after : Step) → ReadFor t o bytes (Err r) new before after
+    → Stands t old → IsAsBefore old new before.made after.made
+    → Stepped (of_keys t bytes o) (Err r) new before after
+was_unread t None bytes r old new before after why st same =
+    inr (was_refused t [] r (refused t [] NoWindow) old new before after
+    (ap (λ (f : Refusal). refused t [] f) (sym why.0)) st same
+    (why.1 ∙ sym (append-nil before.verdicts.items)))
+was_unread t (Some c) bytes r old new before after full st same = inl full

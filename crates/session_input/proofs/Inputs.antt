@@ -10,7 +10,6 @@ use Rattle.session_model.specs.declared.message.Message.{Message}
 use Rattle.session_model.specs.declared.message.Message.TheVariants.{Silence, Text}
 use Rattle.session_model.specs.declared.refusal.Refusal.{Refusal}
 use Rattle.session_model.specs.declared.refusal.Refusal.TheVariants.{NoMemory}
-use Rattle.session_model.specs.declared.verdict.Verdict.{Verdict}
 use Rattle.session_model.specs.Tables.{Window, Client, Tables, window_at, client_at, focused}
 use Rattle.session_model.specs.Tables.{focused_window}
 use Rattle.session_model.specs.Checks.{first_fault, typing_checks}
@@ -18,7 +17,7 @@ use Rattle.session_model.specs.Deeds.{Deed, changing}
 use Rattle.session_model.specs.Answering.{input_in, says_why}
 use Rattle.session_model.specs.Texts.{text_of}
 use Rattle.windows_model.proofs.Serials.{serial_is}
-use Rattle.session_state.specs.declared.step_output.StepOutput.{StepOutput}
+use Rattle.session_state.specs.declared.step_notes.Step.{Step}
 use Rattle.session_access.specs.Checked.{Passed, Failed}
 use Rattle.session_input.specs.Said.{wants_memory}
 use Rattle.session_input.specs.Typing.{Typed, input_to}
@@ -39,13 +38,13 @@ input_there t (Some n) w typed at =
     ∙ ap (λ (o : Option Window). input_in o typed) (sym at)
 
 -- the bytes go to it
-pub typed_through : (t : Tables) (c : Client) (typed : List ℕ) (before after : StepOutput)
-    (old noted : List Verdict) → (length typed == 0) ≡ false
-    → Passed t (typing_checks c.user (focused_window t c)) old noted
-    → after.effects.items ≡ before.effects.items ++ input_to (focused c) typed
-    → Typed t c typed Silence before after old noted
-typed_through t c [] before after old noted some passed put = absurd (cc (some))
-typed_through t c (b ∷ bytes) before after old noted some passed put =
+pub typed_through : (t : Tables) (c : Client) (typed : List ℕ) (before after : Step)
+    → (length typed == 0) ≡ false
+    → Passed t (typing_checks c.user (focused_window t c)) before.verdicts.items after.verdicts.items
+    → after.made.effects.items ≡ before.made.effects.items ++ input_to (focused c) typed
+    → Typed t c typed Silence before after
+typed_through t c [] before after some passed put = absurd (cc (some))
+typed_through t c (b ∷ bytes) before after some passed put =
     let there = focus_there t c.user (focused_window t c) passed.none in
     let typed : List ℕ = b ∷ bytes in
     let through : Deed = record (changing t) { effects = input_in (focused_window t c) typed } in
@@ -54,7 +53,7 @@ typed_through t c (b ∷ bytes) before after old noted some passed put =
         | None ↦ Silence
         | Some r ↦ Text (text_of r)
       ]) passed.none);
-      effects = put ∙ ap (λ (more : List Effect). before.effects.items ++ more)
+      effects = put ∙ ap (λ (more : List Effect). before.made.effects.items ++ more)
           (input_there t (focused c) there.0 typed there.1
           ∙ sym (ap (λ (o : Option Refusal). (elim o as (λ _. Deed) [
             | Some r ↦ says_why t c.serial r
@@ -64,13 +63,13 @@ typed_through t c (b ∷ bytes) before after old noted some passed put =
     }
 
 -- the client is told why not
-pub typed_refused : (t : Tables) (c : Client) (n : ℕ) (typed : List ℕ) (r : Refusal)
-    (before after : StepOutput) (old noted : List Verdict) → (length typed == 0) ≡ false → c.serial ≡ n
-    → Failed t (typing_checks c.user (focused_window t c)) r old noted
-    → after.effects.items ≡ before.effects.items ++ Say n (text_of r) ∷ []
-    → Typed t c typed (Text (text_of r)) before after old noted
-typed_refused t c n [] r before after old noted some same failed put = absurd (cc (some))
-typed_refused t c n (b ∷ bytes) r before after old noted some same failed put =
+typed_refused : (t : Tables) (c : Client) (n : ℕ) (typed : List ℕ) (r : Refusal)
+    (before after : Step) → (length typed == 0) ≡ false → c.serial ≡ n
+    → Failed t (typing_checks c.user (focused_window t c)) r before.verdicts.items after.verdicts.items
+    → after.made.effects.items ≡ before.made.effects.items ++ Say n (text_of r) ∷ []
+    → Typed t c typed (Text (text_of r)) before after
+typed_refused t c n [] r before after some same failed put = absurd (cc (some))
+typed_refused t c n (b ∷ bytes) r before after some same failed put =
     let typed : List ℕ = b ∷ bytes in
     let through : Deed = record (changing t) { effects = input_in (focused_window t c) typed } in
     record {
@@ -78,7 +77,7 @@ typed_refused t c n (b ∷ bytes) r before after old noted some same failed put 
         | None ↦ Silence
         | Some r ↦ Text (text_of r)
       ]) failed.first);
-      effects = put ∙ ap (λ (more : List Effect). before.effects.items ++ more)
+      effects = put ∙ ap (λ (more : List Effect). before.made.effects.items ++ more)
           (ap (λ (k : ℕ). Say k (text_of r) ∷ []) (sym same)
           ∙ sym (ap (λ (o : Option Refusal). (elim o as (λ _. Deed) [
             | Some r ↦ says_why t c.serial r
@@ -88,13 +87,14 @@ typed_refused t c n (b ∷ bytes) r before after old noted some same failed put 
     }
 
 pub typed_refused_or : (t : Tables) (c : Client) (n : ℕ) (typed : List ℕ) (r : Refusal)
-    (before after : StepOutput) (old noted : List Verdict) → (length typed == 0) ≡ false
+    (before after : Step) → (length typed == 0) ≡ false
     → client_at t n ≡ Some c → wants_memory r ≡ false
-    → (r ≡ NoMemory) ⊎ Failed t (typing_checks c.user (focused_window t c)) r old noted
-    → after.effects.items ≡ before.effects.items ++ Say n (text_of r) ∷ []
-    → Typed t c typed (Text (text_of r)) before after old noted
-typed_refused_or t c n typed r before after old noted some at other (inl full) put =
+    → (r ≡ NoMemory)
+    ⊎ Failed t (typing_checks c.user (focused_window t c)) r before.verdicts.items after.verdicts.items
+    → after.made.effects.items ≡ before.made.effects.items ++ Say n (text_of r) ∷ []
+    → Typed t c typed (Text (text_of r)) before after
+typed_refused_or t c n typed r before after some at other (inl full) put =
     let want : wants_memory r ≡ true = ap wants_memory full in absurd (cc (want, other))
-typed_refused_or t c n typed r before after old noted some at other (inr failed) put =
-    typed_refused t c n typed r before after old noted some
+typed_refused_or t c n typed r before after some at other (inr failed) put =
+    typed_refused t c n typed r before after some
     (serial_is (λ (d : Client). d.serial) t.clients n c at) failed put

@@ -35,6 +35,7 @@ use Rattle.windows_model.proofs.Serials.{serial_is, with_same, with_twice}
 use Rattle.session_clients.specs.declared.client.Client.{Client as Row}
 use Rattle.session_clients.specs.Stands.{ClientStands}
 use Rattle.session_state.specs.declared.caller.Caller.{Caller}
+use Rattle.session_state.specs.declared.step_notes.Step.{Step}
 use Rattle.session_state.specs.declared.step_output.StepOutput.{StepOutput}
 use Rattle.session_state.specs.declared.state.State.{State}
 use Rattle.session_state.specs.Stands.{Stands}
@@ -73,11 +74,11 @@ taken_counts c bytes count is =
     is ∙ sym (length-take-le (taken c.keys bytes) bytes (taken_few c.keys bytes))
 
 pub were_read : (t : Tables) (c : Client) (found : Option Client) (bytes : List ℕ) (count : ℕ)
-    (new : State) (before after : StepOutput) (past noted : List Verdict) → found ≡ Some c
-    → count ≡ taken c.keys bytes → HaveEnded t c (read_of c bytes) new before after past noted
-    → ReadFor t found bytes (Ok count) new before after past noted
-were_read t c found bytes count new before after past noted is count_is given =
-    subst (λ (o : Option Client). ReadFor t o bytes (Ok count) new before after past noted) (sym is)
+    (new : State) (before after : Step) → found ≡ Some c
+    → count ≡ taken c.keys bytes → HaveEnded t c (read_of c bytes) new before after
+    → ReadFor t found bytes (Ok count) new before after
+were_read t c found bytes count new before after is count_is given =
+    subst (λ (o : Option Client). ReadFor t o bytes (Ok count) new before after) (sym is)
     (record {
       count_is = taken_counts c bytes count count_is;
       ended = given.ended;
@@ -197,34 +198,34 @@ typed_now t n c keys typed before middle at typed_is put =
 
 -- what was typed and what was obeyed are the keys' deed
 pub keys_given : (t : Tables) (n : ℕ) (c : Client) (keys typed : List ℕ) (message : Message)
-    (start end : ℕ) (orders : Option (Result Command ParseFault)) (new : State) (before middle later after : StepOutput)
-    (past noted noted_then : List Verdict) → client_at t n ≡ Some c
+    (start end : ℕ) (orders : Option (Result Command ParseFault)) (new : State) (before middle later : Step)
+    (made : StepOutput) → client_at t n ≡ Some c
     → typed ≡ typed_bytes (items_behind c.keys keys)
     → orders ≡ given (command_item (items_behind c.keys keys))
-    → Typed t c typed message before middle past noted
-    → middle.acts.items ≡ before.acts.items
-    → Obeyed (with_client t (read_by message keys c)) (reading keys c) orders new middle later noted
-    noted_then
-    → after.acts.items ≡ later.acts.items
-    → start ≡ length before.effects.items → end ≡ length middle.effects.items
-    → DropsSaid start end later.effects.items after.effects.items
-    → AreGiven t c keys new before after past noted_then
-keys_given t n c keys typed message start end orders new before middle later after past noted
-    noted_then at typed_is orders_are put quiet obeyed still begin close drops = record {
+    → Typed t c typed message before middle
+    → middle.made.acts.items ≡ before.made.acts.items
+    → Obeyed (with_client t (read_by message keys c)) (reading keys c) orders new middle later
+    → made.acts.items ≡ later.made.acts.items
+    → start ≡ length before.made.effects.items → end ≡ length middle.made.effects.items
+    → DropsSaid start end later.made.effects.items made.effects.items
+    → AreGiven t c keys new before (record later { made = made })
+keys_given t n c keys typed message start end orders new before middle later made at typed_is orders_are put quiet
+    obeyed still begin close drops = record {
       done = record {
         stands = subst (λ (v : Tables). Stands v new) tables obeyed.done.stands;
         acts = still ∙ (obeyed.done.acts
             ∙ (ap (λ (xs : List _). xs ++ (ordered_by u d orders).deed.acts) quiet
-            ∙ ap (λ (o : Ordered). before.acts.items ++ o.deed.acts) same));
-        effects = drops before.effects.items mine.effects (order t c keys).deed.effects all
+            ∙ ap (λ (o : Ordered). before.made.acts.items ++ o.deed.acts) same));
+        effects = drops before.made.effects.items mine.effects (order t c keys).deed.effects all
             (sym begin) (sym (close ∙ ap length now));
       };
       verdicts = obeyed.verdicts
           ∙ (ap (λ (vs : List Verdict). vs ++ (ordered_by u d orders).verdicts) put.verdicts
-          ∙ (append_assoc past (typing_verdicts t c typed) _
-          ∙ (ap (λ (bs : List ℕ). past ++ (typing_verdicts t c bs ++ (ordered_by u d orders).verdicts))
+          ∙ (append_assoc before.verdicts.items (typing_verdicts t c typed) _
+          ∙ (ap (λ (bs : List ℕ). before.verdicts.items
+          ++ (typing_verdicts t c bs ++ (ordered_by u d orders).verdicts))
           typed_is
-          ∙ ap (λ (o : Ordered). past
+          ∙ ap (λ (o : Ordered). before.verdicts.items
           ++ (typing_verdicts t c (typed_bytes (items_behind c.keys keys)) ++ o.verdicts)) same)));
     } where
       d : Client
@@ -246,34 +247,33 @@ keys_given t n c keys typed message start end orders new before middle later aft
       tables : did u (ordered_by u d orders).deed ≡ did t (keys_deed t c keys)
       tables = ap (λ (o : Ordered). record o.deed.tables { acts = followed_by t.acts o.deed.acts }) same
 
-      now : middle.effects.items ≡ before.effects.items ++ mine.effects
+      now : middle.made.effects.items ≡ before.made.effects.items ++ mine.effects
       now =
-          typed_now t n c keys typed before.effects.items middle.effects.items at typed_is put.effects
+          typed_now t n c keys typed before.made.effects.items middle.made.effects.items at typed_is put.effects
 
-      all : later.effects.items
-          ≡ before.effects.items ++ (mine.effects ++ (order t c keys).deed.effects)
+      all : later.made.effects.items
+          ≡ before.made.effects.items ++ (mine.effects ++ (order t c keys).deed.effects)
       all =
           obeyed.done.effects
-          ∙ (ap (λ (o : Ordered). middle.effects.items ++ o.deed.effects) same
+          ∙ (ap (λ (o : Ordered). middle.made.effects.items ++ o.deed.effects) same
           ∙ (ap (λ (fs : List Effect). fs ++ (order t c keys).deed.effects) now
-          ∙ append_assoc before.effects.items mine.effects (order t c keys).deed.effects))
+          ∙ append_assoc before.made.effects.items mine.effects (order t c keys).deed.effects))
 
 -- ---- the step's end
 
 -- users left windows
 pub keys_ended : (t : Tables) (c : Client) (keys : List ℕ) (middle new : State)
-    (before second after : StepOutput) (past noted : List Verdict)
-    → AreGiven t c keys middle before second past noted
-    → HasLeft t (keys_deed t c keys) new second after
-    → HaveEnded t c keys new before after past noted
-keys_ended t c keys middle new before second after past noted given left =
+    (before second : Step) (made : StepOutput) → AreGiven t c keys middle before second
+    → HasLeft t (keys_deed t c keys) new second.made made
+    → HaveEnded t c keys new before (record second { made = made })
+keys_ended t c keys middle new before second made given left =
     let d : Deed = keys_deed t c keys in
     let acts : List Act = left_acts t.clients d.tables.clients in
     record {
       ended = record {
         stands = left.stands;
         acts = left.acts ∙ ap (λ (xs : List Act). xs ++ acts) given.done.acts
-            ∙ append_assoc before.acts.items d.acts acts;
+            ∙ append_assoc before.made.acts.items d.acts acts;
         effects = left.effects ∙ given.done.effects;
       };
       verdicts = given.verdicts;
@@ -281,26 +281,26 @@ keys_ended t c keys middle new before second after past noted given left =
 
 -- the keys give no command: they are typed, and nobody leaves a window
 pub keys_typed : (t : Tables) (n : ℕ) (c : Client) (keys typed : List ℕ) (reader : Keeping)
-    (message : Message) (new : State) (before after : StepOutput) (past noted : List Verdict)
+    (message : Message) (new : State) (before after : Step)
     → client_at t n ≡ Some c → AreRead c keys reader typed None
-    → Typed t c typed message before after past noted
-    → after.acts.items ≡ before.acts.items
+    → Typed t c typed message before after
+    → after.made.acts.items ≡ before.made.acts.items
     → Stands (with_client t (read_by message keys c)) new
-    → HaveEnded t c keys new before after past noted
-keys_typed t n c keys typed reader message new before after past noted at read put quiet st = record {
-  ended = subst (λ (o : Ordered). HasEnded t (deed_by o) new before after) none (record {
+    → HaveEnded t c keys new before after
+keys_typed t n c keys typed reader message new before after at read put quiet st = record {
+  ended = subst (λ (o : Ordered). HasEnded t (deed_by o) new before.made after.made) none (record {
     stands = subst (λ (acts : List Act). Stands (record mine.tables { acts = followed_by t.acts acts }) new)
         (sym left) (subst (λ (v : Tables). Stands (record v { acts = t.acts }) new) are st);
-    acts = quiet ∙ (sym (append-nil before.acts.items)
-        ∙ ap (λ (acts : List Act). before.acts.items ++ acts) (sym left));
+    acts = quiet ∙ (sym (append-nil before.made.acts.items)
+        ∙ ap (λ (acts : List Act). before.made.acts.items ++ acts) (sym left));
     effects =
-        typed_now t n c keys typed before.effects.items after.effects.items at read.typed_is put.effects
-        ∙ ap (λ (fs : List Effect). before.effects.items ++ fs) (sym (append-nil mine.effects));
+        typed_now t n c keys typed before.made.effects.items after.made.effects.items at read.typed_is put.effects
+        ∙ ap (λ (fs : List Effect). before.made.effects.items ++ fs) (sym (append-nil mine.effects));
   });
   verdicts = put.verdicts
-      ∙ (ap (λ (bs : List ℕ). past ++ typing_verdicts t c bs) read.typed_is
-      ∙ (ap (λ (vs : List Verdict). past ++ vs) (sym (append-nil checked))
-      ∙ ap (λ (o : Ordered). past ++ (checked ++ o.verdicts)) none));
+      ∙ (ap (λ (bs : List ℕ). before.verdicts.items ++ typing_verdicts t c bs) read.typed_is
+      ∙ (ap (λ (vs : List Verdict). before.verdicts.items ++ vs) (sym (append-nil checked))
+      ∙ ap (λ (o : Ordered). before.verdicts.items ++ (checked ++ o.verdicts)) none));
 } where
   d : Client
   d = reading keys c

@@ -1,12 +1,11 @@
 -- A command by keys that was done or refused, and told of, is the definitions' deed.
-use Rattle.std.proofs.Common.{◌≡◌, ℕ, true, false, List, ◌++◌, Option, Some, None, Result, Ok, Err, ap}
+use Rattle.std.proofs.Common.{◌≡◌, ℕ, true, false, List, ◌++◌, Option, Some, Result, Ok, Err, ap}
 use Rattle.std.proofs.Common.{sym, subst, ◌∙◌, append-nil, append_assoc, inl, inr}
 use Rattle.std.specs.Prelude.{OnOk}
 use Rattle.command_lang.specs.declared.command.Command.{Command}
 use Rattle.session_model.specs.declared.event.Effect.{Effect}
 use Rattle.session_model.specs.declared.message.Message.TheVariants.{Text}
 use Rattle.session_model.specs.declared.refusal.Refusal.{Refusal}
-use Rattle.session_model.specs.declared.verdict.Verdict.{Verdict}
 use Rattle.session_model.specs.Tables.{Client, Tables, client_at}
 use Rattle.session_model.specs.Lines as model
 use Rattle.session_model.specs.Deeds.{Deed}
@@ -17,6 +16,7 @@ use Rattle.session_clients.specs.Stands.{ClientStands}
 use Rattle.windows_model.proofs.Matching.{rows_match, both_there, both_back}
 use Rattle.session_clients.proofs.Changing.{serials}
 use Rattle.session_clients.specs.declared.client.Client.{Client as Row}
+use Rattle.session_state.specs.declared.step_notes.Step.{Step}
 use Rattle.session_state.specs.declared.step_output.StepOutput.{StepOutput}
 use Rattle.session_state.specs.declared.state.State.{State}
 use Rattle.session_state.specs.Stands.{Stands}
@@ -32,32 +32,14 @@ pub called : (t : Tables) (c : Client) (n : ℕ) → c.serial ≡ n
     → caller_in t (caller_by n c) ≡ model.caller_of t c
 called t c n same = ap (λ (k : ℕ). caller_in t (caller_by k c)) (sym same)
 
--- nothing is listed
-pub obeyed_silently : (t : Tables) (c : Client) (n : ℕ) (k : Command) (d : Deed)
-    (new : State) (before after : StepOutput) (old noted : List Verdict) → c.serial ≡ n
-    → (ruling t (caller_in t (caller_by n c)) k).answer ≡ Ok d → None ≡ d.lists
-    → HasDone t d new before after
-    → noted ≡ old ++ (ruling t (caller_in t (caller_by n c)) k).verdicts
-    → Obeyed t c (Some (Ok k)) new before after old noted
-obeyed_silently t c n k d new before after old noted same answer none done told =
-    let is : ruling t (caller_in t (caller_by n c)) k ≡ ruling t (model.caller_of t c) k =
-    ap (λ (m : model.Caller). ruling t m k) (called t c n same) in
-    let deed : keyed t c.serial (message_of k) (ruling t (model.caller_of t c) k).answer ≡ d =
-    ap (keyed t c.serial (message_of k)) (ap (λ (r : Ruling). r.answer) (sym is) ∙ answer)
-    ∙ ap (λ (l : Option (List ℕ)). with_listed c.serial (message_of k) l d) (sym none) in
-    record {
-      done = subst (λ (e : Deed). HasDone t e new before after) (sym deed) done;
-      verdicts = told ∙ ap (λ (r : Ruling). old ++ r.verdicts) is;
-    }
-
 -- a refusal is said
-pub obeyed_refused : (t : Tables) (c : Client) (n : ℕ) (k : Command) (r : Refusal)
-    (new : State) (before after : StepOutput) (old noted : List Verdict) → c.serial ≡ n
+obeyed_refused : (t : Tables) (c : Client) (n : ℕ) (k : Command) (r : Refusal)
+    (new : State) (before after : Step) → c.serial ≡ n
     → (ruling t (caller_in t (caller_by n c)) k).answer ≡ Err r
-    → noted ≡ old ++ (ruling t (caller_in t (caller_by n c)) k).verdicts
-    → HasDone t (says t n (Text (text_of r)) (text_of r)) new before after
-    → Obeyed t c (Some (Ok k)) new before after old noted
-obeyed_refused t c n k r new before after old noted same answer told said =
+    → after.verdicts.items ≡ before.verdicts.items ++ (ruling t (caller_in t (caller_by n c)) k).verdicts
+    → HasDone t (says t n (Text (text_of r)) (text_of r)) new before.made after.made
+    → Obeyed t c (Some (Ok k)) new before after
+obeyed_refused t c n k r new before after same answer told said =
     let is : ruling t (caller_in t (caller_by n c)) k ≡ ruling t (model.caller_of t c) k =
     ap (λ (m : model.Caller). ruling t m k) (called t c n same) in
     let deed : keyed t c.serial (message_of k) (ruling t (model.caller_of t c) k).answer
@@ -65,8 +47,8 @@ obeyed_refused t c n k r new before after old noted same answer told said =
     ap (keyed t c.serial (message_of k)) (ap (λ (r : Ruling). r.answer) (sym is) ∙ answer)
     ∙ ap (λ (m : ℕ). says t m (Text (text_of r)) (text_of r)) same in
     record {
-      done = subst (λ (e : Deed). HasDone t e new before after) (sym deed) said;
-      verdicts = told ∙ ap (λ (r : Ruling). old ++ r.verdicts) is;
+      done = subst (λ (e : Deed). HasDone t e new before.made after.made) (sym deed) said;
+      verdicts = told ∙ ap (λ (r : Ruling). before.verdicts.items ++ r.verdicts) is;
     }
 
 -- a client that is there in one state's tables is there in all
@@ -83,19 +65,19 @@ still_there t u s n c st other at =
 
 -- what a command lists is said
 pub obeyed_listing : (t : Tables) (c d' : Client) (n : ℕ) (k : Command) (d : Deed) (text : List ℕ)
-    (s new : State) (before middle after : StepOutput) (old noted : List Verdict) → c.serial ≡ n
+    (s new : State) (before middle : Step) (made : StepOutput) → c.serial ≡ n
     → Stands t s → client_at t n ≡ Some d'
     → (ruling t (caller_in t (caller_by n c)) k).answer ≡ Ok d → Some text ≡ d.lists
-    → HasDone t d s before middle
-    → noted ≡ old ++ (ruling t (caller_in t (caller_by n c)) k).verdicts
-    → Says n (message_of k text) text s new middle after
-    → Obeyed t c (Some (Ok k)) new before after old noted
-obeyed_listing t c d' n k d text s new before middle after old noted same st at answer lists done told said =
+    → HasDone t d s before.made middle.made
+    → middle.verdicts.items ≡ before.verdicts.items ++ (ruling t (caller_in t (caller_by n c)) k).verdicts
+    → Says n (message_of k text) text s new middle.made made
+    → Obeyed t c (Some (Ok k)) new before (record middle { made = made })
+obeyed_listing t c d' n k d text s new before middle made same st at answer lists done told said =
     let is : ruling t (caller_in t (caller_by n c)) k ≡ ruling t (model.caller_of t c) k =
     ap (λ (m : model.Caller). ruling t m k) (called t c n same) in
     let u : Tables = did t d in
     let there = still_there t u s n d' st done.stands at in
-    let e : HasDone u (says u n (message_of k text) text) new middle after =
+    let e : HasDone u (says u n (message_of k text) text) new middle.made made =
     said u there.0 done.stands there.1 in
     let listed : Deed = with_listed n (message_of k) (Some text) d in
     let deed : keyed t c.serial (message_of k) (ruling t (model.caller_of t c) k).answer ≡ listed =
@@ -103,18 +85,18 @@ obeyed_listing t c d' n k d text s new before middle after old noted same st at 
     ∙ ap (λ (l : Option (List ℕ)). with_listed c.serial (message_of k) l d) (sym lists)
     ∙ ap (λ (m : ℕ). with_listed m (message_of k) (Some text) d) same in
     record {
-      done = subst (λ (e : Deed). HasDone t e new before after) (sym deed) (record {
+      done = subst (λ (e : Deed). HasDone t e new before.made made) (sym deed) (record {
         stands = subst (λ (v : Tables). Stands v new)
             (ap (λ (o : Tables). record o { acts = u.acts })
             (told_there u n (message_of k text) there.0 there.1)
             ∙ sym (ap (λ (o : Tables). record o { acts = u.acts })
             (told_there d.tables n (message_of k text) there.0 there.1))) e.stands;
-        acts = e.acts ∙ append-nil middle.acts.items ∙ done.acts;
+        acts = e.acts ∙ append-nil middle.made.acts.items ∙ done.acts;
         effects = e.effects
             ∙ ap (λ (fs : List Effect). fs ++ (says u n (message_of k text) text).effects) done.effects
-            ∙ append_assoc before.effects.items d.effects _;
+            ∙ append_assoc before.made.effects.items d.effects _;
       });
-      verdicts = told ∙ ap (λ (r : Ruling). old ++ r.verdicts) is;
+      verdicts = told ∙ ap (λ (r : Ruling). before.verdicts.items ++ r.verdicts) is;
     }
 
 -- what was done after some acts and effects was done after equal ones
@@ -128,17 +110,17 @@ kept_on t d new before middle after done acts effects = record {
 }
 
 pub obeyed_refused_or : (t : Tables) (c : Client) (n : ℕ) (k : Command) (r : Refusal)
-    (s new : State) (before middle after : StepOutput) (old noted : List Verdict) → c.serial ≡ n
+    (s new : State) (before middle : Step) (made : StepOutput) → c.serial ≡ n
     → wants_memory r ≡ false
-    → Ruled t (ruling t (caller_in t (caller_by n c)) k) (Err r) s before middle old noted
-    → middle.acts.items ≡ before.acts.items → middle.effects.items ≡ before.effects.items
-    → HasDone t (says t n (Text (text_of r)) (text_of r)) new middle after
-    → Obeyed t c (Some (Ok k)) new before after old noted
-obeyed_refused_or t c n k r s new before middle after old noted same other (inl full) acts effects done =
+    → Ruled t (ruling t (caller_in t (caller_by n c)) k) (Err r) s before middle
+    → middle.made.acts.items ≡ before.made.acts.items → middle.made.effects.items ≡ before.made.effects.items
+    → HasDone t (says t n (Text (text_of r)) (text_of r)) new middle.made made
+    → Obeyed t c (Some (Ok k)) new before (record middle { made = made })
+obeyed_refused_or t c n k r s new before middle made same other (inl full) acts effects done =
     let want : wants_memory r ≡ true = ap wants_memory full in absurd (cc (want, other))
-obeyed_refused_or t c n k r s new before middle after old noted same other (inr told) acts effects done =
-    obeyed_refused t c n k r new before after old noted same told.0 told.1
-    (kept_on t _ new middle before after done acts effects)
+obeyed_refused_or t c n k r s new before middle made same other (inr told) acts effects done =
+    obeyed_refused t c n k r new before (record middle { made = made }) same told.0 told.1
+    (kept_on t _ new middle.made before.made made done acts effects)
 
 pub on_always : {A E P : Type 0} (r : Result A E) → P → OnOk r P
 on_always (Ok a) p = p

@@ -1,58 +1,53 @@
 -- A deed that was done, or a refusal, is the outcome of its event.
 use Rattle.std.proofs.Common.{◌≡◌, ◌++◌, List, [], Option, Some, None, Err}
-use Rattle.std.proofs.Common.{refl, ap, sym, subst, ◌∙◌, append-nil, append_assoc, inl, inr}
-use Rattle.std.specs.Prelude.{◌⊎◌}
+use Rattle.std.proofs.Common.{refl, ap, sym, subst, ◌∙◌, append-nil, append_assoc}
 use Rattle.acl.specs.History.{followed_by}
 use Rattle.acl.specs.declared.act.Act.{Act}
 use Rattle.session_model.specs.declared.check.Check.{Check}
 use Rattle.session_model.specs.declared.refusal.Refusal.{Refusal}
-use Rattle.session_model.specs.declared.refusal.Refusal.TheVariants.{NoMemory, NoWindow}
+use Rattle.session_model.specs.declared.refusal.Refusal.TheVariants.{NoWindow}
 use Rattle.session_model.specs.declared.verdict.Verdict.{Verdict}
 use Rattle.session_model.specs.Trace.{Reply}
 use Rattle.session_model.specs.Tables.{Tables}
 use Rattle.session_model.specs.Checks.{verdicts, first_fault}
 use Rattle.session_model.specs.Deeds.{Deed}
 use Rattle.session_model.specs.Outcomes.{Outcome, finished, refused, where_passed, left_acts}
+use Rattle.session_state.specs.declared.step_notes.Step.{Step}
 use Rattle.session_state.specs.declared.step_output.StepOutput.{StepOutput}
 use Rattle.session_state.specs.declared.state.State.{State}
 use Rattle.session_state.specs.Stands.{Stands}
 use Rattle.session_state.specs.Doing.{HasDone, IsAsBefore, did}
-use Rattle.session_access.specs.Checked.{Failed}
 use Rattle.session_events.specs.Leaving.{HasLeft}
-use Rattle.session_input.specs.Stepping.{HasHappened, Stepped}
-
-pub nothing_done : (s : State) (m : StepOutput) → IsAsBefore s s m m
-nothing_done s m = record { state = refl; acts = refl; effects = refl }
+use Rattle.session_input.specs.Stepping.{HasHappened}
 
 -- it was refused, and nothing was done
 pub was_refused : (t : Tables) (vs : List Verdict) (r : Refusal) (o : Outcome) (old new : State)
-    (before after : StepOutput) (past noted : List Verdict) → o ≡ refused t vs r → Stands t old
-    → IsAsBefore old new before after → noted ≡ past ++ vs
-    → HasHappened o (Err r) new before after past noted
-was_refused t vs r o old new before after past noted is st same told =
-    subst (λ (p : Outcome). HasHappened p (Err r) new before after past noted) (sym is) (record {
+    (before after : Step) → o ≡ refused t vs r → Stands t old → IsAsBefore old new before.made after.made
+    → after.verdicts.items ≡ before.verdicts.items ++ vs → HasHappened o (Err r) new before after
+was_refused t vs r o old new before after is st same told =
+    subst (λ (p : Outcome). HasHappened p (Err r) new before after) (sym is) (record {
       replied = refl;
       stands = subst (λ (s : State). Stands t s) (sym same.state) st;
-      acts = same.acts ∙ sym (append-nil before.acts.items);
-      effects = same.effects ∙ sym (append-nil before.effects.items);
+      acts = same.acts ∙ sym (append-nil before.made.acts.items);
+      effects = same.effects ∙ sym (append-nil before.made.effects.items);
       verdicts = told;
     })
 
 -- a deed was done, and then users left windows
 pub was_done : (t : Tables) (vs : List Verdict) (d : Deed) (o : Outcome) (reply said : Reply)
-    (middle new : State) (before first second after : StepOutput) (past noted : List Verdict)
-    → o ≡ finished t vs reply d → reply ≡ said → first.acts.items ≡ before.acts.items
-    → first.effects.items ≡ before.effects.items → HasDone t d middle first second
-    → HasLeft t d new second after → noted ≡ past ++ vs
-    → HasHappened o said new before after past noted
-was_done t vs d o reply said middle new before first second after past noted is same acts effects done left told =
-    subst (λ (p : Outcome). HasHappened p said new before after past noted) (sym is) (record {
+    (middle new : State) (before after : Step) (first second : StepOutput)
+    → o ≡ finished t vs reply d → reply ≡ said → first.acts.items ≡ before.made.acts.items
+    → first.effects.items ≡ before.made.effects.items → HasDone t d middle first second
+    → HasLeft t d new second after.made → after.verdicts.items ≡ before.verdicts.items ++ vs
+    → HasHappened o said new before after
+was_done t vs d o reply said middle new before after first second is same acts effects done left told =
+    subst (λ (p : Outcome). HasHappened p said new before after) (sym is) (record {
       replied = same;
       stands = left.stands;
       acts = left.acts
           ∙ ap (λ xs. xs ++ left_acts t.clients d.tables.clients)
           (done.acts ∙ ap (λ xs. xs ++ d.acts) acts)
-          ∙ append_assoc before.acts.items d.acts (left_acts t.clients d.tables.clients);
+          ∙ append_assoc before.made.acts.items d.acts (left_acts t.clients d.tables.clients);
       effects = left.effects ∙ done.effects ∙ ap (λ fs. fs ++ d.effects) effects;
       verdicts = told;
     })
@@ -87,32 +82,13 @@ passed_is t cs reply d none =
       | None ↦ finished t (verdicts t cs) reply d
     ]) none
 
-failed_is : (t : Tables) (cs : List Check) (reply : Reply) (d : Deed) (r : Refusal)
-    → first_fault t cs ≡ Some r → where_passed t cs reply d ≡ refused t (verdicts t cs) r
-failed_is t cs reply d r fault =
-    ap (λ (o : Option Refusal). elim o as (λ _. Outcome) [
-      | Some f ↦ refused t (verdicts t cs) f
-      | None ↦ finished t (verdicts t cs) reply d
-    ]) fault
-
--- a check failed, or there was no memory to note it
-pub was_checked : (t : Tables) (cs : List Check) (d : Deed) (o : Outcome) (reply : Reply)
-    (r : Refusal) (s : State) (m : StepOutput) (past noted : List Verdict)
-    → o ≡ where_passed t cs reply d → Stands t s → (r ≡ NoMemory) ⊎ Failed t cs r past noted
-    → Stepped o (Err r) s m m past noted
-was_checked t cs d o reply r s m past noted is st (inl full) = inl full
-was_checked t cs d o reply r s m past noted is st (inr failed) =
-    inr (was_refused t (verdicts t cs) r o s s m m past noted
-    (is ∙ failed_is t cs reply d r failed.first) st (nothing_done s m) failed.noted)
-
 -- the checks passed, and the deed was done
 pub was_passed : (t : Tables) (cs : List Check) (d : Deed) (o : Outcome) (reply said : Reply)
-    (middle new : State) (before first second after : StepOutput) (past noted : List Verdict)
+    (middle new : State) (before after : Step) (first second : StepOutput)
     → o ≡ where_passed t cs reply d → first_fault t cs ≡ None → reply ≡ said
-    → first.acts.items ≡ before.acts.items → first.effects.items ≡ before.effects.items
-    → HasDone t d middle first second → HasLeft t d new second after
-    → noted ≡ past ++ verdicts t cs → HasHappened o said new before after past noted
-was_passed t cs d o reply said middle new before first second after past noted is none same acts effects done left told
-    =
-    was_done t (verdicts t cs) d o reply said middle new before first second after past noted
+    → first.acts.items ≡ before.made.acts.items → first.effects.items ≡ before.made.effects.items
+    → HasDone t d middle first second → HasLeft t d new second after.made
+    → after.verdicts.items ≡ before.verdicts.items ++ verdicts t cs → HasHappened o said new before after
+was_passed t cs d o reply said middle new before after first second is none same acts effects done left told =
+    was_done t (verdicts t cs) d o reply said middle new before after first second
     (is ∙ passed_is t cs reply d none) same acts effects done left told

@@ -4,7 +4,6 @@ use Rattle.command_lang.specs.declared.command.Command.{Command}
 use Rattle.command_lang.specs.declared.fault.ParseFault.{ParseFault}
 use Rattle.keys.specs.Kept.{Keeping, StandsFor}
 use Rattle.session_model.specs.declared.message.Message.{Message}
-use Rattle.session_model.specs.declared.verdict.Verdict.{Verdict}
 use Rattle.session_model.specs.Tables.{Tables, Client, client_at, with_client, row_of}
 use Rattle.session_model.specs.Deeds.{hearing}
 use Rattle.session_model.specs.Keying.{items_behind, taken, typed_bytes, command_item}
@@ -12,7 +11,7 @@ use Rattle.session_model.specs.Answering.{reading}
 use Rattle.session_clients.specs.declared.client.Client.{Client as Row}
 use Rattle.session_clients.specs.Moves.{in_focus}
 use Rattle.session_state.specs.declared.caller.Caller.{Caller}
-use Rattle.session_state.specs.declared.step_output.StepOutput.{StepOutput}
+use Rattle.session_state.specs.declared.step_notes.Step.{Step}
 use Rattle.session_state.specs.declared.state.State.{State}
 use Rattle.session_state.specs.Stands.{Stands}
 use Rattle.session_model.specs.Sound.{AreFit}
@@ -54,36 +53,35 @@ read_by message keys c = hearing message (reading keys c)
 
 -- the command that keys complete was obeyed, once the client had read them and had this message
 abbrev pub ObeysRead : Caller → ℕ → Keeping → Message → Result Command ParseFault →
-    State → State → StepOutput → StepOutput → List Verdict → List Verdict → Type 0
-ObeysRead k client reader message order old new before after past noted =
+    State → State → Step → Step → Type 0
+ObeysRead k client reader message order old new before after =
     (t : Tables) (c : Client) (keys : List ℕ) → Stands t old → AreFit t
     → client_at t client ≡ Some c → k ≡ caller_by client c → StandsFor reader (c.keys ++ keys)
     → Obeyed (with_client t (read_by message keys c)) (reading keys c) (Some order) new before after
-    past noted
 
 -- the deed of keys was done, and their verdicts were noted
-pub record AreGiven (t : Tables) (c : Client) (keys : List ℕ) (new : State) (before after : StepOutput)
-    (old noted : List Verdict) : Type 0 where
-  pub done : HasDone t (keys_deed t c keys) new before after
-  pub verdicts : noted ≡ old ++ keys_verdicts t c keys
+pub record AreGiven (t : Tables) (c : Client) (keys : List ℕ) (new : State) (before after : Step) :
+    Type 0 where
+  pub done : HasDone t (keys_deed t c keys) new before.made after.made
+  pub verdicts : after.verdicts.items ≡ before.verdicts.items ++ keys_verdicts t c keys
 
 -- so it was for all tables that the state stood for
 abbrev pub Gives : Caller → ℕ → Keeping → List ℕ → Option (Result Command ParseFault) →
-    State → State → StepOutput → StepOutput → List Verdict → List Verdict → Type 0
-Gives k client reader typed order old new before after past noted =
+    State → State → Step → Step → Type 0
+Gives k client reader typed order old new before after =
     (t : Tables) (c : Client) (keys : List ℕ) → Stands t old → AreFit t
     → client_at t client ≡ Some c → k ≡ caller_by client c → AreRead c keys reader typed order
-    → AreGiven t c keys new before after past noted
+    → AreGiven t c keys new before after
 
 -- the deed of keys was done, and then users left windows
-pub record HaveEnded (t : Tables) (c : Client) (keys : List ℕ) (new : State) (before after : StepOutput)
-    (old noted : List Verdict) : Type 0 where
-  pub ended : HasEnded t (keys_deed t c keys) new before after
-  pub verdicts : noted ≡ old ++ keys_verdicts t c keys
+pub record HaveEnded (t : Tables) (c : Client) (keys : List ℕ) (new : State) (before after : Step) :
+    Type 0 where
+  pub ended : HasEnded t (keys_deed t c keys) new before.made after.made
+  pub verdicts : after.verdicts.items ≡ before.verdicts.items ++ keys_verdicts t c keys
 
 abbrev pub Ends : Caller → ℕ → Keeping → List ℕ → Option (Result Command ParseFault) →
-    State → State → StepOutput → StepOutput → List Verdict → List Verdict → Type 0
-Ends k client reader typed order old new before after past noted =
+    State → State → Step → Step → Type 0
+Ends k client reader typed order old new before after =
     (t : Tables) (c : Client) (keys : List ℕ) → Stands t old → AreFit t
     → client_at t client ≡ Some c → k ≡ caller_by client c → AreRead c keys reader typed order
-    → HaveEnded t c keys new before after past noted
+    → HaveEnded t c keys new before after

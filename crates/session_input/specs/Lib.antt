@@ -1,4 +1,3 @@
-pub mod Acting
 pub mod Given
 pub mod KeyStepping
 pub mod Lines

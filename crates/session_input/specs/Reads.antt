@@ -9,6 +9,7 @@ use Rattle.session_model.specs.Keying.{items_behind, taken, typed_bytes, command
 use Rattle.session_model.specs.Answering.{Ordered, ordered, types, typing_verdicts, reading, unsaid}
 use Rattle.session_model.specs.Outcomes.{left_acts}
 use Rattle.session_state.specs.declared.step_output.StepOutput.{StepOutput}
+use Rattle.session_state.specs.declared.step_notes.Step.{Step}
 use Rattle.session_state.specs.declared.state.State.{State}
 use Rattle.session_state.specs.Stands.{Stands}
 use Rattle.session_model.specs.Sound.{AreFit}
@@ -51,23 +52,22 @@ pub record HasEnded (t : Tables) (d : Deed) (new : State) (before after : StepOu
 
 -- these keys were read, their step was taken to its end, and their verdicts were noted
 pub record HasRead (t : Tables) (c : Client) (read : List ℕ) (count : ℕ) (new : State)
-    (before after : StepOutput) (old noted : List Verdict) : Type 0 where
+    (before after : Step) : Type 0 where
   pub count_is : count ≡ length read
-  pub ended : HasEnded t (keys_deed t c read) new before after
-  pub verdicts : noted ≡ old ++ keys_verdicts t c read
+  pub ended : HasEnded t (keys_deed t c read) new before.made after.made
+  pub verdicts : after.verdicts.items ≡ before.verdicts.items ++ keys_verdicts t c read
 
 -- if there is a client that gave the keys; memory may be wanting
-abbrev pub ReadFor : Tables → Option Client → List ℕ → Result ℕ Refusal → State → StepOutput → StepOutput →
-    List Verdict → List Verdict → Type 0
-ReadFor t (Some c) bytes (Ok count) new before after old noted =
-    HasRead t c (read_of c bytes) count new before after old noted
-ReadFor t (Some c) bytes (Err r) new before after old noted = r ≡ NoMemory
-ReadFor t None bytes (Ok count) new before after old noted = ⊥
-ReadFor t None bytes (Err r) new before after old noted = (r ≡ NoWindow) × (noted ≡ old)
+abbrev pub ReadFor : Tables → Option Client → List ℕ → Result ℕ Refusal → State → Step → Step → Type 0
+ReadFor t (Some c) bytes (Ok count) new before after =
+    HasRead t c (read_of c bytes) count new before after
+ReadFor t (Some c) bytes (Err r) new before after = r ≡ NoMemory
+ReadFor t None bytes (Ok count) new before after = ⊥
+ReadFor t None bytes (Err r) new before after =
+    (r ≡ NoWindow) × (after.verdicts.items ≡ before.verdicts.items)
 
 -- so it was for all tables that the state stood for
-abbrev pub Reads : ℕ → List ℕ → State → Result ℕ Refusal → State → StepOutput → StepOutput →
-    List Verdict → List Verdict → Type 0
-Reads client bytes old result new before after past noted =
+abbrev pub Reads : ℕ → List ℕ → State → Result ℕ Refusal → State → Step → Step → Type 0
+Reads client bytes old result new before after =
     (t : Tables) → Stands t old → AreFit t
-    → ReadFor t (client_at t client) bytes result new before after past noted
+    → ReadFor t (client_at t client) bytes result new before after

@@ -3,11 +3,10 @@ use Rattle.std.specs.Prelude.{ℕ, ◌≡◌, ◌⊎◌, ◌++◌, List, Option,
 use Rattle.command_lang.specs.declared.command.Command.{Command}
 use Rattle.session_model.specs.declared.refusal.Refusal.{Refusal}
 use Rattle.session_model.specs.declared.refusal.Refusal.TheVariants.{NoMemory}
-use Rattle.session_model.specs.declared.verdict.Verdict.{Verdict}
 use Rattle.session_model.specs.Tables.{Tables}
 use Rattle.session_model.specs.Commands.{Ruling, ruling}
 use Rattle.session_state.specs.declared.caller.Caller.{Caller}
-use Rattle.session_state.specs.declared.step_output.StepOutput.{StepOutput}
+use Rattle.session_state.specs.declared.step_notes.Step.{Step}
 use Rattle.session_state.specs.declared.state.State.{State}
 use Rattle.session_state.specs.Stands.{Stands}
 use Rattle.session_model.specs.Sound.{AreFit}
@@ -15,15 +14,17 @@ use Rattle.session_state.specs.Doing.{Answers, caller_in}
 
 -- its deed was done, or it was refused, and its verdicts were noted; or memory was wanting
 abbrev pub Ruled : Tables → Ruling → Result (Option (List ℕ)) Refusal →
-    State → StepOutput → StepOutput → List Verdict → List Verdict → Type 0
-Ruled t r (Ok lists) new before after old noted =
-    Answers t r.answer (Ok lists) new before after × (noted ≡ old ++ r.verdicts)
-Ruled t r (Err e) new before after old noted =
-    (e ≡ NoMemory) ⊎ ((r.answer ≡ Err e) × (noted ≡ old ++ r.verdicts))
+    State → Step → Step → Type 0
+Ruled t r (Ok lists) new before after =
+    Answers t r.answer (Ok lists) new before.made after.made
+    × (after.verdicts.items ≡ before.verdicts.items ++ r.verdicts)
+Ruled t r (Err e) new before after =
+    (e ≡ NoMemory)
+    ⊎ ((r.answer ≡ Err e) × (after.verdicts.items ≡ before.verdicts.items ++ r.verdicts))
 
 -- so it was for all tables that the state stood for
 abbrev pub Rules : Caller → Command → State → Result (Option (List ℕ)) Refusal →
-    State → StepOutput → StepOutput → List Verdict → List Verdict → Type 0
-Rules k c old result new before after noted now_noted =
+    State → Step → Step → Type 0
+Rules k c old result new before after =
     (t : Tables) → Stands t old → AreFit t
-    → Ruled t (ruling t (caller_in t k) c) result new before after noted now_noted
+    → Ruled t (ruling t (caller_in t k) c) result new before after

@@ -5,13 +5,12 @@ use Rattle.session_model.specs.declared.event.Effect.{Effect}
 use Rattle.session_model.specs.declared.event.Effect.TheVariants.{Input}
 use Rattle.session_model.specs.declared.message.Message.{Message}
 use Rattle.session_model.specs.declared.message.Message.TheVariants.{Silence, Text}
-use Rattle.session_model.specs.declared.verdict.Verdict.{Verdict}
 use Rattle.session_model.specs.Tables.{Tables, Client, client_at, focused, focused_window}
 use Rattle.session_model.specs.Checks.{first_fault, typing_checks}
 use Rattle.session_model.specs.Answering.{types, typing_verdicts}
 use Rattle.session_model.specs.Texts.{text_of}
 use Rattle.session_state.specs.declared.caller.Caller.{Caller}
-use Rattle.session_state.specs.declared.step_output.StepOutput.{StepOutput}
+use Rattle.session_state.specs.declared.step_notes.Step.{Step}
 use Rattle.session_state.specs.declared.state.State.{State}
 use Rattle.session_state.specs.Stands.{Stands}
 use Rattle.session_model.specs.Sound.{AreFit}
@@ -35,17 +34,16 @@ message_after t c (b ∷ bytes) =
 
 -- the bytes were typed: this is the effect, and the verdicts were noted
 pub record Typed (t : Tables) (c : Client) (typed : List ℕ) (message : Message)
-    (before after : StepOutput) (old noted : List Verdict) : Type 0 where
+    (before after : Step) : Type 0 where
   pub message_is : message ≡ message_after t c typed
-  pub effects : after.effects.items ≡ before.effects.items ++ (types t c typed).effects
-  pub verdicts : noted ≡ old ++ typing_verdicts t c typed
+  pub effects : after.made.effects.items ≡ before.made.effects.items ++ (types t c typed).effects
+  pub verdicts : after.verdicts.items ≡ before.verdicts.items ++ typing_verdicts t c typed
 
 -- so it was for all tables that the state stands for
-abbrev pub Types : Caller → ℕ → List ℕ → State → Message → StepOutput → StepOutput → List Verdict →
-    List Verdict → Type 0
-Types k client typed s message before after old noted =
+abbrev pub Types : Caller → ℕ → List ℕ → State → Message → Step → Step → Type 0
+Types k client typed s message before after =
     (t : Tables) (c : Client) → Stands t s → AreFit t → client_at t client ≡ Some c
-    → k ≡ caller_by client c → Typed t c typed message before after old noted
+    → k ≡ caller_by client c → Typed t c typed message before after
 
 -- these effects come after those before
 abbrev pub Grows : List Effect → List Effect → Type 0

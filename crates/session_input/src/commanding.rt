@@ -52,8 +52,7 @@ pub fn give_line(
     line: &[u8],
     step: &mut Step,
 ) -> Reply
-    ensures step { Steps (Given user window line.now) state.old result state.new
-        step.old.made step.new.made step.old.verdicts.items step.new.verdicts.items }
+    ensures step { Steps (Given user window line.now) state.old result state.new step.old step.new }
     ensures err { OnErr result (IsAsBefore state.old state.new step.old.made step.new.made) }
 {
     if !is_known(state, user) {

@@ -63,8 +63,7 @@ fn obey_read(
     step: &mut Step,
 ) -> Result<(), Refusal>
     ensures ok { OnOk result (ObeysRead given.now.by.caller given.now.by.client reader.old message
-        given.now.order state.old state.new step.old.made step.new.made
-        step.old.verdicts.items step.new.verdicts.items) }
+        given.now.order state.old state.new step.old step.new) }
     ensures err { IsHere given.now.by.client state.old
         → OnErr result (IsAsBefore state.old state.new step.old.made step.new.made) }
     ensures memory { IfErr result (λ refusal. refusal ≡ NoMemory) }
@@ -90,8 +89,7 @@ fn give(
     step: &mut Step,
 ) -> Result<(), Refusal>
     ensures ok { OnOk result (Gives given.now.by.caller given.now.by.client reader.old typed
-        (Some given.now.order) state.old state.new step.old.made step.new.made
-        step.old.verdicts.items step.new.verdicts.items) }
+        (Some given.now.order) state.old state.new step.old step.new) }
     ensures err { IsHere given.now.by.client state.old
         → OnErr result (IsAsBefore state.old state.new step.old.made step.new.made) }
     ensures memory { IfErr result (λ refusal. refusal ≡ NoMemory) }
@@ -121,8 +119,7 @@ fn give_order(
     step: &mut Step,
 ) -> Result<(), Refusal>
     ensures ok { OnOk result (Ends given.now.by.caller given.now.by.client reader.old typed
-        (Some given.now.order) state.old state.new step.old.made step.new.made
-        step.old.verdicts.items step.new.verdicts.items) }
+        (Some given.now.order) state.old state.new step.old step.new) }
     ensures err { IsHere given.now.by.client state.old
         → OnErr result (IsAsBefore state.old state.new step.old.made step.new.made) }
     ensures memory { IfErr result (λ refusal. refusal ≡ NoMemory) }
@@ -143,8 +140,7 @@ fn give_typed(
     step: &mut Step,
 ) -> Result<(), Refusal>
     ensures ok { OnOk result (Ends by.caller by.client reader.old typed None
-        state.old state.new step.old.made step.new.made
-        step.old.verdicts.items step.new.verdicts.items) }
+        state.old state.new step.old step.new) }
     ensures err { OnErr result (IsAsBefore state.old state.new step.old.made step.new.made) }
     ensures memory { IfErr result (λ refusal. refusal ≡ NoMemory) }
 {
@@ -157,8 +153,7 @@ fn give_typed(
 /// line of the prompt. What they type goes to the window in focus, the command is obeyed, the client is
 /// told once of each refusal, and then users leave windows. Returns how many keys were read.
 pub fn keys(state: &mut State, client: u32, bytes: &[u8], step: &mut Step) -> Result<usize, Refusal>
-    ensures answer { Reads client bytes.now state.old result state.new
-        step.old.made step.new.made step.old.verdicts.items step.new.verdicts.items }
+    ensures answer { Reads client bytes.now state.old result state.new step.old step.new }
     ensures err { OnErr result (IsAsBefore state.old state.new step.old.made step.new.made) }
 {
     let Some(row) = state.clients.get(client) else {

@@ -33,7 +33,7 @@ fn obey_command(
     step: &mut Step,
 ) -> Result<(), Refusal>
     ensures ok { OnOk result (Obeys by.caller by.client (Some (Ok command.now)) state.old state.new
-        step.old.made step.new.made step.old.verdicts.items step.new.verdicts.items) }
+        step.old step.new) }
     ensures memory { IfErr result (λ refusal. refusal ≡ NoMemory) }
     ensures whole { IsWhole result state.old state.new step.old.made step.new.made }
 {
@@ -61,7 +61,7 @@ pub fn obey(
     step: &mut Step,
 ) -> Result<(), Refusal>
     ensures ok { OnOk result (Obeys by.caller by.client (Some order.now) state.old state.new
-        step.old.made step.new.made step.old.verdicts.items step.new.verdicts.items) }
+        step.old step.new) }
     ensures memory { IfErr result (λ refusal. refusal ≡ NoMemory) }
     ensures whole { IsWhole result state.old state.new step.old.made step.new.made }
 {

@@ -2,13 +2,13 @@
 
 ghost use Rattle.std.specs.Prelude.{◌≡◌, true, Some, None, IfOk, IfErr};
 ghost use Rattle.std.specs.Option.{is_some};
+ghost use Rattle.command_lang.specs.Needs.{needs};
 ghost use Rattle.session_state.specs.Doing.{Does, GivesBy, HasRoomToAct, IsAsBefore, IsSilent};
 ghost use Rattle.session_state.specs.Doing.{IsWhole};
 ghost use Rattle.session_model.specs.declared.refusal.Refusal.TheVariants.{NoWindow};
-ghost use Rattle.session_input.specs.Acting.{acts_on_client};
 ghost use Rattle.session_input.specs.Ruled.{Rules};
 
-use command_lang::Command;
+use command_lang::{Command, needs_of};
 use session_access::{
     acladd, aclchg, acldel, aclgrp, aclgrp_of, aclumask, check_command, detach, kill, multiuser,
     quit,
@@ -31,27 +31,7 @@ fn window_of(caller: Caller) -> Result<u32, Refusal>
     }
 }
 
-/// Whether a command acts on the client that gives it.
-fn is_of_client(command: &Command) -> bool
-    ensures { result ≡ acts_on_client command.now }
-{
-    matches!(
-        command,
-        Command::Detach
-            | Command::Select(_)
-            | Command::Next
-            | Command::Prev
-            | Command::Other
-            | Command::Split { .. }
-            | Command::Focus
-            | Command::Remove
-            | Command::Only
-            | Command::Fit
-            | Command::Scrollview(_)
-    )
-}
-
-/// Carries out a command that acts on the client that gives it.
+/// Carries out a command that needs a client, for the one that gives it.
 fn act_on_client(
     state: &mut State,
     caller: Caller,
@@ -61,7 +41,7 @@ fn act_on_client(
 ) -> Result<Option<Bytes>, Refusal>
     requires room { HasRoomToAct made.old }
     requires gives { GivesBy client state.old caller }
-    requires client { acts_on_client command.now ≡ true }
+    requires client { (needs command.now).client ≡ true }
     ensures answer { Does caller command.now state.old result state.new made.old made.new }
     ensures silent { IsSilent result state.old state.new made.old made.new }
 {
@@ -81,7 +61,7 @@ fn act_on_client(
     }
 }
 
-/// Carries out a command whose checks have passed, for the client that gives it or for its window.
+/// Carries out a command whose checks have passed.
 #[tactic(auto, using(crate::proofs::Acting::silent_lists))]
 fn act(
     state: &mut State,
@@ -95,7 +75,7 @@ fn act(
         → IsAsBefore state.old state.new made.old made.new) }
     ensures whole { IsWhole result state.old state.new made.old made.new }
 {
-    if is_of_client(command) {
+    if needs_of(command).client {
         let client = client_of(state, caller)?;
         return act_on_client(state, caller, client, command, made);
     }
@@ -137,8 +117,7 @@ pub fn order(
     command: &Command,
     step: &mut Step,
 ) -> Result<Option<Bytes>, Refusal>
-    ensures ruled { Rules caller command.now state.old result state.new
-        step.old.made step.new.made step.old.verdicts.items step.new.verdicts.items }
+    ensures ruled { Rules caller command.now state.old result state.new step.old step.new }
     ensures lists { IfOk result (λ text. is_some text ≡ true
         → IsAsBefore state.old state.new step.old.made step.new.made) }
     ensures whole { IsWhole result state.old state.new step.old.made step.new.made }

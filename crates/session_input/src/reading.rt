@@ -12,8 +12,7 @@ use session_state::{State, Step};
 /// Takes the keys of a client, up to the first that completes a command or a line. Users leave windows
 /// only if there is one.
 pub fn give_keys(state: &mut State, client: u32, bytes: &[u8], step: &mut Step) -> Reply
-    ensures step { Steps (Keys client bytes.now) state.old result state.new
-        step.old.made step.new.made step.old.verdicts.items step.new.verdicts.items }
+    ensures step { Steps (Keys client bytes.now) state.old result state.new step.old step.new }
     ensures err { OnErr result (IsAsBefore state.old state.new step.old.made step.new.made) }
 {
     let taken = keys(state, client, bytes, step)?;

@@ -51,7 +51,7 @@ pub fn type_bytes(
     step: &mut Step,
 ) -> Result<Message, Refusal>
     ensures ok { IfOk result (λ message. Types by.caller by.client typed state.now message
-        step.old.made step.new.made step.old.verdicts.items step.new.verdicts.items) }
+        step.old step.new) }
     ensures grows { OnOk result (Grows step.old.made.effects.items step.new.made.effects.items) }
     ensures err { OnErr result (step.new.made.effects.items ≡ step.old.made.effects.items) }
     ensures memory { IfErr result (λ refusal. refusal ≡ NoMemory) }

@@ -8,21 +8,21 @@ use Rattle.session_core.proofs.Settled.{was_settled, was_unsettled}
 use Rattle.session_core.proofs.going.end_window.Goals as goal
 
 pub returns-in_err-close_window-clause-step : goal.returns-in_err-close_window-clause-step
-returns-in_err-close_window-clause-step c = λ past t st fit.
+returns-in_err-close_window-clause-step c = λ t st fit.
     let window = c.args.window in
     let deed : Window → Deed = λ w. closes (λ (v : Window). v.serial == window) reason.Detached t in
     let p = err_from_is_err_and c.from_residual.result c.from_residual.ensures.1 in
     rw (p.1, p.2)
     (was_unsettled t deed (window_at t window) c.in_err-close_window.field-0.0 c.args.state.now
-    c.close_window.new.state c.args.made.now c.close_window.new.made past
+    c.close_window.new.state c.args.step.now c.close_window.new.made
     (c.in_err-close_window.ensures.answer t st fit) st c.in_err-close_window.ensures.whole.0)
 
 pub returns-clause-step : goal.returns-clause-step
-returns-clause-step c = λ past t st fit.
+returns-clause-step c = λ t st fit.
     let window = c.args.window in
     let deed : Window → Deed = λ w. closes (λ (v : Window). v.serial == window) reason.Detached t in
     let settled = c.in_ok-close_window.ensures.answer t st fit in
     was_settled t deed (window_at t window) settled.0 (Ok c.made_so.result) c.close_window.new.state
-    c.leave.new.state c.args.made.now c.close_window.new.made c.leave.new.made past settled.1
+    c.leave.new.state c.args.step.now c.close_window.new.made c.leave.new.made settled.1
     (sym c.made_so.ensures) settled.3
     (c.leave.ensures t settled.0 (c.of-focuses.ensures t st fit.sound) settled.3.stands)

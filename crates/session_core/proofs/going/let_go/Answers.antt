@@ -8,21 +8,21 @@ use Rattle.session_core.proofs.Settled.{was_settled, was_unsettled}
 use Rattle.session_core.proofs.going.let_go.Goals as goal
 
 pub returns-in_err-detach_client-clause-step : goal.returns-in_err-detach_client-clause-step
-returns-in_err-detach_client-clause-step c = λ past t st fit.
+returns-in_err-detach_client-clause-step c = λ t st fit.
     let client = c.args.client in
     let deed : Client → Deed = λ m. parts (λ (d : Client). d.serial == client) reason.Detached t in
     let p = err_from_is_err_and c.from_residual.result c.from_residual.ensures.1 in
     rw (p.1, p.2)
     (was_unsettled t deed (client_at t client) c.in_err-detach_client.field-0.0 c.args.state.now
-    c.detach_client.new.state c.args.made.now c.detach_client.new.made past
+    c.detach_client.new.state c.args.step.now c.detach_client.new.made
     (c.in_err-detach_client.ensures.answer t st fit) st c.in_err-detach_client.ensures.whole.0)
 
 pub returns-clause-step : goal.returns-clause-step
-returns-clause-step c = λ past t st fit.
+returns-clause-step c = λ t st fit.
     let client = c.args.client in
     let deed : Client → Deed = λ m. parts (λ (d : Client). d.serial == client) reason.Detached t in
     let settled = c.in_ok-detach_client.ensures.answer t st fit in
     was_settled t deed (client_at t client) settled.0 (Ok c.made_so.result) c.detach_client.new.state
-    c.leave.new.state c.args.made.now c.detach_client.new.made c.leave.new.made past settled.1
+    c.leave.new.state c.args.step.now c.detach_client.new.made c.leave.new.made settled.1
     (sym c.made_so.ensures) settled.3
     (c.leave.ensures t settled.0 (c.of-focuses.ensures t st fit.sound) settled.3.stands)

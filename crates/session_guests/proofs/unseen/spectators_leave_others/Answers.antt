@@ -1,5 +1,5 @@
 use Rattle.session_guests.proofs.unseen.spectators_leave_others.Goals as goal
-use Rattle.session_guests.proofs.Spectators.{leaves_others}
+use Rattle.session_guests.proofs.OthersOfSpectators.{leaves_others}
 
 pub returns : goal.returns
 returns c t e user fit hold step by watches = leaves_others

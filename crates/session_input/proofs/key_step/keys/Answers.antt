@@ -31,12 +31,11 @@ returns-clause-answer c = λ t st fit.
     let keys = c.in_ok-taken.field-0 in
     let reading = c.in_ok-taken.ensures row
     (subst (λ (k : Keeping). StandsFor k row.keys) (sym c.copied-reader.ensures) found.2.keys) in
-    let past = c.args.step.now.verdicts.items in
     elim c.match-order.branch [
       | in-Some-order+in_ok-give_order-in-Some-order w ↦
           rw (w.state-is, w.step-is)
-          (were_read t row (client_at t n) bytes keys.taken w.give_order.new.state c.args.step.now.made
-          w.give_order.new.step.made past w.give_order.new.step.verdicts.items found.1 reading.taken_is
+          (were_read t row (client_at t n) bytes keys.taken w.give_order.new.state c.args.step.now
+          w.give_order.new.step found.1 reading.taken_is
           (w.in_ok-give_order-in-Some-order.ensures.ok t row (read_of row bytes) st fit found.1 here
           (record {
             typed_is = reading.read.typed_is;
@@ -45,8 +44,8 @@ returns-clause-answer c = λ t st fit.
           })))
       | in-None+in_ok-give_typed-in-None w ↦
           rw (w.state-is, w.step-is)
-          (were_read t row (client_at t n) bytes keys.taken w.give_typed.new.state c.args.step.now.made
-          w.give_typed.new.step.made past w.give_typed.new.step.verdicts.items found.1 reading.taken_is
+          (were_read t row (client_at t n) bytes keys.taken w.give_typed.new.state c.args.step.now
+          w.give_typed.new.step found.1 reading.taken_is
           (w.in_ok-give_typed-in-None.ensures.ok t row (read_of row bytes) st fit found.1 here
           (record {
             typed_is = reading.read.typed_is;

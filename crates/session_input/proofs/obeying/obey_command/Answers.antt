@@ -21,11 +21,10 @@ returns-in_ok-message-in-Ok-Some-clause-ok c =
     let s = c.order.new.state in
     on_ok c.say.result (λ says. λ t row d st fit at serial same.
     let told = subst (λ (k : Caller). Ruled t (ruling t (caller_in t k) order)
-    (Ok c.in-Ok-Some.field-0) s c.args.step.now.made c.order.new.step.made c.args.step.now.verdicts.items
-    c.order.new.step.verdicts.items) same (c.in-Ok-Some.ensures.ruled t st fit) in
+    (Ok c.in-Ok-Some.field-0) s c.args.step.now c.order.new.step) same (c.in-Ok-Some.ensures.ruled t st fit) in
     let kept = c.in-Ok-Some.ensures.lists (ap is_some c.in-Ok-Some.field-0-is) in
-    obeyed_listing t row d c.args.by.client order told.0.0 text s c.say.new.state c.args.step.now.made
-    c.order.new.step.made c.say.new.made c.args.step.now.verdicts.items c.order.new.step.verdicts.items serial
+    obeyed_listing t row d c.args.by.client order told.0.0 text s c.say.new.state c.args.step.now
+    c.order.new.step c.say.new.made serial
     (subst (λ (x : State). Stands t x) (sym kept.state) st) at told.0.1
     (sym c.in-Ok-Some.field-0-is ∙ told.0.2) told.0.3 told.1
     (subst (λ (m : Message). Says c.args.by.client m text s c.say.new.state c.order.new.step.made
@@ -40,12 +39,10 @@ returns-in_ok-reserve-in-Err c =
     let kept = c.in-Err.ensures.whole.0 in
     record {
       ok = on_ok c.say_why.result (λ says. λ t row d st fit at serial same.
-          obeyed_refused_or t row c.args.by.client order r s c.say_why.new.state c.args.step.now.made
-          c.order.new.step.made c.say_why.new.made c.args.step.now.verdicts.items
-          c.order.new.step.verdicts.items serial (sym c.wants_memory.ensures ∙ c.if-wants_memory.false)
+          obeyed_refused_or t row c.args.by.client order r s c.say_why.new.state c.args.step.now
+          c.order.new.step c.say_why.new.made serial (sym c.wants_memory.ensures ∙ c.if-wants_memory.false)
           (subst (λ (k : Caller). Ruled t (ruling t (caller_in t k) order) (Err r)
-          s c.args.step.now.made c.order.new.step.made c.args.step.now.verdicts.items
-          c.order.new.step.verdicts.items) same (c.in-Err.ensures.ruled t st fit))
+          s c.args.step.now c.order.new.step) same (c.in-Err.ensures.ruled t st fit))
           kept.acts kept.effects
           (kept_on t _ c.say_why.new.state _ c.order.new.step.made c.say_why.new.made
           (says t d (subst (λ (x : State). Stands t x) (sym kept.state) st) at)

@@ -1,6 +1,7 @@
-use Rattle.std.proofs.Common.{sym, subst, ◌∙◌}
+use Rattle.std.proofs.Common.{ap, sym, subst, ◌∙◌}
 use Rattle.std.proofs.lemmas.Result.{err_from_is_err_and}
 use Rattle.command_lang.specs.declared.command.Command.{Command}
+use Rattle.command_lang.specs.declared.needs.Needs.{Needs}
 use Rattle.session_state.specs.Doing.{Does}
 use Rattle.session_input.proofs.Acting.{nobody_gives}
 use Rattle.session_input.proofs.orders.act.Goals as goal
@@ -10,7 +11,7 @@ returns-in_err-client-clause-answer c =
     let p = err_from_is_err_and c.from_residual.result c.from_residual.ensures.1 in
     rw (p.1, p.2)
     (nobody_gives c.args.caller c.args.command.now c.args.state.now c.args.made.now c.in_err-client.field-0.0
-    (sym c.is_of_client.ensures ∙ c.if-is_of_client.true) c.in_err-client.ensures.err)
+    (ap (λ (n : Needs). n.client) (sym c.needs_of.ensures) ∙ c.if-needs_of.true) c.in_err-client.ensures.err)
 
 pub returns-in-Screen-clause-answer : goal.returns-in-Screen-clause-answer
 returns-in-Screen-clause-answer c =

@@ -10,12 +10,11 @@ returns-in_err-taken-clause-step c = λ t st fit.
     let p = err_from_is_err_and c.from_residual.result c.from_residual.ensures.1 in
     rw (p.1, p.2)
     (was_unread t (client_at t c.args.client) c.args.bytes.now c.in_err-taken.field-0.0
-    c.args.state.now c.keys.new.state c.args.step.now.made c.keys.new.step.made c.args.step.now.verdicts.items
-    c.keys.new.step.verdicts.items (c.in_err-taken.ensures.answer t st fit) st c.in_err-taken.ensures.err)
+    c.args.state.now c.keys.new.state c.args.step.now c.keys.new.step (c.in_err-taken.ensures.answer t st fit) st
+    c.in_err-taken.ensures.err)
 
 pub returns-clause-step : goal.returns-clause-step
 returns-clause-step c = λ t st fit.
     let count = c.in_ok-taken.taken in
     was_read t (client_at t c.args.client) c.args.bytes.now count (reply_of count 0 0 None)
-    c.keys.new.state c.args.step.now.made c.keys.new.step.made c.args.step.now.verdicts.items
-    c.keys.new.step.verdicts.items (c.in_ok-taken.ensures.answer t st fit) refl
+    c.keys.new.state c.args.step.now c.keys.new.step (c.in_ok-taken.ensures.answer t st fit) refl

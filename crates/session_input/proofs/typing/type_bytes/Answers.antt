@@ -4,7 +4,7 @@ use Rattle.session_model.specs.declared.message.Message.{Message}
 use Rattle.session_model.specs.declared.refusal.Refusal.TheVariants.{NoMemory}
 use Rattle.session_model.specs.Checks.{typing_checks}
 use Rattle.session_state.specs.declared.caller.Caller.{Caller}
-use Rattle.session_state.specs.declared.step_output.StepOutput.{StepOutput}
+use Rattle.session_state.specs.declared.step_notes.Step.{Step}
 use Rattle.session_state.specs.Doing.{caller_in}
 use Rattle.session_access.specs.Checked.{Passed, Failed}
 use Rattle.session_input.specs.Typing.{Typed, input_to}
@@ -13,8 +13,7 @@ use Rattle.session_input.proofs.typing.type_bytes.Goals as goal
 
 pub returns-in_ok-put_typed-in-Ok-clause-ok : goal.returns-in_ok-put_typed-in-Ok-clause-ok
 returns-in_ok-put_typed-in-Ok-clause-ok c = λ t row st fit at same.
-    typed_through t row c.args.typed c.args.step.now.made _ c.args.step.now.verdicts.items
-    c.check_typing.new.verdicts.items (sym c.is_empty.ensures ∙ c.if-is_empty.false)
+    typed_through t row c.args.typed c.args.step.now _ (sym c.is_empty.ensures ∙ c.if-is_empty.false)
     (subst (λ (k : Caller). Passed t (typing_checks k.user (caller_in t k).window)
     c.args.step.now.verdicts.items c.check_typing.new.verdicts.items) same (c.in-Ok.ensures t st fit))
     (c.in_ok-put_typed-in-Ok.ensures.ok
@@ -25,10 +24,13 @@ returns-in_ok-deny-in-Err-clause-ok c = λ t row st fit at same.
     let r = c.in-Err.refusal in
     let past = c.args.step.now.verdicts.items in
     let noted = c.check_typing.new.verdicts.items in
-    let after : StepOutput = record c.args.step.now.made { effects = c.deny.new.effects } in
-    subst (λ (m : Message). Typed t row c.args.typed m c.args.step.now.made after past noted)
+    let after : Step = record {
+      made = record c.args.step.now.made { effects = c.deny.new.effects };
+      verdicts = c.check_typing.new.verdicts;
+    } in
+    subst (λ (m : Message). Typed t row c.args.typed m c.args.step.now after)
     (sym c.in_ok-deny-in-Err.ensures.ok.0)
-    (typed_refused_or t row c.args.by.client c.args.typed r c.args.step.now.made after past noted
+    (typed_refused_or t row c.args.by.client c.args.typed r c.args.step.now after
     (sym c.is_empty.ensures ∙ c.if-is_empty.false) at
     (sym c.wants_memory.ensures ∙ c.if-wants_memory.false)
     (subst (λ (k : Caller). (r ≡ NoMemory) ⊎ Failed t (typing_checks k.user (caller_in t k).window)

@@ -3,7 +3,7 @@ use Rattle.session_model.specs.declared.event.Effect.{Effect}
 use Rattle.session_model.specs.Trace.{EventValue, happening}
 use Rattle.session_model.specs.Run.{tables_of}
 use Rattle.session_state.specs.declared.state.State.{State}
-use Rattle.session_state.specs.declared.step_output.StepOutput.{StepOutput}
+use Rattle.session_state.specs.declared.step_notes.Step.{Step}
 use Rattle.session_core.specs.Drawn.{draws_one_of}
 use Rattle.session_core.specs.Taking.{TakenAs, StayShared}
 use Rattle.session_core.specs.declared.session.Session.{Session}
@@ -32,14 +32,15 @@ returns-clause-step c = λ taken h st.
       sharing =
           c.note_step.new.sharing;
     } in
-    let before : StepOutput = record { acts = c.new-2.result; effects = c.replace.result } in
+    let before : Step = record {
+      made = record { acts = c.new-2.result; effects = c.replace.result };
+      verdicts = c.new-verdicts.result;
+    } in
     let step = subst
     (λ (s : State). TakenAs event c.take-reply.result (tables_of h)
-    (StayShared event old.sharing c.take-reply.new.sharing) s before c.take-reply.new.step.made
-    c.new-verdicts.result.items c.take-reply.new.step.verdicts.items) (sym c.note_step.ensures.state)
-    (c.take-reply.ensures.step (tables_of h) st.stands (run_is_fit h) st.shared taken) in
+    (StayShared event old.sharing c.take-reply.new.sharing) s before c.take-reply.new.step)
+    (sym c.note_step.ensures.state) (c.take-reply.ensures.step (tables_of h) st.stands (run_is_fit h) st.shared taken) in
     let made = step_taken h old new c.take-reply.new.sharing event c.take-reply.result c.of.result before
-    c.take-reply.new.step.made c.new-verdicts.result.items c.take-reply.new.step.verdicts.items
-    c.of.ensures c.new-2.ensures.items c.new-verdicts.ensures.items st c.note_drawn.ensures c.note_step.ensures.left
-    step in
+    c.take-reply.new.step c.of.ensures c.new-2.ensures.items c.new-verdicts.ensures.items st c.note_drawn.ensures
+    c.note_step.ensures.left step in
     (made.0, made.1 ∙ ap (λ (v : Vec Effect Global). v.items ++ made.0) c.replace.ensures.value, made.2)
