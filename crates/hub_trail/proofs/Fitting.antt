@@ -49,7 +49,7 @@ use Rattle.session_laws.proofs.Outcomes as outcomes
 use Rattle.session_guests.proofs.Steps.{Did, Obeys, with_clients}
 use Rattle.session_guests.proofs.Focusing.{IsMine}
 use Rattle.session_guests.proofs.Gating.{obeys_of}
-use Rattle.session_guests.proofs.KeptLocks.{Own, IsOf, callers, unique, own_read}
+use Rattle.session_guests.proofs.Callers.{Own, IsOf, callers, unique, own_read}
 use Rattle.hub_trail.specs.declared.kept.Kept.{Kept}
 use Rattle.hub_trail.specs.declared.kept.Kept.TheVariants as kept
 use Rattle.hub_trail.specs.Trails.{Entry}

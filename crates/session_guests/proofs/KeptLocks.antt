@@ -56,7 +56,7 @@ use Rattle.session_guests.proofs.Harmless.{NoneOf, IsHarmless, stays_held}
 use Rattle.session_guests.proofs.Focusing.{IsMine, focus_stays, NotHis, nobody_else}
 use Rattle.session_guests.proofs.Holding.{kept, by_acts, givers}
 use Rattle.session_guests.proofs.Parting.{did_x}
-pub use Rattle.session_guests.proofs.Callers.{Own, IsOf, callers, unique, own_read}
+use Rattle.session_guests.proofs.Callers.{Own, IsOf, callers, unique, own_read}
 use Rattle.session_guests.proofs.Callers.{all_reverse, focus_read}
 
 -- ---- locks that are set
