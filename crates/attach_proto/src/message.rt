@@ -151,16 +151,6 @@ fn command_of(alloc: Global, bytes: &[u8]) -> Result<Message, Unread>
 }
 
 #[tactic(auto, unfolding(crate::specs::Reading::message_of))]
-fn resize_of(bytes: &[u8]) -> Result<Message, Unread>
-    ensures { Gives (λ m. m) result (message_of Kind.Resize bytes.now) }
-{
-    let (rows, rest) = two_at(bytes)?;
-    let (columns, rest) = two_at(rest)?;
-    end_of(rest)?;
-    Ok(Message::Resize { rows, columns })
-}
-
-#[tactic(auto, unfolding(crate::specs::Reading::message_of))]
 fn welcome_of(bytes: &[u8]) -> Result<Message, Unread>
     ensures { Gives (λ m. m) result (message_of Kind.Welcome bytes.now) }
 {
@@ -169,14 +159,16 @@ fn welcome_of(bytes: &[u8]) -> Result<Message, Unread>
     Ok(Message::Welcome(number))
 }
 
+// The lines and columns of a frame that says nothing else.
 #[tactic(auto, unfolding(crate::specs::Reading::message_of))]
-fn size_of(bytes: &[u8]) -> Result<Message, Unread>
-    ensures { Gives (λ m. m) result (message_of Kind.Size bytes.now) }
+fn size_of(bytes: &[u8]) -> Result<(u16, u16), Unread>
+    ensures resize { Gives (λ x. message.Resize x.0 x.1) result (message_of Kind.Resize bytes.now) }
+    ensures size { Gives (λ x. message.Size x.0 x.1) result (message_of Kind.Size bytes.now) }
 {
     let (rows, rest) = two_at(bytes)?;
     let (columns, rest) = two_at(rest)?;
     end_of(rest)?;
-    Ok(Message::Size { rows, columns })
+    Ok((rows, columns))
 }
 
 #[tactic(auto, unfolding(crate::specs::Reading::message_of))]
@@ -198,7 +190,10 @@ pub fn message_of(alloc: Global, kind: Kind, bytes: &[u8]) -> Result<Message, Un
         Kind::Window => window_frame_of(alloc, bytes),
         Kind::Command => command_of(alloc, bytes),
         Kind::Keys => Ok(Message::Keys(some_of(alloc, bytes)?)),
-        Kind::Resize => resize_of(bytes),
+        Kind::Resize => {
+            let (rows, columns) = size_of(bytes)?;
+            Ok(Message::Resize { rows, columns })
+        }
         Kind::Output => Ok(Message::Output(some_of(alloc, bytes)?)),
         Kind::Detach => {
             end_of(bytes)?;
@@ -208,7 +203,10 @@ pub fn message_of(alloc: Global, kind: Kind, bytes: &[u8]) -> Result<Message, Un
         Kind::Draw => Ok(Message::Draw(some_of(alloc, bytes)?)),
         Kind::Input => Ok(Message::Input(some_of(alloc, bytes)?)),
         Kind::Say => Ok(Message::Say(text_of(alloc, bytes)?)),
-        Kind::Size => size_of(bytes),
+        Kind::Size => {
+            let (rows, columns) = size_of(bytes)?;
+            Ok(Message::Size { rows, columns })
+        }
         Kind::Gone => gone_of(bytes),
     }
 }
