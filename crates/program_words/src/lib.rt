@@ -5,6 +5,7 @@
 mod arguments;
 mod mux;
 mod mux_trail;
+mod mux_web;
 mod muxd;
 mod refusals;
 mod setup;
@@ -14,6 +15,7 @@ mod vtcat;
 pub use arguments::{given, not_given};
 pub use mux::of_client;
 pub use mux_trail::of_trail;
+pub use mux_web::of_web;
 pub use muxd::of_server;
 pub use refusals::{RefusedLine, explain};
 pub use setup::{SetupFault, SetupLine, read_setup};

@@ -56,6 +56,10 @@ pub enum Kind {
         value: &'static str,
         need: Need,
     },
+    /// `--name VALUE`, which may be given more than once.
+    Texts {
+        value: &'static str,
+    },
     /// `--name VALUE`, a number from `least` to `most`.
     Number {
         value: &'static str,
@@ -91,6 +95,7 @@ fn arg_of(alloc: Global, word: Word) -> Arg<'static> {
         Kind::Flag => arg.long(name).action(ArgAction::SetTrue),
         Kind::Bare { value } => arg.value_name(value).required(true),
         Kind::Text { value, need } => needing(arg.long(name).value_name(value), need),
+        Kind::Texts { value } => arg.long(name).value_name(value).action(ArgAction::Append),
         Kind::Number {
             value,
             least,

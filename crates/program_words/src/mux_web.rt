@@ -1,0 +1,84 @@
+//! The arguments of `mux-web`.
+
+use crate::table::{Kind, Need, Program, VERSION, Word, matches_of};
+use clap::{ArgMatches, Error};
+use std::alloc::Global;
+
+const EXAMPLE: &str = "Example, beside that of muxd:
+  mux-web --socket $XDG_RUNTIME_DIR/mux/socket --listen 127.0.0.1:8090
+  Then open http://127.0.0.1:8090/ in a browser.";
+
+static MUX_WEB: Program = Program {
+    name: "mux-web",
+    version: Some(VERSION),
+    about: "Lets users join a session from their browsers",
+    example: Some(EXAMPLE),
+    words: &[
+        Word {
+            name: "socket",
+            kind: Kind::Text {
+                value: "PATH",
+                need: Need::Needed,
+            },
+            help: "The server's socket",
+        },
+        Word {
+            name: "listen",
+            kind: Kind::Text {
+                value: "ADDRESS:PORT|PATH",
+                need: Need::Needed,
+            },
+            help: "Where browsers connect: an address of this machine, or a socket for a web server",
+        },
+        Word {
+            name: "origin",
+            kind: Kind::Texts { value: "URL" },
+            help: "The page's address without a path, such as https://mux.example.org; may be given again",
+        },
+        Word {
+            name: "watch",
+            kind: Kind::Text {
+                value: "NAME",
+                need: Need::Free,
+            },
+            help: "The user as whom anybody may watch",
+        },
+        Word {
+            name: "watch-token",
+            kind: Kind::Text {
+                value: "FILE",
+                need: Need::Free,
+            },
+            help: "The file with that user's token",
+        },
+        Word {
+            name: "most",
+            kind: Kind::Number {
+                value: "N",
+                least: 1,
+                most: 10_000,
+                need: Need::Default("64"),
+            },
+            help: "How many pages may be open, 1 to 10000",
+        },
+        Word {
+            name: "page",
+            kind: Kind::Text {
+                value: "FOLDER",
+                need: Need::Default("/usr/local/share/mux/web"),
+            },
+            help: "The folder with index.html, mux.js and mux.css",
+        },
+        Word {
+            name: "log",
+            kind: Kind::Flag,
+            help: "Logs to standard error who comes and goes",
+        },
+    ],
+    ways: &[],
+};
+
+/// The arguments of `mux-web` as they were understood; the first of `words` is the program's name.
+pub fn of_web<'a>(alloc: Global, words: &'a [String]) -> Result<ArgMatches<'a>, Error> {
+    matches_of(alloc, &MUX_WEB, words)
+}
