@@ -1,7 +1,7 @@
 # The toolchain's command; RT=/path/to/rt where it isn't on the PATH.
 RT ?= rt
 PREFIX ?= /usr/local
-PROGRAMS = muxd mux muxsim mux_trail vtcat
+PROGRAMS = muxd mux mux_web muxsim mux_trail vtcat
 TESTS = $(notdir $(patsubst %/,%,$(dir $(wildcard crates/*_tests/src))))
 SCRIPTS = $(shell grep -s -l -m 1 '^.!/bin/sh' contrib/*)
 

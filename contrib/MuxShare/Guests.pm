@@ -1,4 +1,5 @@
-# The accounts that may join, by uid: who they are in the session, whether they may type, and for how long.
+# The guests: accounts that may join, by uid, and people with a browser, by "web" and their name.  Who they are in the
+# session, whether they may type, and for how long.
 package MuxShare::Guests;
 use strict;
 use warnings;
@@ -25,7 +26,13 @@ sub new {
     return bless { session => $session, guests => {}, was_taken => 0 }, $class;
 }
 
-# Returns the guest with this uid, or undef: name (in the session), account, types, end, is_warned, connections (how
+# Returns the key of a guest that mux-share names with a uid, or with "web" if no account has the name.
+sub key {
+    my ($self, $account, $uid) = @_;
+    return $self->{guests}{$uid} ? $uid : "web $account";
+}
+
+# Returns the guest with this key, or undef: name (in the session), account, types, end, is_warned, connections (how
 # many are left) and counted (when that was).
 sub guest { my ($self, $uid) = @_; return $self->{guests}{$uid} }
 
@@ -46,17 +53,20 @@ sub give_all {
 
 sub no_shell { return 'window 0 is no longer the shared shell (its number or title was changed)' }
 
-# Lets an account join, or changes what it may do.  Returns a fault, or ''.
+# Lets an account join, or with the uid "web" somebody with a browser, or changes what they may do.  Returns a fault,
+# or ''.
 sub add {
     my ($self, $account, $uid, $types, $seconds) = @_;
-    return "$account is your own account" if $uid == $>;
-    return "$account can't be told from other accounts (uid $uid)" if $uid == NOBODY;
-    my $name = mux_name($account, $uid);
+    my $is_web = $uid eq 'web';
+    return "$account is your own account" if !$is_web && $uid == $>;
+    return "$account can't be told from other accounts (uid $uid)" if !$is_web && $uid == NOBODY;
+    my $name = $is_web ? $account : mux_name($account, $uid);
+    my $key = $is_web ? "web $account" : $uid;
     my $guests = $self->{guests};
-    my $is_other = $name eq $self->{session}->owner || grep { $_ != $uid && $guests->{$_}{name} eq $name } keys %$guests;
+    my $is_other = $name eq $self->{session}->owner || grep { $_ ne $key && $guests->{$_}{name} eq $name } keys %$guests;
     return "$account would have the same name here as somebody else ($name)" if $is_other;
     return no_shell() unless $self->{session}->has_shell;
-    my $guest = $guests->{$uid};
+    my $guest = $guests->{$key};
     # A new guest has no right at all, here and on windows to come, before anything is granted.
     my @first = ("aclchg $name -rwx #?", "aclumask $name-rwx", "aclchg $name +x detach,scrollview");
     my $fault = $self->give_all($guest ? () : @first, "aclchg $name +r" . ($types ? 'w' : '') . ' 0');
@@ -66,7 +76,7 @@ sub add {
     }
     # The token comes last: before it, the session takes nothing that the guest sends.
     $self->{session}->add_user($name);
-    $guest = $guests->{$uid} //= { name => $name, account => $account, types => 0, connections => CONNECTIONS,
+    $guest = $guests->{$key} //= { name => $name, account => $account, types => 0, connections => CONNECTIONS,
         counted => time };
     $guest->{types} ||= $types;
     @$guest{qw(end is_warned)} = (time + $seconds, 0) if $seconds;

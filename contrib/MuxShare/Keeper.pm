@@ -205,12 +205,24 @@ sub command {
         $self->{ending} = 1;
         return ('', '');
     }
+    return $self->let_browse(@rest) if $word eq 'web';
     return ("no such request: $word", '') if $word ne 'give' && $word ne 'drop';
     my ($account, $uid) = @rest;
-    return ("$account isn't in your session: mux-share --with $account", '') unless $guests->guest($uid);
-    return ($guests->give($uid), '') if $word eq 'give';
-    $guests->drop($uid, 'was sent away');
+    my $key = $guests->key($account, $uid);
+    return ("$account isn't in your session: mux-share --with $account", '') unless $guests->guest($key);
+    return ($guests->give($key), '') if $word eq 'give';
+    $guests->drop($key, 'was sent away');
     return ('', '');
+}
+
+# Lets a guest join in a browser.  Returns a fault or '', and the page's address and the guest's token.
+sub let_browse {
+    my ($self, $name, @rest) = @_;
+    my $address = eval { $self->{session}->web_address };
+    return ($@ =~ s/\n$//r, '') unless defined $address;
+    my $fault = $self->{guests}->add($name, 'web', @rest);
+    return ($fault, '') if $fault ne '';
+    return ('', "$address\n" . $self->{session}->token($name) . "\n");
 }
 
 # Returns lines for mux-share: the owner's name, how many of the owner's terminals are attached, the guests, and whether

@@ -5,6 +5,7 @@ use warnings;
 use Errno qw(EINTR);
 use Fcntl qw(O_WRONLY O_CREAT O_EXCL);
 use POSIX qw(WNOHANG);
+use Socket qw(PF_INET SOCK_STREAM INADDR_LOOPBACK pack_sockaddr_in unpack_sockaddr_in);
 use MuxShare::Wire;
 
 # How long muxd, the shell and the end may take, in seconds.
@@ -78,7 +79,7 @@ sub write_users {
     $self->write_private('users', join '', map { "$_ $self->{tokens}{$_}\n" } @{ $self->{users} });
 }
 
-# Returns a user's token, 64 hexadecimal digits that never leave the keeper.
+# Returns a user's token, 64 hexadecimal digits.  That of an account never leaves the keeper.
 sub token { my ($self, $name) = @_; return $self->{tokens}{$name} }
 
 # Gives a user a token, unless they have one.
@@ -151,6 +152,33 @@ sub start_shell {
     die "can't open a window for $command[0]: " . $self->last_line_of_log . "\n";
 }
 
+# Returns a port of this host that nobody listens at.
+sub free_port {
+    socket(my $socket, PF_INET, SOCK_STREAM, 0) or die "can't make a socket: $!\n";
+    bind($socket, pack_sockaddr_in(0, INADDR_LOOPBACK)) or die "can't find a port: $!\n";
+    return (unpack_sockaddr_in(getsockname $socket))[0];
+}
+
+# Starts mux-web, unless it runs, and returns the address of its page.
+sub web_address {
+    my ($self) = @_;
+    return $self->{address} if $self->{web};
+    my ($page) = grep { -d } "$self->{scripts}/web", "$self->{scripts}/../share/mux/web";
+    die "can't find the page of mux-web beside $self->{scripts}\n" unless $page;
+    my $listen = '127.0.0.1:' . free_port();
+    pipe(my $from, my $to) or die "can't make a pipe: $!\n";
+    my $to_pipe = sub { chdir '/'; POSIX::dup2(fileno $to, 1) };
+    my @words = ('--socket', $self->{socket}, '--listen', $listen, '--page', $page, '--log');
+    $self->{web} = spawn($to_pipe, $ENV{MUX_WEB} // 'mux-web', @words);
+    close $to;
+    if (!sysread($from, my $ready, 64)) {
+        delete $self->{web};
+        die "can't start mux-web: " . $self->last_line_of_log . "\n";
+    }
+    $self->write_private('web', "$self->{web}\n");
+    return $self->{address} = "http://$listen/";
+}
+
 # Returns whether the command ended by itself a moment after it began.
 sub ended_at_once { my ($self) = @_; return !wait_for($self->{shell}, sub { 0 }, 1) && !kill(0, $self->{shell}) }
 
@@ -158,12 +186,14 @@ sub ended_at_once { my ($self) = @_; return !wait_for($self->{shell}, sub { 0 },
 sub is_ended_by {
     my ($self, $process) = @_;
     $self->{server} = undef if $process == ($self->{server} // 0);
+    delete @$self{qw(web address)} if $process == ($self->{web} // 0);
     return !$self->{server} || $process == $self->{shell};
 }
 
 # Ends the session and removes its files.
 sub end {
     my ($self) = @_;
+    kill 'TERM', $self->{web} if $self->{web};
     kill 'TERM', $self->{shell} if $self->{shell} && !$self->{server};
     $self->give('quit') if $self->{server} && -S $self->{socket};
     wait_for($self->{server}, sub { 0 }, STOP) if $self->{server};
@@ -171,10 +201,26 @@ sub end {
     system 'rm', '-rf', '--', $self->{place};
 }
 
+# Returns the content of a file, or ''.
+sub content {
+    my ($path) = @_;
+    open(my $file, '<', $path) or return '';
+    local $/;
+    return <$file> // '';
+}
+
+# Ends the mux-web that a killed keeper left, if its process is still that one.
+sub end_orphan_web {
+    my ($self) = @_;
+    my ($process) = content("$self->{own}/web") =~ /^(\d+)$/m or return;
+    kill 'TERM', $process if grep { $_ eq $self->{socket} } split /\0/, content("/proc/$process/cmdline");
+}
+
 # Ends the server that a killed keeper left, by the owner's token, which is still there.
 sub end_orphan {
     my ($place) = @_;
     my $self = MuxShare::Session->new(place => $place);
+    $self->end_orphan_web;
     return unless -S $self->{socket} && connected($self->{socket});
     open(my $file, '<', "$self->{own}/users") or return;
     ($self->{owner}) = split / /, <$file> // '';

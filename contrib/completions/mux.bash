@@ -1,4 +1,4 @@
-# Completions of bash for muxd, mux, muxsim, mux-trail, vtcat and the scripts of mux: the options that --help lists.
+# Completions of bash for muxd, mux, mux-web, muxsim, mux-trail, vtcat and the scripts of mux: the options that --help lists.
 
 # Prints the options that a help text on standard input lists, or with the word Commands its subcommands.
 _mux_listed() {
@@ -17,7 +17,7 @@ _mux() {
     local program=$1 current=$2 previous=$3 words='' verb=''
     COMPREPLY=()
     case $previous in
-    --socket | --users | --setup | --token | --sizes | --trail | --rights | --trails | --lock)
+    --socket | --users | --setup | --token | --sizes | --trail | --rights | --trails | --lock | --page | --watch-token)
         mapfile -t COMPREPLY < <(compgen -f -- "$current")
         compopt -o filenames 2>/dev/null
         return
@@ -32,6 +32,7 @@ _mux() {
         return
         ;;
     --user | --rows | --cols | --title | --keep | --window | --read | --session | --for | --wait | --owner | --at | --since) return ;;
+    --web | --listen | --origin | --watch | --most) return ;;
     --presets) return ;;
     *)
         # mux and mux-trail have subcommands, each with its own options.
@@ -55,7 +56,7 @@ _mux() {
 }
 
 # In a checkout the scripts are the executable files of contrib/; tools/dist writes all names here.
-_mux_names="muxd mux muxsim mux-trail vtcat $(cd -- "${BASH_SOURCE[0]%/*}/.." && find . -maxdepth 1 -type f -perm -u+x -printf '%f ')"
+_mux_names="muxd mux mux-web muxsim mux-trail vtcat $(cd -- "${BASH_SOURCE[0]%/*}/.." && find . -maxdepth 1 -type f -perm -u+x -printf '%f ')"
 # shellcheck disable=SC2086
 complete -F _mux -o bashdefault -o default $_mux_names
 unset _mux_names

@@ -12,8 +12,8 @@ compared with the panes.
 
 Of muxd(8), mux-users(5) and of each script's page the words of --help are compared, too.
 
-Needs tmux and script (or socat). MUXD, MUX, MUXSIM, MUX_TRAIL and VTCAT name the programs (those of bin/, if they
-aren't set).
+Needs tmux and script (or socat). MUXD, MUX, MUX_WEB, MUXSIM, MUX_TRAIL and VTCAT name the programs (those of bin/, if
+they aren't set).
 Where root plays it, `sudo -iu lab` is played by a stand-in that runs a shell as the login nobody.  TEACHING's lesson is
 played with the accounts that it names, which are made and removed again, if root plays it, sudo is installed, and no
 such account is there.
@@ -29,8 +29,11 @@ import sys
 import tempfile
 import time
 
+sys.dont_write_bytecode = True
+import bridge
+
 TOP = os.path.dirname(os.path.dirname(os.path.dirname(os.path.realpath(__file__))))
-PROGRAMS = ("muxd", "mux", "muxsim", "mux-trail", "vtcat")
+PROGRAMS = ("muxd", "mux", "mux-web", "muxsim", "mux-trail", "vtcat")
 SPAN = re.compile(r"`((?:C-a: |(?:mux|muxd|muxsim|vtcat|new-token|mux-[a-z-]+|muxd-wait|own|make|sudo|loginctl"
                   r"|systemctl|tic) |rm -r )[^`]*)`")
 
@@ -229,7 +232,8 @@ class Play:
         self.on = Terminals(folder)
 
     def real(self, line):
-        """Paths of the system are folders of the play's own."""
+        """Paths of the system are folders of the play's own, and the page of mux-web is that of contrib/."""
+        line = re.sub(r"(?<=mux-web )(?=--socket)", "--page %s/contrib/web " % TOP, line)
         line = re.sub(r"/(var/lib/mux|etc/mux|run/mux)(?=/\w)", self.on.far + r"/\1", line)
         return re.sub(r"(?<![\w/])/srv/(?=\w)", self.on.far + "/", line)
 
@@ -358,7 +362,9 @@ def first_session(play):
     play.picture("ann", "bob")
     on.keys("ann", "C-a")
     on.type("ann", ":aclchg bob -w 0")
-    play.picture("ann", "bob")
+    on.shows("ann", "^:aclchg bob -w 0")
+    if any("aclchg" in line for line in on.page("bob")):
+        raise Fault("docs/FIRST-SESSION.md: bob sees the prompt")
     on.keys("ann", "Enter")
     time.sleep(0.5)
     on.type("bob", "rm notes")
@@ -465,7 +471,7 @@ class Accounts:
     def __enter__(self):
         if self.real:
             os.remove(os.path.join(self.play.on.folder, "bin", "sudo"))
-            self.play.real = lambda line: line
+            self.play.real = lambda line: re.sub(r"(?<=mux-web )(?=--socket)", "--page %s/contrib/web " % TOP, line)
             subprocess.run(["groupadd", "class"], check=True)
             for name in self.NAMES[:-1]:
                 subprocess.run(["useradd", "-m", "-s", "/bin/bash", "-G", "class", name], check=True)
@@ -561,6 +567,7 @@ def lesson(play, accounts):
         play.run("tess", line)
     on.run("tess", "clear; mux-command --user fay --token ~/class/fay.token windows",
            ["denied: x on windows: entry fay -x"])
+    browsers(play, accounts)
     text.take("mux-command acldel bob")
     before = on.prompts("bob")
     on.run("tess", "mux-command acldel bob")
@@ -569,6 +576,28 @@ def lesson(play, accounts):
     text.take("mux-command quit")
     on.run("tess", "mux-command quit")
     on.wait("ann", "end of mux-attach", lambda: on.prompts("ann") > before)
+
+
+def browsers(play, accounts):
+    """TEACHING's class in browsers: ann's page has the lesson, and she can't type there."""
+    text = play.text
+    text.leave("# usermod -aG class www-data && systemctl restart nginx", "it needs nginx; tests/outside/web plays it")
+    play.run("tess", text.lines[0][0][2:])
+    home = os.path.expanduser("~tess") if accounts.real else play.on.home
+    with open(os.path.join(home, "class/ann.token"), "rb") as file:
+        token = file.read().strip()
+    path = play.real("/srv/class/web")
+    until = time.time() + 20
+    while not os.path.exists(path) and time.time() < until:
+        time.sleep(0.1)
+    try:
+        page = bridge.Page(path, "https://mux.example.org", b"ann", token)
+        page.until("0 lesson")
+        page.keys(b"x")
+        page.until("denied: w on window 0: entry ann -w")
+        page.close()
+    except (AssertionError, OSError, bridge.Closed) as error:
+        raise Fault("docs/TEACHING.md: a page in a browser: %s" % error) from None
 
 
 def turns(play, accounts):
@@ -770,7 +799,9 @@ def operating(play):
     def left(line):
         """Lines that change the system; tests/outside/consoles plays what they set up."""
         why = "it needs systemd, another login or another host; tests/outside/consoles plays what it sets up"
-        for words, better in (("tic ", "make lint compiles it"), ("mux-over-ssh", "tests/outside/terminals plays it"),
+        for words, better in (("mux-web", "tests/outside/boot plays it"),
+                              ("/etc/mux/web", "tests/outside/boot plays it"),
+                              ("tic ", "make lint compiles it"), ("mux-over-ssh", "tests/outside/terminals plays it"),
                               ("muxsim --setup", "tests/outside/policies plays it"),
                               ("muxd --setup", "tests/outside/policies plays it"),
                               ("mux-trail", "tests/outside/trailfile plays it"),
@@ -917,6 +948,30 @@ def mux_users_page(play):
     on.run("ann", play.real("mux-command --socket /srv/ops/socket --user own --token ~/ops/own.token quit"))
 
 
+def web_page(play):
+    """man/mux-web.1: a bridge beside a session of one's own, and a page that attaches."""
+    on = play.on
+    on.open("ann")
+    on.run("ann", "new-token ann; mkdir $XDG_RUNTIME_DIR/mux; setsid -f muxd --socket $XDG_RUNTIME_DIR/mux/socket"
+           " --users ~/.config/mux/users > log 2>&1; muxd-wait; export MUX_USER=ann;"
+           " setsid -f mux-shell --title shell cat; muxd-wait --window shell; clear")
+    line = play.text.lines[0][0]
+    on.type("ann", play.real(line[2:]) + "\n")
+    on.shows("ann", r"^(\$ )?mux-web: ready")
+    play.text.take(line)
+    with open(os.path.join(on.home, ".config/mux/ann.token"), "rb") as file:
+        token = file.read().strip()
+    try:
+        page = bridge.Page(8090, "http://127.0.0.1:8090", b"ann", token)
+        page.until("0 shell")
+        page.keys(b"by a browser\r")
+        page.until("by a browser")
+        page.close()
+    except (AssertionError, OSError, bridge.Closed) as error:
+        raise Fault("man/mux-web.1: a page in a browser: %s" % error) from None
+    on.run("ann", "clear; mux-command quit")
+
+
 def printing_page(play):
     """man/muxsim.1, man/vtcat.1: the example prints what stands below it."""
     play.on.open("ann")
@@ -997,6 +1052,7 @@ PLAYS = {
     "man/mux-guest.1": session_pages,
     "man/mux-turn.1": session_pages,
     "man/mux-watch.1": session_pages,
+    "man/mux-web.1": web_page,
     "man/mux-attach.1": session_pages,
     "man/mux-over-ssh.1": session_pages,
     "man/mux-shell.1": session_pages,
