@@ -337,6 +337,7 @@ def first_session(play):
     for line in ("mux-share --give cole", "mux-share --take", "mux-share --with eve --for 30m", "mux-share --drop cole",
                  "mux-share --end", "mux-join dana@host"):
         play.text.leave(line, "tests/outside/share plays it, with three accounts")
+    play.text.leave("mux-share --web fay", "tests/outside/web plays it")
     on.open("ann", 8, 44)
     on.open("bob", 8, 44)
     for line in ("mkdir -m 700 ~/first && cd ~/first",
