@@ -1,0 +1,153 @@
+//! What the arguments of `mux-web` ask for, and the files that they name.
+
+use crate::fault::WebFault;
+use acl::UserId;
+use attach_proto::Token;
+use clap::ArgMatches;
+use std::alloc::Global;
+use std::fs;
+use std::fs::{File, Files};
+use std::net::SocketAddr;
+use web_client::{Site, Watcher};
+
+/// The files of the page.
+const FILES: [&str; 3] = ["index.html", "mux.js", "mux.css"];
+
+/// What the arguments ask for.
+#[derive(Clone, Copy)]
+pub struct Asked<'a> {
+    /// The server's socket.
+    pub socket: &'a str,
+    /// Where browsers come in.
+    pub listen: &'a str,
+    watch: Option<&'a str>,
+    watch_token: Option<&'a str>,
+    /// How many pages may be open.
+    pub most: usize,
+    page: &'a str,
+    /// Whether it logs who comes and goes.
+    pub tells: bool,
+}
+
+/// Where browsers come in.
+#[derive(Clone, Copy)]
+pub enum Listen<'a> {
+    Address(SocketAddr),
+    Path(&'a str),
+}
+
+impl<'a> Asked<'a> {
+    /// (Arguments that must be there are: without them there are no matches.)
+    pub fn of(matches: &ArgMatches<'a>) -> Asked<'a> {
+        Asked {
+            socket: matches.get_str("socket").unwrap_or(""),
+            listen: matches.get_str("listen").unwrap_or(""),
+            watch: matches.get_str("watch"),
+            watch_token: matches.get_str("watch-token"),
+            most: usize::from(matches.get_one::<u16>("most").unwrap_or(1)),
+            page: matches.get_str("page").unwrap_or(""),
+            tells: matches.get_flag("log"),
+        }
+    }
+
+    /// Where browsers come in. An address that others can reach is refused.
+    pub fn listens(&self, alloc: Global) -> Result<Listen<'a>, WebFault> {
+        match self.listen.parse::<SocketAddr>() {
+            Ok(address) if address.ip().is_loopback() => Ok(Listen::Address(address)),
+            Err(_) if self.listen.contains("/") || !self.listen.contains(":") => {
+                Ok(Listen::Path(self.listen))
+            }
+            _ => Err(WebFault::NotLocal(String::from_str(alloc, self.listen)?)),
+        }
+    }
+}
+
+/// The origins that the arguments name, or if they name none, those of an address of this machine.
+pub fn origins_of(
+    alloc: Global,
+    named: &[&str],
+    listen: Listen<'_>,
+) -> Result<Vec<String>, WebFault> {
+    let mut origins = Vec::new(alloc);
+    for origin in named {
+        origins.push(String::from_str(alloc, origin)?)?;
+    }
+    if !origins.is_empty() {
+        return Ok(origins);
+    }
+    match listen {
+        Listen::Address(address) => {
+            let port = address.port();
+            origins.push(format!(in alloc; "http://127.0.0.1:{port}")?)?;
+            origins.push(format!(in alloc; "http://localhost:{port}")?)?;
+            Ok(origins)
+        }
+        Listen::Path(_) => Err(WebFault::NoOrigin),
+    }
+}
+
+/// Reads the token of a file.
+fn token_in<R: Files<File = File> + AllocGlobal>(rt: &R, path: &str) -> Result<Token, WebFault> {
+    let alloc = rt.alloc();
+    let file = match fs::read(rt, path) {
+        Ok(file) => file,
+        Err(error) => return Err(WebFault::NoFile(String::from_str(alloc, path)?, error)),
+    };
+    let digits = file.as_slice();
+    let digits = digits.strip_suffix(b"\n".as_slice()).unwrap_or(digits);
+    match Token::read(digits) {
+        Some(token) => Ok(token),
+        None => Err(WebFault::NoToken(String::from_str(alloc, path)?)),
+    }
+}
+
+/// The user as whom anybody may watch, if the arguments name one.
+fn watcher_of<R: Files<File = File> + AllocGlobal>(
+    rt: &R,
+    asked: Asked<'_>,
+) -> Result<Option<Watcher>, WebFault> {
+    match (asked.watch, asked.watch_token) {
+        (Some(name), Some(path)) => {
+            if UserId::of(name.as_bytes()).is_none() {
+                return Err(WebFault::NoName);
+            }
+            let token = token_in(rt, path)?;
+            let name = String::from_str(rt.alloc(), name)?;
+            Ok(Some(Watcher { name, token }))
+        }
+        (None, None) => Ok(None),
+        _ => Err(WebFault::Alone),
+    }
+}
+
+/// Reads a file of the page.
+fn read_file<R: Files<File = File> + AllocGlobal>(
+    rt: &R,
+    site: &mut Site,
+    folder: &str,
+    name: &str,
+) -> Result<(), WebFault> {
+    let alloc = rt.alloc();
+    let path = format!(in alloc; "{folder}/{name}")?;
+    match fs::read(rt, path.as_str()) {
+        Ok(content) => Ok(site.add(format!(in alloc; "/{name}")?, content)?),
+        Err(error) => Err(WebFault::NoPage(path, error)),
+    }
+}
+
+/// Reads all that the bridge serves.
+pub fn site_of<R: Files<File = File> + AllocGlobal>(
+    rt: &R,
+    asked: Asked<'_>,
+    origins: Vec<String>,
+) -> Result<Site, WebFault> {
+    let mut site = Site {
+        files: Vec::new(rt.alloc()),
+        origins,
+        watcher: watcher_of(rt, asked)?,
+    };
+    for name in FILES {
+        read_file(rt, &mut site, asked.page, name)?;
+    }
+    Ok(site)
+}

@@ -1,0 +1,66 @@
+//! Why `mux-web` doesn't serve.
+
+use server_system::ServeFault;
+use std::alloc::{AllocError, AllocFailed};
+use std::io;
+use thiserror::Error;
+
+/// Why `mux-web` doesn't serve, or ended.
+#[derive(Debug, Drop, Error)]
+pub enum WebFault {
+    /// The file at this path.
+    #[error("can't read the page's file {0}: {1} (set --page)")]
+    NoPage(String, io::Error),
+    /// The file at this path.
+    #[error("can't read token file {0}: {1} (set --watch-token)")]
+    NoFile(String, io::Error),
+    /// The file at this path.
+    #[error("no token in {0}: it needs 64 digits, 0 to 9 and a to f")]
+    NoToken(String),
+    #[error("--watch and --watch-token go together")]
+    Alone,
+    #[error("--watch takes the name of a user")]
+    NoName,
+    /// The value of `--listen`.
+    #[error("can't listen on {0}: it is no address of this machine, such as 127.0.0.1:8090, and no path")]
+    NotLocal(String),
+    #[error("--listen with a path needs --origin: the address of the page, such as https://mux.example.org")]
+    NoOrigin,
+    /// The value of `--listen`.
+    #[error("can't listen on {0}: {1}")]
+    NotMade(String, io::Error),
+    #[error("{0}")]
+    Socket(ServeFault),
+    #[error("the system refused to wait: {0}")]
+    Other(io::Error),
+    #[error("out of memory")]
+    NoMemory,
+}
+
+impl WebFault {
+    /// The status to exit with.
+    pub fn status(&self) -> u8 {
+        match self {
+            WebFault::Alone | WebFault::NoName | WebFault::NotLocal(_) | WebFault::NoOrigin => 2,
+            _ => 1,
+        }
+    }
+}
+
+impl From<AllocError> for WebFault {
+    fn from(_error: AllocError) -> WebFault {
+        WebFault::NoMemory
+    }
+}
+
+impl<T: Drop> From<AllocFailed<T>> for WebFault {
+    fn from(_error: AllocFailed<T>) -> WebFault {
+        WebFault::NoMemory
+    }
+}
+
+impl From<io::Error> for WebFault {
+    fn from(error: io::Error) -> WebFault {
+        WebFault::Other(error)
+    }
+}

@@ -1,0 +1,27 @@
+use Rattle.std.proofs.Common.{◌+◌, arith, ap, sym, ◌∙◌, refl, subst, drop}
+use Rattle.attach_proto.specs.declared.message.Message.{Message}
+use Rattle.terminal_model.specs.Reading.{Terminal}
+use Rattle.emulator.specs.Standing.{StandsFor}
+use Rattle.web_client.specs.Hearing.{drawn, all_drawn}
+use Rattle.web_client.proofs.Hearing.{one_more, none_more}
+use Rattle.web_client.proofs.client.Client.hear_each.Goals as goal
+
+pub loop-message-preserved : goal.loop-message-preserved
+loop-message-preserved c = record {
+  sheet = λ t s w e.
+      let k = c.loop-message.invariant.sheet t s w e in (
+        drawn k.0 c.message-item.result,
+        c.in_ok-hear.ensures.sheet k.0 k.1,
+        k.2 ∙ (one_more c.args.messages.now c.loop-message.message-index c.message-item.result k.0 (omega arith)
+            ∙ ap (λ (m : Message). all_drawn (drawn k.0 m) (drop (c.loop-message.message-index + 1) c.args.messages.now))
+            (sym c.message-item.is)),
+      );
+  waiting = c.hear.ensures.waiting ∙ c.loop-message.invariant.waiting;
+  reading = c.hear.ensures.reading ∙ c.loop-message.invariant.reading;
+}
+
+pub returns-clause-sheet : goal.returns-clause-sheet
+returns-clause-sheet c = λ t w.
+    let k = c.loop-message.invariant.sheet t (all_drawn t c.args.messages.now) w refl in
+    subst (λ (u : Terminal). StandsFor c.loop-message.self.sheet.terminal u)
+    (sym (k.2 ∙ none_more c.args.messages.now c.loop-message.message-index k.0 (omega arith))) k.1

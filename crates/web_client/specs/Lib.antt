@@ -1,0 +1,3 @@
+pub mod Sending
+pub mod Asking
+pub mod Hearing

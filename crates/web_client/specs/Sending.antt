@@ -1,0 +1,8 @@
+-- Bytes on their way to a writer.
+use Rattle.std.specs.Prelude.{◌≡◌, ℕ, List, ◌++◌, Option, Some, None}
+
+-- of the bytes that were put, a writer holds those that were written, and the rest waits; what the
+-- writer holds is known
+abbrev pub IsSent : List ℕ → Option (List ℕ) → List ℕ → Type 0
+IsSent put None waiting = ⊥
+IsSent put (Some written) waiting = put ≡ written ++ waiting

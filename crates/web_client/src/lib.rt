@@ -1,0 +1,18 @@
+//! What `mux-web` does with bytes: requests and messages of browsers, frames of the server, and pages
+//! as rows of text. It has no handle: a loop hands it bytes, and takes bytes from it.
+#![tactic(auto)]
+
+mod client;
+mod outgoing;
+mod requests;
+mod seat;
+mod site;
+mod visitor;
+mod wire;
+
+pub use client::{Client, ClientFault};
+pub use requests::refusal;
+pub use seat::{Seat, fitted};
+pub use site::{Site, SiteFile, Watcher};
+pub use visitor::Visitor;
+pub use wire::End;

@@ -1,0 +1,233 @@
+//! A browser's connection: its request, its messages, and who it is.
+
+use crate::client::Client;
+use crate::requests::{Answer, Opening, answered, refusal};
+use crate::seat::{Seat, SeatFault};
+use crate::site::Site;
+use crate::wire::{End, Stage, View, Wire};
+use attach_proto::Why;
+use std::alloc::Global;
+use websocket::protocol::{CloseCode, FrameStatus, Message, NoMask};
+
+/// While more bytes wait for the server, the browser isn't read.
+const MUCH: usize = 65_536;
+
+/// What is said of a name that no user can have: what the server says of others.
+const UNKNOWN: &str = "unknown user or wrong token";
+
+/// A browser's connection.
+#[derive(Drop)]
+pub struct Visitor {
+    input: Vec<u8>,
+    wire: Wire,
+    view: View,
+    /// Who the browser is.
+    pub seat: Seat,
+    /// The address that the web server before the bridge saw; empty if it told none.
+    pub address: Vec<u8>,
+}
+
+/// What a frame of the page was.
+#[derive(Drop)]
+enum Frame {
+    /// It isn't whole, or the connection ends with it.
+    None,
+    /// It has no message for the bridge.
+    Other,
+    Message(Vec<u8>),
+}
+
+impl Visitor {
+    /// A connection that has sent nothing.
+    pub fn new(alloc: Global) -> Visitor {
+        Visitor {
+            input: Vec::new(alloc),
+            wire: Wire::new(alloc),
+            view: View::NOTHING,
+            seat: Seat::Nobody,
+            address: Vec::new(alloc),
+        }
+    }
+
+    /// Whether nothing is read any more.
+    pub fn is_last(&self) -> bool {
+        self.wire.stage == Stage::Last
+    }
+
+    /// Whether its page is open.
+    pub fn is_open(&self) -> bool {
+        self.wire.stage == Stage::Socket
+    }
+
+    /// Whether the browser is to be read: it isn't while much waits for its client.
+    pub fn can_read(&self) -> bool {
+        let waiting = match &self.seat {
+            Seat::Own(client) => client.waiting(),
+            _ => 0,
+        };
+        !self.is_last() && waiting <= MUCH
+    }
+
+    /// The bytes on their way to the browser.
+    pub fn output(&mut self) -> &mut Vec<u8> {
+        &mut self.wire.output
+    }
+
+    /// Whether no bytes wait for the browser.
+    pub fn is_idle(&self) -> bool {
+        self.wire.output.is_empty()
+    }
+
+    // Reads one frame of the page.
+    fn read_frame(&mut self) -> Result<Frame, End> {
+        let wire = &mut self.wire;
+        let status = wire
+            .context
+            .read(self.input.as_mut_slice(), &mut wire.output, &mut NoMask);
+        let step = match status {
+            Ok(FrameStatus::Partial(_)) => return Ok(Frame::None),
+            Ok(FrameStatus::Complete(step)) => step,
+            Err(_) => {
+                wire.close(CloseCode::Protocol, "");
+                return Ok(Frame::None);
+            }
+        };
+        let mut frame = Frame::Other;
+        if let Some(received) = &step.message {
+            match received.message(self.input.as_slice()) {
+                Message::Binary(bytes) => frame = Frame::Message(bytes.to_vec(wire.alloc)?),
+                Message::Text(_) => frame = Frame::Message(Vec::new(wire.alloc)),
+                Message::Close(_) => {
+                    wire.stage = Stage::Last;
+                    return Ok(Frame::None);
+                }
+                _ => {}
+            }
+        }
+        self.input.drain(..step.consumed);
+        Ok(frame)
+    }
+
+    // Takes one message of the page.
+    fn take_message(&mut self, site: &Site, message: &[u8]) -> Result<(), End> {
+        match self.seat.take(self.wire.alloc, site, message) {
+            Ok(()) => {}
+            Err(SeatFault::Wrong) => {
+                self.wire.close(CloseCode::Policy, "not understood");
+                return Ok(());
+            }
+            Err(SeatFault::NoMemory) => return Err(End::NoMemory),
+        }
+        match &self.seat {
+            Seat::Unknown => {
+                self.wire.say(UNKNOWN)?;
+                self.wire.tell_gone(Why::Fault)
+            }
+            Seat::Left => self.wire.tell_gone(Why::Detached),
+            _ => Ok(()),
+        }
+    }
+
+    fn read_frames(&mut self, site: &Site) -> Result<(), End> {
+        for _ in 0..u64::MAX {
+            if !self.is_open() {
+                break;
+            }
+            match self.read_frame()? {
+                Frame::None => break,
+                Frame::Other => {}
+                Frame::Message(message) => self.take_message(site, &message)?,
+            }
+        }
+        Ok(())
+    }
+
+    // Takes the answer to a request.
+    fn take_answer(&mut self, answer: Answer) -> Result<(), End> {
+        match answer {
+            Answer::Part => {}
+            Answer::Page(bytes) => {
+                self.wire.output.extend_from_slice(&bytes)?;
+                self.wire.stage = Stage::Last;
+            }
+            Answer::Socket(opening) => {
+                let Opening {
+                    answer,
+                    request,
+                    address,
+                } = opening;
+                self.wire.output.extend_from_slice(&answer)?;
+                self.input.drain(..request.min(self.input.len()));
+                self.address = address;
+                self.wire.stage = Stage::Socket;
+            }
+        }
+        Ok(())
+    }
+
+    /// Takes bytes of the browser.
+    pub fn take(&mut self, site: &Site, bytes: &[u8]) -> Result<(), End> {
+        self.input.extend_from_slice(bytes)?;
+        if self.wire.stage == Stage::Request {
+            let answer = answered(self.wire.alloc, site, &self.input)?;
+            self.take_answer(answer)?;
+        }
+        self.read_frames(site)
+    }
+
+    /// Answers a browser that has just opened its page with a refusal, since the bridge is full.
+    pub fn turn_away(&mut self) -> Result<(), End> {
+        let bytes = refusal(self.wire.alloc, "503 Service Unavailable")?;
+        self.wire.output = bytes;
+        self.wire.stage = Stage::Last;
+        self.seat = Seat::Nobody;
+        Ok(())
+    }
+
+    /// The server's connection ended, or there is none.
+    pub fn lose(&mut self, reason: &str) {
+        if self.is_open() {
+            let _ = self.wire.say(reason);
+            self.wire.close(CloseCode::Away, reason);
+        }
+    }
+
+    /// Ends the connection for this reason.
+    pub fn dismiss(&mut self, reason: &str) {
+        if self.is_open() {
+            self.wire.close(CloseCode::Policy, reason);
+        }
+        self.wire.stage = Stage::Last;
+    }
+
+    /// Asks the browser whether it is there.
+    pub fn ping(&mut self) {
+        if self.is_open() {
+            self.wire.ping();
+        }
+    }
+
+    /// Another page is shown from now on, of which nothing was sent.
+    pub fn change_page(&mut self) {
+        self.view = View::NOTHING;
+    }
+
+    /// Shows a page that others watch too.
+    pub fn show_shared(&mut self, client: &mut Client) -> Result<(), End> {
+        if !self.is_open() {
+            return Ok(());
+        }
+        self.wire.show(&mut self.view, client)
+    }
+
+    /// Shows the page of its own client.
+    pub fn show_own(&mut self) -> Result<(), End> {
+        if !self.is_open() {
+            return Ok(());
+        }
+        match &mut self.seat {
+            Seat::Own(client) => self.wire.show(&mut self.view, client),
+            _ => Ok(()),
+        }
+    }
+}

@@ -1,0 +1,176 @@
+//! What a browser is sent over its connection.
+
+use crate::client::Client;
+use attach_proto::Why;
+use std::alloc::{AllocError, AllocFailed, Global};
+use web_page::{SheetFault, put_text};
+use websocket::protocol::{
+    CloseCode, CloseFrame, Message, NoMask, Role, WebSocketConfig, WebSocketContext,
+};
+
+/// A browser for which more bytes wait is given up.
+const TOO_MUCH: usize = 1_048_576;
+
+/// The longest message of a page: a kind, and the payload of a frame.
+const LONGEST: usize = 8_193;
+
+/// Why a connection ends at once.
+#[derive(Clone, Copy, Debug, PartialEq, Eq)]
+pub enum End {
+    /// The WebSocket can't send any more.
+    Broken,
+    /// Too many bytes wait for the browser.
+    TooFarBehind,
+    NoMemory,
+}
+
+impl From<AllocError> for End {
+    fn from(_error: AllocError) -> End {
+        End::NoMemory
+    }
+}
+
+impl<T: Drop> From<AllocFailed<T>> for End {
+    fn from(_error: AllocFailed<T>) -> End {
+        End::NoMemory
+    }
+}
+
+impl From<SheetFault> for End {
+    fn from(fault: SheetFault) -> End {
+        match fault {
+            SheetFault::NoMemory => End::NoMemory,
+            SheetFault::TooOld => End::Broken,
+        }
+    }
+}
+
+/// How far a connection has come.
+#[derive(Clone, Copy, PartialEq, Eq)]
+pub enum Stage {
+    Request,
+    Socket,
+    /// What waits is sent, and then the connection ends.
+    Last,
+}
+
+/// What a browser was sent of a client's page.
+#[derive(Clone, Copy)]
+pub struct View {
+    is_welcomed: bool,
+    // All changes before this moment; nothing if it is 0.
+    since: u64,
+}
+
+impl View {
+    /// Nothing was sent.
+    pub const NOTHING: View = View {
+        is_welcomed: false,
+        since: 0,
+    };
+}
+
+/// The sending side of a browser's connection.
+#[derive(Drop)]
+pub struct Wire {
+    pub alloc: Global,
+    pub stage: Stage,
+    /// Bytes on their way to the browser.
+    pub output: Vec<u8>,
+    pub context: WebSocketContext,
+}
+
+impl Wire {
+    /// A connection that has sent nothing.
+    pub fn new(alloc: Global) -> Wire {
+        let config = WebSocketConfig {
+            max_message_size: Some(LONGEST),
+            max_frame_size: Some(LONGEST),
+            accept_unmasked_frames: false,
+        };
+        Wire {
+            alloc,
+            stage: Stage::Request,
+            output: Vec::new(alloc),
+            context: WebSocketContext::new(alloc, Role::Server, config),
+        }
+    }
+
+    /// Sends a close frame, after which the connection ends.
+    pub fn close(&mut self, code: CloseCode, reason: &str) {
+        let frame = CloseFrame { code, reason };
+        let _ = self
+            .context
+            .close(Some(frame), &mut self.output, &mut NoMask);
+        self.stage = Stage::Last;
+    }
+
+    /// Sends a text.
+    fn send_text(&mut self, text: &str) -> Result<(), End> {
+        match self
+            .context
+            .write(Message::Text(text), &mut self.output, &mut NoMask)
+        {
+            Ok(()) => Ok(()),
+            Err(_) => Err(End::Broken),
+        }
+    }
+
+    /// Asks the browser whether it is there.
+    pub fn ping(&mut self) {
+        let _ = self
+            .context
+            .write(Message::Ping(&[]), &mut self.output, &mut NoMask);
+    }
+
+    /// Tells a text to the browser's user.
+    pub fn say(&mut self, text: &str) -> Result<(), End> {
+        let mut out = String::from_str(self.alloc, "{\"say\":\"")?;
+        put_text(&mut out, text)?;
+        out.push_str("\"}")?;
+        self.send_text(out.as_str())
+    }
+
+    /// Tells why the session lets the browser go, and ends.
+    pub fn tell_gone(&mut self, why: Why) -> Result<(), End> {
+        let number = why.number();
+        let text = format!(in self.alloc; "{{\"gone\":{number}}}")?;
+        self.send_text(text.as_str())?;
+        self.close(CloseCode::Normal, "");
+        Ok(())
+    }
+
+    // Sends what is new of a client's page.
+    fn send_rows(&mut self, view: &mut View, client: &mut Client) -> Result<(), End> {
+        if let Some(text) = client.update(view.since)? {
+            self.send_text(text.as_str())?;
+            view.since = client.moment();
+        }
+        Ok(())
+    }
+
+    /// Sends what is new of a client. Rows wait until the last ones were taken: what is sent then is
+    /// what the page shows then.
+    pub fn show(&mut self, view: &mut View, client: &mut Client) -> Result<(), End> {
+        if self.output.len() > TOO_MUCH {
+            return Err(End::TooFarBehind);
+        }
+        let is_idle = self.output.is_empty();
+        if client.is_welcome() && !view.is_welcomed {
+            view.is_welcomed = true;
+            self.send_text("{\"welcome\":1}")?;
+        }
+        if client.is_welcome() && (is_idle || client.gone().is_some()) {
+            self.send_rows(view, client)?;
+        }
+        match client.gone() {
+            Some(why) => {
+                if let Some(text) = client.refusal() {
+                    self.say(text)?;
+                }
+                self.tell_gone(why)
+            }
+            None => Ok(()),
+        }
+    }
+}

@@ -1,0 +1,5 @@
+pub mod Writing
+pub mod Laying
+pub mod Looking
+pub mod Updating
+pub mod Harmless

@@ -1,0 +1,6 @@
+pub mod Json
+pub mod Styles
+pub mod Runs
+pub mod Updates
+pub mod Laying
+pub mod Showing

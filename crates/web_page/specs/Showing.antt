@@ -1,0 +1,78 @@
+-- A sheet, and how far the browsers are that were sent updates of it.
+use Rattle.std.specs.Prelude.{◌≡◌, ◌⊎◌, ℕ, ◌<◌, ◌≤◌, suc, nat_lt, cond, List, [], ◌∷◌, length, map}
+use Rattle.std.specs.Prelude.{slice_index_or, Bool, true, false}
+use Rattle.cells.specs.declared.cell.Cell.{Cell}
+use Rattle.cells.specs.Page.{line_at}
+use Rattle.emulator.specs.Standing.{Parts}
+use Rattle.web_page.specs.declared.head.Head.{Head}
+use Rattle.web_page.specs.Runs.{Run, runs}
+use Rattle.web_page.specs.Updates.{head_of}
+use Rattle.web_page.specs.Laying.{Shown}
+
+-- a row as it was last looked at, and the moment of its last change
+pub record Kept : Type 0 where
+  pub cells : List Cell
+  pub stamp : ℕ
+
+-- a terminal, its head and rows as they were last looked at, and the moment of the next change
+pub record Sheet : Type 0 where
+  pub terminal : Parts
+  pub head : Head
+  pub rows : List Kept
+  pub moment : ℕ
+
+abbrev pub kept_at : List Kept → ℕ → Kept
+kept_at rows n = slice_index_or rows n (record { cells = []; stamp = 0 })
+
+abbrev pub shown_of : Sheet → Shown
+shown_of s = record { head = s.head; rows = map (λ r. runs r.cells) s.rows }
+
+-- the rows that changed at this moment or later, with their numbers from n on
+unfoldable pub newer : ℕ → ℕ → List Kept → List (ℕ × List Run)
+newer since n [] = []
+newer since n (r ∷ rs) =
+    cond (nat_lt r.stamp since) (newer since (suc n) rs) ((n, runs r.cells) ∷ newer since (suc n) rs)
+
+-- A browser that was sent everything before this moment: it shows each row that hasn't changed since,
+-- and the whole sheet if nothing has.
+pub record IsShown (since : ℕ) (s : Sheet) (b : Shown) : Type 0 where
+  pub past : since ≤ s.moment
+  pub whole : s.moment ≤ since → b ≡ shown_of s
+  pub rows : (n : ℕ) → n < length s.rows → (kept_at s.rows n).stamp < since
+      → (n < length b.rows) × (slice_index_or b.rows n [] ≡ runs (kept_at s.rows n).cells)
+
+-- its head and rows are those of the terminal
+pub record IsLooked (terminal : Parts) (head : Head) (rows : List Kept) : Type 0 where
+  pub same_head : head ≡ head_of terminal.screen
+  pub same_page : map (λ r. r.cells) rows ≡ terminal.screen.page
+
+-- a look at the row of this number: the others stay
+pub record LooksAt (number : ℕ) (cells : List Cell) (stamp : ℕ) (old new : List Kept) (is_new : Bool)
+    : Type 0 where
+  pub others : (n : ℕ) → n < length old → (n ≡ number → ⊥) → kept_at new n ≡ kept_at old n
+  pub longer : length old ≡ number → length new ≡ suc number
+  pub as_long : number < length old → length new ≡ length old
+  pub taken : (kept_at new number).cells ≡ cells
+  pub stamped : ((kept_at new number).stamp ≡ stamp)
+      ⊎ ((number < length old) × (kept_at new number ≡ kept_at old number))
+  pub same : is_new ≡ false → new ≡ old
+
+-- a look at the first rows of a page, from old to new
+pub record HasLooked (count : ℕ) (page : List (List Cell)) (stamp : ℕ) (old new : List Kept)
+    (is_new : Bool)
+    : Type 0 where
+  pub enough : count ≤ length new
+  pub cells : (n : ℕ) → n < count → (kept_at new n).cells ≡ line_at page n
+  pub stamps : (n : ℕ) → n < count → ((kept_at new n).stamp ≡ stamp)
+      ⊎ ((n < length old) × (kept_at new n ≡ kept_at old n))
+  pub rest : (n : ℕ) → count ≤ n → n < length new → kept_at new n ≡ kept_at old n
+  pub short : length new ≤ length page
+  pub more : count < length new → length new ≤ length old
+  pub same : is_new ≡ false → new ≡ old
+
+-- after a look: browsers are as far as they were
+pub record Looks (old new : Sheet) : Type 0 where
+  pub terminal : new.terminal ≡ old.terminal
+  pub looked : IsLooked new.terminal new.head new.rows
+  pub later : 0 < new.moment
+  pub browsers : (since : ℕ) (b : Shown) → IsShown since old b → IsShown since new b

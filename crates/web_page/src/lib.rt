@@ -1,0 +1,14 @@
+//! What a browser shows of a terminal: rows of text, and what changed in them since they were sent.
+#![tactic(auto)]
+
+mod character;
+mod head;
+mod laws;
+mod line;
+mod row;
+mod sheet;
+mod style;
+
+pub use character::put_text;
+pub use laws::texts_hold_no_markup;
+pub use sheet::{Sheet, SheetFault};

@@ -1,0 +1,222 @@
+//! The page of a terminal, for browsers that were sent more or less of it.
+
+ghost use Rattle.std.specs.Prelude.{◌≡◌, ◌⊎◌, ◌≤◌, ◌<◌, ℕ, List, [], Some, None, OnOk, OnErr};
+ghost use Rattle.std.specs.Prelude.{IfOk, IfErr, IfSome, MatchOption, length, take, false};
+ghost use Rattle.std.specs.String.{string_bytes};
+ghost use Rattle.cells.specs.Page.{IsGridSize};
+ghost use Rattle.terminal_model.specs.Screen.{starting};
+ghost use Rattle.terminal_model.specs.Reading.{Terminal, ready, reads};
+ghost use Rattle.terminal_model.specs.Writing.{Size};
+ghost use Rattle.emulator.specs.Standing.{StandsFor, TakesWriting};
+ghost use Rattle.web_page.specs.Updates.{Update, spelled};
+ghost use Rattle.web_page.specs.Laying.{Shown, laid, page_of};
+ghost use Rattle.web_page.specs.Showing.{IsShown, IsLooked, HasLooked, Looks, newer};
+
+use crate::head::Head;
+use crate::line::{put_number, put_numbers};
+use crate::row::{Row, look_at, put_rows};
+use cells::GridFault;
+use emulator::{Emulator, Stopped};
+use std::alloc::{AllocError, Global};
+use std::marker::Model;
+use thiserror::Error;
+
+/// Why no update was made. The sheet must not be used again.
+#[derive(Clone, Copy, Debug, PartialEq, Eq, Error)]
+pub enum SheetFault {
+    #[error("out of memory")]
+    NoMemory,
+    /// The page has changed 2^64 - 2 times.
+    #[error("too many changes")]
+    TooOld,
+}
+
+impl From<AllocError> for SheetFault {
+    fn from(_error: AllocError) -> SheetFault {
+        SheetFault::NoMemory
+    }
+}
+
+/// A terminal that reads draws, and its page for browsers. A browser that was sent all changes before
+/// a moment only needs the later ones. Moments are counted, from 0 on, by changes of the page.
+pub struct Sheet {
+    alloc: Global,
+    emulator: Emulator,
+    // Reports are dropped: a browser gives none.
+    reports: Vec<u8>,
+    // The head and the rows as they were last looked at.
+    head: Head,
+    rows: Vec<Row>,
+    // The moment of the next change, at least 1.
+    moment: u64,
+    // The terminal may have changed since the last look.
+    is_stale: bool,
+}
+
+impl Drop for Sheet {
+    fn drop(self) {
+        let Sheet {
+            alloc: _,
+            emulator: _,
+            reports: _,
+            head: _,
+            rows: _,
+            moment: _,
+            is_stale: _,
+        } = self;
+    }
+}
+
+impl Model for Sheet {
+    ghost use Rattle.std.specs.Prelude.{◌≡◌, ◌<◌, false};
+    ghost use Rattle.web_page.specs.Showing.{Sheet as Showing, IsLooked};
+
+    ghost Value = { Showing };
+
+    ghost view = { λ s. record {
+      terminal = s.emulator;
+      head = s.head;
+      rows = s.rows.items;
+      moment = s.moment;
+    } };
+
+    ghost invariant = { λ s. (0 < s.moment)
+        × (s.is_stale ≡ false → IsLooked s.emulator s.head s.rows.items) };
+}
+
+/// Looks at the rows of a page, all of whose changes have this moment. Returns whether any changed.
+fn look_at_rows(
+    alloc: Global,
+    emulator: &Emulator,
+    rows: &mut Vec<Row>,
+    moment: u64,
+) -> Result<bool, AllocError>
+    ensures { IfOk result (λ is_new. HasLooked (length emulator.now.screen.page)
+        emulator.now.screen.page moment rows.old.items rows.new.items is_new) }
+{
+    let page = emulator.page(0);
+    let count = page.rows();
+    let mut is_new = rows.len() > count;
+    rows.truncate(count);
+    for number in 0..count {
+        let is_other = look_at(alloc, rows, number, page.line(number), moment)?;
+        is_new = is_new || is_other;
+    }
+    Ok(is_new)
+}
+
+/// How many changes there are: one if a row or the head is new, and else none.
+fn count_of(is_new: bool, head: Head, old: Head) -> u64
+    ensures some { (result ≡ 1) ⊎ ((result ≡ 0) × (is_new ≡ false) × (head ≡ old)) }
+    ensures few { result ≤ 1 }
+{
+    if is_new || head != old { 1 } else { 0 }
+}
+
+impl Sheet {
+    /// A terminal of this size that has read nothing.
+    pub fn new(alloc: Global, rows: u16, columns: u16) -> Result<Sheet, GridFault>
+        ensures { IfOk result (λ s. StandsFor s.terminal (ready (starting rows columns 0))) }
+    {
+        let emulator = Emulator::new(alloc, usize::from(rows), usize::from(columns), 0)?;
+        let head = Head::of(&emulator);
+        Ok(Sheet {
+            alloc,
+            emulator,
+            reports: Vec::new(alloc),
+            head,
+            rows: Vec::new(alloc),
+            moment: 1,
+            is_stale: true,
+        })
+    }
+
+    /// Changes the size of the terminal.
+    pub fn resize(&mut self, rows: u16, columns: u16) -> Result<(), GridFault>
+        ensures ok { OnOk result (TakesWriting self.old.terminal (Size rows columns)
+            self.new.terminal) }
+        ensures browsers { (since : ℕ) (b : Shown) → IsShown since self.old b
+            → IsShown since self.new b }
+    {
+        self.is_stale = true;
+        self.emulator
+            .resized(usize::from(rows), usize::from(columns))
+    }
+
+    /// Reads the bytes of a draw. If memory is refused, the sheet must not be used again.
+    pub fn read(&mut self, draw: &[u8]) -> Result<(), Stopped>
+        ensures ok { OnOk result ((t : Terminal) → StandsFor self.old.terminal t
+            → StandsFor self.new.terminal (reads t draw.now).terminal) }
+        ensures browsers { (since : ℕ) (b : Shown) → IsShown since self.old b
+            → IsShown since self.new b }
+    {
+        self.is_stale = true;
+        let read = self.emulator.feed_all(draw, &mut self.reports);
+        self.reports.clear();
+        read
+    }
+
+    /// The moment of the next change.
+    pub fn moment(&self) -> u64
+        ensures { result ≡ self.now.moment }
+    {
+        self.moment
+    }
+
+    // Looks at what changed since the last look.
+    fn look(&mut self) -> Result<(), SheetFault>
+        ensures { OnOk result (Looks self.old self.new) }
+    {
+        if !self.is_stale {
+            return Ok(());
+        }
+        if self.moment == u64::MAX {
+            return Err(SheetFault::TooOld);
+        }
+        let is_new = look_at_rows(self.alloc, &self.emulator, &mut self.rows, self.moment)?;
+        let head = Head::of(&self.emulator);
+        self.moment += count_of(is_new, head, self.head);
+        self.head = head;
+        self.is_stale = false;
+        Ok(())
+    }
+
+    // Spells the update that has what changed at this moment or later.
+    fn spell(&self, since: u64) -> Result<String, AllocError>
+        ensures { IfOk result (λ text. string_bytes text ≡ spelled (record {
+          head = self.now.head;
+          rows = newer since 0 self.now.rows;
+        })) }
+    {
+        let mut out = String::new(self.alloc);
+        out.push_str("[")?;
+        put_number(&mut out, self.head.rows as u64)?;
+        put_numbers(&mut out, &self.head.numbers())?;
+        put_rows(&mut out, &self.rows, since)?;
+        out.push_str("]")?;
+        Ok(out)
+    }
+
+    /// The update for a browser that was sent all changes before the moment `since`, or nothing if
+    /// that is 0; None if it needs none.
+    pub fn update(&mut self, since: u64) -> Result<Option<String>, SheetFault>
+        // Laid over what the browser shows, it is the page of the terminal.
+        ensures shows { (t : Terminal) (b : Shown) → StandsFor self.old.terminal t
+            → (since ≡ 0) ⊎ IsShown since self.old b
+            → IfOk result (λ made. MatchOption made (b ≡ page_of t.screen)
+            (λ text. (u : Update) × (string_bytes text ≡ spelled u)
+            × (laid u b ≡ page_of t.screen))) }
+        ensures then { (t : Terminal) → StandsFor self.old.terminal t
+            → OnOk result (StandsFor self.new.terminal t
+            × IsShown self.new.moment self.new (page_of t.screen)) }
+        // Other browsers are as far as they were.
+        ensures browsers { (other : ℕ) (b : Shown) → IsShown other self.old b
+            → OnOk result (IsShown other self.new b) }
+    {
+        self.look()?;
+        if since >= self.moment {
+            return Ok(None);
+        }
+        Ok(Some(self.spell(since)?))
+    }
+}
