@@ -7,12 +7,14 @@ use crate::words::{Asked, users_named};
 use acl::{Object, UserId};
 use std::alloc::{AllocError, Global};
 use std::io::{self, BufRead, Write};
-use trail_confined::{Question, failing_of, power_deciders, push_confinement, push_reasons};
-use trail_rights::{Decider, settings_of, users_of, write_rights};
+use trail_confined::{
+    Question, failing_of, power_deciders, push_confinement, push_reasons, write_rights,
+};
+use trail_rights::{Decider, settings_of, users_of};
 
 /// The known users, and then the others of these users.
 fn users_with(reading: &Reading, others: &[UserId]) -> Result<Vec<UserId>, AllocError> {
-    let mut users = users_of(reading.alloc, reading.replay())?;
+    let mut users = users_of(reading.alloc, reading.watch.replay())?;
     for user in others {
         if !users.as_slice().contains(user) {
             users.push(*user)?;
@@ -22,33 +24,37 @@ fn users_with(reading: &Reading, others: &[UserId]) -> Result<Vec<UserId>, Alloc
 }
 
 /// Writes who may do what.
-fn write_who<W: Write>(reading: Reading, output: &mut W) -> io::Result<u8> {
-    let (alloc, owner) = (reading.alloc, reading.owner);
-    let users = users_with(&reading, &[])?;
+fn write_who<W: Write>(reading: &Reading, output: &mut W) -> io::Result<u8> {
+    let (alloc, watch) = (reading.alloc, &reading.watch);
+    let users = users_with(reading, &[])?;
     let settlers = settings_of(alloc, users.as_slice())?;
-    let watch = reading.watch(Vec::new(alloc), settlers)?;
-    write_rights(alloc, owner, &watch, output)?;
+    let sight = watch.sight(Vec::new(alloc), settlers)?;
+    write_rights(alloc, reading.owner, watch, &sight, output)?;
     Ok(LEGAL)
 }
 
 /// Writes whether users are confined, and gives the status to exit with.
 fn write_confined<W: Write>(
-    reading: Reading,
+    reading: &Reading,
     confined: &[UserId],
     output: &mut W,
 ) -> Result<u8, Fault> {
-    let (alloc, owner) = (reading.alloc, reading.owner);
-    let users = users_with(&reading, confined).map_err(io::Error::from)?;
+    let (alloc, owner, replay) = (reading.alloc, reading.owner, reading.watch.replay());
+    let users = users_with(reading, confined).map_err(io::Error::from)?;
     let deciders = power_deciders(alloc, owner, users.as_slice()).map_err(io::Error::from)?;
     let settlers = settings_of(alloc, users.as_slice()).map_err(io::Error::from)?;
-    let watch = reading.watch(deciders, settlers)?;
-    let failing = failing_of(alloc, &watch, confined).map_err(io::Error::from)?;
+    let sight = reading
+        .watch
+        .sight(deciders, settlers)
+        .map_err(io::Error::from)?;
+    let failing = failing_of(alloc, replay, &sight, confined).map_err(io::Error::from)?;
     let Some(failing) = failing else {
         return Err(Fault::NotSought);
     };
-    let (replay, sight) = (watch.audit().replay(), watch.sight());
     let mut text = Vec::new(alloc);
-    push_confinement(owner, replay, sight, failing.as_slice(), &mut text).map_err(io::Error::from)?;
+    push_confinement(owner, replay, &sight, failing.as_slice(), &mut text).map_err(
+        io::Error::from,
+    )?;
     output.write_all(text.as_slice())?;
     Ok(if failing.is_empty() {
         LEGAL
@@ -62,27 +68,26 @@ fn deciders_of(reading: &Reading, question: Question) -> Result<Vec<Decider>, Al
     let Question { user, bit, object } = question;
     let mut deciders = Vec::new(reading.alloc);
     deciders.push(Decider::new(reading.owner, user, bit, object))?;
-    for leader in reading.replay().leaders_of(user).as_slice() {
+    for leader in reading.watch.replay().leaders_of(user).as_slice() {
         deciders.push(Decider::new(reading.owner, *leader, bit, object))?;
     }
     Ok(deciders)
 }
 
 /// Writes which acts decide a bit.
-fn write_why<W: Write>(reading: Reading, question: Question, output: &mut W) -> io::Result<u8> {
-    let (alloc, owner) = (reading.alloc, reading.owner);
-    let deciders = deciders_of(&reading, question)?;
-    let watch = reading.watch(deciders, Vec::new(alloc))?;
-    let (replay, sight) = (watch.audit().replay(), watch.sight());
+fn write_why<W: Write>(reading: &Reading, question: Question, output: &mut W) -> io::Result<u8> {
+    let (alloc, watch) = (reading.alloc, &reading.watch);
+    let deciders = deciders_of(reading, question)?;
+    let sight = watch.sight(deciders, Vec::new(alloc))?;
     let mut text = Vec::new(alloc);
-    push_reasons(owner, replay, sight, question, &mut text)?;
+    push_reasons(reading.owner, watch.replay(), &sight, question, &mut text)?;
     output.write_all(text.as_slice())?;
     Ok(LEGAL)
 }
 
 /// Writes which window has a title, and which acts decide the bit on it; or that none has it.
 fn write_titled<W: Write>(
-    reading: Reading,
+    reading: &Reading,
     question: Option<Question>,
     output: &mut W,
 ) -> io::Result<u8> {
@@ -97,7 +102,7 @@ fn write_titled<W: Write>(
 }
 
 /// Writes the answer, and gives the status to exit with.
-fn answer<W: Write>(asked: Asked<'_>, reading: Reading, output: &mut W) -> Result<u8, Fault> {
+fn answer<W: Write>(asked: Asked<'_>, reading: &Reading, output: &mut W) -> Result<u8, Fault> {
     if let Some(titled) = asked.titled {
         let question = reading.question_of(titled);
         return Ok(write_titled(reading, question, output)?);
@@ -123,7 +128,7 @@ pub fn ask<R: BufRead, W: Write>(
     output: &mut W,
 ) -> Result<u8, Fault> {
     let (reading, finish) = reading_of(alloc, asked, reader)?;
-    let count = reading.count();
+    let count = reading.watch.count();
     if finish.is_bad() {
         tell_finish(alloc, finish, count, reading.owner, output)?;
         return Ok(ILLEGAL);
@@ -133,5 +138,5 @@ pub fn ask<R: BufRead, W: Write>(
     {
         return Err(Fault::NoPlace(place, count));
     }
-    answer(asked, reading, output)
+    answer(asked, &reading, output)
 }

@@ -1,22 +1,21 @@
 //! Whether users are confined on windows to come.
 
-ghost use Rattle.std.specs.Prelude.{◌≡◌, List, [], IfOk, IfSome, filter, is_some, not, true};
+ghost use Rattle.std.specs.Prelude.{◌≡◌, IfOk, IfSome, filter, is_some, not, true};
 ghost use Rattle.std.specs.List.{AllByRecursion, list_all, list_any};
 ghost use Rattle.acl.specs.declared.edition.Edition.{Edition};
 ghost use Rattle.acl.specs.declared.user_id.UserId.{UserId};
 ghost use Rattle.acl.specs.History.{History};
 ghost use Rattle.hub_check.specs.Following.{StandsAfter};
-ghost use Rattle.trail_lines.specs.Entries.{Said};
 ghost use Rattle.trail_confined.specs.Confining.{concerns, failing_of, holds, is_asked, premises_of};
-ghost use Rattle.trail_rights.specs.Marks.{Marked, acts_in, marked_after};
+ghost use Rattle.trail_rights.specs.Marks.{Marked, acts_in};
 ghost use Rattle.trail_rights.specs.Settling.{HasSettled};
-ghost use Rattle.trail_rights.specs.Watching.{HasWatched};
+ghost use Rattle.trail_rights.specs.Seeing.{HasSeen};
 
 use crate::premises::{Premise, may_open, premises_of};
 use acl::{Bit, Object, UserId};
 use hub_check::Replay;
 use std::alloc::{AllocError, Global};
-use trail_rights::{Setting, Settler, Watch, may, settler_in};
+use trail_rights::{Setting, Settler, Sight, may, settler_in};
 
 /// Whether a premise holds. None if it is about a mask that wasn't looked for.
 fn holds(replay: &Replay, settlers: &[Settler], premise: Premise) -> Option<bool>
@@ -71,25 +70,23 @@ fn failing_among(
     Ok(Some(failing))
 }
 
-/// The premises of the law on windows to come that don't hold for these users, after the entries that
-/// were read. None if the watch didn't look for a mask that they are about.
+/// The premises of the law on windows to come that don't hold for these users, after the acts that the
+/// replay and the sight have followed. None if the sight didn't look for a mask that they are about.
 pub fn failing_of(
     alloc: Global,
-    watch: &Watch,
+    replay: &Replay,
+    sight: &Sight,
     users: &[UserId],
 ) -> Result<Option<Vec<Premise>>, AllocError>
-    ensures failing { (edition : Edition) (owner : UserId) (said : List Said) →
-        HasWatched watch.now edition owner said →
+    ensures failing { (edition : Edition) (owner : UserId) (marked : Marked) →
+        StandsAfter replay.now edition owner (acts_in marked) → HasSeen sight.now owner marked →
         IfOk result (λ o. IfSome o (λ failing. failing.items
-        ≡ failing_of edition owner (acts_in (marked_after [] said)) users.now)) }
-    ensures told { (edition : Edition) (owner : UserId) (said : List Said) →
-        HasWatched watch.now edition owner said →
-        list_all (is_asked watch.now.sight.settlers.items)
-        (premises_of edition owner (acts_in (marked_after [] said)) users.now) ≡ true →
+        ≡ failing_of edition owner (acts_in marked) users.now)) }
+    ensures told { (edition : Edition) (owner : UserId) (h : History) →
+        StandsAfter replay.now edition owner h →
+        list_all (is_asked sight.now.settlers.items) (premises_of edition owner h users.now) ≡ true →
         IfOk result (λ o. is_some o ≡ true) }
 {
-    let sight = watch.sight();
-    let replay = watch.audit().replay();
     let premises = premises_of(alloc, replay, users)?;
     failing_among(alloc, replay, sight.settlers(), premises.as_slice())
 }

@@ -1,13 +1,17 @@
 -- What is seen of one act more, and of one entry more.
-use Rattle.std.proofs.Common.{◌≡◌, List, [], ◌∷◌, ◌++◌, refl, ap}
+use Rattle.std.proofs.Common.{◌≡◌, ◌∙◌, List, [], ◌∷◌, ◌++◌, refl, ap, sym, subst}
 use Rattle.std.specs.Prelude.{map}
-use Rattle.std.specs.List.{AllByRecursion}
+use Rattle.std.specs.List.{AllByRecursion, FoldsTo}
 use Rattle.acl.specs.declared.act.Act.{Act}
 use Rattle.acl.specs.declared.user_id.UserId.{UserId}
+use Rattle.acl.specs.History.{followed_by}
+use Rattle.writelock.specs.Holding.{clients_of}
+use Rattle.hub_trail.specs.Legal.{acts_after}
 use Rattle.trail_lines.specs.Entries.{Said}
 use Rattle.trail_rights.specs.declared.mark.Mark.{Mark}
 use Rattle.trail_rights.specs.declared.decider.Decider.{Decider}
-use Rattle.trail_rights.specs.Marks.{Marked, marked_after, marked_with, entries_in, entry_in}
+use Rattle.trail_rights.specs.Marks.{Marked, acts_in, mark_among, marked_after, marked_by, marked_on, marked_with}
+use Rattle.trail_rights.specs.Marks.{entries_in, entry_in}
 use Rattle.trail_rights.specs.declared.settler.Settler.{Settler}
 use Rattle.trail_rights.specs.Deciding.{HasDecided, decider_after, sought_by}
 use Rattle.trail_rights.specs.Settling.{setting_by, settler_after}
@@ -34,6 +38,23 @@ settings_stay m a (s ∷ settlers) = ap (λ l. setting_by s ∷ l) (settings_sta
 
 -- ---- entries
 
+pub marked_one_more : (marked acts : Marked) (p : Mark × Act)
+    → marked_on marked (acts ++ p ∷ []) ≡ p ∷ marked_on marked acts
+marked_one_more marked [] p = refl
+marked_one_more marked (q ∷ acts) p = marked_one_more (q ∷ marked) acts p
+
+acts_by : (m : Mark) (marked : Marked) (acts : List Act)
+    → followed_by (acts_in marked) acts ≡ acts_in (marked_by m marked acts)
+acts_by m marked [] = refl
+acts_by m marked (a ∷ acts) = acts_by m ((m, a) ∷ marked) acts
+
+pub acts_are : (marked : Marked) (said : List Said)
+    → acts_after (acts_in marked) (entries_in said) ≡ acts_in (marked_after marked said)
+acts_are marked [] = refl
+acts_are marked (x ∷ said) =
+    ap (λ h. acts_after h (entries_in said)) (acts_by (mark_among (clients_of (acts_in marked)) x) marked x.2.acts)
+    ∙ acts_are (marked_with marked x) said
+
 pub marked_more : (marked : Marked) (said : List Said) (x : Said)
     → marked_after marked (said ++ x ∷ []) ≡ marked_with (marked_after marked said) x
 marked_more marked [] x = refl
@@ -42,3 +63,10 @@ marked_more marked (y ∷ said) x = marked_more (marked_with marked y) said x
 pub entries_more : (said : List Said) (x : Said) → entries_in (said ++ x ∷ []) ≡ entries_in said ++ entry_in x ∷ []
 entries_more [] x = refl
 entries_more (y ∷ said) x = ap (λ es. entry_in y ∷ es) (entries_more said x)
+
+-- ---- calls
+
+pub folds_more : {F X : Type 0} (R : F → X → F → Type 0) (f : F) (xs : List X) (g : F) (x : X) (h : F)
+    → FoldsTo R f xs g → R g x h → FoldsTo R f (xs ++ x ∷ []) h
+folds_more R f [] g x h is more = (h, subst (λ z. R z x h) (sym is) more, refl)
+folds_more R f (y ∷ xs) g x h is more = (is.0, is.1, folds_more R is.0 xs g x h is.2 more)

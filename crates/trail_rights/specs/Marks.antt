@@ -43,6 +43,11 @@ abbrev pub marked_by : Mark → Marked → List Act → Marked
 marked_by m marked [] = marked
 marked_by m marked (a ∷ acts) = marked_by m ((m, a) ∷ marked) acts
 
+-- acts with their marks after others, in their order
+abbrev pub marked_on : Marked → List (Mark × Act) → Marked
+marked_on marked [] = marked
+marked_on marked (p ∷ later) = marked_on (p ∷ marked) later
+
 -- the acts of an entry after others
 abbrev pub marked_with : Marked → Said → Marked
 marked_with marked x = marked_by (mark_among (clients_of (acts_in marked)) x) marked x.2.acts

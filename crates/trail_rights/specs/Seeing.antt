@@ -4,7 +4,6 @@ use Rattle.std.specs.List.{AllByRecursion}
 use Rattle.acl.specs.declared.act.Object.{Object}
 use Rattle.acl.specs.declared.bits.Bit.{Bit}
 use Rattle.acl.specs.declared.user_id.UserId.{UserId}
-use Rattle.writelock.specs.Holding.{clients_of}
 use Rattle.trail_rights.specs.declared.settler.Setting.{Setting}
 use Rattle.trail_rights.specs.declared.sight.Sight.{Sight}
 use Rattle.trail_rights.specs.Marks.{Marked, acts_in}
@@ -12,9 +11,8 @@ use Rattle.trail_rights.specs.Deciding.{HasDecided, sought_by}
 use Rattle.trail_rights.specs.Settling.{HasSettled, setting_by}
 use Rattle.trail_rights.specs.Windows.{windows_of}
 
--- clients, windows, what decides and what is set, after these acts
+-- windows, what decides and what is set, after these acts
 pub record HasSeen (s : Sight) (owner : UserId) (marked : Marked) : Type 0 where
-  pub clients : s.clients.items ≡ clients_of (acts_in marked)
   pub windows : s.windows.items ≡ windows_of (acts_in marked)
   pub deciders : AllByRecursion (HasDecided owner marked) s.deciders.items
   pub settlers : AllByRecursion (HasSettled marked) s.settlers.items

@@ -155,7 +155,7 @@ fn push_others(
 }
 
 /// Appends the line of an opener: which bits each other user gets on windows that they open later.
-pub fn push_mask_line(
+fn push_mask_line(
     settlers: &[Settler],
     users: &[UserId],
     by: UserId,
@@ -192,7 +192,7 @@ fn push_preset(settlers: &[Settler], kind: PresetKind, out: &mut Vec<u8>) -> Res
 
 /// Appends what a user gets who becomes known now: on open windows, on commands, and on windows that are
 /// opened later, since no mask takes a bit from them yet.
-pub fn push_newcomer(settlers: &[Settler], out: &mut Vec<u8>) -> Result<(), AllocError>
+fn push_newcomer(settlers: &[Settler], out: &mut Vec<u8>) -> Result<(), AllocError>
     ensures { OnOk result (out.new.items ≡ out.old.items ++ newcomer_text settlers.now) }
 {
     out.extend_from_slice(b"newcomer windows:")?;
@@ -200,4 +200,19 @@ pub fn push_newcomer(settlers: &[Settler], out: &mut Vec<u8>) -> Result<(), Allo
     out.extend_from_slice(b" commands:")?;
     push_preset(settlers, PresetKind::Commands, out)?;
     out.extend_from_slice(b" later:rwx\n")
+}
+
+/// Appends the users' masks, and what a user gets who becomes known now.
+pub fn push_mask_lines(
+    settlers: &[Settler],
+    users: &[UserId],
+    out: &mut Vec<u8>,
+) -> Result<(), AllocError>
+    ensures { OnOk result (out.new.items ≡ out.old.items ++ (flat_map
+        (masks_text settlers.now users.now) users.now ++ newcomer_text settlers.now)) }
+{
+    for user in users {
+        push_mask_line(settlers, users, *user, out)?;
+    }
+    push_newcomer(settlers, out)
 }

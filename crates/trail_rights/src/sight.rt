@@ -1,28 +1,23 @@
 //! Windows, deciders and settlers, after the acts of a file's entries.
 
-ghost use Rattle.std.specs.Prelude.{◌≡◌, ◌∷◌, OnOk, [], map};
+ghost use Rattle.std.specs.Prelude.{◌≡◌, ◌∷◌, OnOk, IfOk, [], map};
 ghost use Rattle.std.specs.List.{AllByRecursion};
 ghost use Rattle.acl.specs.declared.user_id.UserId.{UserId};
-ghost use Rattle.trail_lines.specs.Entries.{said};
-ghost use Rattle.trail_rights.specs.Marks.{marked_by, marked_with};
-ghost use Rattle.trail_rights.specs.Deciding.{HasDecided, decider_after};
-ghost use Rattle.trail_rights.specs.Settling.{HasSettled};
+ghost use Rattle.trail_rights.specs.Marks.{marked_on};
+ghost use Rattle.trail_rights.specs.Deciding.{HasDecided, decider_after, sought_by};
+ghost use Rattle.trail_rights.specs.Settling.{HasSettled, setting_by};
 ghost use Rattle.trail_rights.specs.Windows.{windows_after, without_window};
 ghost use Rattle.trail_rights.specs.Seeing.{HasSeen, Sees, sought};
 
 use crate::decider::Decider;
-use crate::mark::{Mark, mark_among};
+use crate::mark::Mark;
 use crate::settler::{Settler, settle_all};
-use acl::{Act, UserId};
-use hub_check::follow_clients;
-use std::alloc::{AllocError, Global};
-use trail_lines::Line;
+use acl::Act;
+use std::alloc::AllocError;
 
-/// Clients, open windows, what decides some bits and the values of some settings, after the acts that
-/// were followed.
+/// Open windows, what decides some bits and the values of some settings, after the acts that were followed.
 #[derive(Drop)]
 pub struct Sight {
-    clients: Vec<(u32, UserId)>,
     windows: Vec<u32>,
     deciders: Vec<Decider>,
     settlers: Vec<Settler>,
@@ -60,28 +55,11 @@ fn decide_all(deciders: &mut Vec<Decider>, mark: Mark, act: &Act)
 }
 
 impl Sight {
-    /// Before the first act. It looks for what decides the bits of these deciders, and for what gives
-    /// the settings of these settlers their values.
-    pub fn new(alloc: Global, deciders: Vec<Decider>, settlers: Vec<Settler>) -> Sight
-        ensures seen { (owner : UserId) → AllByRecursion (HasDecided owner []) deciders.items →
-            AllByRecursion (HasSettled []) settlers.items → HasSeen result owner [] }
-        ensures deciders { result.deciders.items ≡ deciders.items }
-        ensures settlers { result.settlers.items ≡ settlers.items }
-    {
-        Sight {
-            clients: Vec::new(alloc),
-            windows: Vec::new(alloc),
-            deciders,
-            settlers,
-        }
-    }
-
     /// Follows one act.
     fn follow(&mut self, mark: Mark, act: &Act) -> Result<(), AllocError>
         ensures sees { OnOk result (Sees self.old self.new (λ marked. (mark, act.now) ∷ marked)) }
         ensures sought { sought self.new ≡ sought self.old }
     {
-        follow_clients(&mut self.clients, act)?;
         follow_windows(&mut self.windows, act)?;
         decide_all(&mut self.deciders, mark, act);
         settle_all(&mut self.settlers, mark, act);
@@ -89,24 +67,36 @@ impl Sight {
     }
 
     /// Follows acts in order.
-    fn follow_all(&mut self, mark: Mark, acts: &[Act]) -> Result<(), AllocError>
-        ensures sees { OnOk result (Sees self.old self.new (λ marked. marked_by mark marked acts.now)) }
+    fn follow_all(&mut self, acts: &[(Mark, Act)]) -> Result<(), AllocError>
+        ensures sees { OnOk result (Sees self.old self.new (λ marked. marked_on marked acts.now)) }
         ensures sought { sought self.new ≡ sought self.old }
     {
-        for act in acts {
-            self.follow(mark, act)?;
+        for pair in acts {
+            self.follow(pair.0, &pair.1)?;
         }
         Ok(())
     }
 
-    /// Follows the acts of the next entry. What it looks for stays as it is, also after an `Err`.
-    pub fn take(&mut self, line: &Line) -> Result<(), AllocError>
-        ensures sees { OnOk result (Sees self.old self.new (λ marked. marked_with marked (said line.now))) }
-        ensures sought { sought self.new ≡ sought self.old }
+    /// What these deciders and settlers, given as they are before the first act, find in acts. It looks for
+    /// nothing else.
+    pub fn of(
+        deciders: Vec<Decider>,
+        settlers: Vec<Settler>,
+        acts: &[(Mark, Act)],
+    ) -> Result<Sight, AllocError>
+        ensures seen { (owner : UserId) → AllByRecursion (HasDecided owner []) deciders.items →
+            AllByRecursion (HasSettled []) settlers.items →
+            IfOk result (λ sight. HasSeen sight owner (marked_on [] acts.now)) }
+        ensures sought { IfOk result (λ sight. sought sight
+            ≡ (map sought_by deciders.items, map setting_by settlers.items)) }
     {
-        let mark = mark_among(&self.clients, line);
-        self.follow_all(mark, line.entry.acts())?;
-        Ok(())
+        let mut sight = Sight {
+            windows: Vec::new(*deciders.allocator()),
+            deciders,
+            settlers,
+        };
+        sight.follow_all(acts)?;
+        Ok(sight)
     }
 
     /// The windows that are open, in the order in which they were opened.

@@ -1,6 +1,6 @@
 //! Names and times as text.
 
-use acl::{Bit, UserId};
+use acl::UserId;
 use line_fields::push_when;
 use std::alloc::Global;
 use std::io::{self, Write};
@@ -9,15 +9,6 @@ use std::str;
 /// A name as text.
 pub fn text_of(user: &UserId) -> &str {
     str::from_utf8(user.as_bytes()).unwrap_or("?")
-}
-
-/// The letter of a bit.
-pub fn letter_of(bit: Bit) -> char {
-    match bit {
-        Bit::Read => 'r',
-        Bit::Write => 'w',
-        Bit::Execute => 'x',
-    }
 }
 
 /// Writes words and a time in milliseconds since 1970, or nothing if its year has more than four digits.

@@ -1,88 +1,114 @@
-//! Reads a file's entries, and sees their acts.
+//! Reads a file's entries in one pass, and keeps their acts: which of them decide is asked at the end.
 
-ghost use Rattle.std.specs.Prelude.{◌≡◌, List, [], IfOk};
+ghost use Rattle.std.specs.Prelude.{◌≡◌, List, [], IfOk, map};
+ghost use Rattle.std.specs.List.{AllByRecursion};
 ghost use Rattle.acl.specs.declared.edition.Edition.{Edition};
 ghost use Rattle.acl.specs.declared.user_id.UserId.{UserId};
+ghost use Rattle.hub_check.specs.Following.{StandsAfter};
 ghost use Rattle.trail_lines.specs.Entries.{Said};
-ghost use Rattle.trail_lines.specs.Reading.{HasRead};
+ghost use Rattle.trail_rights.specs.Marks.{acts_in, marked_after};
+ghost use Rattle.trail_rights.specs.Deciding.{HasDecided, sought_by};
+ghost use Rattle.trail_rights.specs.Settling.{HasSettled, setting_by};
 ghost use Rattle.trail_rights.specs.Seeing.{HasSeen, sought};
-ghost use Rattle.trail_rights.specs.Watching.{HasWatched, IsWatched, TellsNext};
+ghost use Rattle.trail_rights.specs.Watching.{AreFollowed, HasWatched, IsWatched, TellsNext};
 
+use crate::acts::Acts;
+use crate::decider::Decider;
+use crate::settler::Settler;
 use crate::sight::Sight;
-use std::alloc::AllocError;
+use acl::{Edition, UserId};
+use hub_check::Replay;
+use std::alloc::{AllocError, Global};
 use std::io::{self, BufRead};
-use trail_lines::{Audit, Halt, Wrong, next_entry};
+use trail_lines::{Audit, Halt, Line, Wrong, next_entry};
 
-/// Reads the lines of entries, judges the entries, and sees their acts.
+/// Reads the lines of entries, judges the entries, and keeps their acts.
 #[derive(Drop)]
 pub struct Watch {
     audit: Audit,
-    sight: Sight,
+    acts: Acts,
 }
 
 impl Watch {
     /// Before the first line.
-    pub fn new(audit: Audit, sight: Sight) -> Watch
-        ensures watched { (edition : Edition) (owner : UserId) → HasRead audit edition owner [] →
-            HasSeen sight owner [] → HasWatched result edition owner [] }
-        ensures sight { result.sight ≡ sight }
+    pub fn new(alloc: Global, edition: Edition, owner: UserId) -> Result<Watch, AllocError>
+        ensures { IfOk result (λ watch. HasWatched watch edition owner []) }
     {
-        Watch { audit, sight }
+        Ok(Watch {
+            audit: Audit::new(alloc, edition, owner)?,
+            acts: Acts::new(alloc),
+        })
     }
 
-    /// What was read.
-    pub fn audit(&self) -> &Audit
-        ensures { result.now ≡ self.now.audit }
+    /// How many entries were read.
+    pub fn count(&self) -> u64
+        ensures { result ≡ self.now.audit.next }
     {
-        &self.audit
+        self.audit.count()
     }
 
-    /// What was seen.
-    pub fn sight(&self) -> &Sight
-        ensures { result.now ≡ self.now.sight }
+    /// Rights, locks and clients after the entries.
+    pub fn replay(&self) -> &Replay
+        ensures { (edition : Edition) (owner : UserId) (said : List Said) →
+            HasWatched self.now edition owner said →
+            StandsAfter result.now edition owner (acts_in (marked_after [] said)) }
     {
-        &self.sight
+        self.audit.replay()
     }
 
-    /// Takes the line of the next entry, without its line feed. After an `Err` the watch must not be
-    /// used again.
-    pub fn take(&mut self, line: &[u8]) -> Result<(), Wrong>
-        ensures tells { (edition : Edition) (owner : UserId) (said : List Said) →
+    /// What these deciders and settlers, given as they are before the first act, find in the acts of the
+    /// entries. The sight looks for nothing else.
+    pub fn sight(&self, deciders: Vec<Decider>, settlers: Vec<Settler>) -> Result<Sight, AllocError>
+        ensures seen { (edition : Edition) (owner : UserId) (said : List Said) →
+            HasWatched self.now edition owner said → AllByRecursion (HasDecided owner []) deciders.items →
+            AllByRecursion (HasSettled []) settlers.items →
+            IfOk result (λ sight. HasSeen sight owner (marked_after [] said)) }
+        ensures sought { IfOk result (λ sight. sought sight
+            ≡ (map sought_by deciders.items, map setting_by settlers.items)) }
+    {
+        Sight::of(deciders, settlers, self.acts.marked())
+    }
+
+    /// Takes the line of the next entry, without its line feed, and returns what it says. After an `Err`
+    /// the watch must not be used again.
+    pub fn take(&mut self, line: &[u8]) -> Result<Line, Wrong>
+        ensures { (edition : Edition) (owner : UserId) (said : List Said) →
             HasWatched self.old edition owner said →
             TellsNext result self.new line.now edition owner said }
-        ensures sought { sought self.new.sight ≡ sought self.old.sight }
     {
         let said = self.audit.take(line)?;
-        self.sight.take(&said)?;
-        Ok(())
+        self.acts.take(&said)?;
+        Ok(said)
     }
 }
 
-/// Reads the entries of a reader, from the file's line 2 on, up to the entry of the place `last`. The
-/// line that halts the reading is left in `line`.
-pub fn watch_entries<R: BufRead>(
+/// Reads the entries of a reader, from the file's line 2 on, up to the entry of the place `last`, and calls
+/// `follow` with each. The line that halts the reading is left in `line`.
+pub fn watch_entries<R: BufRead, F: FnMut(&Line) -> Result<(), AllocError>>(
     watch: &mut Watch,
     reader: &mut R,
     line: &mut Vec<u8>,
     last: u64,
+    mut follow: F,
 ) -> io::Result<Halt>
-    ensures watched { (edition : Edition) (owner : UserId) → HasWatched watch.old edition owner [] →
+    requires { F.IsAlwaysCallable follow }
+    ensures { (edition : Edition) (owner : UserId) → HasWatched watch.old edition owner [] →
         IfOk result (λ halt. IsWatched halt watch.new line.new.items last edition owner
-        (R.remaining reader.old) (R.remaining reader.new)) }
-    ensures sought { sought watch.new.sight ≡ sought watch.old.sight }
+        (R.remaining reader.old) (R.remaining reader.new) (AreFollowed F.FnMut follow)) }
 {
     for number in 2..u64::MAX {
-        if watch.audit.count() > last {
+        if watch.count() > last {
             return Ok(Halt::Nothing);
         }
         if let Some(halt) = next_entry(reader, line, number)? {
             return Ok(halt);
         }
-        if let Err(wrong) = watch.take(line.as_slice()) {
-            return Ok(Halt::Stopped {
+        match watch.take(line.as_slice()) {
+            Ok(said) => follow(&said)?,
+            Err(wrong) => return Ok(Halt::Stopped {
                 line: number,
                 wrong,
-            });
+            }),
         }
     }
     // No file has 2^64 lines.

@@ -1,6 +1,5 @@
 use Rattle.std.proofs.Common.{◌∙◌, ◌∷◌, ◌++◌, [], ap, append_assoc, List}
 use Rattle.acl.specs.declared.user_id.UserId.{UserId}
-use Rattle.acl.specs.History.{leaders_of}
 use Rattle.trail_confined.proofs.premises.push_circle.Goals as goal
 
 pub returns : goal.returns

@@ -1,18 +1,21 @@
-use Rattle.std.proofs.Common.{◌≡◌, ◌+◌, ◌≤◌, ◌++◌, ◌∷◌, [], ℕ, List, Option, Some, None, length}
+use Rattle.std.proofs.Common.{◌≡◌, ◌+◌, ◌≤◌, ◌++◌, ◌∷◌, [], ℕ, List, Option, Some, None, length, rules}
 use Rattle.std.proofs.Common.{refl, ◌∙◌, subst, arith, inl, inr}
+use denote.Param.Always.{mut_next}
+use Rattle.std.proofs.iter.Next.{called_at}
 use Rattle.std.specs.Prelude.{IfSome}
 use Rattle.acl.specs.declared.edition.Edition.{Edition}
 use Rattle.acl.specs.declared.user_id.UserId.{UserId}
-use Rattle.trail_lines.specs.Entries.{Said, read_line}
+use Rattle.trail_lines.specs.Entries.{Said, read_line, said}
 use Rattle.trail_lines.specs.declared.halt.Halt.{Halt}
 use Rattle.trail_lines.specs.declared.halt.Halt.TheVariants as halt
 use Rattle.trail_lines.specs.Lines.{OfKnown}
 use Rattle.trail_lines.specs.Reading.{IsWrong}
 use Rattle.trail_lines.specs.Halting.{IsEnd, AreRead, IsReadTo, NextIs}
-use Rattle.trail_lines.proofs.Halted.{count_in, count_more, read_more, read_none, read_to, stops_at}
+use Rattle.trail_lines.proofs.Halted.{count_in, count_more, read_more, read_to, stops_at}
 use Rattle.trail_rights.specs.declared.watch.Watch.{Watch}
 use Rattle.trail_rights.specs.Marks.{entries_in}
-use Rattle.trail_rights.specs.Watching.{HasWatched, IsWatchedTo, TellsAll}
+use Rattle.trail_rights.specs.Watching.{Follows, HasWatched, IsWatchedTo, TellsAll}
+use Rattle.trail_rights.proofs.Seen.{folds_more}
 use Rattle.trail_rights.proofs.watch.watch_entries.Goals as goal
 
 tells : (h : Halt) (w : Watch) (line : List ℕ) (edition : Edition) (owner : UserId) (said : List Said) → IsEnd h
@@ -34,8 +37,8 @@ halted h last said line None new few a = tt
 halted h last said line (Some bytes) None few a = absurd a
 halted h last said line (Some bytes) (Some rest) few a = inr (few, a)
 
-pub returns-then-count-last-clause-watched : goal.returns-then-count-last-clause-watched
-returns-then-count-last-clause-watched g c = λ edition owner fresh.
+pub returns-then-count-last : goal.returns-then-count-last
+returns-then-count-last g c = λ edition owner fresh.
     let come = c.loop-number.invariant.0 edition owner fresh in
     let counted : c.loop-number.watch.audit.next ≡ length come.0 = come.1.read.next ∙ count_in come.0 in
     let all : length come.0 ≡ c.args.last + 1 =
@@ -45,10 +48,11 @@ returns-then-count-last-clause-watched g c = λ edition owner fresh.
       tells = come.1;
       few = come.3;
       from = all_watched c.args.last come.0 c.loop-number.line.items _ _ all come.4;
+      done = (_, come.5);
     }
 
-pub returns-in-Some-clause-watched : goal.returns-in-Some-clause-watched
-returns-in-Some-clause-watched g c = λ edition owner fresh.
+pub returns-in-Some : goal.returns-in-Some
+returns-in-Some g c = λ edition owner fresh.
     let come = c.loop-number.invariant.0 edition owner fresh in
     let counted : c.loop-number.watch.audit.next ≡ length come.0 = come.1.read.next ∙ count_in come.0 in
     let less : length come.0 ≤ c.args.last = omega (arith, counted, c.count.ensures, c.if-count-last.false) in
@@ -64,17 +68,18 @@ returns-in-Some-clause-watched g c = λ edition owner fresh.
       from = halted c.in-Some.halt c.args.last come.0 c.next_entry.new.line.items _ _ less
           (read_to c.in-Some.halt come.0 c.next_entry.new.line.items c.loop-number.number _ _ _ come.2
           come.4 halts);
+      done = (_, come.5);
     }
 
-pub returns-in-Err-clause-watched : goal.returns-in-Err-clause-watched
-returns-in-Err-clause-watched g c = λ edition owner fresh.
+pub returns-in-Err : goal.returns-in-Err
+returns-in-Err g c = λ edition owner fresh.
     let come = c.loop-number.invariant.0 edition owner fresh in
     let counted : c.loop-number.watch.audit.next ≡ length come.0 = come.1.read.next ∙ count_in come.0 in
     let less : length come.0 ≤ c.args.last = omega (arith, counted, c.count.ensures, c.if-count-last.false) in
     let next = subst (λ (h : Option Halt). OfKnown (g.R.Read.remaining c.loop-number.reader)
     (g.R.Read.remaining c.next_entry.new.reader) (NextIs h c.loop-number.number c.next_entry.new.line.items))
     c.in_default.is c.in_ok-halt.ensures.next in
-    let wrong = c.in-Err.ensures.tells edition owner come.0 come.1 in
+    let wrong = c.in-Err.ensures edition owner come.0 come.1 in
     record {
       said = come.0;
       tells = (
@@ -88,6 +93,7 @@ returns-in-Err-clause-watched g c = λ edition owner fresh.
           (read_to (halt.Stopped c.loop-number.number c.in-Err.wrong) come.0 c.next_entry.new.line.items
           c.loop-number.number _ _ _ come.2 come.4
           (stops_at c.in-Err.wrong c.next_entry.new.line.items c.loop-number.number _ _ next));
+      done = (_, come.5);
     }
 
 pub loop-number-preserved : goal.loop-number-preserved
@@ -98,14 +104,16 @@ loop-number-preserved g c = (
       let next = subst (λ (h : Option Halt). OfKnown (g.R.Read.remaining c.loop-number.reader)
       (g.R.Read.remaining c.next_entry.new.reader) (NextIs h c.loop-number.number c.next_entry.new.line.items))
       c.in_default.is c.in_ok-halt.ensures.next in
-      let takes = c.in_default-take.ensures.tells edition owner come.0 come.1 in
-      let x = takes.next in
+      let takes = c.in-Ok.ensures edition owner come.0 come.1 in
+      let x = said c.in-Ok.said in
       let is = subst (λ (line : List ℕ). read_line line ≡ Some x) c.as_slice.ensures.value takes.is in (
         come.0 ++ x ∷ [],
         takes.watched,
         omega (arith, come.2, count_more come.0 x),
         omega (arith, counted, c.count.ensures, c.if-count-last.false, count_more come.0 x),
         read_more come.0 x c.next_entry.new.line.items c.loop-number.number _ _ _ come.4 next is,
+        folds_more (Follows g.F.FnMut) _ come.0 _ x _ come.5
+            (c.in-Ok.said, refl, called_at g.F.FnMut c.follow.ensures (search rules)),
       ),
-  c.in_default-take.ensures.sought ∙ c.loop-number.invariant.1,
+  mut_next g.F.FnMut _ _ _ _ _ c.follow.ensures refl c.loop-number.invariant.1,
 )

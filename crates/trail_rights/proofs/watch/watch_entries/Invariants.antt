@@ -1,18 +1,19 @@
 use Rattle.std.proofs.Common.{◌≡◌, ◌+◌, ◌≤◌, [], List, length}
+use Rattle.std.specs.List.{FoldsTo}
 use Rattle.acl.specs.declared.edition.Edition.{Edition}
 use Rattle.acl.specs.declared.user_id.UserId.{UserId}
 use Rattle.trail_lines.specs.Entries.{Said}
 use Rattle.trail_lines.specs.Lines.{OfKnown}
 use Rattle.trail_lines.specs.Halting.{AreRead}
-use Rattle.trail_rights.specs.Seeing.{sought}
-use Rattle.trail_rights.specs.Watching.{HasWatched}
+use Rattle.trail_rights.specs.Watching.{Follows, HasWatched}
 use Rattle.trail_rights.proofs.watch.watch_entries.Given as goal
 
--- the entries before the line of this number were read; and what is looked for
+-- the entries before the line of this number were read and followed; and the callback may be called again
 abbrev pub invariant-loop-number : goal.invariant-loop-number
 invariant-loop-number g l =
     ((edition : Edition) (owner : UserId) → HasWatched l.fn.watch edition owner []
     → (said : List Said) × HasWatched l.watch edition owner said × (l.number ≡ length said + 2)
     × (length said ≤ l.last + 1)
-    × OfKnown (g.R.Read.remaining l.fn.reader) (g.R.Read.remaining l.reader) (AreRead said))
-    × (sought l.watch.sight ≡ sought l.fn.watch.sight)
+    × OfKnown (g.R.Read.remaining l.fn.reader) (g.R.Read.remaining l.reader) (AreRead said)
+    × FoldsTo (Follows g.F.FnMut) l.fn.follow said l.follow)
+    × goal.F-IsAlwaysCallable g l.follow

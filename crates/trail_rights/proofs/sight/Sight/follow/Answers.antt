@@ -1,7 +1,6 @@
 use Rattle.std.proofs.Common.{◌∙◌, ◌∷◌, ap, ap₂, sym, subst}
 use Rattle.std.specs.Prelude.{map}
 use Rattle.std.specs.List.{AllByRecursion}
-use Rattle.writelock.specs.Holding.{clients_after}
 use Rattle.trail_rights.specs.Deciding.{HasDecided, sought_by}
 use Rattle.trail_rights.specs.Windows.{windows_after}
 use Rattle.trail_rights.specs.Settling.{HasSettled, setting_by}
@@ -11,7 +10,6 @@ use Rattle.trail_rights.proofs.sight.Sight.follow.Goals as goal
 
 pub returns-clause-sees : goal.returns-clause-sees
 returns-clause-sees c = λ owner marked s. record {
-  clients = c.in_ok-follow_clients.ensures ∙ ap (clients_after c.args.act.now) s.clients;
   windows = c.in_ok-follow_windows.ensures ∙ ap (windows_after c.args.act.now) s.windows;
   deciders =
       subst (AllByRecursion (HasDecided owner ((c.args.mark, c.args.act.now) ∷ marked))) (sym c.decide_all.ensures)

@@ -1,25 +1,30 @@
-use Rattle.std.proofs.Common.{◌∙◌, ◌∷◌, [], refl, ap, sym, subst, slice_index_or, arith}
+use Rattle.std.proofs.Common.{◌∙◌, ◌∷◌, [], None, refl, ap, sym, subst, slice_index_or, arith}
+use Rattle.acl.specs.declared.act.Act.{Act}
 use Rattle.acl.specs.declared.act.Act.TheVariants.{Known}
 use Rattle.acl.proofs.InPlace.{drop-next, drop-past}
-use Rattle.trail_rights.specs.Marks.{marked_by}
+use Rattle.trail_rights.specs.declared.mark.Mark.{Mark}
+use Rattle.trail_rights.specs.Marks.{marked_on}
 use Rattle.trail_rights.specs.Seeing.{HasSeen}
 use Rattle.trail_rights.proofs.sight.Sight.follow_all.Goals as goal
 
-pub loop-act-init : goal.loop-act-init
-loop-act-init c = (λ owner marked s. (marked, s, refl), refl)
+abbrev blank : Mark × Act
+blank = (record { place = 0; ms = 0; giver = None }, Known (record { name = [] }))
 
-pub loop-act-preserved : goal.loop-act-preserved
-loop-act-preserved c = (
+pub loop-pair-init : goal.loop-pair-init
+loop-pair-init c = (λ owner marked s. (marked, s, refl), refl)
+
+pub loop-pair-preserved : goal.loop-pair-preserved
+loop-pair-preserved c = (
   λ owner marked s.
-      let i = c.loop-act.invariant.0 owner marked s in
-      let a = slice_index_or c.args.acts.now c.loop-act.act-index (Known (record { name = [] })) in
-      let next = drop-next c.args.acts.now c.loop-act.act-index (Known (record { name = [] })) (omega arith) in
-      ((c.args.mark, a) ∷ i.0, c.in_ok-follow.ensures.sees owner i.0 i.1, ap (marked_by c.args.mark i.0) next ∙ i.2),
-  c.in_ok-follow.ensures.sought ∙ c.loop-act.invariant.1,
+      let i = c.loop-pair.invariant.0 owner marked s in
+      let a = slice_index_or c.args.acts.now c.loop-pair.pair-index blank in
+      let next = drop-next c.args.acts.now c.loop-pair.pair-index blank (omega arith) in
+      (a ∷ i.0, c.in_ok-follow.ensures.sees owner i.0 i.1, ap (marked_on i.0) next ∙ i.2),
+  c.in_ok-follow.ensures.sought ∙ c.loop-pair.invariant.1,
 )
 
 pub returns-clause-sees : goal.returns-clause-sees
 returns-clause-sees c = λ owner marked s.
-    let i = c.loop-act.invariant.0 owner marked s in
-    let none = drop-past c.loop-act.act-index c.args.acts.now c.loop-act-test.false in
-    subst (HasSeen c.loop-act.self owner) (ap (marked_by c.args.mark i.0) (sym none) ∙ i.2) i.1
+    let i = c.loop-pair.invariant.0 owner marked s in
+    let none = drop-past c.loop-pair.pair-index c.args.acts.now c.loop-pair-test.false in
+    subst (HasSeen c.loop-pair.self owner) (ap (marked_on i.0) (sym none) ∙ i.2) i.1

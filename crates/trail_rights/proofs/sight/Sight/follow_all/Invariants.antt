@@ -1,13 +1,13 @@
 use Rattle.std.proofs.Common.{◌≡◌, drop}
 use Rattle.acl.specs.declared.user_id.UserId.{UserId}
-use Rattle.trail_rights.specs.Marks.{Marked, marked_by}
+use Rattle.trail_rights.specs.Marks.{Marked, marked_on}
 use Rattle.trail_rights.specs.Seeing.{HasSeen, sought}
 use Rattle.trail_rights.proofs.sight.Sight.follow_all.Given as goal
 
 -- the acts that were followed, and those that are left; and what is looked for
-abbrev pub invariant-loop-act : goal.invariant-loop-act
-invariant-loop-act l =
+abbrev pub invariant-loop-pair : goal.invariant-loop-pair
+invariant-loop-pair l =
     ((owner : UserId) (marked : Marked) → HasSeen l.fn.self owner marked
     → (past : Marked) × HasSeen l.self owner past
-    × (marked_by l.mark past (drop l.act-index l.acts) ≡ marked_by l.mark marked l.acts))
+    × (marked_on past (drop l.pair-index l.acts) ≡ marked_on marked l.acts))
     × (sought l.self ≡ sought l.fn.self)

@@ -2,20 +2,19 @@ use Rattle.std.proofs.Common.{[], sym, subst}
 use Rattle.trail_lines.specs.Entries.{said}
 use Rattle.trail_lines.specs.Reading.{HasRead}
 use Rattle.trail_rights.specs.Marks.{entries_in, marked_after}
-use Rattle.trail_rights.specs.Seeing.{HasSeen}
+use Rattle.trail_rights.specs.Keeping.{HasKept}
 use Rattle.trail_rights.proofs.Seen.{entries_more, marked_more}
 use Rattle.trail_rights.proofs.watch.Watch.take.Goals as goal
 
-pub returns-clause-tells : goal.returns-clause-tells
-returns-clause-tells c = λ edition owner xs w.
+pub returns : goal.returns
+returns c = λ edition owner xs w.
     let t = c.in_ok-said.ensures.tells edition owner (entries_in xs) w.read in
     let next = said c.in_ok-said.said in record {
-      next = next;
       is = t.is;
       place_is = t.place_is;
       watched = record {
         read = subst (HasRead c.take.new.self edition owner) (sym (entries_more xs next)) t.read;
-        seen = subst (HasSeen c.take-2.new.self owner) (sym (marked_more [] xs next))
-            (c.in_ok-take.ensures.sees owner (marked_after [] xs) w.seen);
+        kept = subst (HasKept c.take-2.new.self) (sym (marked_more [] xs next))
+            (c.in_ok-take.ensures (marked_after [] xs) w.kept);
       };
     }

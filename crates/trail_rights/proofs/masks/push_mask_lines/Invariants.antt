@@ -1,7 +1,7 @@
 use Rattle.std.proofs.Common.{◌≡◌, ◌++◌, take}
 use Rattle.std.specs.List.{flat_map}
 use Rattle.trail_rights.specs.Masking.{masks_text}
-use Rattle.trail_rights.proofs.who.push_all_masks.Given as goal
+use Rattle.trail_rights.proofs.masks.push_mask_lines.Given as goal
 
 abbrev pub invariant-loop-user : goal.invariant-loop-user
 invariant-loop-user l =

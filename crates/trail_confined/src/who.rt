@@ -1,19 +1,11 @@
 //! How it is told who may do what after a file's entries.
 
-ghost use Rattle.std.specs.Prelude.{◌≡◌, ◌++◌, OnOk};
-ghost use Rattle.std.specs.List.{flat_map};
-ghost use Rattle.trail_rights.specs.Masking.{masks_text, newcomer_text};
-
-use crate::masks::{push_mask_line, push_newcomer};
-use crate::rights::{holder, may, users_of};
-use crate::settler::Settler;
-use crate::texts::{letter_of, text_of};
-use crate::watch::Watch;
 use acl::{Bit, CommandName, Object, UserId};
 use command_lang::name_text;
 use hub_check::Replay;
-use std::alloc::{AllocError, Global};
+use std::alloc::Global;
 use std::io::{self, Write};
+use trail_rights::{Settler, Sight, Watch, holder, may, push_mask_lines, text_of, users_of};
 
 /// Writes a user and their leaders.
 fn write_user<W: Write>(replay: &Replay, user: UserId, output: &mut W) -> io::Result<()> {
@@ -30,6 +22,15 @@ fn write_users<W: Write>(replay: &Replay, users: &[UserId], output: &mut W) -> i
         write_user(replay, *user, output)?;
     }
     Ok(())
+}
+
+/// The letter of a bit.
+fn letter_of(bit: Bit) -> char {
+    match bit {
+        Bit::Read => 'r',
+        Bit::Write => 'w',
+        Bit::Execute => 'x',
+    }
 }
 
 /// The letter of a bit if a user has it, else a hyphen.
@@ -107,53 +108,50 @@ fn write_commands<W: Write>(replay: &Replay, user: UserId, output: &mut W) -> io
     writeln!(output)
 }
 
-/// Appends the users' masks, and what a user gets who becomes known now.
-fn push_all_masks(
-    settlers: &[Settler],
-    users: &[UserId],
-    out: &mut Vec<u8>,
-) -> Result<(), AllocError>
-    ensures { OnOk result (out.new.items ≡ out.old.items ++ (flat_map
-        (masks_text settlers.now users.now) users.now ++ newcomer_text settlers.now)) }
-{
-    for user in users {
-        push_mask_line(settlers, users, *user, out)?;
-    }
-    push_newcomer(settlers, out)
-}
-
-/// Writes windows with their holders and the users' rights, and the users' commands and masks.
-fn write_objects<W: Write>(
-    alloc: Global,
+/// Writes windows with their holders and the users' rights.
+fn write_windows<W: Write>(
+    replay: &Replay,
     owner: UserId,
-    watch: &Watch,
     users: &[UserId],
+    windows: &[u32],
     output: &mut W,
 ) -> io::Result<()> {
-    let replay = watch.audit().replay();
-    for window in watch.sight().windows() {
+    for window in windows {
         write_window(replay, owner, users, *window, output)?;
     }
+    Ok(())
+}
+
+/// Writes the users' commands and masks, and what a user gets who becomes known now.
+fn write_powers<W: Write>(
+    alloc: Global,
+    replay: &Replay,
+    users: &[UserId],
+    settlers: &[Settler],
+    output: &mut W,
+) -> io::Result<()> {
     for user in users {
         write_commands(replay, *user, output)?;
     }
     let mut masks = Vec::new(alloc);
-    push_all_masks(watch.sight().settlers(), users, &mut masks)?;
+    push_mask_lines(settlers, users, &mut masks)?;
     output.write_all(masks.as_slice())
 }
 
 /// Writes how many entries there are, users with their leaders, windows with their holders and rights,
-/// commands, masks, and what a user gets who becomes known now. The watch has looked for `settings_of`
+/// commands, masks, and what a user gets who becomes known now. The sight has looked for `settings_of`
 /// the known users.
 pub fn write_rights<W: Write>(
     alloc: Global,
     owner: UserId,
     watch: &Watch,
+    sight: &Sight,
     output: &mut W,
 ) -> io::Result<()> {
-    let replay = watch.audit().replay();
+    let replay = watch.replay();
     let users = users_of(alloc, replay)?;
-    writeln!(output, "entries {}", watch.audit().count())?;
+    writeln!(output, "entries {}", watch.count())?;
     write_users(replay, users.as_slice(), output)?;
-    write_objects(alloc, owner, watch, users.as_slice(), output)
+    write_windows(replay, owner, users.as_slice(), sight.windows(), output)?;
+    write_powers(alloc, replay, users.as_slice(), sight.settlers(), output)
 }
