@@ -3,7 +3,7 @@
 use crate::around::{Around, DOOR, browser_token, server_token};
 use crate::guest::Guest;
 use crate::halls::Halls;
-use crate::streams::Door;
+use crate::streams::{Browser, Door};
 use mio::{Events, Poll, Registry, Token};
 use std::alloc::Global;
 use std::io;
@@ -37,6 +37,8 @@ pub struct Bridge<'a> {
     guests: Vec<Option<Guest>>,
     halls: Halls,
     buffer: Vec<u8>,
+    /// Browsers may wait at the door. It tells of those that come, and not again of those that wait.
+    has_comers: bool,
 }
 
 impl<'a> Bridge<'a> {
@@ -57,6 +59,7 @@ impl<'a> Bridge<'a> {
             guests: Vec::new(alloc),
             halls: Halls::new(alloc),
             buffer: vec![in alloc; 0; CHUNK]?,
+            has_comers: true,
         })
     }
 
@@ -73,23 +76,37 @@ impl<'a> Bridge<'a> {
         self.guests.iter().filter(|guest| guest.is_some()).count()
     }
 
-    // Takes the browsers that wait at the door.
-    fn accept(&mut self, door: &Door, registry: &Registry, now: Duration) -> io::Result<()> {
-        for _ in 0..COMERS {
-            let Ok(mut browser) = door.accept() else {
-                return Ok(());
-            };
-            if self.count() >= self.most.saturating_add(SPARE) {
-                let _ = browser.write(&refusal(self.alloc, "503 Service Unavailable")?);
-                continue;
-            }
-            let place = self.free_place()?;
-            browser.register(registry, browser_token(place))?;
-            if let Some(slot) = self.guests.get_mut(place) {
-                *slot = Some(Guest::new(self.alloc, browser, now));
-            }
+    // Lets a browser in, if there is memory and the system watches its connection.
+    fn let_in(&mut self, browser: Browser, registry: &Registry, now: Duration) -> io::Result<()> {
+        let mut browser = browser;
+        if self.count() >= self.most.saturating_add(SPARE) {
+            let _ = browser.write(&refusal(self.alloc, "503 Service Unavailable")?);
+            return Ok(());
+        }
+        let place = self.free_place()?;
+        browser.register(registry, browser_token(place))?;
+        if let Some(slot) = self.guests.get_mut(place) {
+            *slot = Some(Guest::new(self.alloc, browser, now));
         }
         Ok(())
+    }
+
+    // Takes browsers that wait at the door. Returns whether more may be taken at once. If the system refuses to
+    // hand one over, it is asked again in the next turn.
+    fn accept(&mut self, door: &Door, registry: &Registry, now: Duration) -> bool {
+        for _ in 0..COMERS {
+            match door.accept() {
+                Ok(browser) => {
+                    // (one that can't be let in is closed)
+                    let _ = self.let_in(browser, registry, now);
+                }
+                Err(error) => {
+                    self.has_comers = error.kind() != ErrorKind::WouldBlock;
+                    return false;
+                }
+            }
+        }
+        true
     }
 
     // Notes that the connection of this token has something to read, or has room.
@@ -293,18 +310,15 @@ pub fn serve<R: Net + Clock + Wait + Eprint + AllocGlobal>(
             Err(error) => return Err(error),
         }
         let now = rt.monotonic()?;
-        let mut is_asked = false;
         for event in &events {
             if event.token() == DOOR {
-                is_asked = true;
+                bridge.has_comers = true;
             } else {
                 bridge.mark(event.token());
             }
         }
-        if is_asked {
-            bridge.accept(&door, &registry, now)?;
-        }
-        is_busy = bridge.turn(rt, &registry, now);
+        let has_more = bridge.has_comers && bridge.accept(&door, &registry, now);
+        is_busy = bridge.turn(rt, &registry, now) || has_more;
     }
     Ok(())
 }
