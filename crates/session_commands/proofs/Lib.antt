@@ -8,7 +8,11 @@ pub mod Members
 pub mod Paging
 pub mod Arranging
 pub mod Shown
-pub mod Numbers
-pub mod Growing
-pub mod Numbered
-pub mod Listing
+pub mod Ending
+pub mod Grouping
+pub mod LeavingRows
+pub mod Naming
+pub mod OnLists
+pub mod Parting
+pub mod Pushed
+pub mod There

@@ -1,7 +1,7 @@
 pub mod Entering
 pub mod Giving
-pub mod Items
-pub mod Orders
-pub mod Growing
 pub mod Scrolling
-pub mod Listing
+pub mod Asked
+pub mod Closing
+pub mod Going
+pub mod Settling

@@ -1,23 +1,28 @@
-//! What commands do to windows, to locks and to the page of the client that gives them, what they
-//! list, and what `wall` says.
+//! What commands do: to users and their rights, to windows, to locks, and to the page of the client that
+//! gives them; what they list, and what `wall` says. What an event shares with a command is here too.
 #![tactic(auto)]
 
+mod access;
+mod closing;
 mod entering;
 mod giver;
-mod items;
-mod laws;
+mod going;
+mod leaving;
 mod lists;
 mod locks;
+mod masks;
 mod messages;
+mod names;
+mod objects;
 mod pages;
-mod texts;
 mod window;
 
+pub use access::{acladd, aclchg, acldel, aclgrp, aclgrp_of, aclumask};
 pub use entering::enter;
 pub use giver::client_of;
+pub use leaving::{close_window, detach, detach_client, kill, multiuser, quit};
 pub use lists::{displays, screen, windows};
 pub use locks::{defwritelock, writelock};
 pub use messages::wall;
 pub use pages::{focus, next, only, other, prev, remove, scrollview, select, split};
-pub use texts::{clients_text, windows_text};
 pub use window::{clear, encoding, fit, number, reset, stuff, title};

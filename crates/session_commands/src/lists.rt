@@ -9,9 +9,8 @@ ghost use Rattle.session_state.specs.declared.step_output.StepOutput.{StepOutput
 ghost use Rattle.session_state.specs.Doing.{Does, caller_in};
 ghost use Rattle.session_state.specs.Stands.{Stands};
 
-use crate::texts::{clients_text, windows_text};
 use session_model::{Bytes, Refusal};
-use session_state::{Caller, State};
+use session_state::{Caller, State, clients_text, windows_text};
 
 /// The window in focus of a client that asks.
 fn focus_of(state: &State, caller: Caller) -> Option<u32>

@@ -7,7 +7,7 @@ ghost use Rattle.session_state.specs.Doing.{IsAsBefore};
 ghost use Rattle.session_input.specs.Stepping.{Steps};
 
 use acl::UserId;
-use session_access::{check_attach, check_open, check_resize};
+use session_checks::{check_attach, check_open, check_resize};
 use session_events::{Focuses, attach, leave, open, resize};
 use session_model::{Done, Refusal, Reply};
 use session_state::{State, Step, WindowSize};

@@ -6,7 +6,7 @@ ghost use Rattle.session_state.specs.Doing.{IsAsBefore};
 ghost use Rattle.session_input.specs.Stepping.{Steps};
 
 use crate::coming::made_so;
-use session_access::{close_window, detach_client};
+use session_commands::{close_window, detach_client};
 use session_events::{Focuses, leave};
 use session_model::Reply;
 use session_state::{State, Step};

@@ -18,7 +18,7 @@ use Rattle.session_model.specs.Answering.{input_in, says_why}
 use Rattle.session_model.specs.Texts.{text_of}
 use Rattle.windows_model.proofs.Serials.{serial_is}
 use Rattle.session_state.specs.declared.step_notes.Step.{Step}
-use Rattle.session_access.specs.Checked.{Passed, Failed}
+use Rattle.session_checks.specs.Checked.{Passed, Failed}
 use Rattle.session_input.specs.Said.{wants_memory}
 use Rattle.session_input.specs.Typing.{Typed, input_to}
 

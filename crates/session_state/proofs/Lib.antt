@@ -1,1 +1,5 @@
 pub mod Crossing
+pub mod Growing
+pub mod Listing
+pub mod Numbered
+pub mod Numbers

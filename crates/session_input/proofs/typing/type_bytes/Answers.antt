@@ -6,7 +6,7 @@ use Rattle.session_model.specs.Checks.{typing_checks}
 use Rattle.session_state.specs.declared.caller.Caller.{Caller}
 use Rattle.session_state.specs.declared.step_notes.Step.{Step}
 use Rattle.session_state.specs.Doing.{caller_in}
-use Rattle.session_access.specs.Checked.{Passed, Failed}
+use Rattle.session_checks.specs.Checked.{Passed, Failed}
 use Rattle.session_input.specs.Typing.{Typed, input_to}
 use Rattle.session_input.proofs.Inputs.{typed_through, typed_refused_or}
 use Rattle.session_input.proofs.typing.type_bytes.Goals as goal

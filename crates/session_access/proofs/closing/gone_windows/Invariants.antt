@@ -1,6 +1,0 @@
-use Rattle.std.proofs.Common.{◌≡◌, map, take}
-use Rattle.session_access.specs.Closing.{gone_row}
-use Rattle.session_access.proofs.closing.gone_windows.Given as goal
-
-abbrev pub invariant-loop-window : goal.invariant-loop-window
-invariant-loop-window l = l.gone.items ≡ map (gone_row l.why) (take l.window-index l.windows)

@@ -1,7 +1,0 @@
-use Rattle.std.proofs.Common.{◌≡◌, map, filter, take}
-use Rattle.session_access.specs.Going.{gone_now, goes_now}
-use Rattle.session_access.proofs.going.gone_clients.Given as goal
-
-abbrev pub invariant-loop-client : goal.invariant-loop-client
-invariant-loop-client l =
-    l.gone.items ≡ map (gone_now l.why) (filter (goes_now l.going) (take l.client-index l.clients))

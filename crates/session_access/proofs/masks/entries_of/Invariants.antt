@@ -1,9 +1,0 @@
-use Rattle.std.proofs.Common.{◌≡◌, take}
-use Rattle.acl.specs.Table.{StandsFor}
-use Rattle.session_model.specs.Tables.{Tables}
-use Rattle.session_model.specs.Commands.{mask_entries}
-use Rattle.session_access.proofs.masks.entries_of.Given as goal
-
-abbrev pub invariant-loop-mask : goal.invariant-loop-mask
-invariant-loop-mask l = (t : Tables) → StandsFor l.acl t.edition t.owner t.acts
-    → l.entries.items ≡ mask_entries t (take l.mask-index l.masks)

@@ -1,0 +1,4 @@
+pub mod Checking
+pub mod Listing
+pub mod Places
+pub mod Standing

@@ -1,0 +1,21 @@
+use Rattle.std.proofs.Common.{◌∙◌, refl, sym, map, nat_eq}
+use Rattle.std.specs.List.{list_any}
+use Rattle.session_model.specs.Naming.{every_command}
+use Rattle.session_commands.specs.Asked.{window_object}
+use Rattle.session_commands.proofs.Naming.{wide_parts, put, put_none}
+use Rattle.session_commands.proofs.objects.push_wide.Goals as goal
+use Rattle.session_commands.proofs.objects.push_wide.Goals.{then-has+in_ok-push_windows, else-has}
+
+pub returns-in_ok-push_commands : goal.returns-in_ok-push_commands
+returns-in_ok-push_commands c =
+    let old = c.args.objects.now.items in
+    let ws = map window_object c.args.windows.now in
+    let some = list_any (nat_eq 0x23) c.args.item.now in
+    wide_parts some (list_any (nat_eq 0x3F) c.args.item.now) old _ _ ws every_command
+    (elim c.if-has.branch [
+      | then-has+in_ok-push_windows w ↦
+          put some old _ ws (sym c.has.ensures ∙ w.if-has.true) (rw w.objects-is w.in_ok-push_windows.ensures)
+      | else-has w ↦
+          put_none some old _ ws (sym c.has.ensures ∙ w.if-has.false) (rw w.objects-is refl)
+    ])
+    (put _ _ _ every_command (sym c.has-2.ensures ∙ c.if-has-2.true) c.in_ok-push_commands.ensures)

@@ -1,0 +1,8 @@
+use Rattle.std.proofs.Common.{◌≡◌, ◌++◌, map, take}
+use Rattle.session_commands.specs.Asked.{window_object}
+use Rattle.session_commands.proofs.objects.push_windows.Given as goal
+
+abbrev pub invariant-loop-window : goal.invariant-loop-window
+invariant-loop-window l =
+    l.objects.items
+    ≡ l.fn.objects.items ++ map window_object (take l.window-index l.window-items)

@@ -1,0 +1,179 @@
+//! Commands on the access lists: which users are known, what they may do, and whom they follow.
+
+ghost use Rattle.std.specs.Prelude.{◌≡◌, None, Some};
+ghost use Rattle.command_lang.specs.declared.command.Command.TheVariants as command;
+ghost use Rattle.session_model.specs.Tables.{Tables};
+ghost use Rattle.session_state.specs.declared.step_output.StepOutput.{StepOutput};
+ghost use Rattle.session_state.specs.Doing.{Does, DoesForAll, IsSilent};
+ghost use Rattle.session_state.specs.Stands.{Stands};
+ghost use Rattle.session_commands.specs.Asked.{answered, refusal_of};
+ghost use Rattle.session_state.specs.Leaders.{IsKnownUser};
+
+use crate::going::{Going, gone_clients, note_parted};
+use crate::masks::entries_of;
+use crate::names::{named, names_of, new_leader};
+use crate::objects::{every_object, objects_of};
+use acl::{AclFault, RightsChange, UserId};
+use command_lang::{BitList, Leader, Masks, Text, Texts, Users};
+use session_model::{Bytes, Reason, Refusal};
+use session_state::{Caller, State, StepOutput, leaders_text};
+
+/// The most acts that may follow those of a command in its step: one for each client that leaves a
+/// window.
+const ROOM: usize = 64;
+
+/// The refusal for a fault of the access lists.
+fn refusal_of(fault: AclFault) -> Refusal
+    ensures { result ≡ refusal_of fault }
+{
+    match fault {
+        AclFault::NoMemory => Refusal::NoMemory,
+        _ => Refusal::Acl(fault),
+    }
+}
+
+/// The answer of a command on the lists, which was done or refused.
+fn answered(done: Result<(), AclFault>) -> Result<Option<Bytes>, Refusal>
+    ensures { result ≡ answered done }
+{
+    match done {
+        Ok(()) => Ok(None),
+        Err(fault) => Err(refusal_of(fault)),
+    }
+}
+
+/// `acladd`: makes users known, and gives them each bit on each window and command.
+pub fn acladd(
+    state: &mut State,
+    users: &Users,
+    made: &mut StepOutput,
+) -> Result<Option<Bytes>, Refusal>
+    ensures answer { DoesForAll (command.Acladd users.now)
+        state.old result state.new made.old made.new }
+    ensures silent { IsSilent result state.old state.new made.old made.new }
+{
+    let names = names_of(state.alloc, &state.acl, users)?;
+    let objects = every_object(state.alloc, &state.windows)?;
+    let (acts, locks) = (&mut made.acts, &mut state.locks);
+    answered(state.acl.add(&names, &objects, acts, ROOM, locks))
+}
+
+/// `acldel`: removes a user's clients, and then the user.
+pub fn acldel(
+    state: &mut State,
+    word: &str,
+    made: &mut StepOutput,
+) -> Result<Option<Bytes>, Refusal>
+    ensures answer { DoesForAll (command.Acldel word.now) state.old result state.new
+        made.old made.new }
+    ensures silent { IsSilent result state.old state.new made.old made.new }
+{
+    let Some(user) = UserId::of(word.as_bytes()) else {
+        return Err(Refusal::Acl(AclFault::ReservedName));
+    };
+    let going = Going::Of(user);
+    let clients = state.clients.as_slice();
+    let mut gone = gone_clients(state.alloc, clients, going, Reason::Removed)?;
+    made.acts.reserve(clients.len() + 65)?;
+    made.effects.reserve(gone.len())?;
+    let start = made.acts.len();
+    let mut locks = state.locks;
+    note_parted(clients, going, &mut locks, &mut made.acts);
+    if let Err(fault) = state.acl.remove(Some(user), &mut made.acts, 64, &mut locks) {
+        made.acts.truncate(start);
+        return Err(refusal_of(fault));
+    }
+    made.effects.append(&mut gone).unwrap();
+    state.locks = locks;
+    state.clients.remove_of(user);
+    Ok(None)
+}
+
+/// `aclchg`: gives users bits on the objects of a list, or takes them. If a name is wrong and an item
+/// names nothing, the name's fault is the answer.
+pub fn aclchg(
+    state: &mut State,
+    users: &Users,
+    bits: &BitList,
+    list: &Texts,
+    made: &mut StepOutput,
+) -> Result<Option<Bytes>, Refusal>
+    ensures answer { DoesForAll (command.Aclchg users.now bits.now list.now)
+        state.old result state.new made.old made.new }
+    ensures silent { IsSilent result state.old state.new made.old made.new }
+{
+    let names = names_of(state.alloc, &state.acl, users)?;
+    if let Some(fault) = state.acl.change_fault(&names) {
+        return Err(Refusal::Acl(fault));
+    }
+    let objects = objects_of(state.alloc, &state.windows, list.as_slice())?;
+    let change = RightsChange {
+        names: &names,
+        changes: bits.as_slice(),
+        objects: &objects,
+    };
+    let (acts, locks) = (&mut made.acts, &mut state.locks);
+    answered(state.acl.change(change, acts, ROOM, locks))
+}
+
+/// `aclgrp` with a leader: the user follows that leader, or nobody if it is `none`.
+pub fn aclgrp(
+    state: &mut State,
+    name: &Text,
+    leader: &Leader,
+    made: &mut StepOutput,
+) -> Result<Option<Bytes>, Refusal>
+    ensures answer { DoesForAll (command.Aclgrp name.now (Some leader.now))
+        state.old result state.new made.old made.new }
+    ensures silent { IsSilent result state.old state.new made.old made.new }
+{
+    let (acts, locks) = (&mut made.acts, &mut state.locks);
+    answered(
+        state
+            .acl
+            .group(named(name), new_leader(leader), acts, ROOM, locks),
+    )
+}
+
+/// The known user, other than the owner, that a word names, or why a command on the lists is refused.
+fn known_user(state: &State, word: &str) -> Result<UserId, AclFault>
+    ensures { (t : Tables) → Stands t state.now → IsKnownUser t word.now result }
+{
+    let Some(user) = UserId::of(word.as_bytes()) else {
+        return Err(AclFault::ReservedName);
+    };
+    if state.acl.owner() == user {
+        return Err(AclFault::OwnerKept);
+    }
+    if !state.acl.knows(user) {
+        return Err(AclFault::UnknownUser);
+    }
+    Ok(user)
+}
+
+/// `aclgrp` without a leader: lists a user's leaders.
+pub fn aclgrp_of(state: &State, caller: Caller, name: &str) -> Result<Option<Bytes>, Refusal>
+    ensures { (made : StepOutput)
+        → Does caller (command.Aclgrp name.now None) state.now result state.now made made }
+{
+    match known_user(state, name) {
+        Ok(user) => Ok(Some(leaders_text(state, user)?)),
+        Err(fault) => Err(Refusal::Acl(fault)),
+    }
+}
+
+/// `aclumask`: sets what users get on windows that the caller opens later, and the presets.
+pub fn aclumask(
+    state: &mut State,
+    caller: Caller,
+    masks: &Masks,
+    made: &mut StepOutput,
+) -> Result<Option<Bytes>, Refusal>
+    ensures answer { Does caller (command.Aclumask masks.now)
+        state.old result state.new made.old made.new }
+    ensures silent { IsSilent result state.old state.new made.old made.new }
+{
+    let entries = entries_of(state.alloc, &state.acl, masks.as_slice())?;
+    let (acts, locks) = (&mut made.acts, &mut state.locks);
+    answered(state.acl.mask(caller.user, &entries, acts, ROOM, locks))
+}

@@ -1,0 +1,14 @@
+use Rattle.std.proofs.Common.{map}
+use Rattle.session_model.specs.Tables.{Tables}
+use Rattle.session_model.specs.Texts.{window_item}
+use Rattle.session_state.specs.Orders.{numbered}
+use Rattle.session_state.specs.Stands.{Stands}
+use Rattle.session_model.specs.Sound.{AreFit}
+use Rattle.session_state.specs.Growing.{IsList}
+use Rattle.session_state.proofs.texts.windows_text.Given as goal
+
+-- the items of the windows of lower numbers
+abbrev pub invariant-loop-number : goal.invariant-loop-number
+invariant-loop-number l = (t : Tables) → Stands t l.state → AreFit t
+    → IsList (map (window_item t l.user l.focus) (numbered t.windows 0 l.number)) l.is_first
+    l.text.items
