@@ -9,7 +9,7 @@ ghost use Rattle.session_input.specs.Stepping.{Steps};
 use crate::orders::order;
 use acl::UserId;
 use command_lang::{Command, FaultKind, ParseFault, parse};
-use session_checks::{is_known};
+use session_checks::is_known;
 use session_events::{Focuses, leave};
 use session_model::{Done, Refusal, Reply};
 use session_state::{Caller, State, Step};

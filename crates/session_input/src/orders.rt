@@ -9,8 +9,12 @@ ghost use Rattle.session_model.specs.declared.refusal.Refusal.TheVariants.{NoWin
 ghost use Rattle.session_input.specs.Ruled.{Rules};
 
 use command_lang::{Command, needs_of};
-use session_checks::{check_command};
-use session_commands::{acladd, aclchg, acldel, aclgrp, aclgrp_of, aclumask, clear, client_of, defwritelock, detach, displays, encoding, fit, focus, kill, multiuser, next, number, only, other, prev, quit, remove, reset, screen, scrollview, select, split, stuff, title, wall, windows, writelock};
+use session_checks::check_command;
+use session_commands::{
+    acladd, aclchg, acldel, aclgrp, aclgrp_of, aclumask, clear, client_of, defwritelock, detach,
+    displays, encoding, fit, focus, kill, multiuser, next, number, only, other, prev, quit, remove,
+    reset, screen, scrollview, select, split, stuff, title, wall, windows, writelock,
+};
 use session_model::{Bytes, Refusal};
 use session_state::{Caller, State, Step, StepOutput};
 

@@ -8,7 +8,7 @@ ghost use Rattle.session_model.specs.declared.refusal.Refusal.TheVariants.{NoMem
 ghost use Rattle.session_input.specs.Typing.{Types, Grows, input_to};
 
 use crate::saying::{wants_memory, why};
-use session_checks::{check_typing};
+use session_checks::check_typing;
 use session_model::{Bytes, Effect, Message, Refusal};
 use session_state::{KeyCaller, State, Step};
 use std::alloc::{AllocError, Global};

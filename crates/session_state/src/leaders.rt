@@ -5,9 +5,9 @@ ghost use Rattle.acl.specs.Names.{name_of};
 ghost use Rattle.session_model.specs.Texts.{behind, leaders_text, group_text};
 ghost use Rattle.session_state.specs.Leaders.{SaysLeaders};
 
+use crate::state::State;
 use acl::UserId;
 use session_model::Bytes;
-use crate::state::State;
 use std::alloc::AllocError;
 
 /// Appends bytes.

@@ -6,10 +6,10 @@ ghost use Rattle.session_state.specs.Listing.{SaysWindows, SaysClients, IsItem};
 ghost use Rattle.session_state.specs.Listing.{number_shown};
 
 use crate::items::{push_client, push_separator, push_window};
+use crate::state::State;
 use acl::{Bit, Object, UserId};
 use session_clients::Client;
 use session_model::Bytes;
-use crate::state::State;
 use std::alloc::AllocError;
 use windows::{Window, Windows};
 
