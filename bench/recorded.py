@@ -36,7 +36,7 @@ MARKS = {"cyrillic": "\u0301", "greek": "\u0301\u0308", "hebrew": "\u05b0\u05b4\
 
 
 def word(rng, script):
-    """A word of a script, one letter in eight with a mark where the script has marks."""
+    """A word of a script, one letter in eight with a mark if the script has marks."""
     letters = []
     for _ in range(rng.randint(2, 9)):
         letters.append(rng.choice(ALPHABETS[script]))

@@ -219,7 +219,7 @@ def draws_beside(words, floods, clients, seconds=3):
 
 
 def echoes_in_turn(words, keys=2000):
-    """The median of a key's echo with one loop and with two, in microseconds, where each key is typed to both."""
+    """The median of a key's echo with one loop and with two, in microseconds. Each key is typed to both."""
     one, two_loops = argparse.Namespace(**vars(words)), argparse.Namespace(**vars(words))
     one.loops, two_loops.loops = 1, 2
     with Server(one, 1) as first, Server(two_loops, 1) as second:

@@ -73,7 +73,7 @@ class Fake:
         self.folder.cleanup()
 
     def frames(self):
-        """The frames behind the first one: their kinds and payloads."""
+        """The frames after the first one: their kinds and payloads."""
         data, found = self.data, []
         while len(data) >= 3:
             length = int.from_bytes(data[1:3], "big")

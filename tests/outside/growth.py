@@ -1,7 +1,7 @@
 #!/usr/bin/env python3
 """What a server keeps for good of each step, and what it takes under sixteen rough peers.
 
-Bytes a step are the growth of its resident memory over 5,000 steps of one kind, behind as many that came before them;
+Bytes a step are the growth of its resident memory over 5,000 steps of one kind, after a first 5,000;
 each has a bound of its own. Then sixteen peers attach and type, open windows that print, and give commands, for a
 minute (or --seconds), over eight loops: the server is to stay below 150 MB. MUXD names the program (that of bin/, if
 it isn't set). Prints a line for each check, and ends with status 1 if one failed.

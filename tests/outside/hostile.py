@@ -171,7 +171,7 @@ def attacked():
 
 
 def seats():
-    """A user has so many clients and windows, and no more; another user has as many."""
+    """A user has no more clients and windows than the options allow; another user has as many."""
     with Server(words=("--user-clients", "3", "--user-windows", "2")) as server:
         admit(server)
         held = [server.connect(attach(*GUEST)) for _ in range(3)]

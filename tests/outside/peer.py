@@ -17,7 +17,7 @@ ATTACH, WINDOW, COMMAND, KEYS, RESIZE, OUTPUT, DETACH = b"A", b"W", b"C", b"K", 
 WELCOME, DRAW, INPUT, SAY, SIZE, GONE = b"y", b"d", b"i", b"s", b"z", b"g"
 # The most bytes that one frame carries, and the window's number in a command that names none.
 LONGEST, NO_WINDOW = 8192, 0xFF
-# How a connection ends behind a command that was done, and behind a refusal.
+# How a connection ends after a command that was done, and after a refusal.
 DONE, REFUSED = b"g\0\1\0", b"g\0\1\6"
 
 

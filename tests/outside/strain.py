@@ -71,7 +71,7 @@ def has_come(it, seconds):
 
 
 def welcome(it):
-    """Whether the first frame lets it in; not, where nothing comes."""
+    """Whether the first frame lets it in; no, if nothing comes."""
     data = b""
     try:
         while len(data) < 4:

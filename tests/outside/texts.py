@@ -456,7 +456,7 @@ def teaching(play):
 
 
 class Accounts:
-    """The accounts of TEACHING, where root plays it, sudo is installed, and none of them is there; else one login for
+    """The accounts of TEACHING, if root plays it, sudo is installed, and none of them exists; else one login for
     all of them, and stand-ins."""
 
     NAMES = ("tess", "ann", "bob", "eve", "fay", "lab")
@@ -991,7 +991,7 @@ def trail_page(play):
 
 
 def session_pages(play):
-    """Pages of scripts that join a session: their examples, on a server with a window, where all is open."""
+    """Pages of scripts that join a session: their examples, on a server with a window, without restrictions."""
     on = play.on
     on.open("ann")
     on.run("ann", "new-token ann; for name in own bob wall pia ben; do new-token $name; done;"
