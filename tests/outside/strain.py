@@ -274,7 +274,7 @@ def at_once():
 
 
 def one_who_floods():
-    """One user's entries have a rate in the long run; his keys wait, and nobody is cut off."""
+    """One user's entries have a rate in the long run; the user's keys wait, and nobody is cut off."""
     with Server() as server:
         shell = server.connect(window())
         assert welcome(shell)
@@ -299,7 +299,7 @@ def one_who_floods():
         check("a user's keys have a rate", 8_000 < typed < most, f"{typed}")
         begin = time.time()
         answer = server.give(b"windows")
-        check("and his command is answered", answer.endswith(DONE) and time.time() - begin < 2)
+        check("and the user's command is answered", answer.endswith(DONE) and time.time() - begin < 2)
 
 
 def unread_log():

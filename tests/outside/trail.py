@@ -1,14 +1,14 @@
 #!/usr/bin/env python3
 """Fills a server's trail: 63 users type into a window until the 4,194,304 entries are there.
 
-One user alone would take more than an hour: he causes at most 1,000 entries a second in the long run. Each byte that
+One user alone would take more than an hour: a user causes at most 1,000 entries a second in the long run. Each byte that
 was told as an entry reaches the window, in one INPUT each; the next one finds the trail full: clients and window get
 GONE 7, in whichever loop they are, and muxd says so, in its log how full it was before, and ends with status 1. Equal
 entries share one stored form: the trail takes 4 bytes for each of them, and the seats' receipts 8, in all some 50 MB.
 The server is to stay below 120 MB, with what the clients need that type at once.
 
 With the word `day` a made-up day is played in ten minutes in its place: five users type 1,400,000 keys, each into a
-window of his own, in bursts of 1, 5 and 40; the server is to take at most 20 bytes a key.
+window of their own, in bursts of 1, 5 and 40; the server is to take at most 20 bytes a key.
 
 MUXD names the program (that of bin/, if it isn't set); a word is the number of loops (2, if not given). Prints a line for
 each check, and ends with status 1 if one failed.
