@@ -1,5 +1,6 @@
 -- A command that needs a client or a window is refused if there is none.
-use Rattle.std.proofs.Common.{◌≡◌, Bool, true, false, not, refl, ℕ, List, Option, Some, None, Ok, Err, ap, sym, subst, ◌∙◌, inr}
+use Rattle.std.proofs.Common.{◌≡◌, Bool, true, false, not, refl, ℕ, List, Option, Some, None, Ok, Err}
+use Rattle.std.proofs.Common.{ap, sym, subst, ◌∙◌, inr}
 use Rattle.std.specs.Prelude.{Result, IfOk}
 use Rattle.std.specs.Option.{is_some}
 use Rattle.std.specs.Option.{option_and_then}

@@ -178,8 +178,8 @@ drawn_rows t w client effects reply (Some c) same at s is =
       others (Deliver to bytes ∷ []) one n off = off_by to n bytes one.0 off
       others (f ∷ es) other n off = absurd other
 
-pub none_of : (t : Tables) (event : EventValue) (effects : List Effect) → is_draw event ≡ false → HasEffects t event effects
-    → (n : ℕ) → deliveries effects n ≡ []
+pub none_of : (t : Tables) (event : EventValue) (effects : List Effect) → is_draw event ≡ false
+    → HasEffects t event effects → (n : ℕ) → deliveries effects n ≡ []
 none_of t event effects other is = undelivered t event effects other
     (all_weaken (Fits t event) (IsEffectOf t event) effects (λ f all. all.0) (step_fits t event effects is))
 
