@@ -73,7 +73,7 @@ module _ (t : Tables) where
         ∙ ap (λ vs. before ++ vs) (sym (verdicts_on cs (ds ++ more) p.none));
   }
 
-  -- memory was wanting
+  -- memory was refused
   pub refused_on : (cs ds more : List Check) (r : Refusal) (before middle after : List Verdict)
       → Passed t cs before middle → (r ≡ NoMemory) ⊎ Failed t ds r middle after
       → (r ≡ NoMemory) ⊎ Failed t (cs ++ (ds ++ more)) r before after

@@ -30,7 +30,7 @@ pub record Failed
   pub first : first_fault t cs ≡ Some r
   pub noted : after ≡ before ++ verdicts t cs
 
--- the checks were made, or memory was wanting
+-- the checks were made, or memory was refused
 abbrev pub Checked : {X : Type 0} →
     Tables → List Check → Result X Refusal → List Verdict → List Verdict → Type 0
 Checked t cs (Ok x) before after = Passed t cs before after

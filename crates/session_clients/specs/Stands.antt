@@ -12,7 +12,7 @@ use Rattle.session_model.specs.Comings.{is_client_size}
 use Rattle.windows_model.specs.Matched.{Matched}
 use Rattle.session_clients.specs.declared.client.Client.{Client}
 
--- a view was drawn exactly where something was delivered
+-- a view was drawn if something was delivered, and only then
 abbrev pub WasDelivered : Option View → List ℕ → Type 0
 WasDelivered None before = before ≡ []
 WasDelivered (Some v) before = before ≡ [] → ⊥

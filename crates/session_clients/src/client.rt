@@ -17,7 +17,7 @@ use windows_model::Serial;
 pub struct Client {
     pub serial: u32,
     pub user: UserId,
-    /// Reads its keys, and holds what the last ones left unfinished.
+    /// Reads the client's keys, and holds what the last ones left unfinished.
     pub keys: KeyReader,
     /// Its regions, and what they show.
     pub layout: Layout,
@@ -68,14 +68,14 @@ impl Client {
         })
     }
 
-    /// Puts this on its status line.
+    /// Puts a message on the client's status line.
     pub(crate) fn hear(&mut self, message: Message)
         ensures { self.new ≡ record self.old { message = message } }
     {
         self.message = message;
     }
 
-    /// Notes the window in focus, once the page has changed.
+    /// Notes the window in focus, after the page has changed.
     pub(crate) fn see(&mut self)
         ensures { self.new ≡ seen self.old }
     {
@@ -89,14 +89,14 @@ impl Client {
         }
     }
 
-    /// Empties its regions that show this window.
+    /// Empties the regions that show this window.
     pub(crate) fn close_window(&mut self, serial: u32)
         ensures { self.new ≡ without serial self.old }
     {
         self.layout.close_window(serial);
     }
 
-    /// Notes that its terminal has this size now, and may show anything.
+    /// Notes that the client's terminal has this size now, and may show anything.
     pub(crate) fn resize(&mut self, rows: u16, columns: u16)
         ensures { self.new ≡ fitted rows columns self.old }
     {
@@ -104,7 +104,7 @@ impl Client {
         self.shadow = Shadow::unknown(rows, columns);
     }
 
-    /// Takes a reader and a message in place of its own, and hands back its own.
+    /// Takes a reader and a message in place of the client's own, and hands these back.
     pub(crate) fn exchange(&mut self, keys: &mut KeyReader, message: &mut Message)
         ensures row { self.new ≡ record self.old { keys = keys.old; message = message.old } }
         ensures keys { keys.new ≡ self.old.keys }

@@ -145,7 +145,7 @@ impl Clients {
         self.rows.retain(|_client| false);
     }
 
-    /// Puts this on a client's status line.
+    /// Puts a message on a client's status line.
     pub fn hear(&mut self, serial: u32, message: Message)
         ensures { Changes (hearing message) serial self.old self.new }
     {
@@ -294,7 +294,7 @@ impl Clients {
     }
 
     /// Puts one of these messages on each client's status line. They are made beforehand, so that
-    /// memory can't be wanting here.
+    /// this call needs no memory.
     pub fn hear_all(&mut self, messages: &mut Vec<Message>)
         requires { length messages.old.items ≡ length self.old }
         ensures { (text : List ℕ)

@@ -1,12 +1,11 @@
 -- The users and objects that words name are those that the definitions find.
 use Rattle.std.proofs.Common.{◌≡◌, ℕ, ◌+◌, ◌<◌, Bool, true, false, List, [], ◌∷◌, ◌++◌, Option, Some, None, length, map}
-use Rattle.std.proofs.Common.{take, drop, get_or, refl, ap, sym, ◌∙◌, arith, inl, inr, append_assoc, append-nil}
-use Rattle.std.specs.Prelude.{if◌then◌else◌, ◌&&◌, ◌||◌, not, cond, filter, nat_lt, nat_eq, ◌==◌, slice_get}
-use Rattle.std.specs.List.{list_any, list_all}
+use Rattle.std.proofs.Common.{take, drop, get_or, refl, ap, sym, ◌∙◌, inl, inr, append_assoc, append-nil}
+use Rattle.std.specs.Prelude.{if◌then◌else◌, not, cond, filter, nat_eq, slice_get}
+use Rattle.std.specs.List.{list_any}
 use Rattle.std.specs.Option.{option_map, option_or, option_and_then, option_eq}
 use Rattle.std.proofs.lemmas.List.{drop_more, map-append}
 use Rattle.std.proofs.lemmas.List.Elements.{filter_more}
-use Rattle.std.proofs.lemmas.Bool.Decides.{nat_tests}
 use Rattle.std.proofs.lemmas.Option.{slice_get-get_or, get_or_from_slice_get}
 use Rattle.acl.specs.declared.user_id.UserId.{UserId}
 use Rattle.acl.specs.declared.act.Object.{Object}
@@ -68,13 +67,6 @@ module _ (owner : UserId) (users : List UserId) (i : ℕ) (names : List (Option 
       (more u at ∙ ap (λ b. names ++ map (λ v. Some v) (cond b (u ∷ []) [])) is ∙ append-nil names)
 
 -- ---- objects
-
-pub wide_by : (some none : Bool) (item : List ℕ) → some ≡ list_all (λ b. b == 0x23 || b == 0x3F) item
-    → none ≡ (length item == 0) → none ≡ false → some ≡ is_wide item
-wide_by some none [] is long more = absurd (cc (long, more))
-wide_by some none (b ∷ item) is long more =
-    let pos : nat_lt 0 (length (b ∷ item)) ≡ true = grind (arith, nat_tests) in
-    is ∙ ap (λ x. x && list_all (λ b. b == 0x23 || b == 0x3F) (b ∷ item)) (sym pos)
 
 pub wide_parts : (some all : Bool) (old mid new ws cs : List Object) → mid ≡ old ++ (if some then ws else [])
     → new ≡ mid ++ (if all then cs else [])

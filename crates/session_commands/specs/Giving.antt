@@ -37,7 +37,7 @@ FindsWindow k s found =
 abbrev pub IsFormer : Client → Option ℕ → Type 0
 IsFormer c found = (m : model.Client) → ClientStands m c → former_of m ≡ found
 
--- the rectangle of the client's focused region, unless memory is wanting
+-- the rectangle of the client's focused region, unless memory is refused
 abbrev pub IsBox : model.Client → Result Rect Refusal → Type 0
 IsBox m (Ok r) = focused_box m ≡ Some r
 IsBox m (Err e) = e ≡ NoMemory

@@ -1,11 +1,10 @@
 //! The objects that the items of a list name.
 
-ghost use Rattle.std.specs.Prelude.{◌≡◌, ◌++◌, ◌==◌, ◌||◌, OnOk, IfOk, IfErr, None, Some};
-ghost use Rattle.std.specs.Prelude.{map, nat_eq};
-ghost use Rattle.std.specs.List.{list_all, list_any};
+ghost use Rattle.std.specs.Prelude.{◌≡◌, ◌++◌, OnOk, IfOk, IfErr, None, Some};
+ghost use Rattle.std.specs.Prelude.{map};
 ghost use Rattle.acl.specs.declared.act.Object.TheVariants.{Command};
 ghost use Rattle.session_model.specs.Tables.{Tables};
-ghost use Rattle.session_model.specs.Naming.{is_wide, every_command, item_objects, objects_of};
+ghost use Rattle.session_model.specs.Naming.{every_command, item_objects, objects_of};
 ghost use Rattle.session_model.specs.Naming.{every_window};
 ghost use Rattle.windows.specs.Standing.{StandFor};
 ghost use Rattle.windows.specs.declared.window.Window.{Window};
@@ -13,7 +12,7 @@ ghost use Rattle.session_commands.specs.Asked.{window_object, wide, object_named
 ghost use Rattle.session_commands.specs.Asked.{Names, NamesNothing};
 
 use acl::{CommandName, Object};
-use command_lang::{Text, command_named};
+use command_lang::{Text, command_named, has_byte, is_wide};
 use session_model::{Refusal, WindowsFault};
 use std::alloc::{AllocError, Global};
 use windows::Windows;
@@ -50,35 +49,14 @@ pub fn every_object(alloc: Global, windows: &Windows) -> Result<Vec<Object>, All
     Ok(objects)
 }
 
-/// Whether all bytes of an item are `#` or `?`.
-fn has_wide_bytes(item: &[u8]) -> bool
-    ensures { result ≡ list_all (λ b. b == 0x23 || b == 0x3F) item.now }
-{
-    item.iter().all(|b| *b == b'#' || *b == b'?')
-}
-
-/// Whether an item is made of `#` and `?`, and isn't empty.
-fn is_wide(item: &str) -> bool
-    ensures { result ≡ is_wide item.now }
-{
-    !item.is_empty() && has_wide_bytes(item.as_bytes())
-}
-
-/// Whether an item contains this byte.
-fn has(item: &str, byte: u8) -> bool
-    ensures { result ≡ list_any (nat_eq byte) item.now }
-{
-    item.as_bytes().contains(&byte)
-}
-
 /// Appends what an item of `#` and `?` names: `#` is all windows, `?` all commands.
 fn push_wide(windows: &Windows, item: &str, objects: &mut Vec<Object>) -> Result<(), AllocError>
     ensures { OnOk result (objects.new.items ≡ objects.old.items ++ wide windows.now item.now) }
 {
-    if has(item, b'#') {
+    if has_byte(item, b'#') {
         push_windows(windows, objects)?;
     }
-    if has(item, b'?') {
+    if has_byte(item, b'?') {
         push_commands(&CommandName::ALL, objects)?;
     }
     Ok(())

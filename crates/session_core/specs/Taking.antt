@@ -14,7 +14,7 @@ use Rattle.session_view.specs.Drawn.{HasDrawnSo}
 use Rattle.session_core.specs.declared.sharing.Sharing.{Sharing}
 use Rattle.session_core.specs.Sharing.{IsShared}
 
--- whether memory was wanting
+-- whether memory was refused
 abbrev pub wants_memory : Reply → Bool
 wants_memory (Err NoMemory) = true
 wants_memory _ = false
@@ -39,7 +39,7 @@ abbrev pub StayShared : EventValue → Sharing → Sharing → Tables → Type 0
 StayShared (Draw client) old new after = IsShared after new
 StayShared event old new after = new ≡ old
 
--- so it is for all tables that the state stood for, unless memory was wanting
+-- so it is for all tables that the state stood for, unless memory was refused
 abbrev pub Takes : EventValue → State → Sharing → Reply → State → Sharing → Step → Step → Type 0
 Takes event old shared result new shares before after =
     (t : Tables) → Stands t old → AreFit t → IsShared t shared → wants_memory result ≡ false

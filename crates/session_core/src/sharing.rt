@@ -31,7 +31,7 @@ impl Drop for Sharing {
     }
 }
 
-/// Removes a client from a list. It mostly isn't there.
+/// Removes a client from a list. In most calls it isn't there.
 fn leave_out(clients: &mut Vec<u32>, client: u32)
     ensures { clients.new.items ≡ without client clients.old.items }
 {

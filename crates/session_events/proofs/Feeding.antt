@@ -71,7 +71,7 @@ module _ (t : Tables) (window : ℕ) (w : Window) (bytes : List ℕ)
             (sym serial_of_row);
       }
 
-  -- memory was wanting
+  -- memory was refused
   pub unfed : (f : WindowsFault) → (f ≡ fault.NoMemory) ⊎ (fed_in window bytes t.windows ≡ Err f)
       → refusal_of f ≡ NoMemory
   unfed f (inl full) = ap refusal_of full

@@ -104,7 +104,7 @@ module _ (t : Tables) (user : UserId) (rows columns keep : ℕ) (title : List �
       cc (by.1, opened_is) in
       subst (λ (vs : List Window). StandFor vs ws) same by.2
 
-  -- memory is wanting
+  -- memory is refused
   pub unopened : (f : WindowsFault)
       → (f ≡ fault.NoMemory) ⊎ (opened serial rows columns keep title t.windows ≡ Err f)
       → refusal_of f ≡ NoMemory

@@ -51,8 +51,8 @@ fn shows_at(clients: &[Client], place: usize, user: UserId, window: u32) -> bool
 }
 
 /// The window that the user of the focus at this place has left: none of their later focuses is at it,
-/// and none of their clients shows it now. Mostly the client at the same place still shows it, so
-/// that one is looked at first.
+/// and none of their clients shows it now. In most steps the client at the same place still shows
+/// it, so that one is looked at first.
 fn left_window(focus: Focus, place: usize, rest: &[Focus], clients: &[Client]) -> Option<u32>
     ensures { result ≡ left_window focus.user focus.window rest.now clients.now }
 {

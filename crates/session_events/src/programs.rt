@@ -1,6 +1,7 @@
 //! The output of windows' programs.
 
-ghost use Rattle.session_state.specs.Doing.{HasRoomToAct, IsWhole};
+ghost use Rattle.std.specs.Prelude.{OnErr};
+ghost use Rattle.session_state.specs.Doing.{IsAsBefore};
 ghost use Rattle.session_events.specs.Events.{Outputs};
 
 use session_model::{Bytes, Effect, Refusal};
@@ -14,9 +15,8 @@ pub fn output(
     bytes: &[u8],
     made: &mut StepOutput,
 ) -> Result<(), Refusal>
-    requires { HasRoomToAct made.old }
     ensures answer { Outputs window bytes.now state.old result state.new made.old made.new }
-    ensures whole { IsWhole result state.old state.new made.old made.new }
+    ensures err { OnErr result (IsAsBefore state.old state.new made.old made.new) }
 {
     made.effects.reserve(1)?;
     let mut reports = Vec::new(state.alloc);

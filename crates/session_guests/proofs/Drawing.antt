@@ -89,14 +89,14 @@ module _ (shown : ℕ → Bool) (seeing : UserId → Bool) where
   -- nothing of it is left of others' clients
   other_drawn : (t : Tables) (c : Client) (effects : List Effect) (v : View) → client_at t c.serial ≡ Some c
       → seeing c.user ≡ false → less (with_client t (with_drawn effects v c)) ≡ less t
-  other_drawn t c effects v own not_his =
+  other_drawn t c effects v own not_theirs =
       ap (λ cs. record (less t) { clients = cs })
       (put_same g (λ (x : Client). x.serial) t.clients _ c (with_drawn effects v c) (own_serial effects)
       (drawn_cut effects v c
       ∙ ap
       (λ (b : Bool). record c
-      { delivered = []; drawn = if b then (if is_any effects then Some v else c.drawn) else None }) not_his
-      ∙ sym (ap (λ (b : Bool). record c { delivered = []; drawn = if b then c.drawn else None }) not_his))) where
+      { delivered = []; drawn = if b then (if is_any effects then Some v else c.drawn) else None }) not_theirs
+      ∙ sym (ap (λ (b : Bool). record c { delivered = []; drawn = if b then c.drawn else None }) not_theirs))) where
         own_serial : (es : List Effect)
             → row_of (λ (x : Client). x.serial) t.clients (with_drawn es v c).serial ≡ Some c
         own_serial [] = own
@@ -139,23 +139,23 @@ module _ (shown : ℕ → Bool) (seeing : UserId → Bool) where
       ∙ view_cut shown seeing u d q
 
   last_same : (c d : Client) → g c ≡ g d → seeing c.user ≡ true → c.drawn ≡ d.drawn
-  last_same c d alike his =
+  last_same c d alike theirs =
       let users : c.user ≡ d.user = ap (λ (x : Client). x.user) alike in
-      sym (ap (λ b. if b then c.drawn else None) his) ∙ ap (λ (x : Client). x.drawn) alike
-      ∙ ap (λ b. if b then d.drawn else None) (ap seeing (sym users) ∙ his)
+      sym (ap (λ b. if b then c.drawn else None) theirs) ∙ ap (λ (x : Client). x.drawn) alike
+      ∙ ap (λ b. if b then d.drawn else None) (ap seeing (sym users) ∙ theirs)
 
   pub record Alike (t u : Tables) (c d : Client) (ds es : List Effect) : Type 0 where
     pub view : granted_view t c ≡ granted_view u d
     pub any : is_any ds ≡ is_any es
 
-  pub his_alike : (t u : Tables) (c d : Client) (ds es : List Effect) → less t ≡ less u → g c ≡ g d
+  pub theirs_alike : (t u : Tables) (c d : Client) (ds es : List Effect) → less t ≡ less u → g c ≡ g d
       → seeing c.user ≡ true → IsDraw t ds c → IsDraw u es d → Stands t c → Stands u d → Alike t u c d ds es
-  his_alike t u c d ds es same alike his draws drawn p q =
+  theirs_alike t u c d ds es same alike theirs draws drawn p q =
       let views : granted_view t c ≡ granted_view u d = same_view t u c d same alike p q in record {
         view = views;
         any = needed_once (is_any ds) (is_any es) d.drawn (granted_view u d)
             (subst (λ v. Needed (is_any ds) d.drawn v) views
-            (subst (λ o. Needed (is_any ds) o (granted_view t c)) (last_same c d alike his)
+            (subst (λ o. Needed (is_any ds) o (granted_view t c)) (last_same c d alike theirs)
             (is_needed t c ds draws.drawn)))
             (is_needed u d es drawn.drawn);
       }
@@ -171,10 +171,10 @@ module _ (shown : ℕ → Bool) (seeing : UserId → Bool) where
     on : (b : Bool) → seeing c.user ≡ b
         → less (with_client t (with_drawn ds (granted_view t c) c)) ≡ less
         (with_client u (with_drawn es (granted_view u d) d))
-    on true his =
-        let stands : Alike t u c d ds es = his_alike t u c d ds es same alike his draws drawn (p his)
-        (q (ap seeing (sym users) ∙ his)) in
+    on true theirs =
+        let stands : Alike t u c d ds es = theirs_alike t u c d ds es same alike theirs draws drawn (p theirs)
+        (q (ap seeing (sym users) ∙ theirs)) in
         mine_drawn t u c d ds es (granted_view t c) (granted_view u d) same alike stands.any stands.view
-    on false his =
-        other_drawn t c ds (granted_view t c) (row_at t client c at) his ∙ same
-        ∙ sym (other_drawn u d es (granted_view u d) (row_at u client d there) (ap seeing (sym users) ∙ his))
+    on false theirs =
+        other_drawn t c ds (granted_view t c) (row_at t client c at) theirs ∙ same
+        ∙ sym (other_drawn u d es (granted_view u d) (row_at u client d there) (ap seeing (sym users) ∙ theirs))

@@ -159,8 +159,8 @@ left_none x [] after all same seen = tt
 left_none x (c ∷ before) after all same seen =
     all_append (NotHis x) (left_acts_of c (focused c) before after) (left_acts before after) (one (focused c) refl)
     (left_none x before after all same seen.1) where
-      his : (w : ℕ) → focused c ≡ Some w → same_user c.user x ≡ true → is_in_focus after c.user w ≡ true
-      his w at is =
+      theirs : (w : ℕ) → focused c ≡ Some w → same_user c.user x ≡ true → is_in_focus after c.user w ≡ true
+      theirs w at is =
           let user : c.user ≡ x = same_user-true c.user x is in
           ap (λ u. is_in_focus after u w) user ∙ same w ∙ ap (λ u. is_in_focus all u w) (sym user) ∙ seen.0 w at
 
@@ -169,7 +169,7 @@ left_none x (c ∷ before) after all same seen =
       leaves w at true b h is of = tt
       leaves w at false true h is of = tt
       leaves w at false false true is of = absurd
-          (let f : is_in_focus after c.user w ≡ true = his w at of in cc (f, is))
+          (let f : is_in_focus after c.user w ≡ true = theirs w at of in cc (f, is))
       leaves w at false false false is of = (of, tt)
 
       one : (o : Option ℕ) → focused c ≡ o → AllByRecursion (NotHis x) (left_acts_of c o before after)

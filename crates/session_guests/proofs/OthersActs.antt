@@ -145,9 +145,9 @@ module _ (t : Tables) (w : ℕ) (x : UserId) where
   silent_one h a is (inr free) =
       inr (ap (λ o. or_else (given t.edition t.owner a h w o) (kept t.edition t.owner a h w o)) free
       ∙ ap (λ g. or_else g None) (none_given h a None is))
-  silent_one h a is (inl his) = on (releases t.edition t.owner a h x w) refl where
+  silent_one h a is (inl theirs) = on (releases t.edition t.owner a h x w) refl where
     there : holder t.edition t.owner (a ∷ h) w ≡ kept t.edition t.owner a h w (Some x)
-    there = ap (λ o. or_else (given t.edition t.owner a h w o) (kept t.edition t.owner a h w o)) his
+    there = ap (λ o. or_else (given t.edition t.owner a h w o) (kept t.edition t.owner a h w o)) theirs
         ∙ ap (λ g. or_else g (kept t.edition t.owner a h w (Some x))) (none_given h a (Some x) is)
 
     on : (b : Bool) → releases t.edition t.owner a h x w ≡ b → Mine (a ∷ h)
@@ -206,7 +206,7 @@ module _ (t : Tables) (fit : AreFit t) (w : ℕ) (x : UserId) where
     refl,
     none_of d.serial
         (all_weaken (Own d.serial d.user) (λ (c : Client). (c.serial == d.serial) ≡ true → same_user c.user x ≡ false)
-        t.clients (λ c his here. ap (λ u. same_user u x) (his here) ∙ other) own),
+        t.clients (λ c theirs here. ap (λ u. same_user u x) (theirs here) ∙ other) own),
   )
 
 -- ---- the check of a lock

@@ -120,8 +120,8 @@ module _ (t : Tables) (fit : AreFit t) (w : ℕ) (x : UserId) (held : holder_in 
         → r.user ≡ g.caller.user
     row_own d r at is = by r (ap (option_and_then (client_at v)) (caller_is v g.caller.client d at) ∙ is)
 
-    his : (u : UserId) → u ≡ g.caller.user → same_user u x ≡ false
-    his u is = ap (λ y. same_user y x) is ∙ other
+    theirs : (u : UserId) → u ≡ g.caller.user → same_user u x ≡ false
+    theirs u is = ap (λ y. same_user y x) is ∙ other
 
     page_comes : (c : Order) (d : Client) (l : Arrangement) (acts : List Act) → caller_client v g.caller ≡ Some d
         → AllByRecursion (Calm false) acts → AllByRecursion Plainly acts
@@ -131,7 +131,7 @@ module _ (t : Tables) (fit : AreFit t) (w : ℕ) (x : UserId) (held : holder_in 
         calms
         (all_append (Calm false) acts (left_acts cs turns) calm
         (own_left turns
-        (turned (Others x) cs d.serial (with_layout l d) (λ r is n. his r.user (row_own d r at is)))))
+        (turned (Others x) cs d.serial (with_layout l d) (λ r is n. theirs r.user (row_own d r at is)))))
         (all_append Plainly acts (left_acts cs turns) plain (lefts_plain turns))
 
     entering_calm : (u : UserId) (o : Option ℕ) → AllByRecursion (Calm false) (entering u o)
@@ -287,13 +287,13 @@ module _ (t : Tables) (fit : AreFit t) (w : ℕ) (x : UserId) (held : holder_in 
         (all_passed (λ (e : Client). Calm false (act.Parted e.serial)) (λ (e : Client). e.serial == d.serial) cs
         (all_weaken (λ (e : Client). Alone t.clients e × Own d.serial g.caller.user e)
         (λ (e : Client). (e.serial == d.serial) ≡ true → Calm false (act.Parted e.serial)) cs
-        (λ e both here. others_part t fit w x e both.0 (his e.user (both.1 here)))
+        (λ e both here. others_part t fit w x e both.0 (theirs e.user (both.1 here)))
         (both_all (Alone t.clients) (Own d.serial g.caller.user) cs alone_cs owns))))
         (own_left rest
         (parted (Others x) (λ (e : Client). e.serial == d.serial) cs
         (all_weaken (Own d.serial g.caller.user)
         (λ (e : Client). (e.serial == d.serial) ≡ true → (n : ℕ) → (Others x) e.user n) cs
-        (λ e own here n. his e.user (own here)) owns))))
+        (λ e own here n. theirs e.user (own here)) owns))))
         (all_append Plainly gone (left_acts cs rest)
         (parted_acts Plainly (λ (e : Client). e.serial == d.serial) (λ e own here. refl)) (lefts_plain rest)) where
           owns : AllByRecursion (Own d.serial g.caller.user) cs

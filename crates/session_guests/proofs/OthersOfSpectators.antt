@@ -132,16 +132,16 @@ module _ (laws : Laws) (t : Tables) (e : Entry) (user : UserId) (fit : AreFit t)
   frees_none (g ∷ gs) all some = ⊎_elim here (λ later. frees_none gs all.1 later) some where
     here : MayFree t g → ⊥
     here f =
-        let his : user ≡ g.caller.user = let e : Some user ≡ Some g.caller.user = sym by ∙ all.0 in cc (e) in
+        let theirs : user ≡ g.caller.user = let e : Some user ≡ Some g.caller.user = sym by ∙ all.0 in cc (e) in
         let may : may_in t user Execute (object.Command (name_of g.order)) ≡ true = ap
-        (λ u. may_in t u Execute (object.Command (name_of g.order))) his ∙ and_first _ _ f.granted in
+        (λ u. may_in t u Execute (object.Command (name_of g.order))) theirs ∙ and_first _ _ f.granted in
         contradicts _ may (watches.commands (name_of g.order) (freeing g.order f.frees))
 
   taken_by_none : (window : ℕ) (x : UserId) → TakesIt t e window x → ⊥
   taken_by_none window x takes =
-      let his : user ≡ x = let e : Some user ≡ Some x = sym by ∙ takes.own in cc (e) in
+      let theirs : user ≡ x = let e : Some user ≡ Some x = sym by ∙ takes.own in cc (e) in
       ⊎_elim (λ opened. contradicts _ opened (none_opened e.acts (object.Window window) left.stepped.presence))
-      (λ may. contradicts _ may (ap (λ u. may_in t u Write (object.Window window)) (sym his) ∙ watches.write window))
+      (λ may. contradicts _ may (ap (λ u. may_in t u Write (object.Window window)) (sym theirs) ∙ watches.write window))
       takes.may
 
   holders : (window : ℕ) → stood t (object.Window window) ≡ true → holder_in (after t e) window ≡ holder_in t window

@@ -61,10 +61,10 @@ none_later user s (c ∷ cs) all = (
       user s cs all.1,
 )
 
-pub all_his : (user : UserId) (next s : ℕ) (cs : List Client) (c : Client) → Rises (client_serials cs) next
+pub all_theirs : (user : UserId) (next s : ℕ) (cs : List Client) (c : Client) → Rises (client_serials cs) next
     → row_of (λ (x : Client). x.serial) cs s ≡ Some c → same_user c.user user ≡ true → AllHis user (Some s) cs
-all_his user next s [] c rise at mine = tt
-all_his user next s (x ∷ cs) c rise at mine = on (x.serial == s) refl at (all_his user next s cs c rise.2) where
+all_theirs user next s [] c rise at mine = tt
+all_theirs user next s (x ∷ cs) c rise at mine = on (x.serial == s) refl at (all_theirs user next s cs c rise.2) where
   on : (b : Bool) → (x.serial == s) ≡ b → (if b then Some x else row_of (λ (x : Client). x.serial) cs s) ≡ Some c
       → (row_of (λ (x : Client). x.serial) cs s ≡ Some c → same_user c.user user ≡ true → AllHis user (Some s) cs)
       → AllHis user (Some s) (x ∷ cs)

@@ -49,33 +49,34 @@ use Rattle.session_guests.proofs.Drawing.{draw_after}
 use Rattle.session_guests.specs.Locking.{user_of}
 use Rattle.session_guests.proofs.Events.{changed_by}
 use Rattle.session_guests.specs.Observed.{is_client_of}
-use Rattle.session_guests.specs.Watching.{others_clients, is_for_his, IsSpectator}
+use Rattle.session_guests.specs.Watching.{others_clients, is_for_theirs, IsSpectator}
 use Rattle.session_guests.proofs.Watching.{Presence, is_it, is_to, AllTo, IfDone, AllHis, Still, as_before}
 use Rattle.session_guests.proofs.Watching.{put, parted_by, Leaves}
-use Rattle.session_guests.proofs.Spectating.{all_his, Stepped, stays, did, answer_of, keys_leave}
+use Rattle.session_guests.proofs.Spectating.{all_theirs, Stepped, stays, did, answer_of, keys_leave}
 
 pub record Left (t : Tables) (user : UserId) (acts : List Act) (fs : List Effect) (v : Tables) : Type 0 where
   pub stepped : Stepped user t acts v
-  pub effects : AllByRecursion (λ f. is_for_his t user f ≡ true) fs
+  pub effects : AllByRecursion (λ f. is_for_theirs t user f ≡ true) fs
 
-none_his : (user : UserId) (cs : List Client) → AllHis user None cs
-none_his user [] = tt
-none_his user (c ∷ cs) = ((λ is. absurd (cc (is))), none_his user cs)
+none_theirs : (user : UserId) (cs : List Client) → AllHis user None cs
+none_theirs user [] = tt
+none_theirs user (c ∷ cs) = ((λ is. absurd (cc (is))), none_theirs user cs)
 
-for_his : (t : Tables) (user : UserId) (own : Option ℕ) (f : Effect)
-    → ((n : ℕ) → is_it own n ≡ true → is_client_of t user n ≡ true) → is_to own f ≡ true → is_for_his t user f ≡ true
-for_his t user own (Say n bytes) mine is = mine n is
-for_his t user own (Deliver n bytes) mine is = mine n is
-for_his t user own (GoneClient n why) mine is = mine n is
-for_his t user own (Input w bytes) mine is = is
-for_his t user own (Size w rows columns) mine is = is
-for_his t user own (GoneWindow w why) mine is = is
+for_theirs : (t : Tables) (user : UserId) (own : Option ℕ) (f : Effect)
+    → ((n : ℕ) → is_it own n ≡ true → is_client_of t user n ≡ true) → is_to own f ≡ true → is_for_theirs t user f ≡ true
+for_theirs t user own (Say n bytes) mine is = mine n is
+for_theirs t user own (Deliver n bytes) mine is = mine n is
+for_theirs t user own (GoneClient n why) mine is = mine n is
+for_theirs t user own (Input w bytes) mine is = is
+for_theirs t user own (Size w rows columns) mine is = is
+for_theirs t user own (GoneWindow w why) mine is = is
 
-all_for_his : (t : Tables) (user : UserId) (own : Option ℕ) (fs : List Effect)
+all_for_theirs : (t : Tables) (user : UserId) (own : Option ℕ) (fs : List Effect)
     → ((n : ℕ) → is_it own n ≡ true → is_client_of t user n ≡ true) → AllTo own fs
-    → AllByRecursion (λ f. is_for_his t user f ≡ true) fs
-all_for_his t user own [] mine all = tt
-all_for_his t user own (f ∷ fs) mine all = (for_his t user own f mine all.0, all_for_his t user own fs mine all.1)
+    → AllByRecursion (λ f. is_for_theirs t user f ≡ true) fs
+all_for_theirs t user own [] mine all = tt
+all_for_theirs t user own (f ∷ fs) mine all =
+    (for_theirs t user own f mine all.0, all_for_theirs t user own fs mine all.1)
 
 nobody_is : (t : Tables) (user : UserId) (n : ℕ) → is_it None n ≡ true → is_client_of t user n ≡ true
 nobody_is t user n is = absurd (cc (is))
@@ -98,7 +99,7 @@ module _ (t : Tables) (user : UserId) (fit : AreFit t) (watches : IsSpectator t 
       → let acts : List Act = d.acts ++ left_acts t.clients d.tables.clients in Left t user acts d.effects
       (record d.tables { acts = followed_by t.acts acts })
   made own d mine leaves = record
-      { stepped = did user own t watches d leaves; effects = all_for_his t user own d.effects mine leaves.effects }
+      { stepped = did user own t watches d leaves; effects = all_for_theirs t user own d.effects mine leaves.effects }
 
   checked : (vs : List Verdict) (o : Option Refusal) (reply : Reply) (d : Deed) → By (finished t vs reply d)
       → By (elim o as (λ _. Outcome) [ Some r ↦ refused t vs r | None ↦ finished t vs reply d ])
@@ -118,7 +119,7 @@ module _ (t : Tables) (user : UserId) (fit : AreFit t) (watches : IsSpectator t 
           windows = refl;
           next_window = refl;
           clients = come t.clients c (same_user-refl user);
-          all = none_his user (t.clients ++ c ∷ []);
+          all = none_theirs user (t.clients ++ c ∷ []);
         };
         acts = (refl, entered c.user (focused c));
         effects = tt;
@@ -140,7 +141,7 @@ module _ (t : Tables) (user : UserId) (fit : AreFit t) (watches : IsSpectator t 
   commanded_by number (Ok c) =
       let k : Caller = line_caller t user number in
       on (ruling t k c).verdicts (ruling t k c).answer
-      (answer_of user None t watches t k c refl (as_before user None t (none_his user t.clients))
+      (answer_of user None t watches t k c refl (as_before user None t (none_theirs user t.clients))
       (λ d at. absurd (cc (at)))) where
         on : (vs : List Verdict) (a : Answer) → IfDone (Leaves user None t) a → By (answered t vs a)
         on vs (Err r) done = nothing vs r
@@ -169,11 +170,11 @@ module _ (t : Tables) (user : UserId) (fit : AreFit t) (watches : IsSpectator t 
   -- ---- steps of a client
 
   module _ (client : ℕ) (c : Client) (at : client_at t client ≡ Some c) (mine : c.user ≡ user) where
-    his : same_user c.user user ≡ true
-    his = ap (same_user c.user) (sym mine) ∙ same_user-refl c.user
+    theirs : same_user c.user user ≡ true
+    theirs = ap (same_user c.user) (sym mine) ∙ same_user-refl c.user
 
     all : AllHis user (Some client) t.clients
-    all = all_his user t.next_client client t.clients c fit.sound.clients_rise at his
+    all = all_theirs user t.next_client client t.clients c fit.sound.clients_rise at theirs
 
     before : Still user (Some client) t t
     before = as_before user (Some client) t all
@@ -182,21 +183,21 @@ module _ (t : Tables) (user : UserId) (fit : AreFit t) (watches : IsSpectator t 
     is_own = ap (λ n. n == client) (row_serial (λ (x : Client). x.serial) t.clients client c at) ∙ itself client
 
     pub detached : By (finished t [] done (parts (λ (d : Client). d.serial == client) reason.Detached t))
-    detached = made (Some client) _ (own_is t user client c at his)
+    detached = made (Some client) _ (own_is t user client c at theirs)
         (parted_by user (Some client) t t client before (itself client))
 
     pub keyed : (bytes : List ℕ) → By (keys_outcome t c bytes)
-    keyed bytes = made (Some client) _ (own_is t user client c at his)
-        (keys_leave user (Some client) t watches c bytes is_own mine his all)
+    keyed bytes = made (Some client) _ (own_is t user client c at theirs)
+        (keys_leave user (Some client) t watches c bytes is_own mine theirs all)
 
     pub changed : (checks : List Check) (d : Client) → d.serial ≡ c.serial → d.user ≡ c.user
         → By (where_passed t checks done (changing (with_client t d)))
     changed checks d same of =
         checked _ (first_fault t checks) done (changing (with_client t d))
-        (made (Some client) (changing (with_client t d)) (own_is t user client c at his)
+        (made (Some client) (changing (with_client t d)) (own_is t user client c at theirs)
         (record {
           tables = put user (Some client) t t d before (ap (is_it (Some client)) same ∙ is_own)
-              (ap (λ v. same_user v user) of ∙ his);
+              (ap (λ v. same_user v user) of ∙ theirs);
           acts = tt;
           effects = tt;
         }))
@@ -213,8 +214,8 @@ module _ (t : Tables) (user : UserId) (fit : AreFit t) (watches : IsSpectator t 
 
     with_own : (effects : List Effect) (v : Tables) → Still user (Some client) t v
         → Still user (Some client) t (with_client v (with_drawn effects (granted_view v c) c))
-    with_own [] v s = put user (Some client) t v c s is_own his
-    with_own (f ∷ fs) v s = put user (Some client) t v (with_drawn (f ∷ fs) (granted_view v c) c) s is_own his
+    with_own [] v s = put user (Some client) t v c s is_own theirs
+    with_own (f ∷ fs) v s = put user (Some client) t v (with_drawn (f ∷ fs) (granted_view v c) c) s is_own theirs
 
     drawn_left : (effects : List Effect) → IsDraw t effects c → (acts : List Act) → acts ≡ [] → (v : Tables)
         → v ≡ drawn_on (Some c) effects t → Left t user acts effects v
@@ -233,7 +234,8 @@ module _ (t : Tables) (user : UserId) (fit : AreFit t) (watches : IsSpectator t 
             next_window = s.next_window;
             clients = s.clients;
           };
-          effects = all_for_his t user (Some client) effects (own_is t user client c at his) (drew effects draws.drawn);
+          effects = all_for_theirs t user (Some client) effects (own_is t user client c at theirs)
+              (drew effects draws.drawn);
         }))
 
   draw_acts : (client : ℕ) → (outcome t (Draw client)).acts ≡ []

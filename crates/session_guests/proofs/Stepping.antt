@@ -26,7 +26,7 @@ use Rattle.session_guests.specs.Observed.{drawn_for, drawn_to}
 use Rattle.session_guests.proofs.Cutting.{cut, cut_client}
 use Rattle.session_guests.proofs.Outcomes.{cut_outcome}
 use Rattle.session_guests.proofs.Keying.{outcome_cut}
-use Rattle.session_guests.proofs.Drawing.{same_client, draw_after, tables_alike, his_alike, Alike, Stands}
+use Rattle.session_guests.proofs.Drawing.{same_client, draw_after, tables_alike, theirs_alike, Alike, Stands}
 
 -- ---- effects of a draw
 
@@ -101,7 +101,7 @@ module _ (shown : ℕ → Bool) (seeing : UserId → Bool) (t u : Tables) (same 
     draws_alike client ds es (Some c) None at there alike draws drawn p q = absurd (cc (alike))
     draws_alike client ds es (Some c) (Some d) at there alike draws drawn p q =
         tables_alike shown seeing t u client c d ds es same (let e : g c ≡ g d = cc (alike) in e) at there draws drawn
-        (λ his. p c at his) (λ his. q d there his)
+        (λ theirs. p c at theirs) (λ theirs. q d there theirs)
 
     pub tables_step : (event : EventValue) (ds es : List Effect) → is_hidden shown event ≡ false → HasEffects t event ds
         → HasEffects u event es → StandsAt t event → StandsAt u event
@@ -174,7 +174,7 @@ module _ (shown : ℕ → Bool) (seeing : UserId → Bool) (t u : Tables) (same 
           ap (map (λ f. Told f)) (all_for ds)
           ∙ ap (λ fs. told_to u fs) (is ∙ ap (λ (o : Outcome). o.effects) (same_outcome event stands) ∙ sym was)
 
-      module _ (his : (v : UserId) → seeing v ≡ same_user v user) where
+      module _ (theirs : (v : UserId) → seeing v ≡ same_user v user) where
         drawn_same : (client : ℕ) (ds es : List Effect) (o p : Option Client) → client_at t client ≡ o
             → client_at u client ≡ p → option_map g o ≡ option_map g p
             → MatchOption o (ds ≡ []) (IsDraw t ds) → MatchOption p (es ≡ []) (IsDraw u es) → StandsAt t (Draw client)
@@ -192,12 +192,12 @@ module _ (shown : ℕ → Bool) (seeing : UserId → Bool) (t u : Tables) (same 
               on : (b : Bool) → same_user c.user user ≡ b
                   → (if b then Drawn c.serial (granted_view t c) (is_any ds) ∷ [] else []) ≡
                   (if b then Drawn d.serial (granted_view u d) (is_any es) ∷ [] else [])
-              on false not_his = refl
+              on false not_theirs = refl
               on true is =
                   let e : g c ≡ g d = cc (alike) in
-                  let sees : seeing c.user ≡ true = his c.user ∙ is in
+                  let sees : seeing c.user ≡ true = theirs c.user ∙ is in
                   let a : Alike shown seeing t u c d ds es =
-                  his_alike shown seeing t u c d ds es same e sees draws drawn (p c at sees)
+                  theirs_alike shown seeing t u c d ds es same e sees draws drawn (p c at sees)
                   (q d there (ap seeing (sym (ap (λ (x : Client). x.user) e)) ∙ sees)) in
                   ap (λ n. Drawn n (granted_view t c) (is_any ds) ∷ []) (ap (λ (x : Client). x.serial) e)
                   ∙ ap (λ v. Drawn d.serial v (is_any ds) ∷ []) a.view

@@ -60,8 +60,8 @@ same_behind t user (Output at bytes) V is = refl
 same_behind t user event V is = absurd (cc (is))
 
 module _ (user : UserId) (start : Tables) (opened : ℕ → Bool) where
-  abbrev his : UserId → Bool
-  his v = same_user v user
+  abbrev theirs : UserId → Bool
+  theirs v = same_user v user
 
   abbrev at : List Entry → Tables
   at run = tables_from start run
@@ -69,8 +69,8 @@ module _ (user : UserId) (start : Tables) (opened : ℕ → Bool) where
   abbrev Within : (ℕ → Bool) → Type 0
   Within V = (window : ℕ) → opened window ≡ true → V window ≡ true
 
-  stands_at : (W V : ℕ → Bool) (t u x : Tables) (same : cut W his t ≡ cut W his u) (event : EventValue)
-      → with_shown x user event V ≡ W → StandsAt W his t u same x event
+  stands_at : (W V : ℕ → Bool) (t u x : Tables) (same : cut W theirs t ≡ cut W theirs u) (event : EventValue)
+      → with_shown x user event V ≡ W → StandsAt W theirs t u same x event
   stands_at W V t u x same (Draw client) is = λ c there mine window shows.
       sym (ap (λ (p : ℕ → Bool). p window) is)
       ∙ or_second (V window) (shown_to x user (client_at x client) window)
@@ -102,7 +102,7 @@ module _ (user : UserId) (start : Tables) (opened : ℕ → Bool) where
   -- ---- two runs
 
   record Same (V : ℕ → Bool) (run other : List Entry) : Type 0 where
-    pub tables : cut V his (at run) ≡ cut V his (at other)
+    pub tables : cut V theirs (at run) ≡ cut V theirs (at other)
     pub seen : observed_from opened user start run ≡ observed_from opened user start other
 
   abbrev open_events : (ℕ → Bool) → List Entry → List EventValue
@@ -112,7 +112,7 @@ module _ (user : UserId) (start : Tables) (opened : ℕ → Bool) where
   skip : (V : ℕ → Bool) (d : Entry) (p other : List Entry) → Within V → IsStep (at p) d → is_hidden V d.event ≡ true
       → Same V p other → Same V (d ∷ p) other
   skip V d p other within step hidden same = record {
-    tables = hidden_cut V his (at p) d hidden ∙ same.tables;
+    tables = hidden_cut V theirs (at p) d hidden ∙ same.tables;
     seen = ap (λ o. o ++ observed_from opened user start p) (unobserved V (at p) d within step hidden) ∙ same.seen;
   }
 
@@ -127,20 +127,20 @@ module _ (user : UserId) (start : Tables) (opened : ℕ → Bool) where
   both V W d e p q is stands step other shows showed same =
       let open_so : is_hidden W d.event ≡ false = ap (λ x. is_hidden x d.event) (sym shows)
       ∙ still_open (at p) user d.event V stands in
-      let a : StandsAt W his (at p) (at q) same.tables (at p) d.event = stands_at W V (at p) (at q) (at p) same.tables
-      d.event shows in
-      let b : StandsAt W his (at p) (at q) same.tables (at q) d.event = stands_at W V (at p) (at q) (at q) same.tables
-      d.event showed in
+      let a : StandsAt W theirs (at p) (at q) same.tables (at p) d.event =
+      stands_at W V (at p) (at q) (at p) same.tables d.event shows in
+      let b : StandsAt W theirs (at p) (at q) same.tables (at q) d.event =
+      stands_at W V (at p) (at q) (at q) same.tables d.event showed in
       let within : (window : ℕ) → V window ≡ true
       → W window ≡ true = λ window is. ap (λ (x : ℕ → Bool). x window) (sym shows)
       ∙ more_shown (at p) user d.event V window is in record {
         tables =
-            sym (cut_more W V his within (after (at p) d))
-            ∙ ap (cut V his) (both_step W his (at p) (at q) same.tables d e is open_so step other a b)
-            ∙ cut_more W V his within (after (at q) e);
+            sym (cut_more W V theirs within (after (at p) d))
+            ∙ ap (cut V theirs) (both_step W theirs (at p) (at q) same.tables d e is open_so step other a b)
+            ∙ cut_more W V theirs within (after (at q) e);
         seen =
             ap (λ o. o ++ observed_from opened user start p)
-            (both_seen W his (at p) (at q) same.tables d e is open_so step other a b opened user (λ v. refl))
+            (both_seen W theirs (at p) (at q) same.tables d e is open_so step other a b opened user (λ v. refl))
             ∙ ap (λ os. observed opened (at q) user e ++ os) same.seen;
       }
 

@@ -63,14 +63,14 @@ module _ (shown : ℕ → Bool) (seeing : UserId → Bool) (t u : Tables) (same 
 
   pub both_seen : (opened : ℕ → Bool) (user : UserId) → ((v : UserId) → seeing v ≡ same_user v user)
       → observed opened t user d ≡ observed opened u user e
-  both_seen opened user his =
-      seen_step shown seeing t u same opened user his d.event d.reply e.reply d.effects e.effects stands step.reply
+  both_seen opened user theirs =
+      seen_step shown seeing t u same opened user theirs d.event d.reply e.reply d.effects e.effects stands step.reply
       (other.reply ∙ ap (λ event. (outcome u event).reply) (sym is)) step.effects there p q
       ∙ ap (λ event. observed opened u user (record e { event = event })) is
 
 trivial : (t u x : Tables) (same : cut none nobody t ≡ cut none nobody u) (event : EventValue)
     → StandsAt none nobody t u same x event
-trivial t u x same (Draw client) = λ c at his. absurd (cc (his))
+trivial t u x same (Draw client) = λ c at theirs. absurd (cc (theirs))
 trivial t u x same event = tt
 
 module _ (start : Tables) where

@@ -84,20 +84,20 @@ acts_nothing t k c all is (shapes.locked w mode same at) = no_other c _ same ref
 acts_nothing t k c all is (shapes.preset mode same) = no_other c _ same refl is
 
 module _ (user : UserId) (own : Option ℕ) where
-  abbrev his : Client → Bool
-  his c = same_user c.user user
+  abbrev theirs : Client → Bool
+  theirs c = same_user c.user user
 
   -- clients with this serial are the user's
   abbrev pub AllHis : List Client → Type 0
-  AllHis cs = AllByRecursion (λ (c : Client). is_it own c.serial ≡ true → his c ≡ true) cs
+  AllHis cs = AllByRecursion (λ (c : Client). is_it own c.serial ≡ true → theirs c ≡ true) cs
 
   -- ---- rows
 
-  put_others : (cs : List Client) (y : Client) → AllHis cs → is_it own y.serial ≡ true → his y ≡ true
+  put_others : (cs : List Client) (y : Client) → AllHis cs → is_it own y.serial ≡ true → theirs y ≡ true
       → others_clients user (with_row (λ (c : Client). c.serial) cs y.serial y) ≡ others_clients user cs
   put_others [] y all is mine = refl
   put_others (x ∷ cs) y all is mine = on (x.serial == y.serial) refl (put_others cs y all.1 is mine) where
-    here : x.serial ≡ y.serial → his x ≡ true
+    here : x.serial ≡ y.serial → theirs x ≡ true
     here same = all.0 (ap (is_it own) same ∙ is)
 
     on : (b : Bool) → (x.serial == y.serial) ≡ b
@@ -109,9 +109,9 @@ module _ (user : UserId) (own : Option ℕ) where
         ∙ sym
         (ap (λ b. if not b then x ∷ others_clients user cs else others_clients user cs)
         (here (equal x.serial y.serial at)))
-    on false at same = ap (λ ds. if not (his x) then x ∷ ds else ds) same
+    on false at same = ap (λ ds. if not (theirs x) then x ∷ ds else ds) same
 
-  put_all : (cs : List Client) (y : Client) (n : ℕ) → AllHis cs → his y ≡ true
+  put_all : (cs : List Client) (y : Client) (n : ℕ) → AllHis cs → theirs y ≡ true
       → AllHis (with_row (λ (c : Client). c.serial) cs n y)
   put_all [] y n all mine = tt
   put_all (x ∷ cs) y n all mine = on (x.serial == n) (put_all cs y n all.1 mine) where
@@ -120,13 +120,13 @@ module _ (user : UserId) (own : Option ℕ) where
     on true more = (λ is. mine, all.1)
     on false more = (all.0, more)
 
-  row_his : (cs : List Client) (n : ℕ) (c : Client) → AllHis cs → is_it own n ≡ true
-      → row_of (λ (c : Client). c.serial) cs n ≡ Some c → his c ≡ true
-  row_his [] n c all is at = absurd (cc (at))
-  row_his (x ∷ cs) n c all is at = on (x.serial == n) refl at (row_his cs n c all.1 is) where
+  row_theirs : (cs : List Client) (n : ℕ) (c : Client) → AllHis cs → is_it own n ≡ true
+      → row_of (λ (c : Client). c.serial) cs n ≡ Some c → theirs c ≡ true
+  row_theirs [] n c all is at = absurd (cc (at))
+  row_theirs (x ∷ cs) n c all is at = on (x.serial == n) refl at (row_theirs cs n c all.1 is) where
     on : (b : Bool) → (x.serial == n) ≡ b → (if b then Some x else row_of (λ (c : Client). c.serial) cs n) ≡ Some c
-        → (row_of (λ (c : Client). c.serial) cs n ≡ Some c → his c ≡ true) → his c ≡ true
-    on true here at more = let e : x ≡ c = cc (at) in ap his (sym e)
+        → (row_of (λ (c : Client). c.serial) cs n ≡ Some c → theirs c ≡ true) → theirs c ≡ true
+    on true here at more = let e : x ≡ c = cc (at) in ap theirs (sym e)
         ∙ all.0 (ap (is_it own) (equal x.serial n here) ∙ is)
     on false here at more = more at
 
@@ -139,7 +139,7 @@ module _ (user : UserId) (own : Option ℕ) where
         others_clients user (x ∷ cs)
     on true is same = same
         ∙ sym (ap (λ b. if not b then x ∷ others_clients user cs else others_clients user cs) (all.0 (goes x is)))
-    on false is same = ap (λ ds. if not (his x) then x ∷ ds else ds) same
+    on false is same = ap (λ ds. if not (theirs x) then x ∷ ds else ds) same
 
   parted_all : (p : Client → Bool) (cs : List Client) → AllHis cs → AllHis (filter p cs)
   parted_all p [] all = tt
@@ -187,7 +187,7 @@ module _ (user : UserId) (own : Option ℕ) where
     all = all;
   }
 
-  pub put : (t v : Tables) (c : Client) → Still t v → is_it own c.serial ≡ true → his c ≡ true
+  pub put : (t v : Tables) (c : Client) → Still t v → is_it own c.serial ≡ true → theirs c ≡ true
       → Still t (with_client v c)
   put t v c s is mine = moved t v (with_client v c).clients s (put_others v.clients c s.all is mine)
       (put_all v.clients c c.serial s.all mine)
@@ -199,7 +199,7 @@ module _ (user : UserId) (own : Option ℕ) where
     on None at = s
     on (Some c) at = put t v (hearing m c) s
         (ap (is_it own) (row_serial (λ (x : Client). x.serial) v.clients n c at) ∙ is)
-        (row_his v.clients n c s.all is at)
+        (row_theirs v.clients n c s.all is at)
 
   -- ---- the rows
 
@@ -231,11 +231,11 @@ module _ (user : UserId) (own : Option ℕ) where
 
   module _ (t v : Tables) (k : Caller) (still : Still t v)
       (of_own : (c : Client) → caller_client v k ≡ Some c → is_it own c.serial ≡ true) where
-    mine : (c : Client) → caller_client v k ≡ Some c → his c ≡ true
+    mine : (c : Client) → caller_client v k ≡ Some c → theirs c ≡ true
     mine c at = on k.client at (of_own c at) where
-      on : (o : Option ℕ) → option_and_then (client_at v) o ≡ Some c → is_it own c.serial ≡ true → his c ≡ true
+      on : (o : Option ℕ) → option_and_then (client_at v) o ≡ Some c → is_it own c.serial ≡ true → theirs c ≡ true
       on None at is = absurd (cc (at))
-      on (Some n) at is = row_his v.clients n c still.all
+      on (Some n) at is = row_theirs v.clients n c still.all
           (ap (is_it own) (sym (row_serial (λ (x : Client). x.serial) v.clients n c at)) ∙ is) at
 
     arranged : (c : Client) (l : Arrangement) → caller_client v k ≡ Some c → Leaves t (arranges v c l)

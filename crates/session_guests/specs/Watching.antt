@@ -48,13 +48,13 @@ abbrev pub others_clients : UserId → List Client → List Client
 others_clients user clients = filter (λ (c : Client). not (same_user c.user user)) clients
 
 -- whether an effect is for a client of the user
-abbrev pub is_for_his : Tables → UserId → Effect → Bool
-is_for_his t user (Say client bytes) = is_client_of t user client
-is_for_his t user (Deliver client bytes) = is_client_of t user client
-is_for_his t user (GoneClient client why) = is_client_of t user client
-is_for_his t user _ = false
+abbrev pub is_for_theirs : Tables → UserId → Effect → Bool
+is_for_theirs t user (Say client bytes) = is_client_of t user client
+is_for_theirs t user (Deliver client bytes) = is_client_of t user client
+is_for_theirs t user (GoneClient client why) = is_client_of t user client
+is_for_theirs t user _ = false
 
--- whether a message is the list of clients, which is made anew at each draw
+-- whether a message is the list of clients, which each draw makes again
 abbrev pub lists_clients : Message → Bool
 lists_clients message.AllClients = true
 lists_clients _ = false
@@ -79,7 +79,7 @@ pub record SameForOthers (t u : Tables) (user : UserId) : Type 0 where
 -- a step of the user leaves others all that they have, and each effect is for a client of the user
 pub record LeavesOthers (t : Tables) (e : Entry) (user : UserId) : Type 0 where
   pub tables : SameForOthers t (after t e) user
-  pub effects : AllByRecursion (λ f. is_for_his t user f ≡ true) e.effects
+  pub effects : AllByRecursion (λ f. is_for_theirs t user f ≡ true) e.effects
 
 abbrev pub SpectatorsLeaveOthers : Type 0
 SpectatorsLeaveOthers =

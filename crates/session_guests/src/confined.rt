@@ -1,4 +1,4 @@
-//! What users of a session can't get later: a right that all who open windows mask for them, and a
+//! What users of a session can't get later: a right that all users who open windows mask for them, and a
 //! lock that another user holds. Each function here is a law, which follows from the definitions
 //! alone: it does nothing, and its contract says what holds of every step and of every run.
 

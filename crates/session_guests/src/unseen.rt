@@ -1,5 +1,5 @@
 //! What is unseen in a session's run, by the definitions alone: a user doesn't see output of windows that
-//! they aren't shown, and others don't see what a user does who only watches. Each function here is a
+//! they aren't shown, and others don't see what a user who only watches does. Each function here is a
 //! law: its contract says what holds of every run or step.
 
 ghost use Rattle.session_guests.specs.Unseen.{HiddenOutputIsUnseen};

@@ -25,7 +25,7 @@ abbrev pub ordered_by : Tables → Client → Option (Result Command ParseFault)
 ordered_by t c None = record { verdicts = []; deed = changing t }
 ordered_by t c (Some order) = by_line t c order
 
--- whether memory was wanting
+-- whether memory was refused
 abbrev pub is_kind_want : FaultKind → Bool
 is_kind_want NoMemory = true
 is_kind_want _ = false

@@ -22,7 +22,7 @@ refusal_by f kind = Line f
 abbrev pub line_refusal : ParseFault → Refusal
 line_refusal f = refusal_by f f.kind
 
--- the command that a line says, or its fault; memory may be wanting
+-- the command that a line says, or its fault; memory may be refused
 abbrev pub Parses : List ℕ → Result Command Refusal → Type 0
 Parses line (Ok order) = read_line line ≡ Ok order
 Parses line (Err r) =

@@ -57,7 +57,7 @@ pub record HasRead (t : Tables) (c : Client) (read : List ℕ) (count : ℕ) (ne
   pub ended : HasEnded t (keys_deed t c read) new before.made after.made
   pub verdicts : after.verdicts.items ≡ before.verdicts.items ++ keys_verdicts t c read
 
--- if there is a client that gave the keys; memory may be wanting
+-- if there is a client that gave the keys; memory may be refused
 abbrev pub ReadFor : Tables → Option Client → List ℕ → Result ℕ Refusal → State → Step → Step → Type 0
 ReadFor t (Some c) bytes (Ok count) new before after =
     HasRead t c (read_of c bytes) count new before after

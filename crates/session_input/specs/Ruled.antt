@@ -12,7 +12,7 @@ use Rattle.session_state.specs.Stands.{Stands}
 use Rattle.session_model.specs.Sound.{AreFit}
 use Rattle.session_state.specs.Doing.{Answers, caller_in}
 
--- its deed was done, or it was refused, and its verdicts were noted; or memory was wanting
+-- its deed was done, or it was refused, and its verdicts were noted; or memory was refused
 abbrev pub Ruled : Tables → Ruling → Result (Option (List ℕ)) Refusal →
     State → Step → Step → Type 0
 Ruled t r (Ok lists) new before after =

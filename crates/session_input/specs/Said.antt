@@ -16,7 +16,7 @@ Says client message text old new before after =
     (t : Tables) (c : Client) → Stands t old → client_at t client ≡ Some c
     → HasDone t (says t client message text) new before after
 
--- whether memory was wanting
+-- whether memory was refused
 abbrev pub wants_memory : Refusal → Bool
 wants_memory NoMemory = true
 wants_memory _ = false

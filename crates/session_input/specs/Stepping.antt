@@ -19,7 +19,7 @@ pub record HasHappened (o : Outcome) (reply : Reply) (new : State) (before after
   pub effects : after.made.effects.items ≡ before.made.effects.items ++ o.effects
   pub verdicts : after.verdicts.items ≡ before.verdicts.items ++ o.verdicts
 
--- the outcome has happened, or memory was wanting
+-- the outcome has happened, or memory was refused
 abbrev pub Stepped : Outcome → Reply → State → Step → Step → Type 0
 Stepped o (Ok done) new before after = HasHappened o (Ok done) new before after
 Stepped o (Err r) new before after = (r ≡ NoMemory) ⊎ HasHappened o (Err r) new before after

@@ -16,7 +16,7 @@ fn is_want(fault: &ParseFault) -> bool
     matches!(fault.kind, FaultKind::NoMemory)
 }
 
-/// The fault of a line, unless memory was wanting.
+/// The fault of a line, unless memory was refused.
 fn faulty_line(fault: ParseFault) -> Result<Option<Result<Command, ParseFault>>, AllocError>
     ensures { IfOk result (λ order. (order ≡ Some (Err fault)) × (is_want fault ≡ false)) }
 {

@@ -13,8 +13,8 @@ use session_model::{Bytes, Message, Refusal};
 use session_state::{KeyCaller, State, Step};
 use std::alloc::{AllocError, Global};
 
-/// The message for what a command lists. The lists of windows and of clients are made anew at each
-/// draw.
+/// The message for what a command lists. Each draw makes the lists of windows and of clients
+/// again.
 fn message_of(alloc: Global, command: &Command, text: &Bytes) -> Result<Message, AllocError>
     ensures { IfOk result (λ message. message ≡ message_of command.now text.now) }
 {

@@ -1,6 +1,6 @@
 //! How a command is checked and carried out.
 
-ghost use Rattle.std.specs.Prelude.{◌≡◌, true, Some, None, IfOk, IfErr};
+ghost use Rattle.std.specs.Prelude.{◌≡◌, true, false, Some, None, IfOk, IfErr};
 ghost use Rattle.std.specs.Option.{is_some};
 ghost use Rattle.command_lang.specs.Needs.{needs};
 ghost use Rattle.session_state.specs.Doing.{Does, GivesBy, HasRoomToAct, IsAsBefore, IsSilent};
@@ -59,8 +59,36 @@ fn act_on_client(
     }
 }
 
+/// Carries out a command that needs a window and no client.
+fn act_on_window(
+    state: &mut State,
+    caller: Caller,
+    window: u32,
+    command: &Command,
+    made: &mut StepOutput,
+) -> Result<Option<Bytes>, Refusal>
+    requires room { HasRoomToAct made.old }
+    requires gives { caller.window ≡ Some window }
+    requires client { (needs command.now).client ≡ false }
+    requires window { (needs command.now).window ≡ true }
+    ensures answer { Does caller command.now state.old result state.new made.old made.new }
+    ensures silent { IsSilent result state.old state.new made.old made.new }
+{
+    match command {
+        Command::Writelock(mode) => writelock(state, caller, window, *mode, made),
+        Command::Title(text) => title(state, window, text.as_str(), made),
+        Command::Number(n) => number(state, window, *n, made),
+        Command::Kill => kill(state, window, made),
+        Command::Clear => clear(state, window, made),
+        Command::Reset => reset(state, window, made),
+        Command::Encoding(coding) => encoding(state, window, *coding, made),
+        Command::Stuff(text) => stuff(state, window, text.as_str().as_bytes(), made),
+        _ => unreachable!(),
+    }
+}
+
 /// Carries out a command whose checks have passed.
-#[tactic(auto, using(crate::proofs::Acting::silent_lists))]
+#[tactic(auto, using(crate::proofs::Acting::silent_lists, crate::proofs::Acting::locks_need_window))]
 fn act(
     state: &mut State,
     caller: Caller,
@@ -73,11 +101,15 @@ fn act(
         → IsAsBefore state.old state.new made.old made.new) }
     ensures whole { IsWhole result state.old state.new made.old made.new }
 {
-    if needs_of(command).client {
+    let needed = needs_of(command);
+    if needed.client {
         let client = client_of(state, caller)?;
         return act_on_client(state, caller, client, command, made);
     }
-    let window = window_of(caller);
+    if needed.window {
+        let window = window_of(caller)?;
+        return act_on_window(state, caller, window, command, made);
+    }
     match command {
         Command::Acladd(users) => acladd(state, users, made),
         Command::Aclchg { users, bits, list } => aclchg(state, users, bits, list, made),
@@ -88,18 +120,10 @@ fn act(
         } => aclgrp(state, user, leader, made),
         Command::Aclgrp { user, leader: None } => aclgrp_of(state, caller, user.as_str()),
         Command::Aclumask(masks) => aclumask(state, caller, masks, made),
-        Command::Writelock(mode) => writelock(state, caller, window?, *mode, made),
         Command::Defwritelock(mode) => defwritelock(state, *mode, made),
         Command::Multiuser(is_on) => multiuser(state, *is_on, made),
         Command::Wall(text) => wall(state, caller, text.as_str().as_bytes(), made),
-        Command::Title(text) => title(state, window?, text.as_str(), made),
-        Command::Number(n) => number(state, window?, *n, made),
-        Command::Kill => kill(state, window?, made),
         Command::Screen => screen(state, caller),
-        Command::Clear => clear(state, window?, made),
-        Command::Reset => reset(state, window?, made),
-        Command::Encoding(coding) => encoding(state, window?, *coding, made),
-        Command::Stuff(text) => stuff(state, window?, text.as_str().as_bytes(), made),
         Command::Windows => windows(state, caller),
         Command::Displays => displays(state, caller),
         Command::Quit => quit(state, made),

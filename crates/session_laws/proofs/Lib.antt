@@ -30,6 +30,7 @@ pub mod ActsOfRuns
 pub mod RowsByLines
 pub mod Keeping
 pub mod Past
+pub mod ClientsOfSteps
 pub mod ClientsOfRuns
 pub mod SmallNumbers
 pub mod FitCommands

@@ -69,8 +69,8 @@ abbrev pub typing_verdicts : Tables → Client → List ℕ → List Verdict
 typing_verdicts t c [] = []
 typing_verdicts t c (b ∷ bytes) = verdicts t (typing_checks c.user (focused_window t c))
 
--- what a command lists becomes a message of its client; lists of windows and of clients are made
--- anew at each draw
+-- what a command lists becomes a message of its client; each draw makes lists of windows and of
+-- clients again
 abbrev pub message_of : Order → List ℕ → Message
 message_of command.Windows bytes = message.AllWindows
 message_of command.Displays bytes = message.AllClients

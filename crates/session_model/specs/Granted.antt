@@ -63,7 +63,7 @@ layout_of c = record {
   status = status_of c.rows c.columns;
 }
 
--- the text of a message; lists of windows and of clients are made anew
+-- the text of a message; lists of windows and of clients are made again
 abbrev pub message_text : Tables → Client → Message → List ℕ
 message_text t c message.Silence = []
 message_text t c (message.Text bytes) = bytes

@@ -1,8 +1,7 @@
 -- How windows, users and objects are named.
-use Rattle.std.specs.Prelude.{ℕ, Bool, ◌==◌, ◌&&◌, ◌||◌, nat_lt, nat_eq}
-use Rattle.std.specs.Prelude.{List, [], ◌∷◌, ◌++◌, Option, Some, if◌then◌else◌}
-use Rattle.std.specs.Prelude.{map, length, codes}
-use Rattle.std.specs.List.{list_any, list_all, flat_map}
+use Rattle.std.specs.Prelude.{ℕ, nat_eq, List, [], ◌∷◌, ◌++◌, Option, Some, if◌then◌else◌}
+use Rattle.std.specs.Prelude.{map, codes}
+use Rattle.std.specs.List.{list_any, flat_map}
 use Rattle.std.specs.Option.{option_map, option_or, option_and_then}
 use Rattle.std.specs.Str.{bytes_eq}
 use Prim.Native.Char.{code}
@@ -24,6 +23,7 @@ use Rattle.command_lang.specs.declared.command.Leader.TheVariants as leader
 use Rattle.command_lang.specs.declared.command.Mask.{Mask}
 use Rattle.command_lang.specs.Names.{all_names, command_named}
 use Rattle.session_model.specs.Tables.{Window, Tables, others}
+pub use Rattle.command_lang.specs.Values.{is_wide}
 pub use Rattle.windows_model.specs.Naming.{has_number, with_number, lower, lowest, higher, highest}
 pub use Rattle.windows_model.specs.Naming.{window_named, spelled, window_after, window_before}
 pub use Rattle.windows_model.specs.Naming.{free_number, is_one_or_two, has_columns, is_title}
@@ -40,10 +40,6 @@ every_window t = map (λ (w : Window). object.Window w.serial) t.windows
 
 abbrev pub every_command : List Object
 every_command = map object.Command all_names
-
--- whether the item consists of # (all windows) and ? (all commands) alone
-abbrev pub is_wide : List ℕ → Bool
-is_wide item = nat_lt 0 (length item) && list_all (λ b. b == code "#" || b == code "?") item
 
 abbrev pub wide_objects : Tables → List ℕ → List Object
 wide_objects t item =

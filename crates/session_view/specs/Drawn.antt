@@ -58,7 +58,7 @@ abbrev pub DrawsBy : ℕ → Option Made → State → State → StepOutput → 
 DrawsBy client frame old new before after = (t : Tables) → Stands t old → AreFit t
     → (c : Client) × (client_at t client ≡ Some c) × IsDrawnBy frame t c new before after
 
--- no client has the serial, or memory is wanting
+-- no client has the serial, or memory is refused
 abbrev pub IsRefusedFor : {X : Type 0} → ℕ → State → Result X Refusal → Type 0
 IsRefusedFor client old (Ok done) = Unit {0}
 IsRefusedFor client old (Err r) = (t : Tables) → Stands t old → AreFit t

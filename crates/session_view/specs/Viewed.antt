@@ -24,7 +24,7 @@ abbrev pub IsViewFor : State → Client → View → Type 0
 IsViewFor s c v = (t : Tables) (m : model.Client) → Stands t s → AreFit t → ClientStands m c
     → IsGranted t m v
 
--- the granted view of the client with the serial, if there is one; memory may be wanting
+-- the granted view of the client with the serial, if there is one; memory may be refused
 abbrev pub ViewOf : Tables → Option model.Client → Result View Refusal → Type 0
 ViewOf t (Some m) (Ok v) = IsGranted t m v
 ViewOf t (Some m) (Err r) = r ≡ NoMemory

@@ -37,7 +37,7 @@ impl Lead {
 /// Draws for a client what another client is granted to see, if both are known to see the same. If the
 /// two terminals showed the same before, this takes the frame that was made for the other client, and
 /// else a frame of its own. It does nothing if the clients aren't known to see the same, if the client's
-/// terminal shows that already, or if memory is wanting.
+/// terminal shows that already, or if memory is refused.
 pub fn draw_like(
     state: &mut State,
     client: u32,

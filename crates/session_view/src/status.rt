@@ -19,7 +19,7 @@ fn prompt_text(alloc: Global, line: &[u8]) -> Result<Bytes, AllocError>
     Ok(Bytes::from_vec(text))
 }
 
-/// What a client's message says: the lists of windows and of clients are made anew.
+/// The text of a client's message. The lists of windows and of clients are made again.
 fn message_text(state: &State, client: &Client) -> Result<Bytes, AllocError>
     ensures { IfOk result (SaysMessage state.now client.now) }
 {

@@ -25,8 +25,8 @@ none_of_five name.Aclumask is = refl
 none_of_five c is = absurd (cc (is))
 
 pub guest : rows.BobIsGuest
-guest user c his changes = ap (λ u. may_in rows.contained u Execute (object.Command c))
-    (sym (same_user-true bob user his)) ∙ none_of_five c changes
+guest user c theirs changes = ap (λ u. may_in rows.contained u Execute (object.Command c))
+    (sym (same_user-true bob user theirs)) ∙ none_of_five c changes
 
 pub in_vain : rows.InVain
 unfolding digits items_from command_named unless refused_if given

@@ -36,6 +36,6 @@ no_more c is = refl
 pub bob_watches : rows.BobWatches
 bob_watches = record { write = nowhere; commands = no_more }
 
-pub he_reads : rows.HeReads
+pub they_read : rows.HeReads
 unfolding digits items_from command_named unless refused_if given
-he_reads = (refl, refl)
+they_read = (refl, refl)

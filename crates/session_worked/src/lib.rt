@@ -1,6 +1,6 @@
-//! Worked rows of a session, computed from its definitions: what four users get who type, change
-//! access lists, take locks and open windows; what policies and traps do; and whom the laws of guests
-//! hold. Each function here does nothing; its contract states the rows.
+//! Worked rows of a session, computed from its definitions: what four users get when they type,
+//! change access lists, take locks and open windows; what policies and traps do; and to whom the laws of
+//! guests apply. Each function here does nothing; its contract states the rows.
 #![tactic(auto)]
 
 ghost use Rattle.session_worked.specs.Drawing as drawing;

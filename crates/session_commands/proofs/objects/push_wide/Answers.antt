@@ -4,7 +4,7 @@ use Rattle.session_model.specs.Naming.{every_command}
 use Rattle.session_commands.specs.Asked.{window_object}
 use Rattle.session_commands.proofs.Naming.{wide_parts, put, put_none}
 use Rattle.session_commands.proofs.objects.push_wide.Goals as goal
-use Rattle.session_commands.proofs.objects.push_wide.Goals.{then-has+in_ok-push_windows, else-has}
+use Rattle.session_commands.proofs.objects.push_wide.Goals.{then-has_byte+in_ok-push_windows, else-has_byte}
 
 pub returns-in_ok-push_commands : goal.returns-in_ok-push_commands
 returns-in_ok-push_commands c =
@@ -12,10 +12,10 @@ returns-in_ok-push_commands c =
     let ws = map window_object c.args.windows.now in
     let some = list_any (nat_eq 0x23) c.args.item.now in
     wide_parts some (list_any (nat_eq 0x3F) c.args.item.now) old _ _ ws every_command
-    (elim c.if-has.branch [
-      | then-has+in_ok-push_windows w ↦
-          put some old _ ws (sym c.has.ensures ∙ w.if-has.true) (rw w.objects-is w.in_ok-push_windows.ensures)
-      | else-has w ↦
-          put_none some old _ ws (sym c.has.ensures ∙ w.if-has.false) (rw w.objects-is refl)
+    (elim c.if-has_byte.branch [
+      | then-has_byte+in_ok-push_windows w ↦
+          put some old _ ws (sym c.has_byte.ensures ∙ w.if-has_byte.true) (rw w.objects-is w.in_ok-push_windows.ensures)
+      | else-has_byte w ↦
+          put_none some old _ ws (sym c.has_byte.ensures ∙ w.if-has_byte.false) (rw w.objects-is refl)
     ])
-    (put _ _ _ every_command (sym c.has-2.ensures ∙ c.if-has-2.true) c.in_ok-push_commands.ensures)
+    (put _ _ _ every_command (sym c.has_byte-2.ensures ∙ c.if-has_byte-2.true) c.in_ok-push_commands.ensures)

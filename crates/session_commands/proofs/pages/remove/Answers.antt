@@ -64,7 +64,8 @@ returns-clause-answer c = λ k gives t st fit free.
     let x : Client = c.in-Some.row.now in
     let at : row_of serial_of c.args.state.now.clients c.args.client ≡ Some x =
     sym c.get.ensures.row ∙ ap option_copied c.in-Some.is in
-    let stands = row_stands m x _ _ (c.get.ensures.stands t.clients st.clients) by.1.at (ap option_copied c.in-Some.is) in
+    let stands =
+    row_stands m x _ _ (c.get.ensures.stands t.clients st.clients) by.1.at (ap option_copied c.in-Some.is) in
     let count : length c.shown.result.now ≡ length m.layout.shown = ap length c.shown.ensures.value
     ∙ ap (λ (l : Arrangement). length l.shown) stands.layout_is in
     let more : length m.layout.shown ≢ 1 = omega (arith, count, c.if-shown-eq1.false) in

@@ -25,7 +25,8 @@ returns-in-Ok-clause-answer c = λ k gives t st fit free.
     let by = giver_there t k c.args.client c.args.state.now st gives in
     let m : model.Client = by.0 in
     let x : Client = c.in-Some.row.now in
-    let stands = row_stands m x _ _ (c.get.ensures.stands t.clients st.clients) by.1.at (ap option_copied c.in-Some.is) in
+    let stands =
+    row_stands m x _ _ (c.get.ensures.stands t.clients st.clients) by.1.at (ap option_copied c.in-Some.is) in
     let at : row_of serial_of c.args.state.now.clients c.args.client ≡ Some x =
     sym c.get.ensures.row ∙ ap option_copied c.in-Some.is in
     let way : Way = c.way_of-way.result in
@@ -50,7 +51,8 @@ returns-in-Err-clause-answer c = λ k gives t st fit free.
     let by = giver_there t k c.args.client c.args.state.now st gives in
     let m : model.Client = by.0 in
     let x : Client = c.in-Some.row.now in
-    let stands = row_stands m x _ _ (c.get.ensures.stands t.clients st.clients) by.1.at (ap option_copied c.in-Some.is) in
+    let stands =
+    row_stands m x _ _ (c.get.ensures.stands t.clients st.clients) by.1.at (ap option_copied c.in-Some.is) in
     let at : row_of serial_of c.args.state.now.clients c.args.client ≡ Some x =
     sym c.get.ensures.row ∙ ap option_copied c.in-Some.is in
     let way : Way = c.way_of-way.result in
@@ -72,7 +74,8 @@ pub returns-in-Err-clause-silent : goal.returns-in-Err-clause-silent
 returns-in-Err-clause-silent c =
     let s = c.args.state.now in
     let x : Client = c.in-Some.row.now in
-    let at : row_of serial_of s.clients c.args.client ≡ Some x = sym c.get.ensures.row ∙ ap option_copied c.in-Some.is in
+    let at : row_of serial_of s.clients c.args.client ≡ Some x =
+    sym c.get.ensures.row ∙ ap option_copied c.in-Some.is in
     let page = c.in-Err.ensures.there x at in
     let same : page.0 ≡ x.layout = search rules in
     let kept = page_kept s.clients c.try_on_page.new.self c.args.client x page.0 at same page.2 in

@@ -3,7 +3,7 @@ use Rattle.std.proofs.lemmas.Result.{err_from_is_err_and}
 use Rattle.command_lang.specs.declared.command.Command.{Command}
 use Rattle.command_lang.specs.declared.needs.Needs.{Needs}
 use Rattle.session_state.specs.Doing.{Does}
-use Rattle.session_input.proofs.Acting.{nobody_gives}
+use Rattle.session_input.proofs.Acting.{nobody_gives, given_nowhere}
 use Rattle.session_input.proofs.orders.act.Goals as goal
 
 pub returns-in_err-client-clause-answer : goal.returns-in_err-client-clause-answer
@@ -12,6 +12,15 @@ returns-in_err-client-clause-answer c =
     rw (p.1, p.2)
     (nobody_gives c.args.caller c.args.command.now c.args.state.now c.args.made.now c.in_err-client.field-0.0
     (ap (λ (n : Needs). n.client) (sym c.needs_of.ensures) ∙ c.if-needs_of.true) c.in_err-client.ensures.err)
+
+pub returns-in_err-window-clause-answer : goal.returns-in_err-window-clause-answer
+returns-in_err-window-clause-answer c =
+    let p = err_from_is_err_and c.from_residual.result c.from_residual.ensures.1 in
+    rw (p.1, p.2)
+    (given_nowhere c.args.caller c.args.command.now c.args.state.now c.args.made.now c.in_err-window.field-0.0
+    (ap (λ (n : Needs). n.client) (sym c.needs_of-needed.ensures) ∙ c.if-needed.client.false)
+    (ap (λ (n : Needs). n.window) (sym c.needs_of-needed.ensures) ∙ c.if-needed.window.true)
+    c.in_err-window.ensures.err)
 
 pub returns-in-Screen-clause-answer : goal.returns-in-Screen-clause-answer
 returns-in-Screen-clause-answer c =

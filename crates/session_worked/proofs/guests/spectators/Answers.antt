@@ -5,4 +5,4 @@ pub returns-clause-watches : goal.returns-clause-watches
 returns-clause-watches c = computed.bob_watches
 
 pub returns-clause-reads : goal.returns-clause-reads
-returns-clause-reads c = computed.he_reads
+returns-clause-reads c = computed.they_read

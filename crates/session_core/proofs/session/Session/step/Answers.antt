@@ -39,7 +39,8 @@ returns-clause-step c = λ taken h st.
     let step = subst
     (λ (s : State). TakenAs event c.take-reply.result (tables_of h)
     (StayShared event old.sharing c.take-reply.new.sharing) s before c.take-reply.new.step)
-    (sym c.note_step.ensures.state) (c.take-reply.ensures.step (tables_of h) st.stands (run_is_fit h) st.shared taken) in
+    (sym c.note_step.ensures.state)
+    (c.take-reply.ensures.step (tables_of h) st.stands (run_is_fit h) st.shared taken) in
     let made = step_taken h old new c.take-reply.new.sharing event c.take-reply.result c.of.result before
     c.take-reply.new.step c.of.ensures c.new-2.ensures.items c.new-verdicts.ensures.items st c.note_drawn.ensures
     c.note_step.ensures.left step in
