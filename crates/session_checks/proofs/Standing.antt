@@ -6,7 +6,7 @@ use Rattle.windows_model.proofs.Matching.{length_match, both_back}
 use Rattle.windows_model.proofs.Serials.{serial_is}
 use Rattle.windows.specs.Standing.{WindowStands, Finds, at_serial}
 use Rattle.windows.specs.declared.window.Window.{Window}
-use Rattle.session_clients.specs.Stands.{ClientStands}
+use Rattle.session_state.specs.Clients.{ClientStands}
 use Rattle.session_state.specs.declared.state.State.{State}
 use Rattle.session_state.specs.Stands.{Stands}
 

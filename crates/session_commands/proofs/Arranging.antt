@@ -7,11 +7,11 @@ use Rattle.session_model.specs.Tables as model
 use Rattle.session_model.specs.Tables.{row_of, with_row, with_layout}
 use Rattle.windows_model.proofs.Matching.{row_there}
 use Rattle.windows_model.proofs.Serials.{with_back}
-use Rattle.session_clients.specs.declared.client.Client.{Client}
-use Rattle.session_clients.specs.Moves.{moved_to}
-use Rattle.session_clients.specs.Stands.{ClientStands, Changes}
-use Rattle.session_clients.proofs.Changing.{changed, model_serial, serial_of, serials}
-use Rattle.session_clients.proofs.Keeping.{keeps_moved, room_alike, fault_alike}
+use Rattle.session_state.specs.declared.client.Client.{Client}
+use Rattle.session_state.specs.Moves.{moved_to}
+use Rattle.session_state.specs.Clients.{ClientStands, Changes}
+use Rattle.session_state.proofs.Changing.{changed, model_serial, serial_of, serials}
+use Rattle.session_state.proofs.Keeping.{keeps_moved, room_alike, fault_alike}
 
 -- the page of a row that was found is another one
 pub found_arranged : (F : Arrangement → Arrangement) (old new : List Client) (serial : ℕ) (x : Client)

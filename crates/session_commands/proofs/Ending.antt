@@ -31,8 +31,8 @@ use Rattle.session_model.specs.Deeds.{Deed, is_of, removes, closes, parts, both,
 use Rattle.windows_model.proofs.Serials.{is_equal, serial_is}
 use Rattle.windows.specs.declared.window.Window.{Window}
 use Rattle.windows.specs.Standing.{StandFor, closed, without}
-use Rattle.session_clients.specs.declared.client.Client.{Client}
-use Rattle.session_clients.specs.Stands.{AreClients, Keeps, ChangesAll}
+use Rattle.session_state.specs.declared.client.Client.{Client}
+use Rattle.session_state.specs.Clients.{AreClients, Keeps, ChangesAll}
 use Rattle.session_state.specs.declared.step_output.StepOutput.{StepOutput}
 use Rattle.session_state.specs.declared.state.State.{State}
 use Rattle.session_state.specs.Stands.{Stands}

@@ -9,8 +9,8 @@ use Rattle.session_model.specs.Commands.{caller_client}
 use Rattle.windows_model.specs.Matched.{BothOrNone}
 use Rattle.windows_model.proofs.Matching.{none_back}
 use Rattle.windows_model.proofs.Serials.{serial_is, with_same}
-use Rattle.session_clients.specs.declared.client.Client.{Client}
-use Rattle.session_clients.specs.Stands.{ClientStands, AreClients, Changes}
+use Rattle.session_state.specs.declared.client.Client.{Client}
+use Rattle.session_state.specs.Clients.{ClientStands, AreClients, Changes}
 use Rattle.session_state.specs.declared.caller.Caller.{Caller}
 use Rattle.session_state.specs.declared.step_output.StepOutput.{StepOutput}
 use Rattle.session_state.specs.declared.state.State.{State}

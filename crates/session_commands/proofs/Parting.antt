@@ -31,8 +31,8 @@ use Rattle.session_model.specs.Tables.{Tables}
 use Rattle.session_model.specs.Deeds.{parts}
 use Rattle.session_model.specs.Sound.{Rises, client_serials}
 use Rattle.windows_model.proofs.Serials.{same_number}
-use Rattle.session_clients.specs.declared.client.Client.{Client}
-use Rattle.session_clients.specs.Stands.{ClientStands, AreClients, Keeps}
+use Rattle.session_state.specs.declared.client.Client.{Client}
+use Rattle.session_state.specs.Clients.{ClientStands, AreClients, Keeps}
 use Rattle.session_state.specs.declared.state.State.{State}
 use Rattle.session_state.specs.Stands.{Stands}
 use Rattle.session_state.specs.Doing.{did}

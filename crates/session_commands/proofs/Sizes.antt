@@ -25,8 +25,8 @@ use Rattle.windows_model.proofs.Serials.{if_true, serial_is}
 use Rattle.windows.specs.declared.window.Window as code
 use Rattle.windows.specs.Standing.{StandFor, Answered, serial, resized, resized_in, written_to}
 use Rattle.windows.proofs.Callers.{row_done, row_refused_as}
-use Rattle.session_clients.specs.declared.client.Client.{Client}
-use Rattle.session_clients.specs.Stands.{ClientStands}
+use Rattle.session_state.specs.declared.client.Client.{Client}
+use Rattle.session_state.specs.Clients.{ClientStands}
 use Rattle.session_state.specs.declared.caller.Caller.{Caller}
 use Rattle.session_state.specs.declared.step_output.StepOutput.{StepOutput}
 use Rattle.session_state.specs.declared.state.State.{State}

@@ -14,7 +14,7 @@ use Rattle.session_model.specs.Tables as model
 use Rattle.session_model.specs.Tables.{Tables}
 use Rattle.session_model.specs.Sound.{Rises, client_serials}
 use Rattle.session_model.specs.Deeds.{parts}
-use Rattle.session_clients.specs.declared.client.Client.{Client}
+use Rattle.session_state.specs.declared.client.Client.{Client}
 use Rattle.session_state.specs.declared.step_output.StepOutput.{StepOutput}
 use Rattle.session_state.specs.declared.state.State.{State}
 use Rattle.session_state.specs.Stands.{Stands}

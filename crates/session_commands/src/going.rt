@@ -9,16 +9,15 @@ ghost use Rattle.acl.specs.History.{History, followed_by};
 ghost use Rattle.writelock.specs.Holding.{clients_of};
 ghost use Rattle.writelock.specs.LockTable.{LocksStandFor};
 ghost use Rattle.session_model.specs.Sound.{Rises};
-ghost use Rattle.session_clients.specs.Stands.{Keeps};
+ghost use Rattle.session_state.specs.Clients.{Keeps};
 ghost use Rattle.session_state.specs.Doing.{IsWhole};
 ghost use Rattle.session_commands.specs.Going.{goes, goes_now, gone_now, parted_now};
 ghost use Rattle.session_commands.specs.Going.{serials_now, attached_now, is_of_now};
 ghost use Rattle.session_commands.specs.Going.{last_of, Goes};
 
 use acl::{Act, UserId};
-use session_clients::{Client, Clients};
 use session_model::{Effect, Reason};
-use session_state::{State, StepOutput};
+use session_state::{Client, Clients, State, StepOutput};
 use std::alloc::{AllocError, Global};
 use writelock::Locks;
 

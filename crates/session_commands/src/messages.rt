@@ -6,9 +6,8 @@ ghost use Rattle.command_lang.specs.declared.command.Command.TheVariants as comm
 ghost use Rattle.session_state.specs.Doing.{Does, HasRoomToAct, IsSilent};
 
 use acl::UserId;
-use session_clients::messages_of;
 use session_model::{Bytes, Refusal};
-use session_state::{Caller, State, StepOutput};
+use session_state::{Caller, State, StepOutput, messages_of};
 use std::alloc::{AllocError, Global};
 
 /// The message of a user to all: `USER: TEXT`.

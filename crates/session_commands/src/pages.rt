@@ -14,9 +14,8 @@ ghost use Rattle.session_commands.specs.Scrolling.{scrolled};
 use crate::entering::enter_focused;
 use crate::giver::{number_of, refusal_of};
 use regions::{Layout, RegionFault, Shown, Way};
-use session_clients::Client;
 use session_model::{Bytes, Refusal, WindowsFault};
-use session_state::{Caller, State, StepOutput};
+use session_state::{Caller, Client, State, StepOutput};
 
 /// Shows an open window in a client's focused region. The client's user enters it.
 fn show(state: &mut State, client: u32, window: u32, made: &mut StepOutput)

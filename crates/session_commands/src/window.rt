@@ -9,9 +9,8 @@ ghost use Rattle.session_commands.specs.Giving.{IsFocusedBox};
 use crate::giver::{refusal_of, window_of};
 use command_lang::Coding;
 use regions::{Rect, RegionFault};
-use session_clients::Client;
 use session_model::{Bytes, Effect, Refusal};
-use session_state::{Caller, State, StepOutput};
+use session_state::{Caller, Client, State, StepOutput};
 use std::alloc::Global;
 use windows::is_window_size;
 

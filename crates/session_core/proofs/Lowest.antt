@@ -9,8 +9,8 @@ use Rattle.std.proofs.lemmas.List.Sums.{fails_before_first}
 use Rattle.std.proofs.lemmas.Grind.{common_steps}
 use Rattle.windows_model.proofs.Serials.{if_true, if_false}
 use Rattle.windows_model.proofs.Matching.{mapped_match}
-use Rattle.session_clients.specs.declared.client.Client.{Client}
-use Rattle.session_clients.specs.Stands.{ClientStands}
+use Rattle.session_state.specs.declared.client.Client.{Client}
+use Rattle.session_state.specs.Clients.{ClientStands}
 use Rattle.session_model.specs.Trace.{Trace}
 use Rattle.session_model.specs.Tables as model
 use Rattle.session_model.specs.Run.{tables_of}

@@ -24,9 +24,9 @@ use Rattle.session_model.specs.Tables.{Tables, focused, is_window, shows, is_in_
 use Rattle.session_model.specs.Deeds.{Deed}
 use Rattle.session_model.specs.Outcomes.{left_acts_of, left_acts}
 use Rattle.windows_model.proofs.Matching.{length_match}
-use Rattle.session_clients.specs.declared.client.Client.{Client}
-use Rattle.session_clients.specs.Moves.{in_focus}
-use Rattle.session_clients.specs.Stands.{ClientStands, AreClients}
+use Rattle.session_state.specs.declared.client.Client.{Client}
+use Rattle.session_state.specs.Moves.{in_focus}
+use Rattle.session_state.specs.Clients.{ClientStands, AreClients}
 use Rattle.session_state.specs.declared.state.State.{State}
 use Rattle.session_state.specs.Stands.{Stands}
 use Rattle.session_state.specs.Doing.{did}

@@ -13,9 +13,9 @@ use Rattle.session_model.specs.Tables.{client_at}
 use Rattle.session_model.specs.Naming.{lowest}
 use Rattle.session_model.specs.Deeds.{acting, changing, entering}
 use Rattle.session_model.specs.Comings.{attached, new_client, attaches, resized}
-use Rattle.session_clients.specs.declared.client.Client.{Client as Row}
-use Rattle.session_clients.specs.Stands as clients
-use Rattle.session_clients.specs.Stands.{AreClients}
+use Rattle.session_state.specs.declared.client.Client.{Client as Row}
+use Rattle.session_state.specs.Clients as clients
+use Rattle.session_state.specs.Clients.{AreClients}
 use Rattle.windows_model.proofs.Serials.{serial_is as serial_at}
 use Rattle.session_state.specs.declared.step_output.StepOutput.{StepOutput}
 use Rattle.session_state.specs.declared.state.State.{State}

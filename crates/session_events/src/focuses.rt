@@ -6,8 +6,7 @@ ghost use Rattle.session_model.specs.Sound.{AreSound};
 ghost use Rattle.session_state.specs.Stands.{Stands};
 
 use acl::UserId;
-use session_clients::Client;
-use session_state::State;
+use session_state::{Client, State};
 use std::marker::Model;
 
 /// The most clients that a session has.

@@ -11,8 +11,7 @@ ghost use Rattle.session_events.specs.Leaving.{Leaves, all_left, left_window, lo
 
 use crate::focuses::{Focus, Focuses};
 use acl::{Act, UserId};
-use session_clients::Client;
-use session_state::{State, StepOutput};
+use session_state::{Client, State, StepOutput};
 use writelock::Locks;
 
 /// Whether a focus is at this window.

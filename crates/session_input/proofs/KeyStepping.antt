@@ -32,8 +32,8 @@ use Rattle.session_model.specs.Texts.{text_of}
 use Rattle.session_laws.proofs.Unread.{client_read, nobody_left}
 use Rattle.session_events.specs.Leaving.{HasLeft}
 use Rattle.windows_model.proofs.Serials.{serial_is, with_same, with_twice}
-use Rattle.session_clients.specs.declared.client.Client.{Client as Row}
-use Rattle.session_clients.specs.Stands.{ClientStands}
+use Rattle.session_state.specs.declared.client.Client.{Client as Row}
+use Rattle.session_state.specs.Clients.{ClientStands}
 use Rattle.session_state.specs.declared.caller.Caller.{Caller}
 use Rattle.session_state.specs.declared.step_notes.Step.{Step}
 use Rattle.session_state.specs.declared.step_output.StepOutput.{StepOutput}

@@ -12,10 +12,10 @@ use Rattle.session_model.specs.Deeds.{Deed}
 use Rattle.session_model.specs.Commands.{Ruling, ruling}
 use Rattle.session_model.specs.Answering.{says, keyed, with_listed, message_of}
 use Rattle.session_model.specs.Texts.{text_of}
-use Rattle.session_clients.specs.Stands.{ClientStands}
+use Rattle.session_state.specs.Clients.{ClientStands}
 use Rattle.windows_model.proofs.Matching.{rows_match, both_there, both_back}
-use Rattle.session_clients.proofs.Changing.{serials}
-use Rattle.session_clients.specs.declared.client.Client.{Client as Row}
+use Rattle.session_state.proofs.Changing.{serials}
+use Rattle.session_state.specs.declared.client.Client.{Client as Row}
 use Rattle.session_state.specs.declared.step_notes.Step.{Step}
 use Rattle.session_state.specs.declared.step_output.StepOutput.{StepOutput}
 use Rattle.session_state.specs.declared.state.State.{State}

@@ -12,10 +12,10 @@ use Rattle.session_model.specs.Tables.{Tables, Client, client_at, row_of, with_r
 use Rattle.session_model.specs.Sound.{Rises}
 use Rattle.windows_model.proofs.Serials.{serial_is}
 use Rattle.windows_model.proofs.Matching.{with_match, row_there}
-use Rattle.session_clients.specs.declared.client.Client.{Client as Row}
-use Rattle.session_clients.specs.Stands.{ClientStands, AreClients}
-use Rattle.session_clients.specs.Exchanges.{Exchanged}
-use Rattle.session_clients.proofs.Changing.{serials}
+use Rattle.session_state.specs.declared.client.Client.{Client as Row}
+use Rattle.session_state.specs.Clients.{ClientStands, AreClients}
+use Rattle.session_state.specs.Exchanges.{Exchanged}
+use Rattle.session_state.proofs.Changing.{serials}
 use Rattle.session_state.specs.declared.state.State.{State}
 use Rattle.session_state.specs.Stands.{Stands}
 use Rattle.session_model.specs.Sound.{AreFit, ShowsOpen, IsOpen}

@@ -8,8 +8,8 @@ use Rattle.session_model.specs.Tables.{Tables, client_at, with_client, row_of, w
 use Rattle.session_model.specs.Deeds.{Deed, changing, hearing}
 use Rattle.session_model.specs.Answering.{told, says}
 use Rattle.windows_model.proofs.Serials.{serial_is}
-use Rattle.session_clients.specs.declared.client.Client.{Client}
-use Rattle.session_clients.specs.Stands.{AreClients, Changes}
+use Rattle.session_state.specs.declared.client.Client.{Client}
+use Rattle.session_state.specs.Clients.{AreClients, Changes}
 use Rattle.session_state.specs.declared.step_output.StepOutput.{StepOutput}
 use Rattle.session_state.specs.declared.state.State.{State}
 use Rattle.session_state.specs.Stands.{Stands}

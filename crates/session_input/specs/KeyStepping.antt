@@ -8,8 +8,8 @@ use Rattle.session_model.specs.Tables.{Tables, Client, client_at, with_client, r
 use Rattle.session_model.specs.Deeds.{hearing}
 use Rattle.session_model.specs.Keying.{items_behind, taken, typed_bytes, command_item}
 use Rattle.session_model.specs.Answering.{reading}
-use Rattle.session_clients.specs.declared.client.Client.{Client as Row}
-use Rattle.session_clients.specs.Moves.{in_focus}
+use Rattle.session_state.specs.declared.client.Client.{Client as Row}
+use Rattle.session_state.specs.Moves.{in_focus}
 use Rattle.session_state.specs.declared.caller.Caller.{Caller}
 use Rattle.session_state.specs.declared.step_notes.Step.{Step}
 use Rattle.session_state.specs.declared.state.State.{State}

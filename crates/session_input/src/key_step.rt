@@ -12,10 +12,9 @@ use crate::obeying::obey;
 use crate::typing::type_bytes;
 use command_lang::{Command, ParseFault};
 use keys::KeyReader;
-use session_clients::{Client, read_keys};
 use session_events::{Focuses, drop_said, leave};
 use session_model::{Bytes, Message, Refusal};
-use session_state::{Caller, KeyCaller, KeyOrder, State, Step};
+use session_state::{Caller, Client, KeyCaller, KeyOrder, State, Step, read_keys};
 use std::alloc::{AllocError, Global};
 
 /// What a step reads of a client's keys.

@@ -5,7 +5,7 @@ use Rattle.std.proofs.alloc.Global.TheSendSync as heap
 use Rattle.acl.proofs.acl.Acl.TheSendSync as acl
 use Rattle.writelock.proofs.locks.Locks.TheSendSync as locks
 use Rattle.windows.proofs.windows.Windows.TheSendSync as windows
-use Rattle.session_clients.proofs.Crossing.{clients_send}
+use Rattle.session_state.proofs.ClientsCrossing.{clients_send}
 use Rattle.session_state.specs.contracts.state.State as State
 
 pub state_send : IsSend State.the_row

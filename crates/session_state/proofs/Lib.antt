@@ -3,3 +3,11 @@ pub mod Growing
 pub mod Listing
 pub mod Numbered
 pub mod Numbers
+pub mod Changing
+pub mod Keeping
+pub mod Typing
+pub mod Frames
+pub mod Drawing
+pub mod Exchanging
+pub mod Telling
+pub mod ClientsCrossing

@@ -14,9 +14,9 @@ use Rattle.windows_model.proofs.Matching.{rows_match, mapped_match}
 use Rattle.session_state.specs.Items.{number_or_dash, number_of_window, client_line, client_line_is}
 use Rattle.windows.specs.declared.window.Window.{Window}
 use Rattle.windows.specs.Standing.{WindowStands, StandFor}
-use Rattle.session_clients.specs.declared.client.Client.{Client}
-use Rattle.session_clients.specs.Moves.{in_focus}
-use Rattle.session_clients.specs.Stands.{ClientStands}
+use Rattle.session_state.specs.declared.client.Client.{Client}
+use Rattle.session_state.specs.Moves.{in_focus}
+use Rattle.session_state.specs.Clients.{ClientStands}
 use Rattle.session_state.specs.declared.state.State.{State}
 use Rattle.session_state.specs.Stands.{Stands}
 use Rattle.session_state.specs.Listing.{number_shown, client_item}

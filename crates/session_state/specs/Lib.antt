@@ -6,3 +6,8 @@ pub mod Items
 pub mod Leaders
 pub mod Listing
 pub mod Orders
+pub mod Moves
+pub mod Reading
+pub mod Clients
+pub mod Exchanges
+pub mod Draws

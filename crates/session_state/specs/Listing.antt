@@ -8,8 +8,8 @@ use Rattle.session_model.specs.Texts.{window_item, windows_text, clients_text}
 use Rattle.session_state.specs.Items.{client_line}
 use Rattle.windows.specs.declared.window.Window.{Window}
 use Rattle.windows.specs.Standing.{WindowStands}
-use Rattle.session_clients.specs.declared.client.Client.{Client}
-use Rattle.session_clients.specs.Moves.{in_focus}
+use Rattle.session_state.specs.declared.client.Client.{Client}
+use Rattle.session_state.specs.Moves.{in_focus}
 use Rattle.session_state.specs.declared.state.State.{State}
 use Rattle.session_state.specs.Stands.{Stands}
 use Rattle.session_model.specs.Sound.{AreFit}

@@ -4,7 +4,7 @@ use Rattle.acl.specs.Table as acl
 use Rattle.writelock.specs.LockTable.{LocksStandFor}
 use Rattle.session_model.specs.Tables.{Tables}
 use Rattle.windows.specs.Standing as windows
-use Rattle.session_clients.specs.Stands.{AreClients}
+use Rattle.session_state.specs.Clients.{AreClients}
 use Rattle.session_state.specs.declared.state.State.{State}
 
 -- the lists and the locks are those of the acts of all steps; windows and clients stand row by row

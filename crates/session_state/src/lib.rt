@@ -2,10 +2,13 @@
 #![tactic(auto)]
 
 mod caller;
+mod client;
+mod clients;
 mod items;
 mod laws;
 mod leaders;
 mod notes;
+mod reading;
 mod sizes;
 mod state;
 mod step_notes;
@@ -13,8 +16,11 @@ mod step_output;
 mod texts;
 
 pub use caller::Caller;
+pub use client::Client;
+pub use clients::{Clients, messages_of};
 pub use leaders::leaders_text;
 pub use notes::Notes;
+pub use reading::{Reading, read_keys};
 pub use sizes::is_client_size;
 pub use state::State;
 pub use step_notes::{KeyCaller, KeyOrder, Step};

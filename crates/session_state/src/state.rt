@@ -3,8 +3,8 @@
 ghost use Rattle.std.specs.Prelude.{IfOk};
 ghost use Rattle.session_model.specs.Tables.{fresh};
 
+use crate::clients::Clients;
 use acl::{Acl, Edition, UserId};
-use session_clients::Clients;
 use std::alloc::{AllocError, Global};
 use windows::Windows;
 use writelock::Locks;

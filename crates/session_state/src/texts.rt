@@ -1,14 +1,14 @@
 //! The lists of windows and of clients.
 
 ghost use Rattle.std.specs.Prelude.{◌≡◌, IfOk, OnOk};
-ghost use Rattle.session_clients.specs.declared.client.Client.{Client};
+ghost use Rattle.session_state.specs.declared.client.Client.{Client};
 ghost use Rattle.session_state.specs.Listing.{SaysWindows, SaysClients, IsItem};
 ghost use Rattle.session_state.specs.Listing.{number_shown};
 
+use crate::client::Client;
 use crate::items::{push_client, push_separator, push_window};
 use crate::state::State;
 use acl::{Bit, Object, UserId};
-use session_clients::Client;
 use session_model::Bytes;
 use std::alloc::AllocError;
 use windows::{Window, Windows};

@@ -10,9 +10,9 @@ use Rattle.session_model.specs.Tables as model
 use Rattle.session_model.specs.Tables.{Tables, client_at, row_of, with_row}
 use Rattle.session_model.specs.Sound.{AreFit}
 use Rattle.windows_model.proofs.Serials.{if_true, equal_number, serial_is, with_back}
-use Rattle.session_clients.specs.declared.client.Client.{Client}
-use Rattle.session_clients.specs.Stands.{AreClients}
-use Rattle.session_clients.specs.Draws.{ShowsAlready, Draw}
+use Rattle.session_state.specs.declared.client.Client.{Client}
+use Rattle.session_state.specs.Clients.{AreClients}
+use Rattle.session_state.specs.Draws.{ShowsAlready, Draw}
 use Rattle.session_state.specs.declared.state.State.{State}
 use Rattle.session_state.specs.declared.step_output.StepOutput.{StepOutput}
 use Rattle.session_state.specs.Stands.{Stands}
@@ -20,10 +20,10 @@ use Rattle.redraw.specs.Shadow.{Knowledge, knowledge_of}
 use Rattle.redraw.specs.Frames.{Made}
 use Rattle.windows_model.specs.Matched.{BothOrNone}
 use Rattle.windows_model.proofs.Matching.{row_there, both_back}
-use Rattle.session_clients.specs.Stands.{ClientStands, Finds}
-use Rattle.session_clients.specs.Draws.{LeadsFrom}
-use Rattle.session_clients.proofs.Changing.{serials}
-use Rattle.session_clients.proofs.Changing as changing
+use Rattle.session_state.specs.Clients.{ClientStands, Finds}
+use Rattle.session_state.specs.Draws.{LeadsFrom}
+use Rattle.session_state.proofs.Changing.{serials}
+use Rattle.session_state.proofs.Changing as changing
 use Rattle.session_view.specs.Viewed.{IsGranted, IsViewFor}
 use Rattle.session_view.specs.Drawn.{HasDrawn, HasDrawnSo, IsNothing, IsSomething, LeadsOn, Delivers, IsDrawnBy}
 use Rattle.session_view.specs.Drawn.{DrawsBy, DrawsFor}

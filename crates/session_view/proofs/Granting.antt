@@ -22,8 +22,8 @@ use Rattle.session_model.specs.Tables as model
 use Rattle.session_model.specs.Tables.{Tables}
 use Rattle.session_model.specs.Comings.{is_client_size}
 use Rattle.session_model.specs.Granted.{part_shown, status_text, layout_of}
-use Rattle.session_clients.specs.declared.client.Client.{Client}
-use Rattle.session_clients.specs.Stands.{ClientStands}
+use Rattle.session_state.specs.declared.client.Client.{Client}
+use Rattle.session_state.specs.Clients.{ClientStands}
 use Rattle.windows_model.specs.Matched.{BothOrNone}
 use Rattle.std.specs.declared.alloc.AllocError.{AllocError}
 use Rattle.session_state.specs.declared.state.State.{State}

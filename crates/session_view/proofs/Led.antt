@@ -7,10 +7,10 @@ use Rattle.session_model.specs.Tables as model
 use Rattle.session_model.specs.Tables.{Tables, client_at}
 use Rattle.session_model.specs.Granted.{granted_view}
 use Rattle.windows_model.proofs.Matching.{row_there}
-use Rattle.session_clients.specs.Stands.{ClientStands}
-use Rattle.session_clients.specs.declared.client.Client.{Client}
-use Rattle.session_clients.specs.Draws.{LeadsFrom, FitsIn}
-use Rattle.session_clients.proofs.Changing.{model_serial, serial_of, serials}
+use Rattle.session_state.specs.Clients.{ClientStands}
+use Rattle.session_state.specs.declared.client.Client.{Client}
+use Rattle.session_state.specs.Draws.{LeadsFrom, FitsIn}
+use Rattle.session_state.proofs.Changing.{model_serial, serial_of, serials}
 use Rattle.session_state.specs.declared.state.State.{State}
 use Rattle.session_state.specs.Stands.{Stands}
 use Rattle.session_view.specs.declared.following.Lead.{Lead}

@@ -3,8 +3,8 @@ use Rattle.std.specs.Prelude.{ℕ, ◌≡◌, List}
 use Rattle.session_model.specs.Tables as model
 use Rattle.session_model.specs.Tables.{Tables}
 use Rattle.session_model.specs.Granted.{message_text, status_text}
-use Rattle.session_clients.specs.declared.client.Client.{Client}
-use Rattle.session_clients.specs.Stands.{ClientStands}
+use Rattle.session_state.specs.declared.client.Client.{Client}
+use Rattle.session_state.specs.Clients.{ClientStands}
 use Rattle.session_state.specs.declared.state.State.{State}
 use Rattle.session_state.specs.Stands.{Stands}
 use Rattle.session_model.specs.Sound.{AreFit}

@@ -8,8 +8,8 @@ use Rattle.session_model.specs.declared.refusal.Refusal.TheVariants.{NoMemory, N
 use Rattle.session_model.specs.Tables as model
 use Rattle.session_model.specs.Tables.{Tables, client_at}
 use Rattle.session_model.specs.Granted.{granted_view}
-use Rattle.session_clients.specs.declared.client.Client.{Client}
-use Rattle.session_clients.specs.Stands.{ClientStands}
+use Rattle.session_state.specs.declared.client.Client.{Client}
+use Rattle.session_state.specs.Clients.{ClientStands}
 use Rattle.session_state.specs.declared.state.State.{State}
 use Rattle.session_state.specs.Stands.{Stands}
 use Rattle.session_model.specs.Sound.{AreFit}

@@ -7,9 +7,8 @@ ghost use Rattle.session_view.specs.Sameness.{ShowBoth, AreBothAlike, SeeTheSame
 
 use acl::{Bit, Object, UserId};
 use regions::Shown;
-use session_clients::Client;
 use session_model::Message;
-use session_state::State;
+use session_state::{Client, State};
 
 /// Whether the terminals of two clients have the same size.
 fn have_same_size(a: &Client, b: &Client) -> bool

@@ -3,10 +3,9 @@
 ghost use Rattle.std.specs.Prelude.{◌≡◌, ◌∷◌, IfOk};
 ghost use Rattle.session_view.specs.Status.{SaysStatus, SaysMessage};
 
-use session_clients::Client;
 use session_commands::{clients_text, windows_text};
 use session_model::{Bytes, Message};
-use session_state::State;
+use session_state::{Client, State};
 use std::alloc::{AllocError, Global};
 
 /// The text of a prompt: `:` and its line.

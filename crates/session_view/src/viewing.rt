@@ -6,9 +6,8 @@ ghost use Rattle.session_view.specs.Viewed.{IsViewFor, IsViewOf};
 
 use crate::parts::{panes, parts};
 use crate::status::status_text;
-use session_clients::Client;
 use session_model::Refusal;
-use session_state::{State, is_client_size};
+use session_state::{Client, State, is_client_size};
 use std::alloc::AllocError;
 use view::{View, compose_over};
 

@@ -1,6 +1,6 @@
 use Rattle.std.proofs.Common.{ap}
 use Rattle.std.specs.Prelude.{option_copied}
-use Rattle.session_clients.specs.Stands.{ClientStands}
+use Rattle.session_state.specs.Clients.{ClientStands}
 use Rattle.windows_model.proofs.Matching.{both_back}
 use Rattle.session_commands.proofs.giver.client_of.Goals as goal
 

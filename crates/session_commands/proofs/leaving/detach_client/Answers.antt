@@ -5,7 +5,7 @@ use Rattle.session_model.specs.declared.refusal.Refusal.TheVariants.{NoWindow}
 use Rattle.session_model.specs.Tables.{client_at}
 use Rattle.session_model.specs.Deeds.{parts}
 use Rattle.windows_model.proofs.Matching.{both_back, none_back}
-use Rattle.session_clients.specs.Stands.{ClientStands}
+use Rattle.session_state.specs.Clients.{ClientStands}
 use Rattle.session_commands.proofs.LeavingRows.{given_some, given_none}
 use Rattle.session_commands.proofs.leaving.detach_client.Goals as goal
 

@@ -7,9 +7,9 @@ use Rattle.session_model.specs.declared.refusal.Refusal.TheVariants.{Regions}
 use Rattle.session_model.specs.Tables as model
 use Rattle.session_model.specs.Deeds.{enters}
 use Rattle.session_model.specs.Tables.{row_of}
-use Rattle.session_clients.specs.declared.client.Client.{Client}
-use Rattle.session_clients.proofs.Changing.{serial_of}
-use Rattle.session_clients.proofs.Keeping.{still_roomy}
+use Rattle.session_state.specs.declared.client.Client.{Client}
+use Rattle.session_state.proofs.Changing.{serial_of}
+use Rattle.session_state.proofs.Keeping.{still_roomy}
 use Rattle.windows_model.proofs.Serials.{equal_number, other_number}
 use Rattle.session_commands.proofs.Answering.{done_on, on_giver, refused, not_refused}
 use Rattle.session_commands.proofs.Arranging.{found_arranged}

@@ -8,8 +8,8 @@ use Rattle.session_model.specs.declared.refusal.Refusal.TheVariants.{Regions}
 use Rattle.session_model.specs.Tables as model
 use Rattle.session_model.specs.Tables.{row_of}
 use Rattle.session_model.specs.Deeds.{arranges}
-use Rattle.session_clients.specs.declared.client.Client.{Client}
-use Rattle.session_clients.proofs.Changing.{serial_of}
+use Rattle.session_state.specs.declared.client.Client.{Client}
+use Rattle.session_state.proofs.Changing.{serial_of}
 use Rattle.session_commands.proofs.Answering.{done_on, faultless, on_giver, split_refused}
 use Rattle.session_commands.proofs.Arranging.{found_arranged, page_kept, split_alike, split_roomy}
 use Rattle.session_commands.proofs.Paging.{giver_there, done_quietly, row_stands, row_there}

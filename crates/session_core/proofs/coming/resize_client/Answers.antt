@@ -8,7 +8,7 @@ use Rattle.session_model.specs.Deeds.{Deed, changing}
 use Rattle.session_model.specs.Outcomes.{done, where_passed}
 use Rattle.session_model.specs.Comings.{is_client_size, resized}
 use Rattle.windows_model.proofs.Matching.{both_back}
-use Rattle.session_clients.specs.Stands.{ClientStands}
+use Rattle.session_state.specs.Clients.{ClientStands}
 use Rattle.session_state.specs.declared.step_notes.Step.{Step}
 use Rattle.session_state.specs.declared.step_output.StepOutput.{StepOutput}
 use Rattle.session_input.proofs.Outcomes.{was_passed, for_there}

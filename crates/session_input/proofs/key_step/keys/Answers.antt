@@ -4,7 +4,7 @@ use Rattle.keys.specs.Kept.{Keeping, StandsFor}
 use Rattle.session_model.specs.Tables.{Client, client_at}
 use Rattle.windows_model.proofs.Serials.{serial_is}
 use Rattle.windows_model.proofs.Matching.{both_back}
-use Rattle.session_clients.specs.Stands.{ClientStands}
+use Rattle.session_state.specs.Clients.{ClientStands}
 use Rattle.session_input.specs.Reads.{read_of}
 use Rattle.session_input.proofs.Putting.{serial}
 use Rattle.session_input.proofs.KeyStepping.{called_by, were_read, err_always}

@@ -1,7 +1,7 @@
 use Rattle.std.proofs.Common.{◌≡◌, ℕ, List, ap, ◌∙◌, refl}
 use Rattle.session_model.specs.Tables.{Client, with_client, row_of, with_row}
 use Rattle.windows_model.proofs.Serials.{serial_is, with_same}
-use Rattle.session_clients.specs.declared.client.Client.{Client as Row}
+use Rattle.session_state.specs.declared.client.Client.{Client as Row}
 use Rattle.session_state.specs.declared.state.State.{State}
 use Rattle.session_input.specs.KeyStepping.{read_by}
 use Rattle.session_model.specs.Answering.{reading}

@@ -1,8 +1,8 @@
 use Rattle.std.proofs.Common.{◌≡◌, ◌∙◌, List, sym, subst}
 use Rattle.std.proofs.lemmas.Option.{MatchOption-at_none, MatchOption-at_some}
 use Rattle.terminal_model.specs.Shows.{View, NeedsNoDraw}
-use Rattle.session_clients.specs.declared.client.Client.{Client}
-use Rattle.session_clients.specs.Draws.{FitsIn}
+use Rattle.session_state.specs.declared.client.Client.{Client}
+use Rattle.session_state.specs.Draws.{FitsIn}
 use Rattle.session_state.specs.declared.state.State.{State}
 use Rattle.session_view.specs.Drawn.{HasDrawnSo, IsSomething}
 use Rattle.session_view.specs.declared.following.Lead.{Lead}

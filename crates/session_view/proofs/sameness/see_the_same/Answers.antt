@@ -1,7 +1,7 @@
 use Rattle.std.proofs.Common.{◌≡◌, Some, refl, subst}
 use Rattle.session_model.specs.Tables.{client_at}
 use Rattle.windows_model.proofs.Matching.{both_back}
-use Rattle.session_clients.specs.Stands.{ClientStands}
+use Rattle.session_state.specs.Clients.{ClientStands}
 use Rattle.session_view.specs.Sameness.{AreKnownAlike}
 use Rattle.session_view.proofs.Alike.{see_alike}
 use Rattle.session_view.proofs.sameness.see_the_same.Goals as goal

@@ -1,9 +1,0 @@
-use Rattle.std.proofs.Common.{◌≡◌, ◌++◌, map, take, drop}
-use Rattle.session_clients.specs.Moves.{without}
-use Rattle.session_clients.proofs.clients.Clients.close_window.Given as goal
-
-abbrev pub invariant-loop-client : goal.invariant-loop-client
-invariant-loop-client l =
-    l.client-items
-    ≡ map (without l.serial) (take l.client-index l.initial.client-items)
-    ++ drop l.client-index l.initial.client-items

@@ -1,8 +1,0 @@
-use Rattle.std.proofs.Common.{ℕ, List}
-use Rattle.keys.specs.Kept.{StandsFor}
-use Rattle.session_clients.proofs.Typing.{ReadsOn}
-use Rattle.session_clients.proofs.reading.read_keys.Given as goal
-
-abbrev pub invariant-loop-i : goal.invariant-loop-i
-invariant-loop-i l =
-    (past : List ℕ) → StandsFor l.fn.reader past → ReadsOn past l.keys l.i l.typed l.reader

@@ -1,0 +1,63 @@
+-- A reader and a message that are exchanged twice leave the row as it was.
+use Rattle.std.proofs.Common.{◌≡◌, ℕ, List, ◌++◌, Some, sym, subst, ◌∙◌, ap}
+use Rattle.keys.specs.Kept.{Keeping, StandsFor}
+use Rattle.session_model.specs.declared.message.Message.{Message}
+use Rattle.session_model.specs.declared.message.Message.TheVariants.{Silence}
+use Rattle.session_model.specs.Tables as model
+use Rattle.session_model.specs.Tables.{row_of, with_row}
+use Rattle.session_model.specs.Answering.{reading}
+use Rattle.windows_model.proofs.Serials.{serial_is, with_same, with_twice, with_back}
+use Rattle.session_state.specs.declared.client.Client.{Client}
+use Rattle.session_state.specs.Clients.{ClientStands}
+use Rattle.session_state.proofs.Changing.{serial_of}
+
+pub keeps_read : (bytes : List ℕ) (reader : Keeping) (message : Message) (m : model.Client)
+    (c d : Client) → message ≡ Silence → StandsFor reader (m.keys ++ bytes)
+    → d ≡ record c { keys = reader; message = message } → ClientStands m c
+    → ClientStands (reading bytes m) d
+keeps_read bytes reader message m c d silent read is st =
+    subst (λ (x : Client). ClientStands (reading bytes m) x) (sym is) (record {
+      serial_is = st.serial_is;
+      user_is = st.user_is;
+      rows_are = st.rows_are;
+      columns_are = st.columns_are;
+      sized = st.sized;
+      keys = read;
+      layout_is = st.layout_is;
+      last_is = st.last_is;
+      former_is = st.former_is;
+      room = st.room;
+      message_is = silent;
+      known_is = st.known_is;
+      screen = st.screen;
+    })
+
+-- what stands in the row that changed
+pub stood : (before old : List Client) (serial : ℕ) (c once : Client) → once.serial ≡ c.serial
+    → row_of serial_of before serial ≡ Some c → old ≡ with_row serial_of before serial once
+    → row_of serial_of old serial ≡ Some once
+stood before old serial c once same at is =
+    ap (λ cs. row_of serial_of cs serial) is
+    ∙ with_same serial_of before serial c once at (same ∙ serial_is serial_of before serial c at)
+
+-- it is put back
+pub back : (before old new : List Client) (serial : ℕ) (c once row d : Client)
+    → once.serial ≡ c.serial → row_of serial_of before serial ≡ Some c
+    → old ≡ with_row serial_of before serial once → new ≡ with_row serial_of old serial d → d ≡ c
+    → new ≡ before
+back before old new serial c once row d same at is now again =
+    now
+    ∙ (ap (λ x. with_row serial_of old serial x) again
+    ∙ (ap (λ cs. with_row serial_of cs serial c) is
+    ∙ (with_twice serial_of before serial once c
+    (same ∙ serial_is serial_of before serial c at)
+    ∙ with_back serial_of before serial c at)))
+
+-- a row with what it had before
+pub put_together : (row other : Client) (k : Keeping) (w : Message) (keys : Keeping)
+    (message : Message) → row ≡ record other { keys = k; message = w } → keys ≡ other.keys
+    → message ≡ other.message → record row { keys = keys; message = message } ≡ other
+put_together row other k w keys message is keys_are message_is =
+    ap (λ (r : Client). record r { keys = keys; message = message }) is
+    ∙ (ap (λ (x : Keeping). record other { keys = x; message = message }) keys_are
+    ∙ ap (λ (x : Message). record other { message = x }) message_is)

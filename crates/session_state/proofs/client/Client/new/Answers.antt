@@ -1,0 +1,20 @@
+use Rattle.std.proofs.Common.{refl, None}
+use Rattle.session_model.specs.declared.message.Message.TheVariants.{Silence}
+use Rattle.session_state.specs.declared.client.Client.{Client}
+use Rattle.session_state.proofs.Keeping.{new_stands}
+use Rattle.session_state.proofs.client.Client.new.Goals as goal
+
+pub returns : goal.returns
+returns c =
+    let made : Client = record {
+      serial = c.args.serial;
+      user = c.args.user;
+      keys = c.new-2.result;
+      layout = c.in_ok-layout.layout;
+      last = c.args.window;
+      former = None;
+      message = Silence;
+      shadow = c.unknown.result;
+    } in
+    new_stands made (record { rows = c.args.rows; columns = c.args.columns; known = None }) c.requires
+    c.new-2.ensures.stands c.unknown.ensures c.in_ok-layout.ensures refl refl

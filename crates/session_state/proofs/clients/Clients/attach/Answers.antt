@@ -1,0 +1,23 @@
+use Rattle.std.proofs.Common.{◌++◌, ◌∷◌, [], ◌∙◌, ap, sym, subst, List}
+use Rattle.session_model.specs.Tables as model
+use Rattle.windows_model.proofs.Serials.{on_ok}
+use Rattle.windows_model.proofs.Matching.{push_match}
+use Rattle.session_state.specs.declared.client.Client.{Client}
+use Rattle.session_model.specs.Comings.{attached}
+use Rattle.session_state.specs.Clients.{ClientStands, AreClients}
+use Rattle.session_state.proofs.clients.Clients.attach.Goals as goal
+
+pub returns-clause-ok : goal.returns-clause-ok
+returns-clause-ok c =
+    let m : model.Client =
+    attached c.args.serial c.args.user c.args.rows c.args.columns c.args.window in
+    let made : Client = c.in_ok-client.client in
+    on_ok c.push.result (λ is.
+    let now = is ∙ ap (λ (cs : List Client). cs ++ made ∷ []) c.self.view_is in record {
+      made = made;
+      stands = c.in_ok-client.ensures;
+      new_is = now;
+      attached = λ rows st.
+          subst (λ (cs : List Client). AreClients (rows ++ m ∷ []) cs) (sym now)
+          (push_match ClientStands rows m c.args.self.now made st c.in_ok-client.ensures);
+    }) c.push.ensures.ok

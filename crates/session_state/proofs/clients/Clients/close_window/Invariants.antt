@@ -1,0 +1,9 @@
+use Rattle.std.proofs.Common.{◌≡◌, ◌++◌, map, take, drop}
+use Rattle.session_state.specs.Moves.{without}
+use Rattle.session_state.proofs.clients.Clients.close_window.Given as goal
+
+abbrev pub invariant-loop-client : goal.invariant-loop-client
+invariant-loop-client l =
+    l.client-items
+    ≡ map (without l.serial) (take l.client-index l.initial.client-items)
+    ++ drop l.client-index l.initial.client-items

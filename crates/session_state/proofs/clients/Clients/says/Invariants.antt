@@ -1,0 +1,7 @@
+use Rattle.std.proofs.Common.{◌≡◌, map, take}
+use Rattle.session_state.specs.Moves.{said}
+use Rattle.session_state.proofs.clients.Clients.says.Given as goal
+
+abbrev pub invariant-loop-client : goal.invariant-loop-client
+invariant-loop-client l =
+    l.made.items ≡ map (said l.text) (take l.client-index l.client-items)
