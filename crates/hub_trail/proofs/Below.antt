@@ -2,7 +2,7 @@
 use Rattle.session_laws.proofs.RowsByKeys.{rows_keyed}
 use Rattle.session_laws.proofs.Promising.{step_keeps}
 use Rattle.session_laws.proofs.RowsByLines.{rows_done, refused_so}
-use Rattle.session_guests.proofs.Gating.{Below}
+use Rattle.session_laws.proofs.Gating.{Below}
 
 pub below : Below
 below = record {

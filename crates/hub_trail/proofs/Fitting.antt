@@ -46,10 +46,10 @@ use Rattle.session_laws.proofs.Lists.{all_of}
 use Rattle.session_laws.proofs.Leaving.{none_left}
 use Rattle.session_laws.proofs.Doing.{Either}
 use Rattle.session_laws.proofs.Outcomes as outcomes
-use Rattle.session_guests.proofs.Steps.{Did, Obeys, with_clients}
-use Rattle.session_guests.proofs.Focusing.{IsMine}
-use Rattle.session_guests.proofs.Gating.{obeys_of}
-use Rattle.session_guests.proofs.Callers.{Own, IsOf, callers, unique, own_read}
+use Rattle.session_laws.proofs.Steps.{Did, Obeys, with_clients}
+use Rattle.session_laws.proofs.Focusing.{IsMine}
+use Rattle.session_laws.proofs.Gating.{obeys_of}
+use Rattle.session_laws.proofs.Callers.{Own, IsOf, callers, unique, own_read}
 use Rattle.hub_trail.specs.declared.kept.Kept.{Kept}
 use Rattle.hub_trail.specs.declared.kept.Kept.TheVariants as kept
 use Rattle.hub_trail.specs.Trails.{Entry}
@@ -58,7 +58,7 @@ use Rattle.hub_trail.specs.Filing.{kept_of, ending_of, entry_of}
 use Rattle.hub_trail.proofs.Entries.{entry, asks_none}
 use Rattle.hub_trail.proofs.Sights.{attached}
 use Rattle.hub_trail.specs.Fitting.{makes, made_by, enters_once, attaches_one, opens_one, detaches, shuts}
-use Rattle.session_guests.proofs.Leaving.{LeftBy, left_where, nobody, parted, appended, shut, left_read}
+use Rattle.session_laws.proofs.GuestsLeaving.{LeftBy, left_where, nobody, parted, appended, shut, left_read}
 use Rattle.hub_trail.proofs.Below.{below}
 use Rattle.hub_trail.proofs.Making.{Fine, fine}
 

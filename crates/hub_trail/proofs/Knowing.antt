@@ -19,7 +19,7 @@ use Rattle.session_model.specs.Comings.{attach_checks, attaches, new_client, ope
 use Rattle.session_model.specs.Answering.{commanded, line_ruling}
 use Rattle.session_model.specs.Run.{IsStep}
 use Rattle.session_laws.proofs.Outcomes as outcomes
-use Rattle.session_guests.proofs.Gating.{first_passed}
+use Rattle.session_laws.proofs.Gating.{first_passed}
 use Rattle.hub_trail.specs.Trails.{Entry}
 use Rattle.hub_trail.specs.Filing.{kept_of, entry_of}
 use Rattle.hub_trail.specs.Legal.{IsOfKnown}

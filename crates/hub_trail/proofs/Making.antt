@@ -35,11 +35,11 @@ use Rattle.session_laws.proofs.Doing.{caller_is, is_plain}
 use Rattle.session_laws.proofs.Leaving.{none_left}
 use Rattle.session_laws.proofs.Unread.{nobody_left}
 use Rattle.session_laws.proofs.Lists.{equal, itself, all_weaken, all_append, all_map, all_of, all_passed}
-use Rattle.session_guests.proofs.Events.{all_left}
-use Rattle.session_guests.proofs.Focusing.{IsMine}
-use Rattle.session_guests.proofs.CommandActs.{IsCaller}
+use Rattle.session_laws.proofs.Events.{all_left}
+use Rattle.session_laws.proofs.Focusing.{IsMine}
+use Rattle.session_laws.proofs.CommandActs.{IsCaller}
 use Rattle.hub_trail.specs.Fitting.{makes, is_client}
-use Rattle.session_guests.proofs.Leaving.{LeftBy, left_where, parted, turned}
+use Rattle.session_laws.proofs.GuestsLeaving.{LeftBy, left_where, parted, turned}
 use Rattle.hub_trail.proofs.Listed.{change_all, add_all, group_all, mask_all}
 
 module _ (t : Tables) (k : Caller) (by : IsCaller t k) (mine : IsMine t k) where

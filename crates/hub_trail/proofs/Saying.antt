@@ -51,11 +51,11 @@ use Rattle.session_model.specs.Run.{IsStep}
 use Rattle.session_laws.proofs.Lists.{itself, both_true, all_weaken, all_append, all_map, all_of, all_passed}
 use Rattle.session_laws.proofs.Doing.{Either}
 use Rattle.session_laws.proofs.Shapes as shapes
-use Rattle.session_guests.proofs.Events.{all_left}
-use Rattle.session_guests.proofs.Gating.{obeys_of}
-use Rattle.session_guests.proofs.Steps.{Did, Obeys, with_clients}
+use Rattle.session_laws.proofs.Events.{all_left}
+use Rattle.session_laws.proofs.Gating.{obeys_of}
+use Rattle.session_laws.proofs.Steps.{Did, Obeys, with_clients}
 use Rattle.hub_trail.specs.Filing.{kept_of, entry_of}
-use Rattle.session_guests.proofs.Leaving.{or_early, or_late}
+use Rattle.session_laws.proofs.GuestsLeaving.{or_early, or_late}
 use Rattle.hub_trail.specs.Trails.{Entry}
 use Rattle.hub_trail.specs.Legal.{IsSaid}
 use Rattle.hub_trail.specs.Saying.{is_named, same_value, changes, item_says, items_say, same_leader, says}

@@ -6,14 +6,14 @@ use Rattle.session_model.specs.Trace.{Entry, Trace, with_step, begun}
 use Rattle.session_model.specs.Tables.{Tables}
 use Rattle.session_model.specs.Run.{IsStep, IsRun, IsRunFrom, after, tables_of, tables_from}
 use Rattle.session_laws.specs.Fit.{RunsAreFit}
-use Rattle.session_guests.specs.Changing.{RightsGate}
-use Rattle.session_guests.specs.Contained as contained
-use Rattle.session_guests.specs.Contained.{AreGuests, ChangesAreTheirs, AreContained, GuestsAreContained}
-use Rattle.session_guests.specs.Gates.{ModeGate, ClientsStay}
-use Rattle.session_guests.specs.Locking.{StepsKeepHolders, RunsHaveHolders, LocksAreTaken, HoldersStay}
-use Rattle.session_guests.specs.Naming.{WindowsStay}
-use Rattle.session_guests.specs.Opening.{NewWindowsAreMasked}
-use Rattle.session_guests.specs.Watching.{SpectatorsLeaveOthers}
+use Rattle.session_laws.specs.Changing.{RightsGate}
+use Rattle.session_laws.specs.Contained as contained
+use Rattle.session_laws.specs.Contained.{AreGuests, ChangesAreTheirs, AreContained, GuestsAreContained}
+use Rattle.session_laws.specs.Gates.{ModeGate, ClientsStay}
+use Rattle.session_laws.specs.Locking.{StepsKeepHolders, RunsHaveHolders, LocksAreTaken, HoldersStay}
+use Rattle.session_laws.specs.Naming.{WindowsStay}
+use Rattle.session_laws.specs.Opening.{NewWindowsAreMasked}
+use Rattle.session_laws.specs.Watching.{SpectatorsLeaveOthers}
 use Rattle.session_core.specs.Guarded.{IsGuarded, GuestsAreHeld}
 use Rattle.session_core.specs.Headline.{AllSteps, Keeps, with_steps, Call, SomeRun, IsRunOf, AreSteps}
 use Rattle.session_core.specs.Stands.{StandsFor}

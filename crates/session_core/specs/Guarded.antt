@@ -4,13 +4,13 @@ use Rattle.acl.specs.declared.user_id.UserId.{UserId}
 use Rattle.acl.specs.declared.edition.Edition.{Edition}
 use Rattle.session_model.specs.Trace.{Entry, Trace, begun}
 use Rattle.session_model.specs.Run.{after, tables_of}
-use Rattle.session_guests.specs.Changing.{RightsAreGated}
-use Rattle.session_guests.specs.Contained.{AreGuests, ChangesAreTheirs, AreContained}
-use Rattle.session_guests.specs.Gates.{ModeIsGated, ClientsStayIn}
-use Rattle.session_guests.specs.Locking.{user_of, HoldersMayWrite, LocksAreTakenBy, HoldersStayIn}
-use Rattle.session_guests.specs.Naming.{WindowsStayIn}
-use Rattle.session_guests.specs.Opening.{IsGivenByMasks}
-use Rattle.session_guests.specs.Watching.{IsSpectator, LeavesOthers}
+use Rattle.session_laws.specs.Changing.{RightsAreGated}
+use Rattle.session_laws.specs.Contained.{AreGuests, ChangesAreTheirs, AreContained}
+use Rattle.session_laws.specs.Gates.{ModeIsGated, ClientsStayIn}
+use Rattle.session_laws.specs.Locking.{user_of, HoldersMayWrite, LocksAreTakenBy, HoldersStayIn}
+use Rattle.session_laws.specs.Naming.{WindowsStayIn}
+use Rattle.session_laws.specs.Opening.{IsGivenByMasks}
+use Rattle.session_laws.specs.Watching.{IsSpectator, LeavesOthers}
 use Rattle.session_core.specs.Headline.{AllSteps, Keeps, Call, SomeRun, IsRunOf, AreSteps}
 use Rattle.session_core.specs.Headline.{with_steps}
 use Rattle.session_core.specs.Stands.{StandsFor}

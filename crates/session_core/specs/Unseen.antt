@@ -3,8 +3,8 @@ use Rattle.std.specs.Prelude.{◌≡◌}
 use Rattle.acl.specs.declared.user_id.UserId.{UserId}
 use Rattle.session_model.specs.Trace.{Trace}
 use Rattle.session_model.specs.Tables.{Tables, fresh}
-use Rattle.session_guests.specs.Hidden.{unhidden}
-use Rattle.session_guests.specs.Observed.{observations}
+use Rattle.session_laws.specs.Hidden.{unhidden}
+use Rattle.session_laws.specs.Observed.{observations}
 use Rattle.session_core.specs.Stands.{StandsFor}
 use Rattle.session_core.specs.declared.session.Session.{Session}
 

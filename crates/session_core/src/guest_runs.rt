@@ -12,13 +12,13 @@ pub fn calls_are_guarded()
     ensures call { CallsAreGuarded }
     ensures new { NewRunsAreGuarded }
 {
-    session_guests::rights_are_gated();
-    session_guests::guests_are_contained();
-    session_guests::new_windows_are_masked();
-    session_guests::locks_are_taken();
-    session_guests::holders_stay();
-    session_guests::others_are_gated();
-    session_guests::spectators_leave_others();
+    session_laws::rights_are_gated();
+    session_laws::guests_are_contained();
+    session_laws::new_windows_are_masked();
+    session_laws::locks_are_taken();
+    session_laws::holders_stay();
+    session_laws::others_are_gated();
+    session_laws::spectators_leave_others();
     session_laws::tables_stay_fit();
 }
 
@@ -28,5 +28,5 @@ pub fn calls_are_guarded()
 pub fn sessions_hide_output()
     ensures { SessionsHideOutput }
 {
-    session_guests::hidden_output_is_unseen();
+    session_laws::hidden_output_is_unseen();
 }

@@ -2,6 +2,10 @@
 //! function does nothing; its contract says what holds.
 #![tactic(auto)]
 
+mod confined;
+mod guests;
+mod unseen;
+
 ghost use Rattle.session_laws.specs.Entries.{ClientsAreRemembered};
 ghost use Rattle.session_laws.specs.Fit.{FreshIsFit, TablesStayFit, RunsAreFit};
 ghost use Rattle.session_laws.specs.Focus.{FocusIsEntered};
@@ -12,6 +16,13 @@ ghost use Rattle.session_laws.specs.Written.{WindowsAreRemembered};
 ghost use Rattle.session_laws.specs.Laws.{StepsAreFew, StepsSayOnce, CommandsDoTheirRows};
 ghost use Rattle.session_laws.specs.Laws.{CommandsAreRefusedSo};
 ghost use Rattle.session_laws.specs.Laws.{ActsAreNoted, ActsStayAgreed, RunsAgree};
+
+pub use confined::{guests_are_confined, locks_stay};
+pub use guests::{
+    guests_are_contained, holders_stay, locks_are_taken, new_windows_are_masked, others_are_gated,
+    pages_show_what_is_read, rights_are_gated,
+};
+pub use unseen::{hidden_output_is_unseen, spectators_leave_others};
 
 /// Each step keeps the promise, for any tables. Typed bytes reach windows exactly by rights and
 /// locks; if they don't, it is told why. Commands act exactly if x is granted. Draws show the

@@ -10,7 +10,7 @@ use Rattle.keys.specs.Grammar.{items_from}
 use Rattle.command_lang.specs.Names.{command_named}
 use Rattle.session_model.specs.Deeds.{unless, refused_if, given}
 use Rattle.session_model.specs.Rights.{may_in}
-use Rattle.session_guests.specs.Changing.{changes_rights}
+use Rattle.session_laws.specs.Changing.{changes_rights}
 use Rattle.session_worked.specs.Setup.{bob}
 use Rattle.session_worked.specs.Guests as rows
 

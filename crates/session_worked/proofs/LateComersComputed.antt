@@ -23,8 +23,8 @@ use Rattle.session_model.specs.Outcomes.{Outcome}
 use Rattle.session_model.specs.Trace.{Open, Entry}
 use Rattle.session_model.specs.Run.{IsStep, after}
 use Rattle.session_laws.proofs.Lists.{contradicts}
-use Rattle.session_guests.specs.Contained.{AreGuests}
-use Rattle.session_guests.specs.Confined.{may_open, circle, AreShutOut, GrantsAreTheirs, came}
+use Rattle.session_laws.specs.Contained.{AreGuests}
+use Rattle.session_laws.specs.Confined.{may_open, circle, AreShutOut, GrantsAreTheirs, came}
 use Rattle.session_worked.specs.Policies.{ann, bob, closes}
 use Rattle.session_worked.specs.Operators.{console}
 use Rattle.session_worked.specs.Consoles.{guest}

@@ -13,7 +13,7 @@ use Rattle.strings.specs.Lines.{single, double, parts, line}
 use Rattle.command_lang.specs.Table.{words_faults}
 use Rattle.session_model.specs.Deeds.{unless, refused_if, given}
 use Rattle.session_model.specs.Tables.{Tables}
-use Rattle.session_guests.specs.Confined.{AreShutOut}
+use Rattle.session_laws.specs.Confined.{AreShutOut}
 use Rattle.session_worked.specs.Policies.{ann, bob, jo, kim}
 use Rattle.session_worked.specs.Operators as rows
 use Rattle.session_worked.proofs.Knowing.{named}

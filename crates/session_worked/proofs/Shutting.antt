@@ -15,9 +15,9 @@ use Rattle.acl.proofs.StandsForLemmas.{same_user-true}
 use Rattle.session_model.specs.Tables.{Tables, is_known}
 use Rattle.session_model.specs.Rights.{may_in}
 use Rattle.session_laws.proofs.Lists.{contradicts, and_first, all_weaken}
-use Rattle.session_guests.specs.Changing.{changes_rights}
-use Rattle.session_guests.specs.Contained.{AreGuests}
-use Rattle.session_guests.specs.Confined.{may_open, circle, AreShutOut}
+use Rattle.session_laws.specs.Changing.{changes_rights}
+use Rattle.session_laws.specs.Contained.{AreGuests}
+use Rattle.session_laws.specs.Confined.{may_open, circle, AreShutOut}
 use Rattle.session_worked.specs.Among.{is_among}
 use Rattle.session_worked.proofs.Knowing.{named, each_known}
 

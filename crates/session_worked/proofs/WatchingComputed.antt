@@ -10,7 +10,7 @@ use Rattle.keys.specs.Grammar.{items_from}
 use Rattle.command_lang.specs.Names.{command_named}
 use Rattle.session_model.specs.Deeds.{unless, refused_if, given}
 use Rattle.session_model.specs.Rights.{may_in}
-use Rattle.session_guests.specs.Watching.{is_watching}
+use Rattle.session_laws.specs.Watching.{is_watching}
 use Rattle.session_worked.specs.Setup.{bob}
 use Rattle.session_worked.specs.Watching as rows
 

@@ -5,8 +5,8 @@ use Rattle.acl.specs.declared.user_id.UserId.{UserId}
 use Rattle.acl.specs.declared.edition.Edition.{Edition}
 use Rattle.acl.specs.declared.bits.Bit.{Bit}
 use Rattle.session_model.specs.Tables.{Tables, fresh}
-use Rattle.session_guests.specs.Contained.{AreGuests}
-use Rattle.session_guests.specs.Confined.{AreShutOut}
+use Rattle.session_laws.specs.Contained.{AreGuests}
+use Rattle.session_laws.specs.Confined.{AreShutOut}
 use Rattle.session_worked.specs.Policies.{user, own, ann, by, by_own, opens, closes, on_windows}
 use Rattle.session_worked.specs.Policies.{nothing, reads, reads_and_types, are_done, InBoth}
 use Rattle.session_worked.specs.Among.{is_among}

@@ -10,8 +10,8 @@ use Rattle.command_lang.specs.declared.command.Command.TheVariants as command
 use Rattle.session_model.specs.Trace.{Keys}
 use Rattle.session_model.specs.Tables.{Tables, client_at}
 use Rattle.session_model.specs.Rights.{may_in, holder_in}
-use Rattle.session_guests.specs.Contained.{AreGuests}
-use Rattle.session_guests.specs.Locking.{IsPowerless}
+use Rattle.session_laws.specs.Contained.{AreGuests}
+use Rattle.session_laws.specs.Locking.{IsPowerless}
 use Rattle.session_worked.specs.Setup.{bob, eve, several, ordered, after, changes, takes, gives}
 use Rattle.session_worked.specs.Setup.{then_comes}
 

@@ -8,7 +8,7 @@ use Rattle.session_model.specs.Tables.{Tables}
 use Rattle.session_model.specs.Run.{tables_from}
 use Rattle.session_model.specs.Outcomes.{Outcome}
 use Rattle.session_model.specs.Events.{outcome}
-use Rattle.session_guests.specs.Hidden.{unhidden}
+use Rattle.session_laws.specs.Hidden.{unhidden}
 use Rattle.session_worked.specs.Setup.{own, bob, several, after, changes, takes}
 
 -- events in their order, as the steps of a run; what draws deliver doesn't matter here

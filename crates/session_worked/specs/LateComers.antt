@@ -12,8 +12,8 @@ use Rattle.session_model.specs.Trace.{Entry}
 use Rattle.session_model.specs.Tables.{Tables, fresh, is_known}
 use Rattle.session_model.specs.Rights.{may_in}
 use Rattle.session_model.specs.Run.{IsStep, after}
-use Rattle.session_guests.specs.Contained.{AreGuests}
-use Rattle.session_guests.specs.Confined.{may_open, circle, AreShutOut, GrantsAreTheirs, came}
+use Rattle.session_laws.specs.Contained.{AreGuests}
+use Rattle.session_laws.specs.Confined.{may_open, circle, AreShutOut, GrantsAreTheirs, came}
 use Rattle.session_worked.specs.Policies.{own, by, by_own, opens, closes, on_windows}
 use Rattle.session_worked.specs.Policies.{nothing, reads, all, InBoth}
 use Rattle.session_worked.specs.Among.{is_among}

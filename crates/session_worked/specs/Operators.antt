@@ -5,8 +5,8 @@ use Rattle.acl.specs.declared.user_id.UserId.{UserId}
 use Rattle.acl.specs.declared.edition.Edition.{Edition}
 use Rattle.acl.specs.declared.bits.Bit.TheVariants.{Write, Execute}
 use Rattle.session_model.specs.Tables.{Tables}
-use Rattle.session_guests.specs.Contained.{AreGuests}
-use Rattle.session_guests.specs.Confined.{AreShutOut}
+use Rattle.session_laws.specs.Contained.{AreGuests}
+use Rattle.session_laws.specs.Confined.{AreShutOut}
 use Rattle.session_worked.specs.Policies.{user, own, ann, bob, jo, kim, by, by_own, opens, masked}
 use Rattle.session_worked.specs.Policies.{on_windows, reads, InBoth}
 use Rattle.session_worked.specs.Among.{is_among}

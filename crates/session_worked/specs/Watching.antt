@@ -12,7 +12,7 @@ use Rattle.command_lang.specs.declared.command.Mask.{Mask}
 use Rattle.command_lang.specs.declared.command.Users.TheVariants.{Listed}
 use Rattle.session_model.specs.Tables.{Tables, fresh}
 use Rattle.session_model.specs.Rights.{may_in}
-use Rattle.session_guests.specs.Watching.{IsSpectator}
+use Rattle.session_laws.specs.Watching.{IsSpectator}
 use Rattle.session_worked.specs.Setup.{own, bob, window, after, changes, takes, gives}
 
 -- own opened a window, and lets other users in

@@ -3,9 +3,9 @@ use Rattle.acl.specs.declared.user_id.UserId.{UserId}
 use Rattle.session_model.specs.Trace.{Entry, Trace}
 use Rattle.session_model.specs.Tables.{Tables, fresh}
 use Rattle.session_model.specs.Run.{IsRunFrom}
-use Rattle.session_guests.specs.Hidden.{unhidden}
-use Rattle.session_guests.specs.Observed.{observations}
-use Rattle.session_guests.specs.Unseen.{HiddenOutputIsUnseen}
+use Rattle.session_laws.specs.Hidden.{unhidden}
+use Rattle.session_laws.specs.Observed.{observations}
+use Rattle.session_laws.specs.Unseen.{HiddenOutputIsUnseen}
 use Rattle.session_core.specs.Unseen.{beginning}
 use Rattle.session_core.proofs.guest_runs.sessions_hide_output.Goals as goal
 
