@@ -22,8 +22,8 @@ use Rattle.keys.specs.Grammar.{Item, typed, bound, line}
 use Rattle.session_model.specs.declared.check.Check.{Check}
 use Rattle.session_model.specs.declared.event.Done.{Done}
 use Rattle.session_model.specs.declared.event.Reason.TheVariants as reason
-use Rattle.session_model.specs.declared.message.Message.{Message}
-use Rattle.session_model.specs.declared.message.Message.TheVariants as message
+use Rattle.session_model.specs.declared.message.StatusMessage.{StatusMessage}
+use Rattle.session_model.specs.declared.message.StatusMessage.TheVariants as message
 use Rattle.session_model.specs.declared.refusal.Refusal.{Refusal}
 use Rattle.session_model.specs.declared.refusal.Refusal.TheVariants.{UnknownUser, NoWindow, Line}
 use Rattle.session_model.specs.declared.verdict.Verdict.{Verdict}
@@ -281,7 +281,7 @@ module _ (t : Tables) (cs : List Client) (same : SameClients t cs) (d : Client) 
   Is o = IsOrdered t d.user o
 
   -- the client is told the refusal
-  why_said : (r : Refusal) (m : List ℕ → Message) (asked : List Check) → AllByRecursion (IsCheckOf d.user) asked
+  why_said : (r : Refusal) (m : List ℕ → StatusMessage) (asked : List Check) → AllByRecursion (IsCheckOf d.user) asked
       → Is (record { verdicts = verdicts v asked; deed = keyed v d.serial m (Err r) })
   why_said r m asked own =
       let all : OnlyRead t (told v d.serial (message.Text (text_of r))) =

@@ -16,7 +16,7 @@ use Rattle.command_lang.specs.declared.command.Command.TheVariants as command
 use Rattle.command_lang.specs.Names.{name_of}
 use Rattle.regions.specs.Layouts.{Arrangement, kept_alone, split_focused, remove_focused, next_focus}
 use Rattle.session_model.specs.declared.event.Reason.TheVariants.{Detached, Quit}
-use Rattle.session_model.specs.declared.message.Message.{Message}
+use Rattle.session_model.specs.declared.message.StatusMessage.{StatusMessage}
 use Rattle.session_model.specs.declared.refusal.Refusal.{Refusal}
 use Rattle.session_model.specs.declared.refusal.Refusal.TheVariants.{Acl, Windows, NoWindow}
 use Rattle.session_model.specs.windows_fault.WindowsFault.TheVariants.{NoSuchWindow}
@@ -174,7 +174,7 @@ module _ (t : Tables) (k : Caller) (by : IsCaller t k) (mine : IsMine t k) where
       → Either (Fine c) (given k.window NoWindow f)
   on_own c f on = by_given (Fine c) k.window NoWindow f refl on
 
-  heard : (m : Message) (cs : List Client)
+  heard : (m : StatusMessage) (cs : List Client)
       → map Rattle.session_model.specs.Promises.unread
       (map (hearing m) cs) ≡ map Rattle.session_model.specs.Promises.unread cs
   heard m [] = refl

@@ -4,7 +4,7 @@ use Rattle.acl.specs.declared.edition.Edition.{Edition}
 use Rattle.acl.specs.declared.user_id.UserId.{UserId}
 use Rattle.acl.specs.Names.{named_by}
 use Rattle.command_lang.specs.declared.command.Command.{Command}
-use Rattle.session_model.specs.declared.message.Message.{Message}
+use Rattle.session_model.specs.declared.message.StatusMessage.{StatusMessage}
 use Rattle.session_model.specs.Tables.{Tables}
 use Rattle.session_model.specs.Lines.{Caller}
 use Rattle.session_model.specs.Deeds.{Deed, removes}
@@ -29,10 +29,10 @@ pub read_rules : (t u : Tables) → OnlyRead t u → rules u ≡ rules t
 read_rules t u r = λ i. (r.owner i, r.edition i, r.next_window i, r.next_client i)
 
 -- a message leaves them unchanged
-pub told_rules : (t : Tables) (client : ℕ) (m : Message) → rules (told t client m) ≡ rules t
+pub told_rules : (t : Tables) (client : ℕ) (m : StatusMessage) → rules (told t client m) ≡ rules t
 told_rules t client m = read_rules t (told t client m) (told_read t t client m (same_tables t))
 
-pub listed_rules : (client : ℕ) (m : List ℕ → Message) (o : Option (List ℕ)) (d : Deed)
+pub listed_rules : (client : ℕ) (m : List ℕ → StatusMessage) (o : Option (List ℕ)) (d : Deed)
     → rules (with_listed client m o d).tables ≡ rules d.tables
 listed_rules client m None d = refl
 listed_rules client m (Some bytes) d = told_rules d.tables client (m bytes)

@@ -19,7 +19,7 @@ use Rattle.command_lang.specs.Relation.{read_line}
 use Rattle.keys.specs.Grammar.{Item, typed, bound, line}
 use Rattle.session_model.specs.declared.check.Check.{Check}
 use Rattle.session_model.specs.declared.event.Reason.TheVariants as reason
-use Rattle.session_model.specs.declared.message.Message.{Message}
+use Rattle.session_model.specs.declared.message.StatusMessage.{StatusMessage}
 use Rattle.session_model.specs.declared.refusal.Refusal.{Refusal}
 use Rattle.session_model.specs.declared.verdict.Verdict.{Verdict}
 use Rattle.session_model.specs.Trace.{EventValue, Reply}
@@ -111,7 +111,8 @@ pub record IsOrdered (t : Tables) (o : Ordered) : Type 0 where
   pub see : SeeThere t o.verdicts
   pub follow : Follows t o.deed.acts
 
-listed_follows : (t : Tables) (client : ℕ) (m : List ℕ → Message) (o : Option (List ℕ)) (d : Deed) → Follows t d.acts
+listed_follows : (t : Tables) (client : ℕ) (m : List ℕ → StatusMessage) (o : Option (List ℕ)) (d : Deed)
+    → Follows t d.acts
     → Follows t (with_listed client m o d).acts
 listed_follows t client m None d follow = follow
 listed_follows t client m (Some bytes) d follow = follow

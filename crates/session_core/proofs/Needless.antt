@@ -8,8 +8,8 @@ use Rattle.keys.specs.Grammar.{items}
 use Rattle.terminal_model.specs.Shows.{View, ShowsFromAny, LooksLike, NeedsNoDraw}
 use Rattle.view.specs.Granted.{view_in}
 use Rattle.session_model.specs.declared.event.Effect.{Effect}
-use Rattle.session_model.specs.declared.message.Message.{Message}
-use Rattle.session_model.specs.declared.message.Message.TheVariants as message
+use Rattle.session_model.specs.declared.message.StatusMessage.{StatusMessage}
+use Rattle.session_model.specs.declared.message.StatusMessage.TheVariants as message
 use Rattle.session_model.specs.declared.refusal.Refusal.TheVariants.{NoWindow}
 use Rattle.session_model.specs.Trace.{EventValue, Draw, Entry, Reply}
 use Rattle.session_model.specs.Tables.{Tables, Client, client_at, with_client, row_of, with_row}
@@ -55,7 +55,7 @@ module _ (t : Tables) (c : Client) (own : client_at t c.serial ≡ Some c) (byte
   abbrev pub now : Tables
   now = with_client t shown
 
-  message_same : (d : Client) (m : Message) → message_text now d m ≡ message_text t d m
+  message_same : (d : Client) (m : StatusMessage) → message_text now d m ≡ message_text t d m
   message_same d message.Silence = refl
   message_same d (message.Text said) = refl
   message_same d message.AllWindows = refl

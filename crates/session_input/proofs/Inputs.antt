@@ -6,8 +6,8 @@ use Rattle.std.specs.Option.{option_and_then}
 use Rattle.acl.specs.declared.user_id.UserId.{UserId}
 use Rattle.session_model.specs.declared.event.Effect.{Effect}
 use Rattle.session_model.specs.declared.event.Effect.TheVariants.{Input, Say}
-use Rattle.session_model.specs.declared.message.Message.{Message}
-use Rattle.session_model.specs.declared.message.Message.TheVariants.{Silence, Text}
+use Rattle.session_model.specs.declared.message.StatusMessage.{StatusMessage}
+use Rattle.session_model.specs.declared.message.StatusMessage.TheVariants.{Silence, Text}
 use Rattle.session_model.specs.declared.refusal.Refusal.{Refusal}
 use Rattle.session_model.specs.declared.refusal.Refusal.TheVariants.{NoMemory}
 use Rattle.session_model.specs.Tables.{Window, Client, Tables, window_at, client_at, focused}
@@ -49,7 +49,7 @@ typed_through t c (b ∷ bytes) before after some passed put =
     let typed : List ℕ = b ∷ bytes in
     let through : Deed = record (changing t) { effects = input_in (focused_window t c) typed } in
     record {
-      message_is = sym (ap (λ (o : Option Refusal). elim o as (λ _. Message) [
+      message_is = sym (ap (λ (o : Option Refusal). elim o as (λ _. StatusMessage) [
         | None ↦ Silence
         | Some r ↦ Text (text_of r)
       ]) passed.none);
@@ -73,7 +73,7 @@ typed_refused t c n (b ∷ bytes) r before after some same failed put =
     let typed : List ℕ = b ∷ bytes in
     let through : Deed = record (changing t) { effects = input_in (focused_window t c) typed } in
     record {
-      message_is = sym (ap (λ (o : Option Refusal). elim o as (λ _. Message) [
+      message_is = sym (ap (λ (o : Option Refusal). elim o as (λ _. StatusMessage) [
         | None ↦ Silence
         | Some r ↦ Text (text_of r)
       ]) failed.first);

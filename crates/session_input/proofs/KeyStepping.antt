@@ -17,8 +17,8 @@ use Rattle.acl.specs.declared.user_id.UserId.{UserId}
 use Rattle.acl.specs.declared.act.Act.{Act}
 use Rattle.acl.specs.History.{followed_by}
 use Rattle.session_model.specs.declared.event.Effect.{Effect}
-use Rattle.session_model.specs.declared.message.Message.{Message}
-use Rattle.session_model.specs.declared.message.Message.TheVariants.{Silence, Text}
+use Rattle.session_model.specs.declared.message.StatusMessage.{StatusMessage}
+use Rattle.session_model.specs.declared.message.StatusMessage.TheVariants.{Silence, Text}
 use Rattle.session_model.specs.declared.refusal.Refusal.{Refusal}
 use Rattle.session_model.specs.declared.verdict.Verdict.{Verdict}
 use Rattle.session_model.specs.Tables.{Tables, Client, Window, client_at, with_client, focused_window, row_of}
@@ -99,8 +99,8 @@ typed_deed t c bytes focus o = elim o as (λ _. Deed) [
   | None ↦ record (changing t) { effects = input_in focus bytes }
 ]
 
-abbrev message_by : Option Refusal → Message
-message_by o = elim o as (λ _. Message) [ None ↦ Silence | Some r ↦ Text (text_of r) ]
+abbrev message_by : Option Refusal → StatusMessage
+message_by o = elim o as (λ _. StatusMessage) [ None ↦ Silence | Some r ↦ Text (text_of r) ]
 
 module _ (t : Tables) (n : ℕ) (c : Client) (keys : List ℕ) (at : client_at t n ≡ Some c) where
   abbrev d : Client
@@ -115,7 +115,7 @@ module _ (t : Tables) (n : ℕ) (c : Client) (keys : List ℕ) (at : client_at t
       with_same serial t.clients c.serial c d (ap (row_of serial t.clients) same ∙ at) refl
 
   -- the row is put twice
-  once : (m : Message) → with_client u (hearing m d) ≡ with_client t (hearing m d)
+  once : (m : StatusMessage) → with_client u (hearing m d) ≡ with_client t (hearing m d)
   once m =
       ap (λ (cs : List Client). record t { clients = cs })
       (with_twice serial t.clients c.serial d (hearing m d) refl)
@@ -178,12 +178,12 @@ ordered_as t c (Some (line_item (b ∷ bytes))) = refl
 -- ---- both
 
 -- what its status line says is that of the tables once it has typed
-tables_are : (t : Tables) (n : ℕ) (c : Client) (keys typed : List ℕ) (message : Message)
+tables_are : (t : Tables) (n : ℕ) (c : Client) (keys typed : List ℕ) (message : StatusMessage)
     → client_at t n ≡ Some c → typed ≡ typed_bytes (items_behind c.keys keys)
     → message ≡ message_after t c typed
     → with_client t (read_by message keys c) ≡ (typing t c keys).tables
 tables_are t n c keys typed message at typed_is message_is =
-    ap (λ (m : Message). with_client t (hearing m (reading keys c)))
+    ap (λ (m : StatusMessage). with_client t (hearing m (reading keys c)))
     (message_is ∙ ap (message_after t c) typed_is)
     ∙ sym (tables_typed t n c keys at (typed_bytes (items_behind c.keys keys)))
 
@@ -197,7 +197,7 @@ typed_now t n c keys typed before middle at typed_is put =
     ∙ sym (effects_typed t n c keys at (typed_bytes (items_behind c.keys keys))))
 
 -- what was typed and what was obeyed are the keys' deed
-pub keys_given : (t : Tables) (n : ℕ) (c : Client) (keys typed : List ℕ) (message : Message)
+pub keys_given : (t : Tables) (n : ℕ) (c : Client) (keys typed : List ℕ) (message : StatusMessage)
     (start end : ℕ) (orders : Option (Result Command ParseFault)) (new : State) (before middle later : Step)
     (made : StepOutput) → client_at t n ≡ Some c
     → typed ≡ typed_bytes (items_behind c.keys keys)
@@ -281,7 +281,7 @@ keys_ended t c keys middle new before second made given left =
 
 -- the keys give no command: they are typed, and nobody leaves a window
 pub keys_typed : (t : Tables) (n : ℕ) (c : Client) (keys typed : List ℕ) (reader : Keeping)
-    (message : Message) (new : State) (before after : Step)
+    (message : StatusMessage) (new : State) (before after : Step)
     → client_at t n ≡ Some c → AreRead c keys reader typed None
     → Typed t c typed message before after
     → after.made.acts.items ≡ before.made.acts.items

@@ -7,7 +7,7 @@ use Rattle.acl.specs.declared.user_id.UserId.{UserId}
 use Rattle.regions.specs.declared.shown.Shown.{Shown}
 use Rattle.regions.specs.Layouts.{Arrangement}
 use Rattle.keys.specs.Kept.{Keeping, StandsFor}
-use Rattle.session_model.specs.declared.message.Message.{Message}
+use Rattle.session_model.specs.declared.message.StatusMessage.{StatusMessage}
 use Rattle.session_model.specs.Tables.{Tables, Client, client_at, row_of, with_row, with_client}
 use Rattle.session_model.specs.Sound.{Rises}
 use Rattle.windows_model.proofs.Serials.{serial_is}
@@ -117,7 +117,7 @@ stands_put t s n d made cs same new is st =
     st.clients)) st
 
 -- a client that has read these keys and says this
-pub read_stands : (message : Message) (keys : List ℕ) (reader : Keeping) (c : Client) (row : Row)
+pub read_stands : (message : StatusMessage) (keys : List ℕ) (reader : Keeping) (c : Client) (row : Row)
     → StandsFor reader (c.keys ++ keys) → ClientStands c row
     → ClientStands (read_by message keys c) (record row { keys = reader; message = message })
 read_stands message keys reader c row read st = record {
@@ -138,7 +138,7 @@ read_stands message keys reader c row read st = record {
 
 -- the state stands for that client once its reader and message were exchanged
 pub stands_read : (t : Tables) (s : State) (n : ℕ) (c : Client) (keys : List ℕ)
-    (reader then_reader : Keeping) (message then_message : Message) (cs : List Row)
+    (reader then_reader : Keeping) (message then_message : StatusMessage) (cs : List Row)
     → client_at t n ≡ Some c → StandsFor reader (c.keys ++ keys)
     → ((r : Row) → row_of row_serial s.clients n ≡ Some r
     → Exchanged n r s.clients reader message cs then_reader then_message)

@@ -2,7 +2,7 @@
 use Rattle.std.proofs.Common.{◌≡◌, ℕ, List, [], ◌∷◌, ◌++◌, Option, Some, None, ap, sym, subst}
 use Rattle.std.proofs.Common.{◌∙◌, append-nil}
 use Rattle.session_model.specs.declared.event.Effect.TheVariants.{Say}
-use Rattle.session_model.specs.declared.message.Message.{Message}
+use Rattle.session_model.specs.declared.message.StatusMessage.{StatusMessage}
 use Rattle.session_model.specs.Tables as model
 use Rattle.session_model.specs.Tables.{Tables, client_at, with_client, row_of, with_row}
 use Rattle.session_model.specs.Deeds.{Deed, changing, hearing}
@@ -33,7 +33,7 @@ stands_client t s n d cs same are st = record {
 }
 
 -- a client that is there is told
-pub told_there : (t : Tables) (n : ℕ) (m : Message) (c : model.Client) → client_at t n ≡ Some c
+pub told_there : (t : Tables) (n : ℕ) (m : StatusMessage) (c : model.Client) → client_at t n ≡ Some c
     → told t n m ≡ with_client t (hearing m c)
 told_there t n m c at =
     ap (λ (o : Option model.Client). elim o as (λ _. Tables) [
@@ -44,7 +44,7 @@ told_there t n m c at =
 abbrev saying : Tables → ℕ → List ℕ → Deed
 saying u n text = record (changing u) { effects = Say n text ∷ [] }
 
-pub said_done : (t : Tables) (s : State) (n : ℕ) (m : Message) (text : List ℕ) (c : model.Client)
+pub said_done : (t : Tables) (s : State) (n : ℕ) (m : StatusMessage) (text : List ℕ) (c : model.Client)
     (cs : List Client) (before after : StepOutput) → client_at t n ≡ Some c
     → Changes (hearing m) n s.clients cs → Stands t s
     → after.effects.items ≡ before.effects.items ++ Say n text ∷ []

@@ -3,7 +3,7 @@ use Rattle.std.specs.Prelude.{ℕ, ◌≡◌, ◌++◌, List, Option, Some, Resu
 use Rattle.command_lang.specs.declared.command.Command.{Command}
 use Rattle.command_lang.specs.declared.fault.ParseFault.{ParseFault}
 use Rattle.keys.specs.Kept.{Keeping, StandsFor}
-use Rattle.session_model.specs.declared.message.Message.{Message}
+use Rattle.session_model.specs.declared.message.StatusMessage.{StatusMessage}
 use Rattle.session_model.specs.Tables.{Tables, Client, client_at, with_client, row_of}
 use Rattle.session_model.specs.Deeds.{hearing}
 use Rattle.session_model.specs.Keying.{items_behind, taken, typed_bytes, command_item}
@@ -48,11 +48,11 @@ abbrev pub ReadsOf : Keeping → List ℕ → Keeping → KeysRead → Type 0
 ReadsOf old bytes new r = (c : Client) → StandsFor old c.keys → IsReading c bytes new r
 
 -- a client that has read these keys and says this
-abbrev pub read_by : Message → List ℕ → Client → Client
+abbrev pub read_by : StatusMessage → List ℕ → Client → Client
 read_by message keys c = hearing message (reading keys c)
 
 -- the command that keys complete was obeyed, once the client had read them and had this message
-abbrev pub ObeysRead : Caller → ℕ → Keeping → Message → Result Command ParseFault →
+abbrev pub ObeysRead : Caller → ℕ → Keeping → StatusMessage → Result Command ParseFault →
     State → State → Step → Step → Type 0
 ObeysRead k client reader message order old new before after =
     (t : Tables) (c : Client) (keys : List ℕ) → Stands t old → AreFit t

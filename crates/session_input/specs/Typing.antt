@@ -3,8 +3,8 @@ use Rattle.std.specs.Prelude.{ℕ, ◌≡◌, ◌++◌, List, [], ◌∷◌, Opt
 use Rattle.std.specs.Option.{option_map_or}
 use Rattle.session_model.specs.declared.event.Effect.{Effect}
 use Rattle.session_model.specs.declared.event.Effect.TheVariants.{Input}
-use Rattle.session_model.specs.declared.message.Message.{Message}
-use Rattle.session_model.specs.declared.message.Message.TheVariants.{Silence, Text}
+use Rattle.session_model.specs.declared.message.StatusMessage.{StatusMessage}
+use Rattle.session_model.specs.declared.message.StatusMessage.TheVariants.{Silence, Text}
 use Rattle.session_model.specs.Tables.{Tables, Client, client_at, focused, focused_window}
 use Rattle.session_model.specs.Checks.{first_fault, typing_checks}
 use Rattle.session_model.specs.Answering.{types, typing_verdicts}
@@ -24,7 +24,7 @@ abbrev pub input_to : Option ℕ → List ℕ → List Effect
 input_to window typed = option_map_or (λ w. Input w typed ∷ []) window []
 
 -- the message on its status line then
-abbrev pub message_after : Tables → Client → List ℕ → Message
+abbrev pub message_after : Tables → Client → List ℕ → StatusMessage
 message_after t c [] = Silence
 message_after t c (b ∷ bytes) =
     elim (first_fault t (typing_checks c.user (focused_window t c))) [
@@ -33,14 +33,14 @@ message_after t c (b ∷ bytes) =
     ]
 
 -- the bytes were typed: this is the effect, and the verdicts were noted
-pub record Typed (t : Tables) (c : Client) (typed : List ℕ) (message : Message)
+pub record Typed (t : Tables) (c : Client) (typed : List ℕ) (message : StatusMessage)
     (before after : Step) : Type 0 where
   pub message_is : message ≡ message_after t c typed
   pub effects : after.made.effects.items ≡ before.made.effects.items ++ (types t c typed).effects
   pub verdicts : after.verdicts.items ≡ before.verdicts.items ++ typing_verdicts t c typed
 
 -- so it was for all tables that the state stands for
-abbrev pub Types : Caller → ℕ → List ℕ → State → Message → Step → Step → Type 0
+abbrev pub Types : Caller → ℕ → List ℕ → State → StatusMessage → Step → Step → Type 0
 Types k client typed s message before after =
     (t : Tables) (c : Client) → Stands t s → AreFit t → client_at t client ≡ Some c
     → k ≡ caller_by client c → Typed t c typed message before after

@@ -13,7 +13,7 @@ use crate::typing::type_bytes;
 use command_lang::{Command, ParseFault};
 use keys::KeyReader;
 use session_events::{Focuses, drop_said, leave};
-use session_model::{Bytes, Message, Refusal};
+use session_model::{Bytes, Refusal, StatusMessage};
 use session_state::{Caller, Client, KeyCaller, KeyOrder, State, Step, read_keys};
 use std::alloc::{AllocError, Global};
 
@@ -58,7 +58,7 @@ fn obey_read(
     state: &mut State,
     given: &KeyOrder,
     reader: &mut KeyReader,
-    mut message: Message,
+    mut message: StatusMessage,
     step: &mut Step,
 ) -> Result<(), Refusal>
     ensures ok { OnOk result (ObeysRead given.now.by.caller given.now.by.client reader.old message

@@ -9,19 +9,19 @@ ghost use Rattle.session_input.specs.Obeying.{Obeys};
 use crate::orders::order;
 use crate::saying::{say, say_why, wants_memory};
 use command_lang::{Command, ParseFault};
-use session_model::{Bytes, Message, Refusal};
+use session_model::{Bytes, Refusal, StatusMessage};
 use session_state::{KeyCaller, State, Step};
 use std::alloc::{AllocError, Global};
 
 /// The message for what a command lists. Each draw makes the lists of windows and of clients
 /// again.
-fn message_of(alloc: Global, command: &Command, text: &Bytes) -> Result<Message, AllocError>
+fn message_of(alloc: Global, command: &Command, text: &Bytes) -> Result<StatusMessage, AllocError>
     ensures { IfOk result (λ message. message ≡ message_of command.now text.now) }
 {
     match command {
-        Command::Windows => Ok(Message::AllWindows),
-        Command::Displays => Ok(Message::AllClients),
-        _ => Ok(Message::Text(Bytes::of(alloc, text.as_slice())?)),
+        Command::Windows => Ok(StatusMessage::AllWindows),
+        Command::Displays => Ok(StatusMessage::AllClients),
+        _ => Ok(StatusMessage::Text(Bytes::of(alloc, text.as_slice())?)),
     }
 }
 

@@ -3,11 +3,11 @@
 ghost use Rattle.std.specs.Prelude.{◌≡◌, IfOk, IfErr, OnOk, OnErr};
 ghost use Rattle.session_model.specs.Texts.{text_of};
 ghost use Rattle.session_model.specs.declared.refusal.Refusal.TheVariants.{NoMemory};
-ghost use Rattle.session_model.specs.declared.message.Message.TheVariants as message;
+ghost use Rattle.session_model.specs.declared.message.StatusMessage.TheVariants as message;
 ghost use Rattle.session_state.specs.Doing.{IsAsBefore};
 ghost use Rattle.session_input.specs.Said.{Says, wants_memory};
 
-use session_model::{Bytes, Effect, Message, Refusal};
+use session_model::{Bytes, Effect, Refusal, StatusMessage};
 use session_state::{State, StepOutput};
 use std::alloc::{AllocError, Global};
 
@@ -31,7 +31,7 @@ pub(crate) fn why(alloc: Global, refusal: &Refusal) -> Result<Bytes, AllocError>
 pub(crate) fn say(
     state: &mut State,
     client: u32,
-    message: Message,
+    message: StatusMessage,
     text: Bytes,
     made: &mut StepOutput,
 ) -> Result<(), Refusal>
@@ -59,6 +59,6 @@ pub(crate) fn say_why(
     ensures acts { made.new.acts ≡ made.old.acts }
 {
     let text = why(state.alloc, &refusal)?;
-    let message = Message::Text(Bytes::of(state.alloc, text.as_slice())?);
+    let message = StatusMessage::Text(Bytes::of(state.alloc, text.as_slice())?);
     say(state, client, message, text, made)
 }

@@ -3,13 +3,13 @@
 ghost use Rattle.std.specs.Prelude.{◌≡◌, ◌++◌, ◌∷◌, [], IfOk, IfErr, OnOk, OnErr};
 ghost use Rattle.session_model.specs.Texts.{text_of};
 ghost use Rattle.session_model.specs.declared.event.Effect.TheVariants.{Say};
-ghost use Rattle.session_model.specs.declared.message.Message.TheVariants.{Text};
+ghost use Rattle.session_model.specs.declared.message.StatusMessage.TheVariants.{Text};
 ghost use Rattle.session_model.specs.declared.refusal.Refusal.TheVariants.{NoMemory};
 ghost use Rattle.session_input.specs.Typing.{Types, Grows, input_to};
 
 use crate::saying::{wants_memory, why};
 use session_checks::check_typing;
-use session_model::{Bytes, Effect, Message, Refusal};
+use session_model::{Bytes, Effect, Refusal, StatusMessage};
 use session_state::{KeyCaller, State, Step};
 use std::alloc::{AllocError, Global};
 
@@ -31,13 +31,13 @@ fn deny(
     client: u32,
     refusal: &Refusal,
     effects: &mut Vec<Effect>,
-) -> Result<Message, AllocError>
+) -> Result<StatusMessage, AllocError>
     ensures ok { IfOk result (λ message. (message ≡ Text (text_of refusal.now))
         × (effects.new.items ≡ effects.old.items ++ Say client (text_of refusal.now) ∷ [])) }
     ensures err { OnErr result (effects.new.items ≡ effects.old.items) }
 {
     let text = why(alloc, refusal)?;
-    let message = Message::Text(Bytes::of(alloc, text.as_slice())?);
+    let message = StatusMessage::Text(Bytes::of(alloc, text.as_slice())?);
     effects.push(Effect::Say(client, text))?;
     Ok(message)
 }
@@ -49,7 +49,7 @@ pub fn type_bytes(
     by: KeyCaller,
     typed: Bytes,
     step: &mut Step,
-) -> Result<Message, Refusal>
+) -> Result<StatusMessage, Refusal>
     ensures ok { IfOk result (λ message. Types by.caller by.client typed state.now message
         step.old step.new) }
     ensures grows { OnOk result (Grows step.old.made.effects.items step.new.made.effects.items) }
@@ -58,12 +58,12 @@ pub fn type_bytes(
     ensures acts { step.new.made.acts ≡ step.old.made.acts }
 {
     if typed.is_empty() {
-        return Ok(Message::Silence);
+        return Ok(StatusMessage::Silence);
     }
     match check_typing(state, by.caller, &mut step.verdicts) {
         Ok(()) => {
             put_typed(by.caller.window, typed, &mut step.made.effects)?;
-            Ok(Message::Silence)
+            Ok(StatusMessage::Silence)
         }
         Err(refusal) => {
             if wants_memory(&refusal) {

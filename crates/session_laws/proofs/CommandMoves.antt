@@ -15,7 +15,7 @@ use Rattle.session_model.specs.declared.event.Effect.{Effect}
 use Rattle.session_model.specs.declared.event.Effect.TheVariants.{Input, Say, Size, GoneWindow, GoneClient}
 use Rattle.session_model.specs.declared.event.Reason.{Reason}
 use Rattle.session_model.specs.declared.event.Reason.TheVariants.{Detached, Killed, Removed, SingleUser, Quit}
-use Rattle.session_model.specs.declared.message.Message.TheVariants.{Text}
+use Rattle.session_model.specs.declared.message.StatusMessage.TheVariants.{Text}
 use Rattle.session_model.specs.Tables.{Tables, Window, Client, window_at, client_at, with_window, with_client}
 use Rattle.session_model.specs.Tables.{with_layout, focused}
 use Rattle.session_model.specs.Naming.{with_number}

@@ -1,4 +1,5 @@
 -- If typed bytes don't reach their window, it is told why.
+use Rattle.session_model.specs.declared.message.StatusMessage.{StatusMessage}
 use Rattle.std.proofs.Common.{◌≡◌, ℕ, Bool, true, false, not, List, [], ◌∷◌, ◌++◌, Option, Some, None, Ok, Err, Result}
 use Rattle.std.proofs.Common.{refl, ap, sym, ◌∙◌, subst, inl, inr, ⊎_elim}
 use Rattle.std.specs.Prelude.{if◌then◌else◌, ◌==◌, ◌&&◌, ◌||◌, take}
@@ -141,7 +142,7 @@ stuff_why t user client w bytes has =
     checks_why (may_in t user Execute (object.Command names.Stuff)) (may_in t user Execute (object.Window w.serial)) _ _
     (why_not_into t user w.serial) has
 
-keyed_why : (v : Tables) (client : ℕ) (m : List ℕ → Rattle.session_model.specs.declared.message.Message.Message)
+keyed_why : (v : Tables) (client : ℕ) (m : List ℕ → StatusMessage)
     (said : List Effect) (x : Option Refusal) (a : Answer)
     → Why client
     (said ++ unsaid said (keyed v client m (elim x as (λ _. Answer) [ Some r ↦ Err r | None ↦ a ])).effects) x

@@ -12,7 +12,7 @@ use Rattle.terminal_model.specs.Reading.{reads}
 use Rattle.session_model.specs.declared.event.Effect.{Effect}
 use Rattle.session_model.specs.declared.event.Effect.TheVariants.{Input, Deliver, Say, GoneWindow, GoneClient}
 use Rattle.session_model.specs.declared.event.Reason.TheVariants as reason
-use Rattle.session_model.specs.declared.message.Message.{Message}
+use Rattle.session_model.specs.declared.message.StatusMessage.{StatusMessage}
 use Rattle.session_model.specs.declared.refusal.Refusal.{Refusal}
 use Rattle.session_model.specs.declared.refusal.Refusal.TheVariants.{Line}
 use Rattle.session_model.specs.Trace.{EventValue, Detach, Keys, Command, Output, Closed, Draw, Reply, Entry}
@@ -166,7 +166,7 @@ module _ (t : Tables) (client : ℕ) (bytes : List ℕ) (c : Client) (is : clien
   -- what the client is told of its command, after it read keys
   module _ (cs : List Client) (same : SameClients t cs) (order : Order)
       (given : commands_of t (Keys client bytes) ≡ giving (caller_of t c) order ∷ []) where
-    keyed_fits : (m : List ℕ → Message) → has_x t (giving (caller_of t c) order) ≡ true → (a : Answer)
+    keyed_fits : (m : List ℕ → StatusMessage) → has_x t (giving (caller_of t c) order) ≡ true → (a : Answer)
         → Either (HasDone (record t { clients = cs }) (caller_of t c) order) a
         → AllByRecursion (Fits t (Keys client bytes)) (keyed (record t { clients = cs }) c.serial m a).effects
     keyed_fits m has (Err r) plain = (refuses r (plain_names t (Asks t (Keys client bytes)) r plain), tt)

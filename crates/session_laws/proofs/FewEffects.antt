@@ -1,4 +1,5 @@
 -- A step has at most 256 effects.
+use Rattle.session_model.specs.declared.message.StatusMessage.{StatusMessage}
 use Rattle.std.proofs.Common.{◌≡◌, ℕ, ◌+◌, ◌≤◌, List, [], ◌∷◌, ◌++◌, Option, Some, None, Ok, Err, Result, refl, ap, sym}
 use Rattle.std.proofs.Common.{subst, length, take, arith}
 use Rattle.std.specs.Prelude.{◌==◌, MatchOption}
@@ -62,7 +63,7 @@ types_few u d (b ∷ bytes) = on (first_fault u (typing_checks d.user (focused_w
   on None None = omega arith
   on None (Some w) = omega arith
 
-keyed_few : (v : Tables) (client : ℕ) (m : List ℕ → Rattle.session_model.specs.declared.message.Message.Message)
+keyed_few : (v : Tables) (client : ℕ) (m : List ℕ → StatusMessage)
     (a : Answer) → Either (DeedMoves v) a
     → length (keyed v client m a).effects ≤ length v.windows + length v.clients + 2
 keyed_few v client m (Err r) plain = omega arith
@@ -76,7 +77,7 @@ keyed_few v client m (Ok d) all = on d.lists where
       (d.effects ++ Rattle.session_model.specs.declared.event.Effect.TheVariants.Say client bytes ∷ []) ≡ length
       d.effects + 1 = length_append d.effects _ in omega (arith, le, sum)
 
-ruled_few : (v : Tables) (client : ℕ) (m : List ℕ → Rattle.session_model.specs.declared.message.Message.Message)
+ruled_few : (v : Tables) (client : ℕ) (m : List ℕ → StatusMessage)
     (k : Caller) (c : Order) (o : Option Refusal) → ((w : Window) → k.window ≡ Some w → window_at v w.serial ≡ Some w)
     → length (keyed v client m (elim o as (λ _. Answer) [ Some r ↦ Err r | None ↦ does v k c ])).effects ≤ length
     v.windows + length v.clients + 2

@@ -12,7 +12,8 @@ use Rattle.regions.specs.declared.shown.Shown.{Shown}
 use Rattle.regions.specs.Layouts.{Arrangement, emptied}
 use Rattle.session_model.specs.declared.event.Reason.{Reason}
 use Rattle.session_model.specs.declared.event.Reason.TheVariants.{Killed, Quit}
-use Rattle.session_model.specs.declared.message.Message.TheVariants as message
+use Rattle.session_model.specs.declared.message.StatusMessage.{StatusMessage}
+use Rattle.session_model.specs.declared.message.StatusMessage.TheVariants as message
 use Rattle.session_model.specs.Tables.{Tables, Window, Client, client_at, with_window, with_client, with_layout}
 use Rattle.session_model.specs.Lines.{Caller}
 use Rattle.session_model.specs.Deeds.{Deed, removes, closes, without_window, without_windows, hearing}
@@ -176,7 +177,7 @@ removal_holds : (t : Tables) (o : Option UserId) → Holds t → HoldsBy (remove
 removal_holds t None h = h
 removal_holds t (Some u) h = holds_fewer t _ h
 
-heard_all : (m : Rattle.session_model.specs.declared.message.Message.Message) (ns : List ℕ) (cs : List Client)
+heard_all : (m : StatusMessage) (ns : List ℕ) (cs : List Client)
     → AllByRecursion (PageIn ns) cs → AllByRecursion (PageIn ns) (map (hearing m) cs)
 heard_all m ns cs all = all_map (PageIn ns) (hearing m) cs all
 

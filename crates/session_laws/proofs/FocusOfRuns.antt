@@ -14,8 +14,8 @@ use Rattle.command_lang.specs.declared.fault.ParseFault.{ParseFault}
 use Rattle.keys.specs.Grammar.{Item, typed, bound, line}
 use Rattle.terminal_model.specs.Shows.{View}
 use Rattle.session_model.specs.declared.event.Effect.{Effect}
-use Rattle.session_model.specs.declared.message.Message.{Message}
-use Rattle.session_model.specs.declared.message.Message.TheVariants.{Text}
+use Rattle.session_model.specs.declared.message.StatusMessage.{StatusMessage}
+use Rattle.session_model.specs.declared.message.StatusMessage.TheVariants.{Text}
 use Rattle.session_model.specs.declared.refusal.Refusal.{Refusal}
 use Rattle.session_model.specs.declared.refusal.Refusal.TheVariants.{Line}
 use Rattle.session_model.specs.Trace.{EventValue, Attach, Keys, Draw, Reply, Entry, Trace}
@@ -74,7 +74,7 @@ left_enter (c ∷ before) after = one (focused c) (left_enter before after) wher
 
 -- ---- messages
 
-told_go : (cs : List Client) (f : ℕ → Option (UserId × ℕ)) (u : Tables) (client : ℕ) (m : Message)
+told_go : (cs : List Client) (f : ℕ → Option (UserId × ℕ)) (u : Tables) (client : ℕ) (m : StatusMessage)
     → AllGoOn cs f u.clients → AllGoOn cs f (told u client m).clients
 told_go cs f u client m all = told_same (λ v. AllGoOn cs f v.clients) u client m all
     (λ c is. all_row (λ d. SomeOf (λ q. GoesOn f q d) cs) (λ (d : Client). d.serial) u.clients c.serial (hearing m c)
@@ -101,7 +101,7 @@ module _ (t : Tables) (c : Client) (read : List ℕ) (s : AreSound t) (cs : List
   nothing_gone : InDeed (changing v)
   nothing_gone = kept_go cs cs (entered_of (caller_of t c) []) none (kept_same cs)
 
-  keyed_gone : (client : ℕ) (m : List ℕ → Message) (a : Answer) → Either (HasGone v (caller_of t c)) a
+  keyed_gone : (client : ℕ) (m : List ℕ → StatusMessage) (a : Answer) → Either (HasGone v (caller_of t c)) a
       → InDeed (keyed v client m a)
   keyed_gone client m (Err r) plain = told_go cs (entered_of (caller_of t c) []) v client (Text (text_of r))
       nothing_gone

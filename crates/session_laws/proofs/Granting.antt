@@ -19,8 +19,8 @@ use Rattle.session_model.specs.declared.check.Check.TheVariants.{Right as right,
 use Rattle.command_lang.specs.declared.needs.Needs.{Needs}
 use Rattle.session_model.specs.declared.event.Effect.{Effect}
 use Rattle.session_model.specs.declared.event.Effect.TheVariants.{Input}
-use Rattle.session_model.specs.declared.message.Message.{Message}
-use Rattle.session_model.specs.declared.message.Message.TheVariants.{Text}
+use Rattle.session_model.specs.declared.message.StatusMessage.{StatusMessage}
+use Rattle.session_model.specs.declared.message.StatusMessage.TheVariants.{Text}
 use Rattle.session_model.specs.declared.refusal.Refusal.{Refusal}
 use Rattle.session_model.specs.declared.refusal.Refusal.TheVariants.{EntryDenied, LockDenied, NoWindow, NotMultiuser}
 use Rattle.session_model.specs.declared.refusal.Refusal.TheVariants.{UnknownUser}
@@ -155,7 +155,7 @@ line_acts t event k true (Err f) = tt
 line_acts t event k true (Ok c) = (command_acts t event k c, tt)
 
 -- a message changes nothing else of the tables
-pub told_read : (t v : Tables) (client : ℕ) (m : Message) → OnlyRead t v → OnlyRead t (told v client m)
+pub told_read : (t v : Tables) (client : ℕ) (m : StatusMessage) → OnlyRead t v → OnlyRead t (told v client m)
 told_read t v client m all = on (client_at v client) refl where
   on : (o : Option Client) → client_at v client ≡ o
       → OnlyRead t (elim o as (λ _. Tables) [ None ↦ v | Some c ↦ with_client v (hearing m c) ])

@@ -9,8 +9,8 @@ use Rattle.acl.specs.declared.act.Object.TheVariants as object
 use Rattle.keys.specs.Grammar.{items}
 use Rattle.regions.specs.declared.shown.Shown.{Shown}
 use Rattle.view.specs.Granted as view
-use Rattle.session_model.specs.declared.message.Message.{Message}
-use Rattle.session_model.specs.declared.message.Message.TheVariants as message
+use Rattle.session_model.specs.declared.message.StatusMessage.{StatusMessage}
+use Rattle.session_model.specs.declared.message.StatusMessage.TheVariants as message
 use Rattle.session_model.specs.Tables.{Window, Client, Tables, row_of, focused, is_window}
 use Rattle.session_model.specs.Rights.{may_in}
 use Rattle.session_model.specs.Keying.{open_line}
@@ -49,7 +49,7 @@ module _ (t u : Tables) (windows : u.windows ≡ t.windows)
       ((if is_window w.serial focus then codes "* " else codes " ") ++ (if b then w.title else codes "?")))
       (rights v Read (object.Window w.serial))
 
-  message_same : (c : Client) (m : Message) → lists_clients m ≡ false → message_text u c m ≡ message_text t c m
+  message_same : (c : Client) (m : StatusMessage) → lists_clients m ≡ false → message_text u c m ≡ message_text t c m
   message_same c message.Silence plain = refl
   message_same c (message.Text bytes) plain = refl
   message_same c message.AllWindows plain =

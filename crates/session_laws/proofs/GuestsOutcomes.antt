@@ -16,7 +16,7 @@ use Rattle.regions.specs.Layouts.{one_region}
 use Rattle.terminal_model.specs.Shows.{View}
 use Rattle.session_model.specs.declared.check.Check.{Check}
 use Rattle.session_model.specs.declared.check.Check.TheVariants.{Right as right, Must as must}
-use Rattle.session_model.specs.declared.message.Message.TheVariants as message
+use Rattle.session_model.specs.declared.message.StatusMessage.TheVariants as message
 use Rattle.session_model.specs.declared.refusal.Refusal.{Refusal}
 use Rattle.session_model.specs.declared.refusal.Refusal.TheVariants.{NoWindow, UnknownUser, BadSize, NotMultiuser}
 use Rattle.session_model.specs.declared.refusal.Refusal.TheVariants.{TooManyClients, Windows}

@@ -7,7 +7,7 @@ use Rattle.session_model.specs.declared.event.Effect.{Effect}
 use Rattle.session_model.specs.declared.event.Effect.TheVariants.{Input, Deliver, Say, Size, GoneWindow, GoneClient}
 use Rattle.session_model.specs.declared.refusal.Refusal.{Refusal}
 use Rattle.session_model.specs.declared.verdict.Verdict.{Verdict}
-use Rattle.session_model.specs.declared.message.Message.{Message}
+use Rattle.session_model.specs.declared.message.StatusMessage.{StatusMessage}
 use Rattle.session_model.specs.Deeds.{Deed, Answer}
 use Rattle.session_model.specs.Outcomes.{Outcome, finished, refused}
 use Rattle.session_model.specs.Answering.{answered, keyed, with_listed, says_same}
@@ -72,13 +72,13 @@ pub answered_inputs : (t : Tables) (vs : List Verdict) (a : Answer) (w : ℕ)
 answered_inputs t vs (Ok d) w = refl
 answered_inputs t vs (Err r) w = refl
 
-listed_inputs : (client : ℕ) (m : List ℕ → Message) (lists : Option (List ℕ)) (d : Deed) (w : ℕ)
+listed_inputs : (client : ℕ) (m : List ℕ → StatusMessage) (lists : Option (List ℕ)) (d : Deed) (w : ℕ)
     → inputs (with_listed client m lists d).effects w ≡ inputs d.effects w
 listed_inputs client m None d w = refl
 listed_inputs client m (Some bytes) d w = inputs_append d.effects (Say client bytes ∷ []) w
     ∙ append_nil (inputs d.effects w)
 
-pub keyed_inputs : (u : Tables) (client : ℕ) (m : List ℕ → Message) (a : Answer) (w : ℕ)
+pub keyed_inputs : (u : Tables) (client : ℕ) (m : List ℕ → StatusMessage) (a : Answer) (w : ℕ)
     → inputs (keyed u client m a).effects w ≡ answer_inputs a w
 keyed_inputs u client m (Ok d) w = listed_inputs client m d.lists d w
 keyed_inputs u client m (Err r) w = refl

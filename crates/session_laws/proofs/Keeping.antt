@@ -8,7 +8,7 @@ use Rattle.acl.specs.declared.user_id.UserId.{UserId}
 use Rattle.acl.specs.Names.{named_by}
 use Rattle.command_lang.specs.declared.command.Command.{Command as Order}
 use Rattle.regions.specs.Layouts.{one_region, empty}
-use Rattle.session_model.specs.declared.message.Message.TheVariants as message
+use Rattle.session_model.specs.declared.message.StatusMessage.TheVariants as message
 use Rattle.session_model.specs.Tables.{Tables, Window, Client, with_row, client_at, with_client}
 use Rattle.session_model.specs.Lines.{Caller}
 use Rattle.session_model.specs.Deeds.{Deed, removes, without_window, without_windows, hearing}

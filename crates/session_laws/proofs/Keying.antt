@@ -12,8 +12,8 @@ use Rattle.terminal_model.specs.Writing.{Writing}
 use Rattle.terminal_model.specs.Writing as written
 use Rattle.session_model.specs.declared.event.Effect.TheVariants.{Say}
 use Rattle.session_model.specs.declared.event.Reason.TheVariants as reason
-use Rattle.session_model.specs.declared.message.Message.{Message}
-use Rattle.session_model.specs.declared.message.Message.TheVariants as message
+use Rattle.session_model.specs.declared.message.StatusMessage.{StatusMessage}
+use Rattle.session_model.specs.declared.message.StatusMessage.TheVariants as message
 use Rattle.session_model.specs.declared.refusal.Refusal.{Refusal}
 use Rattle.session_model.specs.declared.refusal.Refusal.TheVariants.{Line}
 use Rattle.session_model.specs.declared.verdict.Verdict.{Verdict}
@@ -56,7 +56,7 @@ module _ (shown : ℕ → Bool) (seeing : UserId → Bool) where
 
   -- ---- what is told
 
-  told_cut : (t : Tables) (client : ℕ) (m : Message) → told (less t) client m ≡ less (told t client m)
+  told_cut : (t : Tables) (client : ℕ) (m : StatusMessage) → told (less t) client m ≡ less (told t client m)
   told_cut t client m =
       ap (λ o. elim o as (λ _. Tables) [ None ↦ less t | Some c ↦ with_client (less t) (hearing m c) ])
       (client_cut shown seeing t client) ∙ on (client_at t client) where
@@ -66,17 +66,17 @@ module _ (shown : ℕ → Bool) (seeing : UserId → Bool) where
         on None = refl
         on (Some c) = with_client_cut shown seeing t (hearing m c)
 
-  says_cut : (t : Tables) (client : ℕ) (m : Message) (bytes : List ℕ)
+  says_cut : (t : Tables) (client : ℕ) (m : StatusMessage) (bytes : List ℕ)
       → says (less t) client m bytes ≡ cut_deed shown seeing (says t client m bytes)
   says_cut t client m bytes = ap (λ u. record (changing u) { effects = Say client bytes ∷ [] }) (told_cut t client m)
 
-  listed_cut : (client : ℕ) (m : List ℕ → Message) (o : Option (List ℕ)) (d : Deed)
+  listed_cut : (client : ℕ) (m : List ℕ → StatusMessage) (o : Option (List ℕ)) (d : Deed)
       → with_listed client m o (cut_deed shown seeing d) ≡ cut_deed shown seeing (with_listed client m o d)
   listed_cut client m None d = refl
   listed_cut client m (Some bytes) d = ap (λ (e : Deed). record e { acts = d.acts; effects = d.effects ++ e.effects })
       (says_cut d.tables client (m bytes) bytes)
 
-  keyed_cut : (t : Tables) (client : ℕ) (m : List ℕ → Message) (a b : Answer) → a ≡ cut_answer shown seeing b
+  keyed_cut : (t : Tables) (client : ℕ) (m : List ℕ → StatusMessage) (a b : Answer) → a ≡ cut_answer shown seeing b
       → keyed (less t) client m a ≡ cut_deed shown seeing (keyed t client m b)
   keyed_cut t client m a b same = ap (keyed (less t) client m) same ∙ on b where
     on : (b : Answer) → keyed (less t) client m (cut_answer shown seeing b) ≡ cut_deed shown seeing (keyed t client m b)
@@ -145,7 +145,7 @@ module _ (shown : ℕ → Bool) (seeing : UserId → Bool) where
   called_cut : (t : Tables) (c : Client) → caller_of (less t) (g c) ≡ cut_caller shown seeing (caller_of t c)
   called_cut t c = ap (λ o. record (caller_of t c) { window = o }) (focus_cut shown seeing t c)
 
-  ruling_cut : (t : Tables) (c : Client) (m : List ℕ → Message) (k : Caller) (order : Order)
+  ruling_cut : (t : Tables) (c : Client) (m : List ℕ → StatusMessage) (k : Caller) (order : Order)
       → by_ruling (less t) (g c) m (ruling (less t) (cut_caller shown seeing k) order) ≡ cut_ordered
       (by_ruling t c m (ruling t k order))
   ruling_cut t c m k order =

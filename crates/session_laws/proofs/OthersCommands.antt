@@ -19,7 +19,7 @@ use Rattle.command_lang.specs.declared.command.Command.{Command as Order}
 use Rattle.command_lang.specs.declared.command.Command.TheVariants as command
 use Rattle.command_lang.specs.Needs.{needs, of_lock}
 use Rattle.regions.specs.Layouts.{Arrangement}
-use Rattle.session_model.specs.declared.message.Message.{Message}
+use Rattle.session_model.specs.declared.message.StatusMessage.{StatusMessage}
 use Rattle.session_model.specs.Checks.{first_fault, checks_by}
 use Rattle.session_model.specs.Commands.{does, caller_client, mask_entries}
 use Rattle.session_model.specs.Deeds.{Deed, removes, is_of, entering, hearing, without_windows}
@@ -335,11 +335,11 @@ module _ (t : Tables) (fit : AreFit t) (w : ℕ) (x : UserId) (held : holder_in 
           (all_of (λ (z : Window). Plainly (act.Closed z.serial)) gone (λ z. refl)))
           (lefts_plain (without_windows gone cs)))
 
-    heard : (m : Message) (ds : List Client) → map unread (map (hearing m) ds) ≡ map unread ds
+    heard : (m : StatusMessage) (ds : List Client) → map unread (map (hearing m) ds) ≡ map unread ds
     heard m [] = refl
     heard m (c ∷ ds) = ap (λ es. unread c ∷ es) (heard m ds)
 
-    told : (m : Message) → Comes g.order (left_acts cs (map (hearing m) cs))
+    told : (m : StatusMessage) → Comes g.order (left_acts cs (map (hearing m) cs))
     told m = subst (Comes g.order) (sym (nobody_left cs (map (hearing m) cs) (heard m cs))) (calms tt tt)
 
     quits : g.order ≡ command.Quit

@@ -9,8 +9,8 @@ use Rattle.acl.specs.declared.act.Object.TheVariants as object
 use Rattle.keys.specs.Grammar.{items}
 use Rattle.regions.specs.declared.shown.Shown.{Shown}
 use Rattle.view.specs.Granted as view
-use Rattle.session_model.specs.declared.message.Message.{Message}
-use Rattle.session_model.specs.declared.message.Message.TheVariants as message
+use Rattle.session_model.specs.declared.message.StatusMessage.{StatusMessage}
+use Rattle.session_model.specs.declared.message.StatusMessage.TheVariants as message
 use Rattle.session_model.specs.Tables.{Window, Client, Tables, row_of, focused, is_window}
 use Rattle.session_model.specs.Rights.{may_in}
 use Rattle.session_model.specs.Keying.{open_line}
@@ -177,7 +177,7 @@ module _ (t : Tables) (c : Client) (windows : List Window)
   client_same d = ap (λ text. decimal d.serial ++ (codes " " ++ (name_of d.user ++ (codes " " ++ text))))
       (focus_same (focused d))
 
-  message_same : (m : Message) → message_text u c m ≡ message_text t c m
+  message_same : (m : StatusMessage) → message_text u c m ≡ message_text t c m
   message_same message.Silence = refl
   message_same (message.Text bytes) = refl
   message_same message.AllWindows = ap (separated (codes "  ")) (items_same t c.user windows t.windows same (focused c))

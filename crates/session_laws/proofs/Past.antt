@@ -9,7 +9,7 @@ use Rattle.command_lang.specs.declared.fault.ParseFault.{ParseFault}
 use Rattle.keys.specs.Grammar.{Item, typed, bound, line}
 use Rattle.session_model.specs.declared.event.Effect.{Effect}
 use Rattle.session_model.specs.declared.event.Effect.TheVariants.{Input, Deliver, Say, Size, GoneWindow, GoneClient}
-use Rattle.session_model.specs.declared.message.Message.{Message}
+use Rattle.session_model.specs.declared.message.StatusMessage.{StatusMessage}
 use Rattle.session_model.specs.declared.refusal.Refusal.{Refusal}
 use Rattle.session_model.specs.Trace.{EventValue, Detach, Keys, Command, Closed, Draw, Reply}
 use Rattle.session_model.specs.Tables.{Tables, Client, row_of, with_row}
@@ -145,11 +145,11 @@ undelivered t event effects other all = none_delivered effects
 
 -- ---- what keys and commands keep
 
-told_keeps : (v : Tables) (client : ℕ) (m : Message) → Keeps v.clients (told v client m).clients
+told_keeps : (v : Tables) (client : ℕ) (m : StatusMessage) → Keeps v.clients (told v client m).clients
 told_keeps v client m = told_same (λ u. Keeps v.clients u.clients) v client m (keeps_same v.clients)
     (λ c is. keeps_client v client c (hearing m c) is refl)
 
-keyed_keeps : (v : Tables) (client : ℕ) (m : List ℕ → Message) (a : Answer)
+keyed_keeps : (v : Tables) (client : ℕ) (m : List ℕ → StatusMessage) (a : Answer)
     → Either (λ d. Keeps v.clients d.tables.clients) a → Keeps v.clients (keyed v client m a).tables.clients
 keyed_keeps v client m (Err r) plain = told_keeps v client _
 keyed_keeps v client m (Ok d) all = on d.lists where

@@ -20,8 +20,8 @@ use Rattle.session_model.specs.declared.event.Effect.TheVariants.{Input, Deliver
 use Rattle.session_model.specs.declared.event.Reason.TheVariants as reason
 use Rattle.session_model.specs.declared.refusal.Refusal.{Refusal}
 use Rattle.session_model.specs.declared.refusal.Refusal.TheVariants.{NoWindow, UnknownUser}
-use Rattle.session_model.specs.declared.message.Message.{Message}
-use Rattle.session_model.specs.declared.message.Message.TheVariants.{Text}
+use Rattle.session_model.specs.declared.message.StatusMessage.{StatusMessage}
+use Rattle.session_model.specs.declared.message.StatusMessage.TheVariants.{Text}
 use Rattle.session_laws.proofs.Quiet as quiet
 use Rattle.session_laws.proofs.Inputs.{append_nil, inputs_append, inputs_unsaid, answer_inputs, answered_inputs}
 use Rattle.session_laws.proofs.Inputs.{keyed_inputs}
@@ -94,7 +94,7 @@ pub typing_leaves : (P : Tables → Type 0) (t : Tables) (c : Client) (bytes : L
 typing_leaves P t c [] here changed = here
 typing_leaves P t c (b ∷ bytes) here changed = on (first_fault t (typing_checks c.user (focused_window t c)))
     (focused_window t c) where
-      on_row : (client : ℕ) (m : Message) → P (told t client m)
+      on_row : (client : ℕ) (m : StatusMessage) → P (told t client m)
       on_row client m = elim (client_at t client) as
           (λ (o : Option Client). P (elim o as (λ _. Tables) [ None ↦ t | Some d ↦ with_client t (hearing m d) ]))
           [ None ↦ here | Some d ↦ changed (hearing m d) ]

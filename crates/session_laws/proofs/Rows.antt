@@ -25,7 +25,7 @@ use Rattle.session_model.specs.declared.refusal.Refusal.{Refusal}
 use Rattle.session_model.specs.declared.refusal.Refusal.TheVariants.{Acl, Windows, NoWindow}
 use Rattle.session_model.specs.windows_fault.WindowsFault.TheVariants.{NoSuchWindow}
 use Rattle.session_model.specs.windows_fault.WindowsFault.TheVariants as fault
-use Rattle.session_model.specs.declared.message.Message.TheVariants as message
+use Rattle.session_model.specs.declared.message.StatusMessage.TheVariants as message
 use Rattle.session_model.specs.Tables.{Tables, Window, Client, window_at, client_at, with_window, with_layout, focused}
 use Rattle.session_model.specs.Tables.{known_users}
 use Rattle.session_model.specs.Naming.{names_of, window_named, window_after, window_before, with_number}

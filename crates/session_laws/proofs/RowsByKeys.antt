@@ -9,8 +9,8 @@ use Rattle.command_lang.specs.declared.fault.ParseFault.{ParseFault}
 use Rattle.keys.specs.Grammar.{Item, typed, bound, line}
 use Rattle.session_model.specs.declared.event.Effect.{Effect}
 use Rattle.session_model.specs.declared.event.Effect.TheVariants.{Say}
-use Rattle.session_model.specs.declared.message.Message.{Message}
-use Rattle.session_model.specs.declared.message.Message.TheVariants.{Text}
+use Rattle.session_model.specs.declared.message.StatusMessage.{StatusMessage}
+use Rattle.session_model.specs.declared.message.StatusMessage.TheVariants.{Text}
 use Rattle.session_model.specs.declared.refusal.Refusal.{Refusal}
 use Rattle.session_model.specs.declared.refusal.Refusal.TheVariants.{NoWindow, Line}
 use Rattle.session_model.specs.declared.verdict.Verdict.{Verdict}
@@ -59,7 +59,8 @@ record Calm (t v : Tables) (e : Deed) : Type 0 where
   effects : e.effects ≡ []
   tables : e.tables ≡ v
 
-told_clients : (v : Tables) (client : ℕ) (m : Message) → map unread (told v client m).clients ≡ map unread v.clients
+told_clients : (v : Tables) (client : ℕ) (m : StatusMessage)
+    → map unread (told v client m).clients ≡ map unread v.clients
 told_clients v client m = (told_read v v client m (same_tables v)).clients
 
 deed_done : (t : Tables) (client : ℕ) (order : Order) (d : Deed) (o : Option (List ℕ))
@@ -78,7 +79,7 @@ abbrev AnswerIs : Tables → Tables → ℕ → Given → Answer → Deed → Ty
 AnswerIs t v client g (Ok d) e = (has_x t g ≡ true) × Done t client g.order d e
 AnswerIs t v client g (Err r) e = Said t v client r e
 
-why_said : (t : Tables) (cs : List Client) (client : ℕ) (r : Refusal) (m : List ℕ → Message) → SameClients t cs
+why_said : (t : Tables) (cs : List Client) (client : ℕ) (r : Refusal) (m : List ℕ → StatusMessage) → SameClients t cs
     → Said t (record t { clients = cs }) client r (keyed (record t { clients = cs }) client m (Err r))
 why_said t cs client r m same = record {
   acts = refl;

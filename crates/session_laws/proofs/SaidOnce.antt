@@ -15,7 +15,7 @@ use Rattle.terminal_model.specs.Reading.{reads}
 use Rattle.session_model.specs.declared.event.Effect.{Effect}
 use Rattle.session_model.specs.declared.event.Effect.TheVariants.{Input, Deliver, Say, GoneWindow, GoneClient}
 use Rattle.session_model.specs.declared.event.Reason.TheVariants as reason
-use Rattle.session_model.specs.declared.message.Message.{Message}
+use Rattle.session_model.specs.declared.message.StatusMessage.{StatusMessage}
 use Rattle.session_model.specs.declared.refusal.Refusal.{Refusal}
 use Rattle.session_model.specs.Trace.{EventValue, Detach, Keys, Command, Output, Closed, Draw, Entry}
 use Rattle.session_model.specs.Tables.{Tables, Window, Client, window_at, client_at, with_client, focused_window}
@@ -150,7 +150,7 @@ mute_done t k c other f is = refl
 -- a deed says each text to a client once, and lists something only if it says nothing
 pub record SaysOnce (d : Deed) : Type 0 where
   pub effects : AreSaidOnce d.effects
-  pub listed : (client : ℕ) (m : List ℕ → Message) → AreSaidOnce (with_listed client m d.lists d).effects
+  pub listed : (client : ℕ) (m : List ℕ → StatusMessage) → AreSaidOnce (with_listed client m d.lists d).effects
 
 quiet_once : (t : Tables) (k : Caller) (c : Order) (d : Deed) → is_wall c ≡ false → HasDone t k c d → SaysOnce d
 quiet_once t k c d other is = record {
@@ -164,7 +164,7 @@ quiet_once t k c d other is = record {
   apart client bytes (Say to said) say = absurd (cc (say))
   apart client bytes f say = tt
 
-  on : (client : ℕ) (m : List ℕ → Message) (o : Option (List ℕ)) → AreSaidOnce (with_listed client m o d).effects
+  on : (client : ℕ) (m : List ℕ → StatusMessage) (o : Option (List ℕ)) → AreSaidOnce (with_listed client m o d).effects
   on client m None = silent d.effects mutes
   on client m (Some bytes) = said_append d.effects (Say client bytes ∷ []) (silent d.effects mutes) (tt, tt)
       (all_weaken (λ f. is_say f ≡ false) (λ f. IsSaidOnce f (Say client bytes ∷ [])) d.effects (apart client bytes)
@@ -197,7 +197,7 @@ types_once u d (b ∷ bytes) = on (first_fault u (typing_checks d.user (focused_
   on None None = tt
   on None (Some w) = (tt, tt)
 
-keyed_once : (v : Tables) (client : ℕ) (m : List ℕ → Message) (a : Answer) → Either SaysOnce a
+keyed_once : (v : Tables) (client : ℕ) (m : List ℕ → StatusMessage) (a : Answer) → Either SaysOnce a
     → AreSaidOnce (keyed v client m a).effects
 keyed_once v client m (Err r) plain = (tt, tt)
 keyed_once v client m (Ok d) all = all.listed client m

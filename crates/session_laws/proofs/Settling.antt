@@ -10,8 +10,8 @@ use Rattle.command_lang.specs.declared.fault.ParseFault.{ParseFault}
 use Rattle.keys.specs.Grammar.{Item, typed, bound, line}
 use Rattle.terminal_model.specs.Writing as written
 use Rattle.session_model.specs.declared.event.Reason.TheVariants as reason
-use Rattle.session_model.specs.declared.message.Message.{Message}
-use Rattle.session_model.specs.declared.message.Message.TheVariants.{Text}
+use Rattle.session_model.specs.declared.message.StatusMessage.{StatusMessage}
+use Rattle.session_model.specs.declared.message.StatusMessage.TheVariants.{Text}
 use Rattle.session_model.specs.declared.refusal.Refusal.{Refusal}
 use Rattle.session_model.specs.declared.verdict.Verdict.{Verdict}
 use Rattle.session_model.specs.Tables.{Tables, Window, Client, row_of, window_at, client_at, with_client, focused}
@@ -88,7 +88,7 @@ still_moves t = stays t t [] 0 tt refl refl refl refl (omega arith) (λ differ n
 
 -- ---- messages
 
-pub told_same : (P : Tables → Type 0) (w : Tables) (client : ℕ) (m : Message) → P w
+pub told_same : (P : Tables → Type 0) (w : Tables) (client : ℕ) (m : StatusMessage) → P w
     → ((c : Client) → client_at w client ≡ Some c → P (with_client w (hearing m c))) → P (told w client m)
 told_same P w client m here changed = on (client_at w client) refl where
   on : (o : Option Client) → client_at w client ≡ o
@@ -115,7 +115,7 @@ same_ids t u v acts n k m serial windows clients next_window next_client none = 
       (m.numbers differ numbers);
 }
 
-told_moves : (t w : Tables) (acts : List Act) (n : ℕ) (client : ℕ) (m : Message) → Moves t w acts n
+told_moves : (t w : Tables) (acts : List Act) (n : ℕ) (client : ℕ) (m : StatusMessage) → Moves t w acts n
     → Moves t (told w client m) acts 0
 told_moves t w acts n client m all =
     told_same (λ u. Moves t u acts 0) w client m (same_ids t w w acts n 0 all refl refl refl refl refl refl)
@@ -124,7 +124,7 @@ told_moves t w acts n client m all =
 
 -- ---- keys
 
-keyed_moves : (v : Tables) (client : ℕ) (m : List ℕ → Message) (a : Answer) → Either (DeedMoves v) a
+keyed_moves : (v : Tables) (client : ℕ) (m : List ℕ → StatusMessage) (a : Answer) → Either (DeedMoves v) a
     → let d : Deed = keyed v client m a in Moves v d.tables d.acts 0
 keyed_moves v client m (Err r) plain = told_moves v v [] 0 client (Text (text_of r)) (still_moves v)
 keyed_moves v client m (Ok d) all = on d.lists where
@@ -132,7 +132,7 @@ keyed_moves v client m (Ok d) all = on d.lists where
   on None = same_ids v d.tables d.tables d.acts (length d.effects) 0 all refl refl refl refl refl refl
   on (Some bytes) = told_moves v d.tables d.acts (length d.effects) client (m bytes) all
 
-ruled_moves : (v : Tables) (client : ℕ) (m : List ℕ → Message) (k : Caller) (c : Order) (o : Option Refusal)
+ruled_moves : (v : Tables) (client : ℕ) (m : List ℕ → StatusMessage) (k : Caller) (c : Order) (o : Option Refusal)
     → ((w : Window) → k.window ≡ Some w → window_at v w.serial ≡ Some w)
     → let d : Deed = keyed v client m (elim o as (λ _. Answer) [ Some r ↦ Err r | None ↦ does v k c ]) in Moves v
     d.tables d.acts 0

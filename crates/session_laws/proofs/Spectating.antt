@@ -16,7 +16,7 @@ use Rattle.command_lang.specs.Names.{name_of}
 use Rattle.keys.specs.Grammar.{Item, typed, bound, line}
 use Rattle.session_model.specs.declared.check.Check.TheVariants.{Unlocked as unlocked}
 use Rattle.session_model.specs.declared.event.Effect.TheVariants.{Say}
-use Rattle.session_model.specs.declared.message.Message.{Message}
+use Rattle.session_model.specs.declared.message.StatusMessage.{StatusMessage}
 use Rattle.session_model.specs.declared.refusal.Refusal.{Refusal}
 use Rattle.session_model.specs.declared.refusal.Refusal.TheVariants.{Line, NoWindow}
 use Rattle.session_model.specs.Tables.{Tables, Window, Client, row_of, with_client, focused_window}
@@ -154,11 +154,11 @@ module _ (user : UserId) (own : Option ℕ) (t : Tables) (watches : IsSpectator 
 
   -- ---- keys
 
-  said : (v : Tables) (n : ℕ) (m : Message) (bytes : List ℕ) → Still user own t v → is_it own n ≡ true
+  said : (v : Tables) (n : ℕ) (m : StatusMessage) (bytes : List ℕ) → Still user own t v → is_it own n ≡ true
       → Of (says v n m bytes)
   said v n m bytes s is = record { tables = told_still user own t v n m s is; acts = tt; effects = (is, tt) }
 
-  listed : (n : ℕ) (m : List ℕ → Message) (o : Option (List ℕ)) (d : Deed) → is_it own n ≡ true → Of d
+  listed : (n : ℕ) (m : List ℕ → StatusMessage) (o : Option (List ℕ)) (d : Deed) → is_it own n ≡ true → Of d
       → Of (with_listed n m o d)
   listed n m None d is leaves = leaves
   listed n m (Some bytes) d is leaves = record {
@@ -167,7 +167,7 @@ module _ (user : UserId) (own : Option ℕ) (t : Tables) (watches : IsSpectator 
     effects = all_append (λ f. is_to own f ≡ true) d.effects (Say n bytes ∷ []) leaves.effects (is, tt);
   }
 
-  by_answer : (v : Tables) (n : ℕ) (m : List ℕ → Message) (a : Answer) → Still user own t v → is_it own n ≡ true
+  by_answer : (v : Tables) (n : ℕ) (m : List ℕ → StatusMessage) (a : Answer) → Still user own t v → is_it own n ≡ true
       → IfDone Of a → Of (keyed v n m a)
   by_answer v n m (Err r) s is done = said v n _ (text_of r) s is
   by_answer v n m (Ok d) s is done = listed n m d.lists d is done

@@ -13,7 +13,7 @@ use Rattle.regions.specs.declared.shown.Shown.{Shown}
 use Rattle.terminal_model.specs.Shows.{View}
 use Rattle.session_model.specs.declared.event.Effect.{Effect}
 use Rattle.session_model.specs.declared.event.Reason.TheVariants as reason
-use Rattle.session_model.specs.declared.message.Message.{Message}
+use Rattle.session_model.specs.declared.message.StatusMessage.{StatusMessage}
 use Rattle.session_model.specs.declared.refusal.Refusal.{Refusal}
 use Rattle.session_model.specs.Trace.{EventValue, Draw, Entry}
 use Rattle.session_model.specs.Tables.{Tables, Window, Client, fresh, client_at, with_client, focused}
@@ -49,13 +49,14 @@ use Rattle.session_laws.proofs.Outcomes as outcomes
 
 -- ---- messages
 
-told_holds : (w : Tables) (client : ℕ) (m : Message) → Holds w → Holds (told w client m)
+told_holds : (w : Tables) (client : ℕ) (m : StatusMessage) → Holds w → Holds (told w client m)
 told_holds w client m h = told_same Holds w client m h
     (λ c is. holds_client w (hearing m c) (page_of w client c is h) h)
 
 -- ---- keys
 
-keyed_holds : (v : Tables) (client : ℕ) (m : List ℕ → Message) (a : Answer) → Holds v → Either (λ d. Holds d.tables) a
+keyed_holds : (v : Tables) (client : ℕ) (m : List ℕ → StatusMessage) (a : Answer) → Holds v
+    → Either (λ d. Holds d.tables) a
     → Holds (keyed v client m a).tables
 keyed_holds v client m (Err r) h plain = told_holds v client _ h
 keyed_holds v client m (Ok d) h all = on d.lists where

@@ -9,8 +9,8 @@ use Rattle.command_lang.specs.declared.command.Command.{Command as Order}
 use Rattle.command_lang.specs.declared.command.Command.TheVariants as command
 use Rattle.session_model.specs.declared.event.Effect.{Effect}
 use Rattle.session_model.specs.declared.event.Effect.TheVariants.{Say, GoneClient}
-use Rattle.session_model.specs.declared.message.Message.{Message}
-use Rattle.session_model.specs.declared.message.Message.TheVariants.{Text}
+use Rattle.session_model.specs.declared.message.StatusMessage.{StatusMessage}
+use Rattle.session_model.specs.declared.message.StatusMessage.TheVariants.{Text}
 use Rattle.session_model.specs.declared.refusal.Refusal.{Refusal}
 use Rattle.session_model.specs.Tables.{Tables, Client, row_of, with_row, client_at, with_client, focused}
 use Rattle.session_model.specs.Tables.{focused_window, shows, is_in_focus}
@@ -53,11 +53,11 @@ client_read t s c d is same = read_row t.clients c.serial c d (row_at t s c is) 
 -- ---- what typing leaves
 
 pub typing_told : (P : Tables → Type 0) (t : Tables) (c : Client) (bytes : List ℕ) → P t
-    → ((m : Message) (d : Client) → client_at t c.serial ≡ Some d → P (with_client t (hearing m d)))
+    → ((m : StatusMessage) (d : Client) → client_at t c.serial ≡ Some d → P (with_client t (hearing m d)))
     → P (types t c bytes).tables
 typing_told P t c [] here changed = here
 typing_told P t c (b ∷ bytes) here changed = on (first_fault t (typing_checks c.user (focused_window t c))) where
-  on_row : (m : Message) (o : Option Client) → client_at t c.serial ≡ o
+  on_row : (m : StatusMessage) (o : Option Client) → client_at t c.serial ≡ o
       → P (elim o as (λ _. Tables) [ None ↦ t | Some d ↦ with_client t (hearing m d) ])
   on_row m None is = here
   on_row m (Some d) is = changed m d is

@@ -10,8 +10,8 @@ use Rattle.keys.specs.Grammar.{items}
 use Rattle.regions.specs.declared.shown.Shown.{Shown}
 use Rattle.terminal_model.specs.Writing.{Writing}
 use Rattle.view.specs.Granted as view
-use Rattle.session_model.specs.declared.message.Message.{Message}
-use Rattle.session_model.specs.declared.message.Message.TheVariants as message
+use Rattle.session_model.specs.declared.message.StatusMessage.{StatusMessage}
+use Rattle.session_model.specs.declared.message.StatusMessage.TheVariants as message
 use Rattle.session_model.specs.Tables.{Window, Client, Tables, window_at, focused, is_window}
 use Rattle.session_model.specs.Rights.{may_in}
 use Rattle.session_model.specs.Keying.{open_line}
@@ -95,7 +95,7 @@ module _ (shown : ℕ → Bool) (seeing : UserId → Bool) (t : Tables) (c : Cli
 
   -- ---- the status line
 
-  message_same : (m : Message) → message_text (less t) (g c) m ≡ message_text t c m
+  message_same : (m : StatusMessage) → message_text (less t) (g c) m ≡ message_text t c m
   message_same message.Silence = refl
   message_same (message.Text bytes) = refl
   message_same message.AllWindows = windows_text_cut shown seeing t c.user (focused c)

@@ -15,7 +15,7 @@ use Rattle.regions.specs.Layouts.{Arrangement}
 use Rattle.session_model.specs.declared.event.Effect.{Effect}
 use Rattle.session_model.specs.declared.event.Effect.TheVariants.{Deliver, Say, GoneClient}
 use Rattle.session_model.specs.declared.event.Reason.TheVariants as reason
-use Rattle.session_model.specs.declared.message.Message.{Message}
+use Rattle.session_model.specs.declared.message.StatusMessage.{StatusMessage}
 use Rattle.session_model.specs.Tables.{Tables, Client, row_of, with_row, client_at, with_client, with_layout}
 use Rattle.session_model.specs.Tables.{focused}
 use Rattle.session_model.specs.Lines.{Caller}
@@ -192,7 +192,7 @@ module _ (user : UserId) (own : Option ℕ) where
   put t v c s is mine = moved t v (with_client v c).clients s (put_others v.clients c s.all is mine)
       (put_all v.clients c c.serial s.all mine)
 
-  pub told_still : (t v : Tables) (n : ℕ) (m : Message) → Still t v → is_it own n ≡ true → Still t (told v n m)
+  pub told_still : (t v : Tables) (n : ℕ) (m : StatusMessage) → Still t v → is_it own n ≡ true → Still t (told v n m)
   told_still t v n m s is = on (client_at v n) refl where
     on : (o : Option Client) → client_at v n ≡ o
         → Still t (elim o as (λ _. Tables) [ None ↦ v | Some c ↦ with_client v (hearing m c) ])

@@ -15,8 +15,8 @@ use Rattle.terminal_model.specs.Writing as written
 use Rattle.session_model.specs.declared.event.Effect.{Effect}
 use Rattle.session_model.specs.declared.event.Effect.TheVariants.{Input, Deliver}
 use Rattle.session_model.specs.declared.event.Reason.TheVariants as reason
-use Rattle.session_model.specs.declared.message.Message.{Message}
-use Rattle.session_model.specs.declared.message.Message.TheVariants.{Text}
+use Rattle.session_model.specs.declared.message.StatusMessage.{StatusMessage}
+use Rattle.session_model.specs.declared.message.StatusMessage.TheVariants.{Text}
 use Rattle.session_model.specs.declared.refusal.Refusal.{Refusal}
 use Rattle.session_model.specs.declared.refusal.Refusal.TheVariants.{NoWindow, UnknownUser, Line}
 use Rattle.session_model.specs.declared.verdict.Verdict.{Verdict}
@@ -97,7 +97,7 @@ line_wrote t user number true (Ok c) s =
 
 -- ---- keys
 
-told_windows : (w : Tables) (client : ℕ) (m : Message) → (told w client m).windows ≡ w.windows
+told_windows : (w : Tables) (client : ℕ) (m : StatusMessage) → (told w client m).windows ≡ w.windows
 told_windows w client m = told_same (λ u. u.windows ≡ w.windows) w client m refl (λ c is. refl)
 
 module _ (t : Tables) (c : Client) (read : List ℕ) (s : AreSound t) (cs : List Client) where
@@ -107,13 +107,13 @@ module _ (t : Tables) (c : Client) (read : List ℕ) (s : AreSound t) (cs : List
   abbrev InDeed : (ℕ → List Writing) → Deed → Type 0
   InDeed f d = Wrote t (λ n. f n ++ sizes_of d.effects n) d.tables.windows
 
-  said_wrote : (f : ℕ → List Writing) (client : ℕ) (m : Message) (bytes : List ℕ) → ((n : ℕ) → f n ≡ [])
+  said_wrote : (f : ℕ → List Writing) (client : ℕ) (m : StatusMessage) (bytes : List ℕ) → ((n : ℕ) → f n ≡ [])
       → InDeed f (says v client m bytes)
   said_wrote f client m bytes none = subst (λ ws. Wrote t (λ n. f n ++ []) ws) (sym (told_windows v client m))
       (kept_wrote t (λ n. f n ++ []) t.windows (λ n. append_nil (f n) ∙ none n) (kept_same t.windows))
 
   module _ (k : Caller) (order : Order) where
-    listed_wrote : (client : ℕ) (m : List ℕ → Message) (d : Deed) (o : Option (List ℕ)) → HasWrote v k order d
+    listed_wrote : (client : ℕ) (m : List ℕ → StatusMessage) (d : Deed) (o : Option (List ℕ)) → HasWrote v k order d
         → InDeed (λ n. row_writing k order n ++ []) (with_listed client m o d)
     listed_wrote client m d None h = alike t (λ n. row_writing k order n ++ sizes_of d.effects n)
         (λ n. (row_writing k order n ++ []) ++ sizes_of d.effects n) d.tables.windows
@@ -132,13 +132,14 @@ module _ (t : Tables) (c : Client) (read : List ℕ) (s : AreSound t) (cs : List
         ∙ ap (λ ws. row_writing k order n ++ ws) (sizes_append d.effects _ n ∙ append_nil (sizes_of d.effects n)))
         (record { rows = h.all.rows; above = h.all.above }))
 
-    keyed_wrote : (client : ℕ) (m : List ℕ → Message) (a : Answer) → does v k order ≡ a → Either (HasWrote v k order) a
+    keyed_wrote : (client : ℕ) (m : List ℕ → StatusMessage) (a : Answer) → does v k order ≡ a
+        → Either (HasWrote v k order) a
         → InDeed (λ n. row_writing k order n ++ []) (keyed v client m a)
     keyed_wrote client m (Ok d) is h = listed_wrote client m d d.lists h
     keyed_wrote client m (Err r) is h = said_wrote (λ n. row_writing k order n ++ []) client (Text (text_of r))
         (text_of r) (λ n. refused_none v k order r is n)
 
-    ruled_wrote : (client : ℕ) (m : List ℕ → Message) (o : Option Refusal)
+    ruled_wrote : (client : ℕ) (m : List ℕ → StatusMessage) (o : Option Refusal)
         → Either (HasWrote v k order) (does v k order)
         → InDeed (ruled_writing k order o)
         (keyed v client m (elim o as (λ _. Answer) [ Some r ↦ Err r | None ↦ does v k order ]))

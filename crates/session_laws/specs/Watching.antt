@@ -12,8 +12,8 @@ use Rattle.command_lang.specs.declared.needs.Needs.{Needs}
 use Rattle.writelock.specs.Holding.{mode_of, default_of}
 use Rattle.session_model.specs.declared.event.Effect.{Effect}
 use Rattle.session_model.specs.declared.event.Effect.TheVariants.{Deliver, Say, GoneClient}
-use Rattle.session_model.specs.declared.message.Message.{Message}
-use Rattle.session_model.specs.declared.message.Message.TheVariants as message
+use Rattle.session_model.specs.declared.message.StatusMessage.{StatusMessage}
+use Rattle.session_model.specs.declared.message.StatusMessage.TheVariants as message
 use Rattle.session_model.specs.Trace.{Entry}
 use Rattle.session_model.specs.Tables.{Client, Tables}
 use Rattle.session_model.specs.Rights.{may_in, holder_in}
@@ -55,7 +55,7 @@ is_for_theirs t user (GoneClient client why) = is_client_of t user client
 is_for_theirs t user _ = false
 
 -- whether a message is the list of clients, which each draw makes again
-abbrev pub lists_clients : Message → Bool
+abbrev pub lists_clients : StatusMessage → Bool
 lists_clients message.AllClients = true
 lists_clients _ = false
 

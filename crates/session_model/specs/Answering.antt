@@ -10,8 +10,8 @@ use Rattle.command_lang.specs.declared.fault.ParseFault.{ParseFault}
 use Rattle.keys.specs.Grammar.{Item, bound, line}
 use Rattle.session_model.specs.declared.event.Effect.{Effect}
 use Rattle.session_model.specs.declared.event.Effect.TheVariants.{Input, Say}
-use Rattle.session_model.specs.declared.message.Message.{Message}
-use Rattle.session_model.specs.declared.message.Message.TheVariants as message
+use Rattle.session_model.specs.declared.message.StatusMessage.{StatusMessage}
+use Rattle.session_model.specs.declared.message.StatusMessage.TheVariants as message
 use Rattle.session_model.specs.declared.refusal.Refusal.{Refusal}
 use Rattle.session_model.specs.declared.refusal.Refusal.TheVariants.{Line}
 use Rattle.session_model.specs.declared.verdict.Verdict.{Verdict}
@@ -41,10 +41,10 @@ commanded t r = answered t r.verdicts r.answer
 -- ---- keys
 
 -- the tables after a client was sent a message
-abbrev pub told : Tables → ℕ → Message → Tables
+abbrev pub told : Tables → ℕ → StatusMessage → Tables
 told t client m = elim (client_at t client) [ None ↦ t | Some c ↦ with_client t (hearing m c) ]
 
-abbrev pub says : Tables → ℕ → Message → List ℕ → Deed
+abbrev pub says : Tables → ℕ → StatusMessage → List ℕ → Deed
 says t client m bytes =
     record (changing (told t client m)) { effects = Say client bytes ∷ [] }
 
@@ -71,12 +71,12 @@ typing_verdicts t c (b ∷ bytes) = verdicts t (typing_checks c.user (focused_wi
 
 -- what a command lists becomes a message of its client; each draw makes lists of windows and of
 -- clients again
-abbrev pub message_of : Order → List ℕ → Message
+abbrev pub message_of : Order → List ℕ → StatusMessage
 message_of command.Windows bytes = message.AllWindows
 message_of command.Displays bytes = message.AllClients
 message_of _ bytes = message.Text bytes
 
-abbrev pub with_listed : ℕ → (List ℕ → Message) → Option (List ℕ) → Deed → Deed
+abbrev pub with_listed : ℕ → (List ℕ → StatusMessage) → Option (List ℕ) → Deed → Deed
 with_listed client as_message None d = d
 with_listed client as_message (Some bytes) d =
     let e : Deed = says d.tables client (as_message bytes) bytes in
@@ -84,7 +84,7 @@ with_listed client as_message (Some bytes) d =
 
 -- what a command that came by keys does: it is done, with its list as a message; or the client is
 -- told its refusal
-abbrev pub keyed : Tables → ℕ → (List ℕ → Message) → Answer → Deed
+abbrev pub keyed : Tables → ℕ → (List ℕ → StatusMessage) → Answer → Deed
 keyed t client as_message (Err r) = says_why t client r
 keyed t client as_message (Ok d) = with_listed client as_message d.lists d
 
@@ -93,7 +93,7 @@ pub record Ordered : Type 0 where
   pub verdicts : List Verdict
   pub deed : Deed
 
-abbrev pub by_ruling : Tables → Client → (List ℕ → Message) → Ruling → Ordered
+abbrev pub by_ruling : Tables → Client → (List ℕ → StatusMessage) → Ruling → Ordered
 by_ruling t c as_message r = record {
   verdicts = r.verdicts;
   deed = keyed t c.serial as_message r.answer;

@@ -15,7 +15,7 @@ use Rattle.terminal_model.specs.Reading.{reads}
 use Rattle.terminal_model.specs.Writing as written
 use Rattle.session_model.specs.declared.check.Check.{Check}
 use Rattle.session_model.specs.declared.check.Check.TheVariants.{Right as right, Must as must}
-use Rattle.session_model.specs.declared.message.Message.TheVariants as message
+use Rattle.session_model.specs.declared.message.StatusMessage.TheVariants as message
 use Rattle.session_model.specs.declared.refusal.Refusal.TheVariants.{NotMultiuser, UnknownUser}
 use Rattle.session_model.specs.declared.refusal.Refusal.TheVariants.{TooManyClients, BadSize}
 use Rattle.session_model.specs.declared.refusal.Refusal.TheVariants.{Windows}

@@ -24,8 +24,8 @@ use Rattle.session_model.specs.declared.event.Reason.TheVariants as reason
 use Rattle.session_model.specs.declared.refusal.Refusal.{Refusal}
 use Rattle.session_model.specs.declared.refusal.Refusal.TheVariants.{Acl, Windows, Regions}
 use Rattle.windows_model.specs.declared.windows_fault.WindowsFault.TheVariants.{NoSuchWindow}
-use Rattle.session_model.specs.declared.message.Message.{Message}
-use Rattle.session_model.specs.declared.message.Message.TheVariants as message
+use Rattle.session_model.specs.declared.message.StatusMessage.{StatusMessage}
+use Rattle.session_model.specs.declared.message.StatusMessage.TheVariants as message
 use Rattle.session_model.specs.Tables.{Window, Client, Tables, with_window, with_client}
 use Rattle.session_model.specs.Tables.{focused, with_layout, known_users}
 
@@ -179,7 +179,7 @@ input_of window bytes = if length bytes == 0 then [] else Input window bytes ∷
 
 -- ---- messages
 
-abbrev pub hearing : Message → Client → Client
+abbrev pub hearing : StatusMessage → Client → Client
 hearing m c = record c { message = m }
 
 -- the text is sent to each client

@@ -15,8 +15,8 @@ use Rattle.terminal_model.specs.Screen.{Screen}
 use Rattle.terminal_model.specs.Shows.{View}
 use Rattle.terminal_model.specs.Scrollback.{moved_back}
 use Rattle.view.specs.Granted as view
-use Rattle.session_model.specs.declared.message.Message.{Message}
-use Rattle.session_model.specs.declared.message.Message.TheVariants as message
+use Rattle.session_model.specs.declared.message.StatusMessage.{StatusMessage}
+use Rattle.session_model.specs.declared.message.StatusMessage.TheVariants as message
 use Rattle.session_model.specs.Tables.{Window, Client, Tables, window_at, focused}
 use Rattle.session_model.specs.Rights.{may_in}
 use Rattle.session_model.specs.Texts.{windows_text, clients_text}
@@ -64,7 +64,7 @@ layout_of c = record {
 }
 
 -- the text of a message; lists of windows and of clients are made again
-abbrev pub message_text : Tables → Client → Message → List ℕ
+abbrev pub message_text : Tables → Client → StatusMessage → List ℕ
 message_text t c message.Silence = []
 message_text t c (message.Text bytes) = bytes
 message_text t c message.AllWindows = windows_text t c.user (focused c)

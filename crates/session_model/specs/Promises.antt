@@ -18,7 +18,7 @@ use Rattle.session_model.specs.declared.event.Effect.{Effect}
 use Rattle.session_model.specs.declared.event.Effect.TheVariants.{Input, Deliver, Say, Size}
 use Rattle.session_model.specs.declared.event.Effect.TheVariants.{GoneWindow, GoneClient}
 use Rattle.session_model.specs.declared.event.Reason.TheVariants as reason
-use Rattle.session_model.specs.declared.message.Message.TheVariants as message
+use Rattle.session_model.specs.declared.message.StatusMessage.TheVariants as message
 use Rattle.session_model.specs.declared.refusal.Refusal.{Refusal}
 use Rattle.session_model.specs.declared.refusal.Refusal.TheVariants.{EntryDenied, NoWindow}
 use Rattle.session_model.specs.Trace.{EventValue, Detach, Keys, Command, Output, Closed, Draw}

@@ -11,7 +11,7 @@ use Rattle.regions.specs.Layouts.{Arrangement}
 use Rattle.terminal_model.specs.Shows.{View}
 pub use Rattle.windows_model.specs.Finding.{row_of, with_row}
 pub use Rattle.windows_model.specs.Table.{Window}
-use Rattle.session_model.specs.declared.message.Message.{Message}
+use Rattle.session_model.specs.declared.message.StatusMessage.{StatusMessage}
 use Rattle.acl.specs.declared.edition.Edition.{Edition}
 
 -- A client: its user; the size of its terminal; all its keys; everything that was delivered to it
@@ -29,7 +29,7 @@ pub record Client : Type 0 where
   pub layout : Arrangement
   pub last : Option ℕ
   pub former : Option ℕ
-  pub message : Message
+  pub message : StatusMessage
 
 -- The owner, the edition of groups, the acts of all steps, whether other users may attach
 -- (multiuser), the open windows and the clients by rising serials, and the next serial of each

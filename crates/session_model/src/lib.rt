@@ -14,7 +14,7 @@ mod verdict;
 pub use check::Check;
 pub use event::{Done, Effect, Event, Ran, Reason, Reply};
 pub use limits::{CLIENTS, SERIALS};
-pub use message::Message;
+pub use message::StatusMessage;
 pub use refusal::{Denied, EntryDenied, LockDenied, Refusal};
 pub use strings::Bytes;
 pub use text::push_decimal;

@@ -1,8 +1,8 @@
 -- A reader and a message that are exchanged twice leave the row as it was.
 use Rattle.std.proofs.Common.{◌≡◌, ℕ, List, ◌++◌, Some, sym, subst, ◌∙◌, ap}
 use Rattle.keys.specs.Kept.{Keeping, StandsFor}
-use Rattle.session_model.specs.declared.message.Message.{Message}
-use Rattle.session_model.specs.declared.message.Message.TheVariants.{Silence}
+use Rattle.session_model.specs.declared.message.StatusMessage.{StatusMessage}
+use Rattle.session_model.specs.declared.message.StatusMessage.TheVariants.{Silence}
 use Rattle.session_model.specs.Tables as model
 use Rattle.session_model.specs.Tables.{row_of, with_row}
 use Rattle.session_model.specs.Answering.{reading}
@@ -11,7 +11,7 @@ use Rattle.session_state.specs.declared.client.Client.{Client}
 use Rattle.session_state.specs.Clients.{ClientStands}
 use Rattle.session_state.proofs.Changing.{serial_of}
 
-pub keeps_read : (bytes : List ℕ) (reader : Keeping) (message : Message) (m : model.Client)
+pub keeps_read : (bytes : List ℕ) (reader : Keeping) (message : StatusMessage) (m : model.Client)
     (c d : Client) → message ≡ Silence → StandsFor reader (m.keys ++ bytes)
     → d ≡ record c { keys = reader; message = message } → ClientStands m c
     → ClientStands (reading bytes m) d
@@ -54,10 +54,10 @@ back before old new serial c once row d same at is now again =
     ∙ with_back serial_of before serial c at)))
 
 -- a row with what it had before
-pub put_together : (row other : Client) (k : Keeping) (w : Message) (keys : Keeping)
-    (message : Message) → row ≡ record other { keys = k; message = w } → keys ≡ other.keys
+pub put_together : (row other : Client) (k : Keeping) (w : StatusMessage) (keys : Keeping)
+    (message : StatusMessage) → row ≡ record other { keys = k; message = w } → keys ≡ other.keys
     → message ≡ other.message → record row { keys = keys; message = message } ≡ other
 put_together row other k w keys message is keys_are message_is =
     ap (λ (r : Client). record r { keys = keys; message = message }) is
     ∙ (ap (λ (x : Keeping). record other { keys = x; message = message }) keys_are
-    ∙ ap (λ (x : Message). record other { message = x }) message_is)
+    ∙ ap (λ (x : StatusMessage). record other { message = x }) message_is)

@@ -9,8 +9,8 @@ use Rattle.regions.specs.Layouts.{Arrangement, kept_alone, emptied}
 use Rattle.regions.specs.Shapes.{region}
 use Rattle.regions.specs.Pages.{has_room}
 use Rattle.terminal_model.specs.Reading.{Terminal, Read, nothing_read, reads}
-use Rattle.session_model.specs.declared.message.Message.{Message}
-use Rattle.session_model.specs.declared.message.Message.TheVariants.{Silence}
+use Rattle.session_model.specs.declared.message.StatusMessage.{StatusMessage}
+use Rattle.session_model.specs.declared.message.StatusMessage.TheVariants.{Silence}
 use Rattle.session_model.specs.Tables as model
 use Rattle.session_model.specs.Tables.{with_layout, focused, last_after, former_after}
 use Rattle.terminal_model.specs.Shows.{IsOfSize}
@@ -25,7 +25,7 @@ use Rattle.session_model.specs.Comings.{attached}
 use Rattle.session_state.specs.Moves.{moved_to, without, fitted}
 use Rattle.session_state.specs.Clients.{ClientStands, IsScreen}
 
-pub keeps_heard : (message : Message) (m : model.Client) (c d : Client)
+pub keeps_heard : (message : StatusMessage) (m : model.Client) (c d : Client)
     → d ≡ record c { message = message } → ClientStands m c → ClientStands (hearing message m) d
 keeps_heard message m c d is st =
     subst (λ (x : Client). ClientStands (hearing message m) x) (sym is) (record {

@@ -7,7 +7,7 @@ use acl::UserId;
 use keys::KeyReader;
 use redraw::Shadow;
 use regions::{Layout, Shown};
-use session_model::Message;
+use session_model::StatusMessage;
 use std::alloc::{AllocError, Global};
 use std::mem;
 use windows_model::Serial;
@@ -25,7 +25,7 @@ pub struct Client {
     pub last: Option<u32>,
     pub former: Option<u32>,
     /// What its status line says.
-    pub message: Message,
+    pub message: StatusMessage,
     /// The size of its terminal, and what that is known to show.
     pub shadow: Shadow,
 }
@@ -63,13 +63,13 @@ impl Client {
             layout,
             last: window,
             former: None,
-            message: Message::Silence,
+            message: StatusMessage::Silence,
             shadow: Shadow::unknown(rows, columns),
         })
     }
 
     /// Puts a message on the client's status line.
-    pub(crate) fn hear(&mut self, message: Message)
+    pub(crate) fn hear(&mut self, message: StatusMessage)
         ensures { self.new ≡ record self.old { message = message } }
     {
         self.message = message;
@@ -105,7 +105,7 @@ impl Client {
     }
 
     /// Takes a reader and a message in place of the client's own, and hands these back.
-    pub(crate) fn exchange(&mut self, keys: &mut KeyReader, message: &mut Message)
+    pub(crate) fn exchange(&mut self, keys: &mut KeyReader, message: &mut StatusMessage)
         ensures row { self.new ≡ record self.old { keys = keys.old; message = message.old } }
         ensures keys { keys.new ≡ self.old.keys }
         ensures message { message.new ≡ self.old.message }

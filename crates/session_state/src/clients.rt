@@ -5,8 +5,8 @@ ghost use Rattle.std.specs.Prelude.{true, false, not, Some, None, Ok, length, ma
 ghost use Rattle.std.specs.Prelude.{OnOk, OnErr, IfOk, IfNone, IfSome, option_copied};
 ghost use Rattle.std.specs.Fn.{FnOnceReturnsAtMut};
 ghost use Rattle.regions.specs.Layouts.{Arrangement};
-ghost use Rattle.session_model.specs.declared.message.Message.{Message as What};
-ghost use Rattle.session_model.specs.declared.message.Message.TheVariants as what;
+ghost use Rattle.session_model.specs.declared.message.StatusMessage.{StatusMessage as What};
+ghost use Rattle.session_model.specs.declared.message.StatusMessage.TheVariants as what;
 ghost use Rattle.session_model.specs.declared.event.Effect.TheVariants as effect;
 ghost use Rattle.session_model.specs.Tables as model;
 ghost use Rattle.session_model.specs.Tables.{row_of, with_row};
@@ -22,7 +22,7 @@ use acl::UserId;
 use keys::KeyReader;
 use redraw::{Frame, Shadow, SharedView};
 use regions::{Layout, RegionFault};
-use session_model::{Bytes, Effect, Message};
+use session_model::{Bytes, Effect, StatusMessage};
 use std::alloc::{AllocError, Global};
 use std::marker::Model;
 use view::View;
@@ -146,7 +146,7 @@ impl Clients {
     }
 
     /// Puts a message on a client's status line.
-    pub fn hear(&mut self, serial: u32, message: Message)
+    pub fn hear(&mut self, serial: u32, message: StatusMessage)
         ensures { Changes (hearing message) serial self.old self.new }
     {
         let Some(client) = self.rows.get_mut(serial) else {
@@ -206,7 +206,7 @@ impl Clients {
 
     /// Puts a reader and a message in place of a client's own, and hands back the client's own. Done
     /// twice, this changes nothing.
-    pub fn exchange(&mut self, serial: u32, keys: &mut KeyReader, message: &mut Message)
+    pub fn exchange(&mut self, serial: u32, keys: &mut KeyReader, message: &mut StatusMessage)
         ensures read { (bytes : List ℕ) → message.old ≡ what.Silence
             → HasReadMore serial self.old keys.old bytes
             → Changes (reading bytes) serial self.old self.new }
@@ -295,7 +295,7 @@ impl Clients {
 
     /// Puts one of these messages on each client's status line. They are made beforehand, so that
     /// this call needs no memory.
-    pub fn hear_all(&mut self, messages: &mut Vec<Message>)
+    pub fn hear_all(&mut self, messages: &mut Vec<StatusMessage>)
         requires { length messages.old.items ≡ length self.old }
         ensures { (text : List ℕ)
             → messages.old.items ≡ replicate (length self.old) (what.Text text)
@@ -315,7 +315,7 @@ fn has_size_of(shadow: &Shadow, view: &View) -> bool
 }
 
 /// Takes the last of some messages, all of which are equal.
-fn next_message(messages: &mut Vec<Message>) -> Message
+fn next_message(messages: &mut Vec<StatusMessage>) -> StatusMessage
     requires { 0 < length messages.old.items }
     ensures len { length messages.new.items + 1 ≡ length messages.old.items }
     ensures same { (n : ℕ) (m : What) → messages.old.items ≡ replicate (n + 1) m
@@ -325,12 +325,16 @@ fn next_message(messages: &mut Vec<Message>) -> Message
 }
 
 /// Makes a number of equal messages of a text.
-pub fn messages_of(alloc: Global, text: &[u8], count: usize) -> Result<Vec<Message>, AllocError>
+pub fn messages_of(
+    alloc: Global,
+    text: &[u8],
+    count: usize,
+) -> Result<Vec<StatusMessage>, AllocError>
     ensures { IfOk result (λ made. made.items ≡ replicate count (what.Text text.now)) }
 {
     let mut made = Vec::new(alloc);
     for i in 0..count {
-        made.push(Message::Text(Bytes::of(alloc, text)?))?;
+        made.push(StatusMessage::Text(Bytes::of(alloc, text)?))?;
     }
     Ok(made)
 }

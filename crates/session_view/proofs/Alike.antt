@@ -11,8 +11,8 @@ use Rattle.regions.specs.Layouts.{Arrangement}
 use Rattle.regions.specs.Shapes.{boxes, separators}
 use Rattle.regions.specs.Pages.{box_of, status_of}
 use Rattle.view.specs.Granted as view
-use Rattle.session_model.specs.declared.message.Message.{Message}
-use Rattle.session_model.specs.declared.message.Message.TheVariants as message
+use Rattle.session_model.specs.declared.message.StatusMessage.{StatusMessage}
+use Rattle.session_model.specs.declared.message.StatusMessage.TheVariants as message
 use Rattle.session_model.specs.Tables as model
 use Rattle.session_model.specs.Tables.{Tables, window_at}
 use Rattle.session_model.specs.Rights.{may_in}
@@ -33,7 +33,7 @@ page_of l rows columns = record {
 abbrev said : Tables → model.Client → Option (List ℕ) → List ℕ
 said t m o = elim o [ Some line ↦ code ":" ∷ line | None ↦ message_text t m m.message ]
 
-said_to_all : (t : Tables) (m n : model.Client) (x : Message) → is_for_all x ≡ true
+said_to_all : (t : Tables) (m n : model.Client) (x : StatusMessage) → is_for_all x ≡ true
     → message_text t m x ≡ message_text t n x
 said_to_all t m n message.Silence all = refl
 said_to_all t m n (message.Text bytes) all = refl

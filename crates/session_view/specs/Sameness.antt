@@ -4,8 +4,8 @@ use Rattle.acl.specs.declared.user_id.UserId.{UserId}
 use Rattle.keys.specs.Grammar.{items, open_line}
 use Rattle.keys.specs.Kept.{rest_of}
 use Rattle.regions.specs.declared.shown.Shown.{Shown}
-use Rattle.session_model.specs.declared.message.Message.{Message}
-use Rattle.session_model.specs.declared.message.Message.TheVariants as message
+use Rattle.session_model.specs.declared.message.StatusMessage.{StatusMessage}
+use Rattle.session_model.specs.declared.message.StatusMessage.TheVariants as message
 use Rattle.session_model.specs.Tables as model
 use Rattle.session_model.specs.Tables.{Tables, client_at}
 use Rattle.session_model.specs.Granted.{part_shown, granted_view}
@@ -34,14 +34,14 @@ abbrev pub ShowBoth : Tables → UserId → UserId → List Shown → Type 0
 ShowBoth t user other shown = map (part_shown t user) shown ≡ map (part_shown t other) shown
 
 -- a message that says the same text to each client
-abbrev pub is_for_all : Message → Bool
+abbrev pub is_for_all : StatusMessage → Bool
 is_for_all message.Silence = true
 is_for_all (message.Text bytes) = true
 is_for_all message.AllWindows = false
 is_for_all message.AllClients = true
 
 -- one message, which says the same text to both clients
-abbrev pub SayTheSame : Message → Message → Type 0
+abbrev pub SayTheSame : StatusMessage → StatusMessage → Type 0
 SayTheSame m n = (m ≡ n) × (is_for_all m ≡ true)
 
 -- Terminals of the same size; the same regions, which show both users the same; no prompt is open,

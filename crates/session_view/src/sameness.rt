@@ -7,7 +7,7 @@ ghost use Rattle.session_view.specs.Sameness.{ShowBoth, AreBothAlike, SeeTheSame
 
 use acl::{Bit, Object, UserId};
 use regions::Shown;
-use session_model::Message;
+use session_model::StatusMessage;
 use session_state::{Client, State};
 
 /// Whether the terminals of two clients have the same size.
@@ -18,13 +18,14 @@ fn have_same_size(a: &Client, b: &Client) -> bool
 }
 
 /// Whether two messages say the same text, on every client's status line.
-fn say_the_same(message: &Message, other: &Message) -> bool
+fn say_the_same(message: &StatusMessage, other: &StatusMessage) -> bool
     ensures { (result ≡ true) ↔ SayTheSame message.now other.now }
 {
     match (message, other) {
-        (Message::Silence, Message::Silence) => true,
-        (Message::Text(text), Message::Text(said)) => text.as_slice() == said.as_slice(),
-        (Message::AllClients, Message::AllClients) => true,
+        (StatusMessage::Silence, StatusMessage::Silence) => true,
+        (StatusMessage::Text(text), StatusMessage::Text(said)) => text.as_slice()
+            == said.as_slice(),
+        (StatusMessage::AllClients, StatusMessage::AllClients) => true,
         _ => false,
     }
 }

@@ -4,7 +4,7 @@ ghost use Rattle.std.specs.Prelude.{◌≡◌, ◌∷◌, IfOk};
 ghost use Rattle.session_view.specs.Status.{SaysStatus, SaysMessage};
 
 use session_commands::{clients_text, windows_text};
-use session_model::{Bytes, Message};
+use session_model::{Bytes, StatusMessage};
 use session_state::{Client, State};
 use std::alloc::{AllocError, Global};
 
@@ -23,10 +23,12 @@ fn message_text(state: &State, client: &Client) -> Result<Bytes, AllocError>
     ensures { IfOk result (SaysMessage state.now client.now) }
 {
     match &client.message {
-        Message::Silence => Ok(Bytes::new(state.alloc)),
-        Message::Text(bytes) => Bytes::of(state.alloc, bytes.as_slice()),
-        Message::AllWindows => { windows_text(state, client.user, client.layout.focused().window) }
-        Message::AllClients => clients_text(state),
+        StatusMessage::Silence => Ok(Bytes::new(state.alloc)),
+        StatusMessage::Text(bytes) => Bytes::of(state.alloc, bytes.as_slice()),
+        StatusMessage::AllWindows => {
+            windows_text(state, client.user, client.layout.focused().window)
+        }
+        StatusMessage::AllClients => clients_text(state),
     }
 }
 

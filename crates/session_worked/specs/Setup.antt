@@ -15,7 +15,7 @@ use Rattle.command_lang.specs.declared.command.Users.TheVariants.{Listed}
 use Rattle.command_lang.specs.declared.command.Leader.TheVariants.{Named}
 use Rattle.regions.specs.Layouts.{one_region}
 use Rattle.session_model.specs.declared.event.Effect.{Effect}
-use Rattle.session_model.specs.declared.message.Message.TheVariants.{Silence}
+use Rattle.session_model.specs.declared.message.StatusMessage.TheVariants.{Silence}
 use Rattle.session_model.specs.Trace.{EventValue, Keys}
 use Rattle.session_model.specs.Texts.{text_of}
 use Rattle.session_model.specs.Tables.{Tables, Window, Client, fresh}

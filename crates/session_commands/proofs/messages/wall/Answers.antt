@@ -4,7 +4,7 @@ use Rattle.std.specs.Prelude.{codes}
 use Rattle.acl.specs.Names.{name_of}
 use Rattle.session_model.specs.declared.event.Effect.{Effect}
 use Rattle.session_model.specs.declared.event.Effect.TheVariants.{Say}
-use Rattle.session_model.specs.declared.message.Message.TheVariants.{Text}
+use Rattle.session_model.specs.declared.message.StatusMessage.TheVariants.{Text}
 use Rattle.session_model.specs.Tables.{Client}
 use Rattle.session_model.specs.Deeds.{tells}
 use Rattle.session_commands.proofs.messages.wall.Goals as goal

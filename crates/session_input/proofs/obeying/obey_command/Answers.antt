@@ -1,7 +1,7 @@
 use Rattle.std.proofs.Common.{◌+◌, ◌≤◌, Ok, Err, ap, refl, sym, subst, ◌∙◌}
 use Rattle.std.specs.Prelude.{vec_len, vec_capacity}
 use Rattle.std.specs.Option.{is_some}
-use Rattle.session_model.specs.declared.message.Message.{Message}
+use Rattle.session_model.specs.declared.message.StatusMessage.{StatusMessage}
 use Rattle.session_model.specs.Commands.{ruling}
 use Rattle.windows_model.proofs.Serials.{on_ok, on_error}
 use Rattle.session_state.specs.declared.caller.Caller.{Caller}
@@ -27,7 +27,7 @@ returns-in_ok-message-in-Ok-Some-clause-ok c =
     c.order.new.step c.say.new.made serial
     (subst (λ (x : State). Stands t x) (sym kept.state) st) at told.0.1
     (sym c.in-Ok-Some.field-0-is ∙ told.0.2) told.0.3 told.1
-    (subst (λ (m : Message). Says c.args.by.client m text s c.say.new.state c.order.new.step.made
+    (subst (λ (m : StatusMessage). Says c.args.by.client m text s c.say.new.state c.order.new.step.made
     c.say.new.made) c.in_ok-message-in-Ok-Some.ensures says))
     c.say.ensures.ok
 

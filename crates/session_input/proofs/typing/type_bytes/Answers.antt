@@ -1,6 +1,6 @@
 use Rattle.std.proofs.Common.{◌≡◌, ◌++◌, subst, ap, sym, ◌∙◌}
 use Rattle.std.specs.Prelude.{◌⊎◌}
-use Rattle.session_model.specs.declared.message.Message.{Message}
+use Rattle.session_model.specs.declared.message.StatusMessage.{StatusMessage}
 use Rattle.session_model.specs.declared.refusal.Refusal.TheVariants.{NoMemory}
 use Rattle.session_model.specs.Checks.{typing_checks}
 use Rattle.session_state.specs.declared.caller.Caller.{Caller}
@@ -28,7 +28,7 @@ returns-in_ok-deny-in-Err-clause-ok c = λ t row st fit at same.
       made = record c.args.step.now.made { effects = c.deny.new.effects };
       verdicts = c.check_typing.new.verdicts;
     } in
-    subst (λ (m : Message). Typed t row c.args.typed m c.args.step.now after)
+    subst (λ (m : StatusMessage). Typed t row c.args.typed m c.args.step.now after)
     (sym c.in_ok-deny-in-Err.ensures.ok.0)
     (typed_refused_or t row c.args.by.client c.args.typed r c.args.step.now after
     (sym c.is_empty.ensures ∙ c.if-is_empty.false) at
