@@ -47,7 +47,7 @@ module _ (t : Tables) (user : UserId) (client : Option ℕ) where
   Unplaced c = IfNeeded (not (needs c).client) (does t nowhere c ≡ Err NoWindow)
 
   by_window : (c : Command) → IfNeeded (needs c).window (Unplaced c)
-  unfolding given
+  unfolding given nowhere
   by_window (command.Writelock Off) = refl
   by_window (command.Writelock mode) = refl
   by_window c = search

@@ -11,15 +11,15 @@ returns-in_err-client-clause-answer c =
     let p = err_from_is_err_and c.from_residual.result c.from_residual.ensures.1 in
     rw (p.1, p.2)
     (nobody_gives c.args.caller c.args.command.now c.args.state.now c.args.made.now c.in_err-client.field-0.0
-    (ap (λ (n : Needs). n.client) (sym c.needs_of.ensures) ∙ c.if-needs_of.true) c.in_err-client.ensures.err)
+    (ap (λ (n : Needs). n.client) (sym c.needs_of-needed.ensures) ∙ c.if-needed.true) c.in_err-client.ensures.err)
 
 pub returns-in_err-window-clause-answer : goal.returns-in_err-window-clause-answer
 returns-in_err-window-clause-answer c =
-    let p = err_from_is_err_and c.from_residual.result c.from_residual.ensures.1 in
+    let p = err_from_is_err_and c.from_residual-in_err-window.result c.from_residual-in_err-window.ensures.1 in
     rw (p.1, p.2)
     (given_nowhere c.args.caller c.args.command.now c.args.state.now c.args.made.now c.in_err-window.field-0.0
-    (ap (λ (n : Needs). n.client) (sym c.needs_of-needed.ensures) ∙ c.if-needed.client.false)
-    (ap (λ (n : Needs). n.window) (sym c.needs_of-needed.ensures) ∙ c.if-needed.window.true)
+    (ap (λ (n : Needs). n.client) (sym c.needs_of-needed.ensures) ∙ c.if-needed.false)
+    (ap (λ (n : Needs). n.window) (sym c.needs_of-needed.ensures) ∙ c.if-needed-2.true)
     c.in_err-window.ensures.err)
 
 pub returns-in-Screen-clause-answer : goal.returns-in-Screen-clause-answer
