@@ -322,14 +322,13 @@ pub fn put_payload(out: &mut Vec<u8>, message: &Message) -> Result<(), AllocErro
             name,
             line,
         } => put_command(out, *window, token, name, line)?,
-        Message::Keys(bytes)
-        | Message::Output(bytes)
-        | Message::Draw(bytes)
-        | Message::Input(bytes) => put_bytes(out, bytes)?,
+        Message::Keys(bytes) => put_bytes(out, bytes)?,
+        Message::Output(bytes) => put_bytes(out, bytes)?,
+        Message::Draw(bytes) => put_bytes(out, bytes)?,
+        Message::Input(bytes) => put_bytes(out, bytes)?,
         Message::Say(text) => put_text(out, text)?,
-        Message::Resize { rows, columns } | Message::Size { rows, columns } => {
-            put_size(out, *rows, *columns)?;
-        }
+        Message::Resize { rows, columns } => put_size(out, *rows, *columns)?,
+        Message::Size { rows, columns } => put_size(out, *rows, *columns)?,
         Message::Detach => {}
         Message::Welcome(number) => out.push(*number)?,
         Message::Gone(why) => out.push(why.number())?,

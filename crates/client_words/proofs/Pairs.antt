@@ -1,4 +1,4 @@
--- What one byte more does to input in which a byte leaves.
+-- Input in which one byte leaves, after one more byte.
 use Rattle.std.proofs.Common.{◌≡◌, ℕ, ◌==◌, Bool, true, false, List, [], ◌∷◌, ◌++◌, refl, sym, ap, ◌∙◌, if◌then◌else◌}
 use Rattle.client_words.specs.declared.leaving.InputStage.{InputStage}
 use Rattle.client_words.specs.declared.leaving.InputStage.TheVariants.{Reading, Waiting, Left}

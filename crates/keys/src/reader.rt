@@ -76,7 +76,7 @@ impl KeyReader {
         }
     }
 
-    /// A reader that has read the same keys.
+    /// A copy of the reader.
     pub fn copied(&self) -> KeyReader
         ensures { result ≡ self.now }
     {

@@ -36,7 +36,6 @@ over_same row at n f g c same = ⊎_elim
     (cases_lt c (at + n)))
     (cases_lt c at)
 
-
 module _ (rows columns : ℕ) where
   -- the line of the pen gets new cells
   pub page_written : (line at : ℕ) (fresh : List Cell) (page : Page) → IsPage rows columns page → line < rows
