@@ -58,8 +58,8 @@ module _ (rows columns : ℕ) (old new : Page) (pen_line pen_column : ℕ) (know
           rendition_is = rw (ap (λ (s : State). s.rendition) state) d.rendition_is;
         };
         here = λ c hc. ap (λ g. unprotected (cell_at (line_at g pen_line) c)) page
-            ∙ page_written pen_line pen_column (replicate n blank) x.page (sized rows columns pen x d) lh (rw m room)
-            (rw m some) c hc
+            ∙ page_written rows columns pen_line pen_column (replicate n blank) x.page (sized rows columns pen x d) lh
+            (rw m room) (rw m some) c hc
             ∙ ap (λ j. row_written (seen x pen_line) pen_column j
             (λ k'. unprotected (fresh_at (replicate n blank) (k' - pen_column))) c) m
             ∙ over_same (seen x pen_line) pen_column n
