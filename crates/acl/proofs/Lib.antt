@@ -1,4 +1,5 @@
 pub mod AsideLemmas
+pub mod Choices
 pub mod FollowingLemmas
 pub mod InPlace
 pub mod NameLemmas
@@ -6,3 +7,5 @@ pub mod OpenSlots
 pub mod PlanLemmas
 pub mod RowLemmas
 pub mod StandsForLemmas
+pub mod StandsForUsers
+pub mod StandsForWindows

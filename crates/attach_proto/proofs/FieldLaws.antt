@@ -52,7 +52,7 @@ pub both_true : (a b : Bool) → (a && b) ≡ true → (a ≡ true) × (b ≡ tr
 both_true true b e = (refl, e)
 both_true false b e = absurd cc
 
--- what was read from the front
+-- a text was read from the front
 pub record Takes (bytes text rest : List ℕ) : Type 0 where
   pub parts : bytes ≡ text ++ rest
   pub rest_fits : IsBytes rest
@@ -203,7 +203,7 @@ chosen : {A : Type 0} (b : Bool) (x z : A) (y : Option A) (P : Type 0) → cond 
 chosen true x z y P e f g = f refl (some_is x z e)
 chosen false x z y P e f g = g e
 
--- what is found passes
+-- an item that is found passes the test
 pub found : {A : Type 0} (test : A → Bool) (xs : List A) (z : A) → find test xs ≡ Some z → test z ≡ true
 found test [] z e = absurd cc
 found test (x ∷ xs) z e = chosen (test x) x z (find test xs) (test z ≡ true) e

@@ -6,7 +6,7 @@ use Rattle.std.specs.Str.{is_utf8}
 use Rattle.attach_proto.specs.declared.fault.Unread.{Unread}
 use Rattle.attach_proto.specs.declared.fault.Unread.TheVariants.{Memory, Payload}
 
--- What a function returned, seen by view, is what reading gives, unless memory ran out.
+-- A function returned what reading gives, unless memory ran out; `view` is the value of its result.
 abbrev pub Fails : {Y : Type 0} → Unread → Option Y → Type 0
 Fails Memory read = Unit {0}
 Fails Payload read = read ≡ None

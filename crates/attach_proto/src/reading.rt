@@ -9,7 +9,7 @@ use crate::message::{Message, message_of};
 use crate::side::Side;
 use std::alloc::{AllocError, Global};
 
-/// What stands at the front of a stream.
+/// The front of a stream: a frame, a part of one, or a fault.
 #[derive(Drop)]
 pub enum Front {
     /// Less than a whole frame, with no fault in it.
@@ -53,7 +53,7 @@ fn sized(alloc: Global, kind: Kind, bytes: &[u8]) -> Result<Front, AllocError>
     }
 }
 
-/// What stands at the front of this stream.
+/// Reads the front of this stream.
 #[tactic(auto, unfolding(crate::specs::Reading::front))]
 pub fn front_of(alloc: Global, side: Side, bytes: &[u8]) -> Result<Front, AllocError>
     ensures { IfOk result (λ f. f ≡ front side bytes.now) }

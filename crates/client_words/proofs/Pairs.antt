@@ -1,4 +1,4 @@
--- What one byte more does to input in which a byte leaves.
+-- Input in which one byte leaves, after one more byte.
 use Rattle.std.proofs.Common.{◌≡◌, ℕ, ◌==◌, Bool, true, false, List, [], ◌∷◌, ◌++◌, refl, sym, ap, ◌∙◌, if◌then◌else◌}
 use Rattle.client_words.specs.declared.leaving.InputStage.{InputStage}
 use Rattle.client_words.specs.declared.leaving.InputStage.TheVariants.{Reading, Waiting, Left}
@@ -75,7 +75,8 @@ pub sends-more : (reader : LeaveReader) (before : List ℕ) (y : ℕ) (put : Lis
     → more reader.byte reader.stage y ≡ put
     → sent reader.byte (before ++ y ∷ []) ≡ sent reader.byte before ++ put
 sends-more reader before y put s e =
-    sent-more reader.byte before y ∙ ap (λ (st : InputStage). sent reader.byte before ++ more reader.byte st y) (sym s.stage)
+    sent-more reader.byte before y
+    ∙ ap (λ (st : InputStage). sent reader.byte before ++ more reader.byte st y) (sym s.stage)
     ∙ ap (λ (l : List ℕ). sent reader.byte before ++ l) e
 
 pub next-yes : (byte : ℕ) (st : InputStage) (y : ℕ) → st ≡ Reading → y == byte ≡ true → next byte st y ≡ Waiting
@@ -99,7 +100,8 @@ more-yes byte st y e h = rw (e, h) refl
 pub more-no : (byte : ℕ) (st : InputStage) (y : ℕ) → st ≡ Reading → y == byte ≡ false → more byte st y ≡ y ∷ []
 more-no byte st y e h = rw (e, h) refl
 
-pub more-pair : (byte : ℕ) (st : InputStage) (y : ℕ) → st ≡ Waiting → y == byte ≡ true → y ≡ byte → more byte st y ≡ y ∷ []
+pub more-pair : (byte : ℕ) (st : InputStage) (y : ℕ) → st ≡ Waiting → y == byte ≡ true → y ≡ byte
+    → more byte st y ≡ y ∷ []
 more-pair byte st y e h same = rw (e, h) (ap (λ n. n ∷ []) (sym same))
 
 pub more-lone : (byte : ℕ) (st : InputStage) (y : ℕ) → st ≡ Waiting → y == byte ≡ false → more byte st y ≡ []

@@ -7,7 +7,7 @@ use Rattle.std.proofs.lemmas.Bool.Decides.{nat_tests}
 use Rattle.client_words.specs.Visible.{is_control, is_lead, is_second, digit, escaped, shown, visible, has_c1, put_now}
 use Rattle.client_words.specs.Visible.{holds_after}
 
--- what is written of bytes, if one before them may be held back
+-- the bytes that are written for these, if one before them may be held back
 abbrev pub from : Bool → List ℕ → List ℕ
 from holds rest = if holds then visible (0xC2 ∷ rest) else visible rest
 
@@ -24,7 +24,7 @@ pair : (x : ℕ) (rest : List ℕ) → is_second x ≡ true → visible (0xC2 �
 unfolding visible
 pair x rest h = rw h refl
 
--- one byte of those that are to come is written
+-- one more byte is written
 plain : (x : ℕ) (rest : List ℕ) → visible (x ∷ rest) ≡ (if is_lead x then [] else shown x) ++ from (is_lead x) rest
 plain x rest = go (is_lead x) refl
   where
@@ -110,7 +110,7 @@ escaped-quiet x xs h e =
     let two : List ℕ = digit (x / 16) ∷ last in
     low 0x5C (0x78 ∷ two) refl (low 0x78 two refl (low (digit (x / 16)) last first (low (digit (x % 16)) xs second e)))
 
--- the first byte that is written of some bytes is theirs, or that of an escape
+-- the first byte written is the first of these bytes, or a backslash
 begins-shown : (y : ℕ) (xs : List ℕ) → is_second y ≡ false → begins (shown y ++ xs) ≡ false
 begins-shown y xs h = go (is_control y) refl
   where

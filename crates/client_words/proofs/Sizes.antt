@@ -66,7 +66,7 @@ long_none line h = go (nat_lt 4 (position_or_len is_blank line)) refl
         ap (size_by (number_of (before_first is_blank line))) (long_number (after_first is_blank line) long)
         ∙ by_none (number_of (before_first is_blank line))
 
--- the first 64 bytes of a line say what it says
+-- the first 64 bytes of a line give the size that the whole line gives
 pub kept : (line : List ℕ) → size_of (take 64 line) ≡ size_of line
 kept line = go (nat_lt 64 (length line)) refl
   where

@@ -15,7 +15,7 @@ stands-nil reader items dropped = record {
   dropped = dropped ∙ ap has_other (sym ended-nil);
 }
 
--- what it keeps is as before
+-- a reader whose parts are unchanged
 pub stands-same : (old new : SizeLines) (bytes : List ℕ) → new.line.items ≡ old.line.items
     → new.has_dropped ≡ old.has_dropped → StandsFor old bytes → StandsFor new bytes
 stands-same old new bytes items dropped s = record { line = items ∙ s.line; dropped = dropped ∙ s.dropped }
@@ -43,7 +43,7 @@ stands-full old new bytes byte other full items dropped s =
       dropped = dropped ∙ s.dropped ∙ ap has_other (sym (ended-other bytes byte other));
     }
 
--- what it keeps of a line says what the line says
+-- the beginning that it keeps of a line gives the size that the line gives
 pub says : (reader : SizeLines) (bytes : List ℕ) → StandsFor reader bytes
     → size_of reader.line.items ≡ size_of (unended bytes)
 says reader bytes s = ap size_of s.line ∙ kept (unended bytes)
@@ -60,7 +60,7 @@ stands-feed old new bytes byte feed items dropped s = record {
 
 -- ---- the last size
 
--- what a byte that ends a line says, or else what was said before
+-- the last size after one more byte: that of the line, if the byte ends it, or else the last one before
 pub last-byte : (behind : List ℕ) (byte : ℕ) (line : List ℕ) → size_of line ≡ size_of (unended behind)
     → option_or (if is_feed byte then size_of line else None) (last_size (ended behind)) ≡ last_size
     (ended (behind ++ byte ∷ []))

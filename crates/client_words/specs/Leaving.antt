@@ -3,7 +3,8 @@ use Rattle.std.specs.Prelude.{ℕ, ◌==◌, if◌then◌else◌, List, [], ◌�
 use Rattle.client_words.specs.declared.leaving.InputStage.{InputStage}
 use Rattle.client_words.specs.declared.leaving.InputStage.TheVariants.{Reading, Waiting, Left}
 
--- what is sent of the input: each pair of the byte as one, and nothing from a lone one on
+-- the part of the input that is sent: two of the byte are sent as one; nothing is sent from the first lone
+-- one on
 unfoldable pub sent : ℕ → List ℕ → List ℕ
 sent byte [] = []
 sent byte (x ∷ []) = if x == byte then [] else x ∷ []
@@ -11,7 +12,8 @@ sent byte (x ∷ y ∷ rest) =
     if x == byte then (if y == byte then byte ∷ sent byte rest else [])
     else x ∷ sent byte (y ∷ rest)
 
--- whether a lone byte left; if not, whether the input ends in one that the next byte decides about
+-- whether the user left by a lone byte; if not, whether the input ends with the byte, so that the next one
+-- decides
 unfoldable pub stage : ℕ → List ℕ → InputStage
 stage byte [] = Reading
 stage byte (x ∷ []) = if x == byte then Waiting else Reading

@@ -7,7 +7,7 @@ use Rattle.std.specs.Prelude.{List, [], ◌∷◌, ◌++◌}
 abbrev pub is_control : ℕ → Bool
 is_control x = nat_lt x 0x20 || x == 0x7F
 
--- U+0080 to U+009F are this byte and that of their number
+-- in UTF-8, U+0080 to U+009F are this byte, followed by the byte of their number
 abbrev pub is_lead : ℕ → Bool
 is_lead x = x == 0xC2
 
@@ -36,8 +36,8 @@ has_c1 [] = false
 has_c1 (x ∷ []) = false
 has_c1 (x ∷ y ∷ rest) = is_lead x && is_second y || has_c1 (y ∷ rest)
 
--- byte by byte, with a byte that may begin one of C1 held back: what is written after the next byte, and
--- whether that byte is held back
+-- Byte by byte: a byte that may begin a control character of C1 is held back. Then these are the bytes
+-- that are written when the next byte comes, and whether that byte is held back.
 abbrev pub put_now : Bool → ℕ → List ℕ
 put_now holds x =
     if holds && is_second x then escaped x

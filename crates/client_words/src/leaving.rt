@@ -8,7 +8,7 @@ ghost use Rattle.client_words.specs.declared.leaving.InputStage.TheVariants.{Lef
 
 use std::alloc::AllocError;
 
-/// Where input stands.
+/// How far the input was read.
 #[derive(Clone, Copy)]
 pub enum InputStage {
     Reading,

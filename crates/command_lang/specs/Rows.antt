@@ -26,7 +26,7 @@ rows = map (λ r. record {
   needs = r.3;
 }) ROWS
 
--- stands for the row of a command that has none; each command has one
+-- the row of a command that has none; each command has one
 abbrev pub no_row : TableRow
 no_row = record { name = []; alias = None; words = Nothing; needs = NOTHING }
 

@@ -69,6 +69,10 @@ is_empty_text text = length text == 0
 abbrev pub has_empty_item : List ℕ → Bool
 has_empty_item text = list_any is_empty_text (items_of text)
 
+-- whether an item consists of `#` (all windows) and `?` (all commands) alone, and isn't empty
+abbrev pub is_wide : List ℕ → Bool
+is_wide item = nat_lt 0 (length item) && list_all (λ b. b == 0x23 || b == 0x3F) item
+
 -- a lone `*` means all users
 abbrev pub users_of : List ℕ → Users
 users_of text = if bytes_eq text (codes "*") then users.All else users.Listed (items_of text)

@@ -24,3 +24,4 @@ pub use needs::{Needs, needs_of};
 pub use printing::print;
 pub use reading::{LONGEST_LINE, parse};
 pub use strings::{Items, Text, Texts, each_line_is_cut_once};
+pub use values::{has_byte, is_wide};

@@ -1,6 +1,7 @@
 //! What words mean.
 
-ghost use Rattle.std.specs.Prelude.{◌≡◌, true, IfOk};
+ghost use Rattle.std.specs.Prelude.{◌≡◌, ◌==◌, ◌||◌, nat_eq, true, IfOk};
+ghost use Rattle.std.specs.List.{list_all, list_any};
 ghost use Rattle.command_lang.specs.Values as mean;
 ghost use Rattle.command_lang.specs.MaskFaults as judging;
 
@@ -99,6 +100,27 @@ pub fn items(alloc: Global, text: &str) -> Result<Texts, AllocError>
         items.push(Text::of(alloc, item)?)?;
     }
     Ok(items)
+}
+
+/// Whether each byte is `#` or `?`.
+fn has_wide_bytes(item: &[u8]) -> bool
+    ensures { result ≡ list_all (λ b. b == 0x23 || b == 0x3F) item.now }
+{
+    item.iter().all(|b| *b == b'#' || *b == b'?')
+}
+
+/// Whether an item of a list is made of `#` (all windows) and `?` (all commands), and isn't empty.
+pub fn is_wide(item: &str) -> bool
+    ensures { result ≡ mean.is_wide item.now }
+{
+    !item.is_empty() && has_wide_bytes(item.as_bytes())
+}
+
+/// Whether the text has the byte.
+pub fn has_byte(text: &str, byte: u8) -> bool
+    ensures { result ≡ list_any (nat_eq byte) text.now }
+{
+    text.as_bytes().contains(&byte)
 }
 
 /// The users that `*` or a list means. `AllocError` if memory is refused.

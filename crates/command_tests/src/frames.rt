@@ -15,13 +15,16 @@ static FRAMES: [Row; 16] = [
     ),
     (
         Side::Server,
-        b"\x57\x00\x4E\x00\x18\x00\x50\x00\x640123456789abcdef0123456789abcdef0123456789abcdef0123456789abcdef\x03bobzero",
-        "[Window { rows: 24, columns: 80, keep: 100, token: Token, name: Text { text: \"bob\" }, title: Text { text: \"zero\" } }]",
+        b"\x57\x00\x4E\x00\x18\x00\x50\x00\x640123456789abcdef0123456789abcdef\
+          0123456789abcdef0123456789abcdef\x03bobzero",
+        "[Window { rows: 24, columns: 80, keep: 100, token: Token, name: Text { text: \"bob\" }, \
+         title: Text { text: \"zero\" } }]",
     ),
     (
         Side::Server,
         b"\x43\x00\x49\xFF0123456789abcdef0123456789abcdef0123456789abcdef0123456789abcdef\x03bobkill",
-        "[Command { window: None, token: Token, name: Text { text: \"bob\" }, line: Bytes { items: [107, 105, 108, 108] } }]",
+        "[Command { window: None, token: Token, name: Text { text: \"bob\" }, \
+         line: Bytes { items: [107, 105, 108, 108] } }]",
     ),
     (
         Side::Server,

@@ -1,4 +1,4 @@
-//! Made-up bytes give the same messages and the same fault, wherever they are cut.
+//! Made-up bytes give the same messages and the same fault, no matter how they are cut.
 
 ghost use Rattle.std.specs.Prelude.{◌<◌};
 

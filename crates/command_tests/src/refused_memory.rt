@@ -19,7 +19,8 @@ static PIECES: [&[u8]; 9] = [
 
 /// The frames of the pieces.
 const FRAMES: &[u8] =
-    b"\x4B\x00\x02ab\x44\x00\x00\x4F\x00\x01x\x4B\x00\x02ab\x44\x00\x00\x4F\x00\x01x\x4B\x00\x02ab\x44\x00\x00\x4F\x00\x01x";
+    b"\x4B\x00\x02ab\x44\x00\x00\x4F\x00\x01x\x4B\x00\x02ab\x44\x00\x00\x4F\x00\x01x\
+      \x4B\x00\x02ab\x44\x00\x00\x4F\x00\x01x";
 
 /// Feeds a piece, and repeats it if memory is refused. Whether the refusal gave nothing.
 fn feed_twice(reader: &mut Reader, piece: &[u8], messages: &mut Vec<Message>) -> bool {

@@ -1,11 +1,13 @@
 //! Tests of keys: which consoles each user's keys reach after five things in every order, with rights
-//! from a file; and scripts whose input is cut or faulty.
+//! from a file; scripts whose input is cut or faulty; and the words of refusals.
 #![tactic(auto)]
 
 #[cfg(test)]
 mod input;
 #[cfg(test)]
 mod orders;
+#[cfg(test)]
+mod refusals;
 #[cfg(test)]
 mod rights;
 #[cfg(test)]

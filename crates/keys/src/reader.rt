@@ -76,7 +76,7 @@ impl KeyReader {
         }
     }
 
-    /// A reader that has read the same keys.
+    /// A copy of the reader.
     pub fn copied(&self) -> KeyReader
         ensures { result ≡ self.now }
     {
@@ -122,39 +122,35 @@ impl KeyReader {
             (item_list result self.new.line, rest_of self.new) }
     {
         match self.mode {
-            Mode::Typing => {
-                if key == 1 {
-                    self.mode = Mode::Command;
-                    None
-                } else {
-                    Some(KeyItem::Typed(key))
-                }
+            Mode::Typing if key == 1 => {
+                self.mode = Mode::Command;
+                None
+            }
+            Mode::Typing => Some(KeyItem::Typed(key)),
+            Mode::Command if key == b':' => {
+                self.line.clear();
+                self.mode = Mode::Prompt;
+                Some(KeyItem::Edit)
             }
             Mode::Command => {
-                if key == b':' {
-                    self.line.clear();
-                    self.mode = Mode::Prompt;
-                    Some(KeyItem::Edit)
+                self.mode = Mode::Typing;
+                if key == b'a' {
+                    Some(KeyItem::Typed(1))
                 } else {
-                    self.mode = Mode::Typing;
-                    if key == b'a' {
-                        Some(KeyItem::Typed(1))
-                    } else {
-                        bound_to(key).map(KeyItem::Bound)
-                    }
+                    bound_to(key).map(KeyItem::Bound)
                 }
             }
+            Mode::Prompt if is_line_end(key) => {
+                self.mode = Mode::Typing;
+                Some(KeyItem::Line)
+            }
             Mode::Prompt => {
-                if is_line_end(key) {
+                if is_closing(key) {
                     self.mode = Mode::Typing;
-                    Some(KeyItem::Line)
-                } else if is_closing(key) {
-                    self.mode = Mode::Typing;
-                    Some(KeyItem::Edit)
                 } else {
                     self.line.edit(key);
-                    Some(KeyItem::Edit)
                 }
+                Some(KeyItem::Edit)
             }
         }
     }

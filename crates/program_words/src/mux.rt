@@ -12,6 +12,14 @@ const EXAMPLE: &str = "Example, beside that of muxd:
     --rows 24 --cols 80; stty sane
   mux command --socket socket --user ann --token ann.token quit";
 
+/// A number of lines or columns.
+const SIZE: Kind = Kind::Number {
+    value: "N",
+    least: 0,
+    most: MOST,
+    need: Need::Needed,
+};
+
 /// The user who asks. Each way but ping has it.
 const USER: Word = Word {
     name: "user",
@@ -66,22 +74,12 @@ static MUX: Program = Program {
                 TOKEN,
                 Word {
                     name: "rows",
-                    kind: Kind::Number {
-                        value: "N",
-                        least: 0,
-                        most: MOST,
-                        need: Need::Needed,
-                    },
+                    kind: SIZE,
                     help: "The terminal's lines, 4 to 200",
                 },
                 Word {
                     name: "cols",
-                    kind: Kind::Number {
-                        value: "N",
-                        least: 0,
-                        most: MOST,
-                        need: Need::Needed,
-                    },
+                    kind: SIZE,
                     help: "The terminal's columns, 20 to 300",
                 },
                 Word {
@@ -117,22 +115,12 @@ static MUX: Program = Program {
                 TOKEN,
                 Word {
                     name: "rows",
-                    kind: Kind::Number {
-                        value: "N",
-                        least: 0,
-                        most: MOST,
-                        need: Need::Needed,
-                    },
+                    kind: SIZE,
                     help: "The window's lines, 2 to 200",
                 },
                 Word {
                     name: "cols",
-                    kind: Kind::Number {
-                        value: "N",
-                        least: 0,
-                        most: MOST,
-                        need: Need::Needed,
-                    },
+                    kind: SIZE,
                     help: "The window's columns, 2 to 300",
                 },
                 Word {

@@ -65,9 +65,9 @@ static MUX_WEB: Program = Program {
             name: "page",
             kind: Kind::Text {
                 value: "FOLDER",
-                need: Need::Default("/usr/local/share/mux/web"),
+                need: Need::Free,
             },
-            help: "The folder with index.html, mux.js and mux.css",
+            help: "The folder with index.html, mux.js and mux.css [default: the installed one]",
         },
         Word {
             name: "log",

@@ -20,7 +20,8 @@ use Rattle.redraw.specs.Commands.{func_of}
 use Rattle.redraw.specs.Drawing.{Row, seen, row_written, row_of, width_of, mark_bytes, glyph_bytes, Drawing, Takes}
 use Rattle.redraw.specs.Drawing.{Keeps, Writes, Stands, Knows}
 use Rattle.redraw.proofs.Screens.{LeadsTo, at_place}
-use Rattle.redraw.proofs.Printing.{Inked, column_behind, pen_behind, narrow_leads, wide_leads, mark_leads}
+use Rattle.redraw.proofs.Printing.{Inked, column_behind, pen_behind, narrow_leads, wide_leads}
+use Rattle.redraw.proofs.Marking.{mark_leads}
 use Rattle.redraw.proofs.Takings.{leads_then, takes_then, takes_bytes}
 
 module _ (rows columns : ℕ) (old new : Page) (pen_line pen_column : ℕ) (known : Option Rendition) (lh : pen_line < rows)

@@ -2,7 +2,10 @@ pub mod Rows
 pub mod Writing
 pub mod Effects
 pub mod Screens
+pub mod Seen
+pub mod Erasing
 pub mod Printing
+pub mod Marking
 pub mod Takings
 pub mod Inking
 pub mod Pieces

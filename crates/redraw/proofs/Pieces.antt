@@ -15,7 +15,7 @@ use Rattle.redraw.specs.declared.pen.Pen.{Pen}
 use Rattle.redraw.specs.Drawing.{Row, seen, mixed, row_of, width_of, Drawing, Takes, Writes, Stands, HasLine, DrawsLine}
 use Rattle.redraw.specs.Drawing.{DrawsPiece, DrawsUpTo, AreLines}
 use Rattle.redraw.proofs.Rows.{IsPairedRow, mixed_over, mixed_same, mixed_start}
-use Rattle.redraw.proofs.Printing.{over_same}
+use Rattle.redraw.proofs.Seen.{over_same}
 use Rattle.redraw.proofs.Takings.{takes_nothing, takes_then, takes_weaker}
 
 pub paired_row : (cells : List Cell) → IsPaired cells → IsPairedRow (λ c. unprotected (cell_at cells c))

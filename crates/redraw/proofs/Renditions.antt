@@ -208,7 +208,7 @@ pub params-listed : (rows : ℕ) (values : List ℕ) → AreGiven values → IsL
 params-listed rows [] h = absurd (omega (arith, h.some))
 params-listed rows (n ∷ values) h = named-listed rows n values (all-named (n ∷ values) h.named)
 
--- WHAT THEY DO
+-- THE EFFECT
 
 abbrev pub with_rendition : Screen → Rendition → Screen
 with_rendition x r = with_state x (unjoined (record x.state { rendition = r }))

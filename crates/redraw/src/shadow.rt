@@ -68,7 +68,7 @@ impl Shadow {
         self.columns
     }
 
-    /// A shadow that knows the same and shares the view. `AllocError` if memory is refused.
+    /// A copy that shares the view. `AllocError` if memory is refused.
     pub(crate) fn shared(&self) -> Result<Shadow, AllocError>
         ensures { IfOk result (λ s. s ≡ self.now) }
     {

@@ -15,7 +15,8 @@ const LONGEST: usize = 31;
 
 /// The bytes of the lists, for characters, sequences and strings, whole and broken.
 const BYTES: [u8; 64] =
-    *b"\x1B\x1B\x1B\x1B\x1B[[[[[\xE6\xBC\xA2\xF0\x9F\x98\x80\xCC\x81\xC2\x9B0123679;;?\" %()*+<>@ABCDHJKLMPXabclmnqrh\x18\x1A\r";
+    *b"\x1B\x1B\x1B\x1B\x1B[[[[[\xE6\xBC\xA2\xF0\x9F\x98\x80\xCC\x81\xC2\x9B0123679;;?\" \
+       %()*+<>@ABCDHJKLMPXabclmnqrh\x18\x1A\r";
 
 /// Pseudorandom numbers (Knuth, The Art of Computer Programming, volume 2, 3.3.4).
 #[derive(Drop)]

@@ -20,7 +20,7 @@ same x y h = grind (arith, nat_tests)
 differs : (x y : ℕ) → (x == y) ≡ false → x ≢ y
 differs x y h e = grind (arith, nat_tests)
 
--- what the relation holds of is what is computed
+-- if the relation holds, the function gives this text and rest
 escaped-is : {cs text : List ℕ} {end : Option (List ℕ)} → Escaped cs text end → escaped cs ≡ (text, end)
 escaped-is (Escaped.octal {cs = cs} {c = c} h) = by cs h
   where
@@ -124,7 +124,7 @@ words-are cs ws d = line-is (size cs) d (length cs) (omega arith)
 pub one_cut : (cs : List ℕ) (ws vs : List Word) → IsCut cs ws → IsCut cs vs → ws ≡ vs
 one_cut cs ws vs d e = sym (words-are cs ws d) ∙ words-are cs vs e
 
--- the relation holds of what is computed
+-- the relation holds for the text and rest that the function gives
 escaped-holds : (cs : List ℕ) → Escaped cs (escaped cs).0 (escaped cs).1
 escaped-holds [] = Escaped.unended
 escaped-holds (c ∷ cs) = by (octal_front (c ∷ cs)) refl

@@ -1,2 +1,5 @@
+pub mod HolderLemmas
 pub mod LockLemmas
+pub mod RightsLemmas
 pub mod SlotViews
+pub mod WindowLemmas

@@ -3,7 +3,7 @@ use Rattle.terminal_model.specs.Places.{place}
 use Rattle.terminal_model.specs.Shows.{View}
 use Rattle.terminal_model.proofs.Places.{blank-at}
 use Rattle.view.specs.Granted.{part_of}
-use Rattle.view.proofs.Pieces.{blank_free}
+use Rattle.view.proofs.FreePages.{blank_free}
 use Rattle.view.proofs.composing.compose.Goals as goal
 
 pub compose_on-requires-clause-free : goal.compose_on-requires-clause-free

@@ -9,8 +9,8 @@ use Rattle.view.specs.Composing.{HasPageSize}
 use Rattle.view.specs.Granted.{Part, AreParts, part_of, part_at, box_at, pieces}
 use Rattle.view.specs.Rows.{IsPlaced, FocusesOn}
 use Rattle.regions.specs.Shapes.{Shape}
-use Rattle.view.proofs.Pieces.{Stage, no_stage, box_stage, separator_stage, status_stage, focus_placed, composed}
-use Rattle.view.proofs.Pieces.{drawable_view, part_is}
+use Rattle.view.proofs.Stages.{Stage, no_stage, box_stage, separator_stage, status_stage, focus_placed, composed}
+use Rattle.view.proofs.Stages.{drawable_view, part_is}
 use Rattle.view.proofs.composing.compose_on.Goals as goal
 
 pub loop-place-init : goal.loop-place-init

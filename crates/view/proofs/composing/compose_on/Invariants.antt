@@ -2,7 +2,7 @@ use Rattle.std.proofs.Common.{ℕ, ◌+◌, map, length}
 use Rattle.regions.specs.Shapes.{Shape}
 use Rattle.view.specs.Composing.{HasPageSize}
 use Rattle.view.specs.Granted.{AreParts, part_of}
-use Rattle.view.proofs.Pieces.{Stage}
+use Rattle.view.proofs.Stages.{Stage}
 use Rattle.view.proofs.composing.compose_on.Given as goal
 
 abbrev pub invariant-loop-place : goal.invariant-loop-place

@@ -1,6 +1,6 @@
 use Rattle.std.proofs.Common.{map, refl}
 use Rattle.view.specs.Granted.{part_of}
-use Rattle.view.proofs.Pieces.{lone_free}
+use Rattle.view.proofs.FreePages.{lone_free}
 use Rattle.view.proofs.composing.compose_over.Goals as goal
 
 pub compose_on-requires-clause-free : goal.compose_on-requires-clause-free

@@ -1,4 +1,4 @@
-use Rattle.writelock.proofs.LockLemmas.{clients-all_same, mode-all_same, default-all_same}
+use Rattle.writelock.proofs.RightsLemmas.{clients-all_same, mode-all_same, default-all_same}
 use Rattle.writelock.proofs.laws.lists_leave_locks.Goals as goal
 
 pub returns : goal.returns

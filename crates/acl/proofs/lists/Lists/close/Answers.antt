@@ -4,7 +4,7 @@ use Rattle.acl.specs.Table.{StandsFor, Table}
 use Rattle.acl.specs.History.{is_open, open_count}
 use Rattle.acl.specs.Lists.{table_of}
 use Rattle.acl_words.proofs.SlotLemmas.{slot_of-closed, slots-closed}
-use Rattle.acl.proofs.StandsForLemmas.{StandsFor-Closed}
+use Rattle.acl.proofs.StandsForWindows.{StandsFor-Closed}
 use Rattle.acl.proofs.lists.Lists.close.Goals as goal
 
 pub returns : goal.returns

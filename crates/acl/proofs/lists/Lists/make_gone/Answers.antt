@@ -7,7 +7,7 @@ use Rattle.acl_words.specs.Same.{same_user}
 use Rattle.acl.specs.Table.{without_leader, same_pair, users_in}
 use Rattle.acl.specs.Lists.{table_of}
 use Rattle.acl.proofs.RowLemmas.{lookup-revalued, lookup-without_user, keys_of-revalued, remove_key-user}
-use Rattle.acl.proofs.StandsForLemmas.{StandsFor-Gone}
+use Rattle.acl.proofs.StandsForUsers.{StandsFor-Gone}
 use Rattle.acl.proofs.lists.Lists.make_gone.Goals as goal
 
 mapped : (c : Bool) (f : Row → Row) (o : Option Row)

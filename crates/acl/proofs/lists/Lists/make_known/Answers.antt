@@ -6,7 +6,7 @@ use Rattle.acl_words.specs.Same.{same_user}
 use Rattle.acl.specs.Table.{same_pair, row_of, new_row}
 use Rattle.acl.specs.Lists.{table_of}
 use Rattle.acl.proofs.RowLemmas.{lookup-without_user, bits_on-new_row, keys_of-push}
-use Rattle.acl.proofs.StandsForLemmas.{StandsFor-Known}
+use Rattle.acl.proofs.StandsForUsers.{StandsFor-Known}
 use Rattle.acl.proofs.lists.Lists.make_known.Goals as goal
 
 none : (o : Option Row) → is_some o ≡ false → o ≡ None

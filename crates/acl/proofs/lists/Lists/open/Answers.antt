@@ -9,7 +9,7 @@ use Rattle.acl.specs.History.{is_open, open_count}
 use Rattle.acl.specs.Lists.{table_of}
 use Rattle.acl.proofs.RowLemmas.{lookup-revalued, keys_of-revalued}
 use Rattle.acl_words.proofs.SlotLemmas.{found, slot_of-opened, slot_of-free, free_slot-empty, slots-opened, slots-free}
-use Rattle.acl.proofs.StandsForLemmas.{StandsFor-Opened}
+use Rattle.acl.proofs.StandsForWindows.{StandsFor-Opened}
 use Rattle.acl.proofs.lists.Lists.open.Goals as goal
 
 none : (o : Option ℕ) → is_some o ≡ false → o ≡ None

@@ -3,7 +3,8 @@ use Rattle.acl_words.specs.BitSets.{allows}
 use Rattle.acl.specs.Table.{bits_on}
 use Rattle.acl.specs.Lists.{table_of}
 use Rattle.acl.proofs.RowLemmas.{allows-with_right, leaders-with_right}
-use Rattle.acl.proofs.StandsForLemmas.{StandsFor-Set, there-StandsFor}
+use Rattle.acl.proofs.StandsForLemmas.{there-StandsFor}
+use Rattle.acl.proofs.StandsForUsers.{StandsFor-Set}
 use Rattle.acl.proofs.lists.Lists.set.Goals as goal
 
 pub returns-in-Some-clause-stands : goal.returns-in-Some-clause-stands

@@ -6,7 +6,7 @@ use Rattle.acl.specs.History.{leaders_with, leaders_of}
 use Rattle.acl.specs.Table.{row_of}
 use Rattle.acl.specs.Lists.{table_of}
 use Rattle.acl.specs.declared.rows.Row.{Row}
-use Rattle.acl.proofs.StandsForLemmas.{StandsFor-Grouped}
+use Rattle.acl.proofs.StandsForUsers.{StandsFor-Grouped}
 use Rattle.acl.proofs.lists.Lists.set_leader.Goals as goal
 
 pub returns-in-Some-clause-stands : goal.returns-in-Some-clause-stands

@@ -3,7 +3,7 @@ use Rattle.std.specs.Map.{lookup}
 use Rattle.acl_words.specs.BitSets.{with_bit}
 use Rattle.acl.specs.Table.{same_pair}
 use Rattle.acl.specs.Lists.{table_of}
-use Rattle.acl.proofs.StandsForLemmas.{StandsFor-Masked}
+use Rattle.acl.proofs.StandsForUsers.{StandsFor-Masked}
 use Rattle.acl.proofs.lists.Lists.set_mask.Goals as goal
 
 pub returns-clause-stands : goal.returns-clause-stands

@@ -4,7 +4,7 @@ use Rattle.acl_words.specs.declared.act.PresetKind.TheVariants as preset
 use Rattle.acl_words.specs.declared.bits.Bits.{Bits}
 use Rattle.acl.specs.Table.{StandsFor}
 use Rattle.acl.specs.Lists.{table_of}
-use Rattle.acl.proofs.StandsForLemmas.{StandsFor-Preset-windows, StandsFor-Preset-commands}
+use Rattle.acl.proofs.StandsForWindows.{StandsFor-Preset-windows, StandsFor-Preset-commands}
 use Rattle.acl.proofs.lists.Lists.set_preset.Goals as goal
 
 pub returns-in-Windows-clause-stands : goal.returns-in-Windows-clause-stands

@@ -6,7 +6,7 @@ use Rattle.redraw.specs.declared.command.Command.TheVariants.{EraseToEnd}
 use Rattle.redraw.specs.Commands.{func_of}
 use Rattle.redraw.specs.Drawing.{Drawing, Takes, Writes}
 use Rattle.redraw.proofs.Screens.{at_place}
-use Rattle.redraw.proofs.Printing.{erase_end_leads}
+use Rattle.redraw.proofs.Erasing.{erase_end_leads}
 use Rattle.redraw.proofs.Takings.{takes_bytes}
 use Rattle.redraw.proofs.Inking.{aimed_writes}
 use Rattle.redraw.proofs.pen.Pen.erase_to_end.Goals as goal

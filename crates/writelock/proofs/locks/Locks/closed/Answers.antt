@@ -4,7 +4,7 @@ use Rattle.acl.specs.History.{is_open, open_count}
 use Rattle.acl.specs.Slots.{SlotsStandFor}
 use Rattle.acl.proofs.OpenSlots.{slots-closed}
 use Rattle.writelock.specs.LockTable.{lock_at}
-use Rattle.writelock.proofs.LockLemmas.{AreLocks-Closed}
+use Rattle.writelock.proofs.WindowLemmas.{AreLocks-Closed}
 use Rattle.writelock.proofs.SlotViews.{lock_at-closed}
 use Rattle.writelock.proofs.locks.Locks.closed.Goals as goal
 

@@ -5,7 +5,7 @@ use Rattle.acl.specs.History.{is_open, open_count}
 use Rattle.acl.specs.Slots.{SlotsStandFor, slot_of}
 use Rattle.acl.proofs.OpenSlots.{slots-opened, slots-free}
 use Rattle.writelock.specs.LockTable.{lock_at}
-use Rattle.writelock.proofs.LockLemmas.{AreLocks-Opened}
+use Rattle.writelock.proofs.WindowLemmas.{AreLocks-Opened}
 use Rattle.writelock.proofs.SlotViews.{lock_at-opened, length-set_lock}
 use Rattle.writelock.proofs.locks.Locks.opened.Goals as goal
 

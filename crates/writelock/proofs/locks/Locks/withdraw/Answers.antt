@@ -4,7 +4,7 @@ use Rattle.acl.specs.Lists.{table_of}
 use Rattle.acl.specs.History.{is_open, open_count}
 use Rattle.acl.specs.Slots.{SlotsStandFor}
 use Rattle.writelock.specs.LockTable.{AreLocks, lock_in, lock_at, after_act}
-use Rattle.writelock.proofs.LockLemmas.{AreLocks-rights, slots-rights}
+use Rattle.writelock.proofs.RightsLemmas.{AreLocks-rights, slots-rights}
 use Rattle.writelock.proofs.SlotViews.{changed_below-next, changed_below-all, lock_at-changed}
 use Rattle.writelock.proofs.locks.Locks.withdraw.Goals as goal
 
