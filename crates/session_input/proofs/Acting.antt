@@ -65,6 +65,7 @@ nobody_gives k c s made r acts none = λ t st fit passed.
 -- a command that needs a window and no client is refused if it is given for no window
 pub given_nowhere : (k : Caller) (c : Command) (s : State) (made : StepOutput) (r : Refusal) → (needs c).client ≡ false
     → (needs c).window ≡ true → (r ≡ NoWindow) × (k.window ≡ None) → Does k c s (Err r) s made made
+unfolding nowhere
 given_nowhere k c s made r alone needed none = λ t st fit passed.
     let at : Option ℕ → model.Caller = λ w. record {
       user = k.user;
