@@ -6,7 +6,6 @@ ghost use Rattle.acl.specs.declared.edition.Edition.{Edition};
 ghost use Rattle.acl.specs.declared.user_id.UserId.{UserId};
 ghost use Rattle.acl.specs.History.{History};
 ghost use Rattle.hub_check.specs.Following.{StandsAfter};
-ghost use Rattle.hub_record.specs.Stored.{kept_lent};
 ghost use Rattle.hub_check.specs.Parts.{IsReading, AsksIfKnown, HaveActsIfDone, AreSaidIfDone};
 ghost use Rattle.hub_check.specs.Parts.{FitsCommand, FitsLine};
 
@@ -16,8 +15,8 @@ use crate::says::all_said;
 use crate::verdicts::asks_first;
 use acl::UserId;
 use command_lang::{Command, FaultKind, parse};
-use hub_record::{Filed, KeptRef};
-use hub_trail::{has_closed, has_come, has_gone, has_opened};
+use hub_record::Filed;
+use hub_trail::{Kept, has_closed, has_come, has_gone, has_opened};
 use session_model::Verdict;
 use std::alloc::{AllocError, Global};
 
@@ -127,20 +126,27 @@ pub fn fits_line(
     alloc: Global,
     owner: UserId,
     replay: &Replay,
-    event: KeptRef<'_>,
+    event: &Kept,
     entry: &Filed,
 ) -> Result<bool, AllocError>
     ensures { IfOk result (λ fits. (edition : Edition) (h : History) →
         StandsAfter replay.now edition owner h →
-        (fits ≡ true) ↔ FitsLine owner h (kept_lent event.entry) entry.now) }
+        (fits ≡ true) ↔ FitsLine owner h event.now entry.now) }
 {
     let ending = entry.ending();
     match event {
-        KeptRef::Command { user, line, .. } => fits_text(alloc, owner, replay, user, line, entry),
-        KeptRef::Attach { user, .. } => Ok(has_come(&ending, entry.acts(), user)),
-        KeptRef::Detach { client } => Ok(has_gone(&ending, entry.acts(), client)),
-        KeptRef::Keys { .. } => Ok(true),
-        KeptRef::Open { user, .. } => Ok(has_opened(&ending, entry.acts(), user)),
-        KeptRef::Closed { window } => Ok(has_closed(&ending, entry.acts(), window)),
+        Kept::Command { user, line, .. } => fits_text(
+            alloc,
+            owner,
+            replay,
+            *user,
+            line.as_slice(),
+            entry,
+        ),
+        Kept::Attach { user, .. } => Ok(has_come(&ending, entry.acts(), *user)),
+        Kept::Detach { client } => Ok(has_gone(&ending, entry.acts(), *client)),
+        Kept::Keys { .. } => Ok(true),
+        Kept::Open { user, .. } => Ok(has_opened(&ending, entry.acts(), *user)),
+        Kept::Closed { window } => Ok(has_closed(&ending, entry.acts(), *window)),
     }
 }

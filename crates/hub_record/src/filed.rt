@@ -2,10 +2,9 @@
 
 ghost use Rattle.std.specs.Prelude.{◌≡◌, ◌↔◌, IfOk, true};
 
-use crate::event::KeptEvent;
 use crate::reply::KeptReply;
 use acl::Act;
-use hub_trail::Ending;
+use hub_trail::{Ending, Kept};
 use session_model::Verdict;
 use std::alloc::{AllocError, Global};
 use std::marker::Model;
@@ -14,7 +13,7 @@ use std::mem::size_of;
 /// One entry of a trail: an event, what was checked, what was done, and what was answered.
 /// Contracts see it as the `Entry` of hub_trail.
 pub struct Filed {
-    event: KeptEvent,
+    event: Kept,
     verdicts: Vec<Verdict>,
     acts: Vec<Act>,
     reply: KeptReply,
@@ -31,8 +30,8 @@ impl Drop for Filed {
     }
 }
 
-// So an entry of Keys with two verdicts takes at most 200 bytes.
-const _: () = prove!(size_of::<Filed>() <= 88);
+// So an entry of Keys with two verdicts takes at most 240 bytes.
+const _: () = prove!(size_of::<Filed>() <= 128);
 
 const _: () = prove!(2 * size_of::<Verdict>() <= 112);
 
@@ -51,7 +50,7 @@ impl Model for Filed {
 
 impl Filed {
     /// The entry with these parts.
-    pub fn new(event: KeptEvent, verdicts: Vec<Verdict>, acts: Vec<Act>, reply: KeptReply) -> Filed
+    pub fn new(event: Kept, verdicts: Vec<Verdict>, acts: Vec<Act>, reply: KeptReply) -> Filed
         ensures { result ≡ record {
           event = event;
           verdicts = verdicts.items;
@@ -85,7 +84,7 @@ impl Filed {
     }
 
     /// The event of the entry.
-    pub fn event(&self) -> &KeptEvent
+    pub fn event(&self) -> &Kept
         ensures { result.now ≡ self.now.event }
     {
         &self.event
@@ -113,7 +112,7 @@ impl Filed {
     }
 
     /// Whether the entry has this event and this reply.
-    pub fn is_told(&self, event: &KeptEvent, reply: &KeptReply) -> bool
+    pub fn is_told(&self, event: &Kept, reply: &KeptReply) -> bool
         ensures { (result ≡ true)
             ↔ ((self.now.event ≡ event.now) × (self.now.reply ≡ reply.now)) }
     {

@@ -2,18 +2,15 @@
 //! is what happened, and lists in which equal ones share one stored form.
 #![tactic(auto)]
 
-mod event;
 mod filed;
 mod receipts;
-mod refusals;
 mod reply;
 mod roll;
-mod same;
 mod search;
 mod slip;
 
-pub use event::{KeptEvent, KeptRef};
 pub use filed::Filed;
+pub use hub_trail::Kept;
 pub use receipts::{Receipt, Receipts};
 pub use reply::KeptReply;
 pub use roll::Roll;

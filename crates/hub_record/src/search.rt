@@ -3,11 +3,11 @@
 ghost use Rattle.std.specs.Prelude.{◌≡◌, ◌≤◌, Some, IfSome, slice_get};
 ghost use Rattle.hub_record.specs.Rolls.{entry_in};
 
-use crate::event::KeptRef;
 use crate::filed::Filed;
 use crate::reply::KeptReply;
 use crate::slip::Slip;
 use acl::Object;
+use hub_trail::Kept;
 use session_model::Verdict;
 
 /// The number of codes that are tried for an entry or a receipt.
@@ -26,12 +26,12 @@ fn number_of(bytes: &[u8]) -> u32 {
 }
 
 /// A hash of the event: equal events have the same one.
-pub fn number_of_event(event: KeptRef<'_>) -> u32 {
+pub fn number_of_event(event: &Kept) -> u32 {
     match event {
-        KeptRef::Keys { client } => client.wrapping_mul(7),
-        KeptRef::Command { line, .. } => number_of(line),
-        KeptRef::Attach { .. } | KeptRef::Detach { .. } | KeptRef::Open { .. } => 1,
-        KeptRef::Closed { .. } => 2,
+        Kept::Keys { client } => (*client).wrapping_mul(7),
+        Kept::Command { line, .. } => number_of(line.as_slice()),
+        Kept::Attach { .. } | Kept::Detach { .. } | Kept::Open { .. } => 1,
+        Kept::Closed { .. } => 2,
     }
 }
 
@@ -65,7 +65,7 @@ pub fn first_by(number: u32, reply: &KeptReply) -> usize
 pub fn first_of(slip: &Slip) -> usize
     ensures { result ≤ 4092 }
 {
-    let mut number = number_of_event(slip.event.get());
+    let mut number = number_of_event(&slip.event);
     if let Some(verdict) = slip.verdicts.first() {
         number = number.wrapping_mul(31).wrapping_add(window_of(*verdict));
     }

@@ -4,16 +4,16 @@ ghost use Rattle.std.specs.Prelude.{◌≡◌, ◌↔◌, true};
 ghost use Rattle.session_model.specs.declared.verdict.Verdict.TheVariants as made;
 ghost use Rattle.hub_record.specs.Rolls.{entry_in};
 
-use crate::event::KeptEvent;
 use crate::filed::Filed;
 use crate::reply::KeptReply;
 use acl::{Act, Bit, Object, UserId};
+use hub_trail::Kept;
 use session_model::Verdict;
 
 /// The parts of an entry that is still to be stored.
 #[derive(Drop)]
 pub struct Slip {
-    pub event: KeptEvent,
+    pub event: Kept,
     pub verdicts: Vec<Verdict>,
     pub acts: Vec<Act>,
     pub reply: KeptReply,
