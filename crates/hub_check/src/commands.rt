@@ -15,7 +15,7 @@ use crate::says::all_said;
 use crate::verdicts::asks_first;
 use acl::UserId;
 use command_lang::{Command, FaultKind, parse};
-use hub_record::Filed;
+use hub_record::TrailEntry;
 use hub_trail::{Kept, has_closed, has_come, has_gone, has_opened};
 use session_model::Verdict;
 use std::alloc::{AllocError, Global};
@@ -34,7 +34,7 @@ fn command_of(alloc: Global, line: &[u8]) -> Result<Option<Command>, AllocError>
 }
 
 /// Whether the entry has the acts of this command, or the command wasn't done.
-fn have_acts_if_done(owner: UserId, replay: &Replay, command: &Command, entry: &Filed) -> bool
+fn have_acts_if_done(owner: UserId, replay: &Replay, command: &Command, entry: &TrailEntry) -> bool
     ensures { (edition : Edition) (h : History) → StandsAfter replay.now edition owner h →
         (result ≡ true)
         ↔ HaveActsIfDone owner h command.now entry.now.reply entry.now.acts }
@@ -46,7 +46,7 @@ fn have_acts_if_done(owner: UserId, replay: &Replay, command: &Command, entry: &
 }
 
 /// Whether the command says each act of the entry on users and rights, or it wasn't done.
-fn are_said_if_done(owner: UserId, replay: &Replay, command: &Command, entry: &Filed) -> bool
+fn are_said_if_done(owner: UserId, replay: &Replay, command: &Command, entry: &TrailEntry) -> bool
     ensures { (edition : Edition) (h : History) → StandsAfter replay.now edition owner h →
         (result ≡ true)
         ↔ AreSaidIfDone owner h command.now entry.now.reply entry.now.acts }
@@ -77,7 +77,7 @@ fn fits_command(
     replay: &Replay,
     user: UserId,
     command: &Command,
-    entry: &Filed,
+    entry: &TrailEntry,
 ) -> bool
     ensures { (edition : Edition) (h : History) → StandsAfter replay.now edition owner h →
         (result ≡ true) ↔ FitsCommand owner h user command.now entry.now }
@@ -92,7 +92,7 @@ fn fits_command(
 }
 
 /// Whether the event of the entry was refused.
-fn is_refused(entry: &Filed) -> bool
+fn is_refused(entry: &TrailEntry) -> bool
     ensures { result ≡ is_err entry.now.reply }
 {
     match entry.ending() {
@@ -109,7 +109,7 @@ fn fits_text(
     replay: &Replay,
     user: UserId,
     line: &[u8],
-    entry: &Filed,
+    entry: &TrailEntry,
 ) -> Result<bool, AllocError>
     ensures { IfOk result (λ fits. (edition : Edition) (h : History) (window : Option ℕ) →
         StandsAfter replay.now edition owner h →
@@ -127,7 +127,7 @@ pub fn fits_line(
     owner: UserId,
     replay: &Replay,
     event: &Kept,
-    entry: &Filed,
+    entry: &TrailEntry,
 ) -> Result<bool, AllocError>
     ensures { IfOk result (λ fits. (edition : Edition) (h : History) →
         StandsAfter replay.now edition owner h →

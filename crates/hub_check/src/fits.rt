@@ -11,7 +11,7 @@ ghost use Rattle.hub_check.specs.Following.{StandsAfter};
 
 use crate::replay::Replay;
 use acl::{Act, UserId};
-use hub_record::Filed;
+use hub_record::TrailEntry;
 use hub_trail::{Ending, Finished, Kept, all_shut, attaches_one, from_command, made_by, opens_one};
 use session_model::Verdict;
 
@@ -65,7 +65,7 @@ fn can_have(
 }
 
 /// Whether an entry of this event has only acts that the event can have, and none if it was refused.
-pub fn fits(replay: &Replay, event: &Kept, entry: &Filed) -> bool
+pub fn fits(replay: &Replay, event: &Kept, entry: &TrailEntry) -> bool
     ensures { (edition : Edition) (owner : UserId) (h : History) →
         StandsAfter replay.now edition owner h → (result ≡ true)
         ↔ Fits h event.now entry.now.reply entry.now.verdicts entry.now.acts }

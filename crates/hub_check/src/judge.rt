@@ -17,7 +17,7 @@ use crate::replay::Replay;
 use crate::replies::{carries_failed, is_denied};
 use crate::verdicts::{are_of, are_of_client, are_true, failed};
 use acl::{Edition, UserId};
-use hub_record::Filed;
+use hub_record::TrailEntry;
 use hub_trail::Kept;
 use session_model::Verdict;
 use std::alloc::{AllocError, Global};
@@ -56,7 +56,7 @@ fn are_of_user(replay: &Replay, event: &Kept, verdicts: &[Verdict]) -> bool
 }
 
 /// Whether a denial carries the verdict that failed, and the event was denied if it had to be.
-fn is_answered(event: &Kept, entry: &Filed) -> bool
+fn is_answered(event: &Kept, entry: &TrailEntry) -> bool
     ensures { (result ≡ true) ↔ IsAnswered event.now entry.now }
 {
     let failed = failed(entry.verdicts());
@@ -69,7 +69,7 @@ fn is_legal(
     alloc: Global,
     owner: UserId,
     replay: &Replay,
-    entry: &Filed,
+    entry: &TrailEntry,
 ) -> Result<bool, AllocError>
     ensures { IfOk result (λ legal. (edition : Edition) (h : History) →
         StandsAfter replay.now edition owner h →
@@ -113,7 +113,7 @@ impl Judge {
 
     /// Whether the next entry is good: tables can judge it, and it is legal. After an entry that isn't
     /// good, or when memory was refused, the judge must not be used again.
-    pub fn take(&mut self, entry: &Filed) -> Result<bool, AllocError>
+    pub fn take(&mut self, entry: &TrailEntry) -> Result<bool, AllocError>
         ensures { IfOk result (λ good. Judges good self.old self.new entry.now) }
     {
         if !is_legal(self.alloc, self.owner, &self.replay, entry)? {

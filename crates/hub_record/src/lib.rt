@@ -2,16 +2,16 @@
 //! is what happened, and lists in which equal ones share one stored form.
 #![tactic(auto)]
 
-mod filed;
+mod entry_list;
+mod new_entry;
 mod receipts;
 mod reply;
-mod roll;
 mod search;
-mod slip;
+mod trail_entry;
 
-pub use filed::Filed;
+pub use entry_list::EntryList;
 pub use hub_trail::Kept;
+pub use new_entry::NewEntry;
 pub use receipts::{Receipt, Receipts};
 pub use reply::KeptReply;
-pub use roll::Roll;
-pub use slip::Slip;
+pub use trail_entry::TrailEntry;

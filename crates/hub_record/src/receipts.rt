@@ -2,12 +2,12 @@
 
 ghost use Rattle.std.specs.Prelude.{◌≡◌, ◌↔◌, ◌∷◌, ◌++◌, ◌<◌, ◌≤◌, [], true, length, slice_get};
 ghost use Rattle.std.specs.Prelude.{IfSome, OnOk, Some, vec_len, vec_capacity};
-ghost use Rattle.hub_record.specs.Rolls.{HasOneMore};
+ghost use Rattle.hub_record.specs.EntryLists.{HasOneMore};
 ghost use Rattle.hub_record.specs.Receipts.{HasRoom, IsOf, LosesLast};
 
-use crate::filed::Filed;
 use crate::reply::KeptReply;
 use crate::search::{KEPT, WAYS, first_by, number_of_event, slot_of};
+use crate::trail_entry::TrailEntry;
 use hub_trail::{Ending, Kept};
 use std::alloc::{AllocError, Global};
 use std::marker::Model;
@@ -67,7 +67,7 @@ impl<'a> Receipt<'a> {
     }
 
     /// Whether the receipt has the event and the reply of the entry.
-    pub fn is_of(&self, entry: &Filed) -> bool
+    pub fn is_of(&self, entry: &TrailEntry) -> bool
         ensures { (result ≡ true) ↔ IsOf entry.now self.now }
     {
         entry.is_told(&self.form.event, &self.form.reply)

@@ -1,11 +1,11 @@
 //! The search for a stored form.
 
 ghost use Rattle.std.specs.Prelude.{◌≡◌, ◌≤◌, Some, IfSome, slice_get};
-ghost use Rattle.hub_record.specs.Rolls.{entry_in};
+ghost use Rattle.hub_record.specs.EntryLists.{entry_in};
 
-use crate::filed::Filed;
+use crate::new_entry::NewEntry;
 use crate::reply::KeptReply;
-use crate::slip::Slip;
+use crate::trail_entry::TrailEntry;
 use acl::Object;
 use hub_trail::Kept;
 use session_model::Verdict;
@@ -62,7 +62,7 @@ pub fn first_by(number: u32, reply: &KeptReply) -> usize
 }
 
 /// The index among the kept codes at which the search for an entry begins.
-pub fn first_of(slip: &Slip) -> usize
+pub fn first_of(slip: &NewEntry) -> usize
     ensures { result ≤ 4092 }
 {
     let mut number = number_of_event(&slip.event);
@@ -82,7 +82,7 @@ pub fn slot_of(first: usize, code: u32) -> usize
 
 /// The code of a form equal to the entry, among the kept codes from `first` on; `None` if none of
 /// those tried is.
-pub fn find(forms: &[Filed], kept: &[u32], first: usize, slip: &Slip) -> Option<u32>
+pub fn find(forms: &[TrailEntry], kept: &[u32], first: usize, slip: &NewEntry) -> Option<u32>
     requires { first ≤ 4092 }
     ensures { IfSome result (λ code. slice_get forms.now code ≡ Some (entry_in slip.now)) }
 {

@@ -3,7 +3,7 @@
 use crate::disk::Disk;
 use crate::entries::{entry, keys};
 use acl::UserId;
-use hub_record::Filed;
+use hub_record::TrailEntry;
 use server_trail::{Recorder, Stopped};
 use session_model::Event;
 use std::alloc::Global;
@@ -12,7 +12,7 @@ use std::time::Clock;
 use trail_lines::Cause;
 
 // An entry whose line is long.
-fn long_entry(alloc: Global) -> Option<Filed> {
+fn long_entry(alloc: Global) -> Option<TrailEntry> {
     let event = Event::Command {
         user: UserId::of(b"own")?,
         window: None,
@@ -69,6 +69,6 @@ fn is_stopped<R: Wait + Clock>(rt: &R, alloc: Global) -> Option<bool> {
 }
 
 #[test]
-fn nothing_is_taken_behind_a_refusal(rt: HostRuntime) {
+fn nothing_is_taken_after_a_refusal(rt: HostRuntime) {
     assert!(rt; is_stopped(&rt, rt.alloc()) == Some(true));
 }

@@ -8,7 +8,7 @@ use crate::recorder::Recorder;
 use crate::stop::Stopped;
 use crate::writing::Written;
 use acl::{Edition, UserId};
-use hub_record::Roll;
+use hub_record::EntryList;
 use session_model::Bytes;
 use std::alloc::Global;
 use std::fs::{File, OpenOptions};
@@ -190,7 +190,7 @@ impl<'a> Journal<'a> {
     }
 
     // Reads the file back. The answer is whether it is the trail of a session of this edition and owner.
-    fn is_whole(&self, edition: Edition, owner: UserId, entries: &Roll) -> io::Result<bool> {
+    fn is_whole(&self, edition: Edition, owner: UserId, entries: &EntryList) -> io::Result<bool> {
         let header = Header {
             edition,
             owner,
@@ -204,7 +204,7 @@ impl<'a> Journal<'a> {
 
     /// Reads the file back, if it was written to its end, and compares it with the session's trail:
     /// its edition, its owner and its entries.
-    pub fn compare(&self, rt: &impl Wait, edition: Edition, owner: UserId, entries: &Roll) {
+    pub fn compare(&self, rt: &impl Wait, edition: Edition, owner: UserId, entries: &EntryList) {
         let mut fault = self.fault.lock(rt);
         if fault.is_none() {
             *fault = match self.is_whole(edition, owner, entries) {

@@ -6,7 +6,7 @@ ghost use Rattle.trail_lines.specs.Entries.{line_of};
 use crate::file::time;
 use crate::merge::Merge;
 use crate::stop::Stopped;
-use hub_record::Filed;
+use hub_record::TrailEntry;
 use std::alloc::{AllocError, Global};
 use std::sync::atomic::{AtomicU64, Ordering};
 use std::sync::{Condvar, Mutex, OnceLock, Wait};
@@ -40,7 +40,7 @@ pub struct Recorder {
 }
 
 /// The line of an entry, with its line feed.
-fn line_of(alloc: Global, place: usize, ms: u64, entry: &Filed) -> Result<Vec<u8>, AllocError>
+fn line_of(alloc: Global, place: usize, ms: u64, entry: &TrailEntry) -> Result<Vec<u8>, AllocError>
     ensures { IfOk result (λ line.
         line.items ≡ line_of (place, ms, entry.now) ++ 0x0A ∷ []) }
 {
@@ -90,7 +90,7 @@ impl Recorder {
 
     /// Puts down the line of an entry, which stands at this place in the trail; None if memory was
     /// refused for a copy of the entry. Once the file has stopped, nothing is put down.
-    pub fn put(&self, rt: &impl Wait, place: usize, entry: Option<&Filed>) {
+    pub fn put(&self, rt: &impl Wait, place: usize, entry: Option<&TrailEntry>) {
         if self.stopped().is_some() {
             return;
         }

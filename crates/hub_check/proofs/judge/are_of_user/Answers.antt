@@ -10,8 +10,8 @@ pub returns-in-Keys : goal.returns-in-Keys
 returns-in-Keys c = λ edition owner h s.
     subst (λ (x : Kept). (c.are_of_client.result ≡ true) ↔ AreOfUser h x c.args.verdicts.now)
     (sym c.in-Keys.is)
-    (all_tells (λ (v : Verdict). is_client_of h c.in-Keys.client.now (user_of v)) c.args.verdicts.now c.are_of_client.result
-    (c.are_of_client.ensures edition owner h s))
+    (all_tells (λ (v : Verdict). is_client_of h c.in-Keys.client.now (user_of v)) c.args.verdicts.now
+    c.are_of_client.result (c.are_of_client.ensures edition owner h s))
 
 pub returns-in-Command : goal.returns-in-Command
 returns-in-Command c = λ edition owner h s.
