@@ -9,7 +9,7 @@ use Rattle.std.proofs.sync.ledger.Book.TheSendSync as book
 use Rattle.std.proofs.alloc.Global.TheSendSync as global
 use Rattle.session_core.proofs.Crossing.{session_send}
 use Rattle.hub.proofs.peers.Peers.TheSendSync as peers
-use Rattle.hub.proofs.waiting.Waiting.TheSendSync as waiting
+use Rattle.hub.proofs.waiting.SeatEffects.TheSendSync as waiting
 use Rattle.hub.proofs.growing_trail.GrowingTrail.TheSendSync as entries
 use Rattle.hub.specs.contracts.filed_session.FiledSession as FiledSession
 use Rattle.hub.specs.contracts.ledger.Ledger as Ledger

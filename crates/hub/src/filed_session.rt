@@ -16,7 +16,7 @@ use crate::ledger::{FULL, HubFault};
 use crate::peers::Peers;
 use crate::prepared::Prepared;
 use crate::receipt::are_below;
-use crate::waiting::Waiting;
+use crate::waiting::SeatEffects;
 use acl::{Edition, UserId};
 use hub_record::{EntryList, KeptReply, Receipts, TrailEntry};
 use session_core::{Notes, Session};
@@ -29,7 +29,7 @@ pub struct FiledSession {
     pub session: Session,
     pub entries: GrowingTrail,
     pub peers: Peers,
-    pub waiting: Waiting,
+    pub waiting: SeatEffects,
 }
 
 impl Drop for FiledSession {
@@ -66,7 +66,7 @@ impl FiledSession {
             ≡ begun_with session edition owner seats) }
         ensures kept { IfOk result (λ filed. IsKept (state_of filed)) }
     {
-        let waiting = Waiting::new(alloc, seats)?;
+        let waiting = SeatEffects::new(alloc, seats)?;
         let entries = GrowingTrail {
             edition,
             owner,

@@ -17,20 +17,20 @@ pub const MOST: usize = 256;
 
 /// The effects that wait for each seat, and whether a step other than a Draw came since its effects
 /// were last taken.
-pub struct Waiting {
+pub struct SeatEffects {
     pub lists: Vec<Vec<Effect>>,
     pub marks: Vec<bool>,
 }
 
-impl Drop for Waiting {
+impl Drop for SeatEffects {
     fn drop(self) {
-        let Waiting { lists: _, marks: _ } = self;
+        let SeatEffects { lists: _, marks: _ } = self;
     }
 }
 
-impl Waiting {
+impl SeatEffects {
     /// No effect waits for these seats. `AllocError` if memory is refused.
-    pub fn new(alloc: Global, seats: usize) -> Result<Waiting, AllocError>
+    pub fn new(alloc: Global, seats: usize) -> Result<SeatEffects, AllocError>
         ensures lists { IfOk result (λ w. views w.lists.items ≡ replicate seats []) }
         ensures marks { IfOk result (λ w. w.marks.items ≡ replicate seats false) }
     {
@@ -40,7 +40,7 @@ impl Waiting {
             lists.push(Vec::new(alloc))?;
             marks.push(false)?;
         }
-        Ok(Waiting { lists, marks })
+        Ok(SeatEffects { lists, marks })
     }
 
     /// Makes room for the effects of one step, after those that wait for each seat. `AllocError` if

@@ -4,7 +4,7 @@ use crate::disk::Disk;
 use crate::entries::{entry, keys};
 use acl::UserId;
 use hub_record::TrailEntry;
-use server_trail::{Recorder, Stopped};
+use server_trail::{Recorder, StopCause};
 use session_model::Event;
 use std::alloc::Global;
 use std::sync::Wait;
@@ -22,7 +22,7 @@ fn long_entry(alloc: Global) -> Option<TrailEntry> {
 }
 
 // Why the file can't go on after 2,000 long lines, and after 60 more.
-fn stops(rt: &impl Wait, alloc: Global) -> Option<(Option<Stopped>, Option<Stopped>)> {
+fn stops(rt: &impl Wait, alloc: Global) -> Option<(Option<StopCause>, Option<StopCause>)> {
     let entry = long_entry(alloc)?;
     let recorder = Recorder::new(alloc, 1);
     for place in 0..2_000 {
@@ -38,7 +38,7 @@ fn stops(rt: &impl Wait, alloc: Global) -> Option<(Option<Stopped>, Option<Stopp
 #[test]
 fn lines_wait_up_to_sixteen_mebibytes(rt: HostRuntime) {
     let stops = stops(&rt, rt.alloc());
-    assert!(rt; stops == Some((None, Some(Stopped::Disk))));
+    assert!(rt; stops == Some((None, Some(StopCause::Disk))));
 }
 
 // The lines of two entries, when memory is refused for the third.

@@ -5,7 +5,7 @@ ghost use Rattle.trail_lines.specs.Entries.{line_of};
 
 use crate::file::time;
 use crate::merge::Merge;
-use crate::stop::Stopped;
+use crate::stop::StopCause;
 use hub_record::TrailEntry;
 use std::alloc::{AllocError, Global};
 use std::sync::atomic::{AtomicU64, Ordering};
@@ -21,7 +21,7 @@ pub const BLOCK: usize = 65_536;
 
 /// What the loops and the writer share.
 #[derive(Drop)]
-pub struct Waiting {
+pub struct WaitingLines {
     pub merge: Merge,
     /// How many loops haven't ended.
     pub loops: usize,
@@ -32,11 +32,11 @@ pub struct Waiting {
 #[derive(Drop)]
 pub struct Recorder {
     pub(crate) alloc: Global,
-    pub(crate) waiting: Mutex<Waiting>,
+    pub(crate) waiting: Mutex<WaitingLines>,
     pub(crate) news: Condvar,
     // The stamp of lines, in milliseconds since 1970.
     pub(crate) ms: AtomicU64,
-    stopped: OnceLock<Stopped>,
+    stopped: OnceLock<StopCause>,
 }
 
 /// The line of an entry, with its line feed.
@@ -50,16 +50,16 @@ fn line_of(alloc: Global, place: usize, ms: u64, entry: &TrailEntry) -> Result<V
     Ok(line)
 }
 
-impl Waiting {
+impl WaitingLines {
     // Puts a line down. The answer is whether the writer must be woken: the first bytes are ready, or as
     // many as it waits for. Bytes that the writer has taken don't wait, however long the disk takes.
-    fn put(&mut self, place: usize, line: Vec<u8>) -> Result<bool, Stopped> {
+    fn put(&mut self, place: usize, line: Vec<u8>) -> Result<bool, StopCause> {
         if self.merge.waiting() > MOST {
-            return Err(Stopped::Disk);
+            return Err(StopCause::Disk);
         }
         let before = self.merge.ready();
         if self.merge.put(place, line).is_err() {
-            return Err(Stopped::Memory);
+            return Err(StopCause::Memory);
         }
         let ready = self.merge.ready();
         Ok((before == 0 && ready > 0) || (before < BLOCK && ready >= BLOCK))
@@ -71,7 +71,7 @@ impl Recorder {
     pub fn new(alloc: Global, loops: usize) -> Recorder {
         Recorder {
             alloc,
-            waiting: Mutex::new(Waiting {
+            waiting: Mutex::new(WaitingLines {
                 merge: Merge::new(alloc),
                 loops,
             }),
@@ -109,7 +109,7 @@ impl Recorder {
         }
         let put = match line {
             Ok(line) => waiting.put(place, line),
-            Err(_) => Err(Stopped::Memory),
+            Err(_) => Err(StopCause::Memory),
         };
         let is_news = match put {
             Ok(is_news) => is_news,
@@ -125,7 +125,7 @@ impl Recorder {
     }
 
     /// Why the file can't go on; None as long as it can.
-    pub fn stopped(&self) -> Option<Stopped> {
+    pub fn stopped(&self) -> Option<StopCause> {
         self.stopped.get().copied()
     }
 

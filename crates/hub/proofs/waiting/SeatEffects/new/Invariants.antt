@@ -1,6 +1,6 @@
 use Rattle.std.proofs.Common.{◌≡◌, [], false, replicate}
 use Rattle.hub.specs.Routing.{views}
-use Rattle.hub.proofs.waiting.Waiting.new.Given as goal
+use Rattle.hub.proofs.waiting.SeatEffects.new.Given as goal
 
 abbrev pub invariant-seats : goal.invariant-seats
 invariant-seats l = record {

@@ -5,7 +5,7 @@ use Rattle.std.proofs.lemmas.Grind.{replicate_next}
 use Rattle.std.proofs.lemmas.List.{map_push}
 use Rattle.session_model.specs.declared.event.Effect.{Effect}
 use Rattle.hub.specs.Routing.{views}
-use Rattle.hub.proofs.waiting.Waiting.new.Goals as goal
+use Rattle.hub.proofs.waiting.SeatEffects.new.Goals as goal
 
 pub seats-preserved : goal.seats-preserved
 seats-preserved c = record {

@@ -2,7 +2,7 @@ use Rattle.std.proofs.Common.{ap, ◌∙◌}
 use Rattle.std.specs.Prelude.{slice_set}
 use Rattle.std.proofs.lemmas.List.{map-set}
 use Rattle.hub.specs.Routing.{views}
-use Rattle.hub.proofs.waiting.Waiting.take.Goals as goal
+use Rattle.hub.proofs.waiting.SeatEffects.take.Goals as goal
 
 pub returns-clause-lists : goal.returns-clause-lists
 returns-clause-lists c =
