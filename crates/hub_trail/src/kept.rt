@@ -4,6 +4,7 @@ ghost use Rattle.std.specs.Prelude.{◌≡◌, ◌↔◌, IfOk, false, is_ok, tr
 ghost use Rattle.session_model.specs.Trace.{happening};
 ghost use Rattle.hub_trail.specs.Filing.{copies, ending_of, finished_by, kept_of};
 
+use crate::same::{is_command, is_open};
 use acl::UserId;
 use session_model::{Bytes, Done, Event, Refusal, Reply};
 use std::alloc::{AllocError, Global};
@@ -162,14 +163,7 @@ impl Kept {
             ) => user == named && rows == height && columns == width,
             (Kept::Detach { client }, Kept::Detach { client: named }) => client == named,
             (Kept::Keys { client }, Kept::Keys { client: named }) => client == named,
-            (
-                Kept::Command { user, window, line },
-                Kept::Command {
-                    user: named,
-                    window: number,
-                    line: text,
-                },
-            ) => user == named && window == number && line.as_slice() == text.as_slice(),
+            (Kept::Command { user, window, line }, _) => is_command(other, *user, *window, line),
             (
                 Kept::Open {
                     user,
@@ -178,17 +172,8 @@ impl Kept {
                     keep,
                     title,
                 },
-                Kept::Open {
-                    user: named,
-                    rows: height,
-                    columns: width,
-                    keep: kept,
-                    title: text,
-                },
-            ) => {
-                let is_size = rows == height && columns == width && keep == kept;
-                user == named && is_size && title.as_slice() == text.as_slice()
-            }
+                _,
+            ) => is_open(other, *user, (*rows, *columns), *keep, title),
             (Kept::Closed { window }, Kept::Closed { window: named }) => window == named,
             _ => false,
         }
