@@ -5,6 +5,7 @@
 mod entry_list;
 mod new_entry;
 mod receipts;
+mod refusals;
 mod reply;
 mod search;
 mod trail_entry;

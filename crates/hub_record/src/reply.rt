@@ -3,6 +3,7 @@
 ghost use Rattle.std.specs.Prelude.{◌≡◌, ◌↔◌, IfOk, true};
 ghost use Rattle.hub_trail.specs.Filing.{ending_of};
 
+use crate::refusals::is_same;
 use hub_trail::{Ending, Finished};
 use session_model::{Refusal, Reply};
 use std::alloc::{AllocError, Global};
@@ -81,7 +82,7 @@ impl KeptReply {
     {
         match (&self.ending, &other.ending) {
             (Ok(finished), Ok(other)) => *finished == *other,
-            (Err(refusal), Err(other)) => **refusal == **other,
+            (Err(refusal), Err(other)) => is_same(refusal, other),
             (Ok(_), Err(_)) => false,
             (Err(_), Ok(_)) => false,
         }
