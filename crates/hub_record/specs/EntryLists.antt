@@ -1,4 +1,4 @@
--- What a roll of entries stands for.
+-- What a list of entries stands for.
 use Rattle.std.specs.Prelude.{ℕ, ◌<◌, ◌≤◌, ◌≡◌, ◌++◌, List, length, flat_map, option_to_list, slice_get}
 use Rattle.hub_trail.specs.Trails.{Entry}
 use Rattle.hub_record.specs.declared.new_entry.NewEntry.{NewEntry}

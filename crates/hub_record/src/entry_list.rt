@@ -48,18 +48,18 @@ impl Model for EntryList {
 
 /// The code of the entry's form: that of an equal form, if one is found, or of a new form after the
 /// others.
-fn store(forms: &mut Vec<TrailEntry>, kept: &mut [u32], slip: NewEntry) -> u32
+fn store(forms: &mut Vec<TrailEntry>, kept: &mut [u32], entry: NewEntry) -> u32
     requires room { vec_len forms.old < vec_capacity forms.old }
     requires few { vec_len forms.old < 4294967296 }
-    ensures code { slice_get forms.new.items result ≡ Some (entry_in slip) }
+    ensures code { slice_get forms.new.items result ≡ Some (entry_in entry) }
     ensures more { HasOneMore forms.old.items forms.new.items }
 {
-    let first = first_of(&slip);
-    if let Some(code) = find(forms.as_slice(), kept, first, &slip) {
+    let first = first_of(&entry);
+    if let Some(code) = find(forms.as_slice(), kept, first, &entry) {
         return code;
     }
     let code = forms.len() as u32;
-    forms.push_reserved(slip.into_entry());
+    forms.push_reserved(entry.into_entry());
     if let Some(slot) = kept.get_mut(slot_of(first, code)) {
         *slot = code;
     }
@@ -69,7 +69,7 @@ fn store(forms: &mut Vec<TrailEntry>, kept: &mut [u32], slip: NewEntry) -> u32
 impl EntryList {
     /// A list without entries. `AllocError` if memory is refused.
     pub fn new(alloc: Global) -> Result<EntryList, AllocError>
-        ensures { IfOk result (λ roll. roll.entries ≡ []) }
+        ensures { IfOk result (λ list. list.entries ≡ []) }
     {
         let mut kept = Vec::new(alloc);
         for _slot in 0..KEPT {
@@ -100,12 +100,12 @@ impl EntryList {
     }
 
     /// Puts an entry after the others, for which there is room.
-    pub fn push(&mut self, slip: NewEntry)
+    pub fn push(&mut self, entry: NewEntry)
         requires room { HasRoom self.old }
         requires few { length self.old.entries < 4294967296 }
-        ensures { self.new.entries ≡ self.old.entries ++ entry_in slip ∷ [] }
+        ensures { self.new.entries ≡ self.old.entries ++ entry_in entry ∷ [] }
     {
-        let code = store(&mut self.forms, self.kept.as_mut_slice(), slip);
+        let code = store(&mut self.forms, self.kept.as_mut_slice(), entry);
         self.codes.push_reserved(code);
     }
 

@@ -62,14 +62,14 @@ pub fn first_by(number: u32, reply: &KeptReply) -> usize
 }
 
 /// The index among the kept codes at which the search for an entry begins.
-pub fn first_of(slip: &NewEntry) -> usize
+pub fn first_of(entry: &NewEntry) -> usize
     ensures { result ≤ 4092 }
 {
-    let mut number = number_of_event(&slip.event);
-    if let Some(verdict) = slip.verdicts.first() {
+    let mut number = number_of_event(&entry.event);
+    if let Some(verdict) = entry.verdicts.first() {
         number = number.wrapping_mul(31).wrapping_add(window_of(*verdict));
     }
-    first_by(number, &slip.reply)
+    first_by(number, &entry.reply)
 }
 
 /// The index among the kept codes at which the next code is put, if the search began at `first`.
@@ -82,14 +82,14 @@ pub fn slot_of(first: usize, code: u32) -> usize
 
 /// The code of a form equal to the entry, among the kept codes from `first` on; `None` if none of
 /// those tried is.
-pub fn find(forms: &[TrailEntry], kept: &[u32], first: usize, slip: &NewEntry) -> Option<u32>
+pub fn find(forms: &[TrailEntry], kept: &[u32], first: usize, entry: &NewEntry) -> Option<u32>
     requires { first ≤ 4092 }
-    ensures { IfSome result (λ code. slice_get forms.now code ≡ Some (entry_in slip.now)) }
+    ensures { IfSome result (λ code. slice_get forms.now code ≡ Some (entry_in entry.now)) }
 {
     for way in 0..WAYS {
         if let Some(code) = kept.get(first + way) {
             if let Some(form) = forms.get(*code as usize) {
-                if slip.is_of(form) {
+                if entry.is_of(form) {
                     return Some(*code);
                 }
             }

@@ -4,7 +4,7 @@ use hub_record::{EntryList, Kept, KeptReply, NewEntry, TrailEntry};
 use session_model::{Done, Event, Refusal, Reply, Verdict};
 use std::alloc::{AllocError, Global};
 
-fn slip(alloc: Global, event: Event<'_>) -> Result<NewEntry, AllocError> {
+fn new_entry(alloc: Global, event: Event<'_>) -> Result<NewEntry, AllocError> {
     let reply: Reply = Ok(Done {
         taken: 1,
         made: 0,
@@ -30,7 +30,7 @@ pub fn keys(place: usize) -> Event<'static> {
 
 /// The entry of an event.
 pub fn entry(alloc: Global, event: Event<'_>) -> Result<TrailEntry, AllocError> {
-    Ok(slip(alloc, event)?.into_entry())
+    Ok(new_entry(alloc, event)?.into_entry())
 }
 
 /// The entry of an event with these verdicts, which has no acts.
@@ -39,18 +39,18 @@ pub fn entry_with(
     event: Event<'_>,
     verdicts: Vec<Verdict>,
 ) -> Result<TrailEntry, AllocError> {
-    let mut made = slip(alloc, event)?;
+    let mut made = new_entry(alloc, event)?;
     made.verdicts = verdicts;
     Ok(made.into_entry())
 }
 
 /// A trail of `count` keys.
 pub fn trail(alloc: Global, count: usize) -> Result<EntryList, AllocError> {
-    let mut roll = EntryList::new(alloc)?;
+    let mut list = EntryList::new(alloc)?;
     for place in 0..count.min(10_000) {
-        let next = slip(alloc, keys(place))?;
-        roll.reserve()?;
-        roll.push(next);
+        let next = new_entry(alloc, keys(place))?;
+        list.reserve()?;
+        list.push(next);
     }
-    Ok(roll)
+    Ok(list)
 }

@@ -51,7 +51,7 @@ returns c =
     let sum = length-append old more.0 in
     let items : c.push_reserved.new.self.items ≡ codes ++ c.store-code.result ∷ [] = c.push_reserved.ensures.items in
     ap (listed new) items
-    ∙ with_code new codes c.store-code.result (entry_in c.args.slip) c.store-code.ensures.code
-    ∙ ap (λ (es : List Entry). es ++ entry_in c.args.slip ∷ []) (
+    ∙ with_code new codes c.store-code.result (entry_in c.args.entry) c.store-code.ensures.code
+    ∙ ap (λ (es : List Entry). es ++ entry_in c.args.entry ∷ []) (
     ap (λ (fs : List Entry). listed fs codes) more.1 ∙ with_form old more.0 codes c.self.invariant.0
     ∙ ap (λ (r : StoredEntries). r.entries) c.self.view_is)
