@@ -7,7 +7,7 @@ ghost use Rattle.hub_check.specs.declared.fault.CheckFault.TheVariants.{BadEntry
 use crate::fault::CheckFault;
 use crate::judge::Judge;
 use acl::{Edition, UserId};
-use hub_record::Filed;
+use hub_record::TrailEntry;
 use std::alloc::Global;
 
 /// Judges the entries of a trail in order, from the first one, each by the acts of the entries before
@@ -17,7 +17,7 @@ pub fn check_entries(
     alloc: Global,
     edition: Edition,
     owner: UserId,
-    entries: &[Filed],
+    entries: &[TrailEntry],
 ) -> Result<(), CheckFault>
     ensures good { result ≡ Ok tt → AreGood edition owner [] entries.now }
     ensures bad { (place : ℕ) → result ≡ Err (BadEntry place) →

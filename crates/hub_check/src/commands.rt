@@ -6,7 +6,6 @@ ghost use Rattle.acl.specs.declared.edition.Edition.{Edition};
 ghost use Rattle.acl.specs.declared.user_id.UserId.{UserId};
 ghost use Rattle.acl.specs.History.{History};
 ghost use Rattle.hub_check.specs.Following.{StandsAfter};
-ghost use Rattle.hub_record.specs.Stored.{kept_lent};
 ghost use Rattle.hub_check.specs.Parts.{IsReading, AsksIfKnown, HaveActsIfDone, AreSaidIfDone};
 ghost use Rattle.hub_check.specs.Parts.{FitsCommand, FitsLine};
 
@@ -16,8 +15,8 @@ use crate::says::all_said;
 use crate::verdicts::asks_first;
 use acl::UserId;
 use command_lang::{Command, FaultKind, parse};
-use hub_record::{Filed, KeptRef};
-use hub_trail::{has_closed, has_come, has_gone, has_opened};
+use hub_record::TrailEntry;
+use hub_trail::{Kept, has_closed, has_come, has_gone, has_opened};
 use session_model::Verdict;
 use std::alloc::{AllocError, Global};
 
@@ -35,7 +34,7 @@ fn command_of(alloc: Global, line: &[u8]) -> Result<Option<Command>, AllocError>
 }
 
 /// Whether the entry has the acts of this command, or the command wasn't done.
-fn have_acts_if_done(owner: UserId, replay: &Replay, command: &Command, entry: &Filed) -> bool
+fn have_acts_if_done(owner: UserId, replay: &Replay, command: &Command, entry: &TrailEntry) -> bool
     ensures { (edition : Edition) (h : History) → StandsAfter replay.now edition owner h →
         (result ≡ true)
         ↔ HaveActsIfDone owner h command.now entry.now.reply entry.now.acts }
@@ -47,7 +46,7 @@ fn have_acts_if_done(owner: UserId, replay: &Replay, command: &Command, entry: &
 }
 
 /// Whether the command says each act of the entry on users and rights, or it wasn't done.
-fn are_said_if_done(owner: UserId, replay: &Replay, command: &Command, entry: &Filed) -> bool
+fn are_said_if_done(owner: UserId, replay: &Replay, command: &Command, entry: &TrailEntry) -> bool
     ensures { (edition : Edition) (h : History) → StandsAfter replay.now edition owner h →
         (result ≡ true)
         ↔ AreSaidIfDone owner h command.now entry.now.reply entry.now.acts }
@@ -78,7 +77,7 @@ fn fits_command(
     replay: &Replay,
     user: UserId,
     command: &Command,
-    entry: &Filed,
+    entry: &TrailEntry,
 ) -> bool
     ensures { (edition : Edition) (h : History) → StandsAfter replay.now edition owner h →
         (result ≡ true) ↔ FitsCommand owner h user command.now entry.now }
@@ -93,7 +92,7 @@ fn fits_command(
 }
 
 /// Whether the event of the entry was refused.
-fn is_refused(entry: &Filed) -> bool
+fn is_refused(entry: &TrailEntry) -> bool
     ensures { result ≡ is_err entry.now.reply }
 {
     match entry.ending() {
@@ -110,7 +109,7 @@ fn fits_text(
     replay: &Replay,
     user: UserId,
     line: &[u8],
-    entry: &Filed,
+    entry: &TrailEntry,
 ) -> Result<bool, AllocError>
     ensures { IfOk result (λ fits. (edition : Edition) (h : History) (window : Option ℕ) →
         StandsAfter replay.now edition owner h →
@@ -127,20 +126,27 @@ pub fn fits_line(
     alloc: Global,
     owner: UserId,
     replay: &Replay,
-    event: KeptRef<'_>,
-    entry: &Filed,
+    event: &Kept,
+    entry: &TrailEntry,
 ) -> Result<bool, AllocError>
     ensures { IfOk result (λ fits. (edition : Edition) (h : History) →
         StandsAfter replay.now edition owner h →
-        (fits ≡ true) ↔ FitsLine owner h (kept_lent event.entry) entry.now) }
+        (fits ≡ true) ↔ FitsLine owner h event.now entry.now) }
 {
     let ending = entry.ending();
     match event {
-        KeptRef::Command { user, line, .. } => fits_text(alloc, owner, replay, user, line, entry),
-        KeptRef::Attach { user, .. } => Ok(has_come(&ending, entry.acts(), user)),
-        KeptRef::Detach { client } => Ok(has_gone(&ending, entry.acts(), client)),
-        KeptRef::Keys { .. } => Ok(true),
-        KeptRef::Open { user, .. } => Ok(has_opened(&ending, entry.acts(), user)),
-        KeptRef::Closed { window } => Ok(has_closed(&ending, entry.acts(), window)),
+        Kept::Command { user, line, .. } => fits_text(
+            alloc,
+            owner,
+            replay,
+            *user,
+            line.as_slice(),
+            entry,
+        ),
+        Kept::Attach { user, .. } => Ok(has_come(&ending, entry.acts(), *user)),
+        Kept::Detach { client } => Ok(has_gone(&ending, entry.acts(), *client)),
+        Kept::Keys { .. } => Ok(true),
+        Kept::Open { user, .. } => Ok(has_opened(&ending, entry.acts(), *user)),
+        Kept::Closed { window } => Ok(has_closed(&ending, entry.acts(), *window)),
     }
 }

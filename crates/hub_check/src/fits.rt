@@ -7,13 +7,12 @@ ghost use Rattle.acl.specs.declared.user_id.UserId.{UserId};
 ghost use Rattle.acl.specs.History.{History};
 ghost use Rattle.hub_trail.specs.Fitting.{detaches};
 ghost use Rattle.hub_trail.specs.Legal.{can_have, is_client_of, Fits, IsOfKnown};
-ghost use Rattle.hub_record.specs.Stored.{kept_lent};
 ghost use Rattle.hub_check.specs.Following.{StandsAfter};
 
 use crate::replay::Replay;
 use acl::{Act, UserId};
-use hub_record::{Filed, KeptRef};
-use hub_trail::{Ending, Finished, all_shut, attaches_one, from_command, made_by, opens_one};
+use hub_record::TrailEntry;
+use hub_trail::{Ending, Finished, Kept, all_shut, attaches_one, from_command, made_by, opens_one};
 use session_model::Verdict;
 
 /// Whether the act is that this client goes, or that its user leaves a window.
@@ -46,30 +45,30 @@ fn all_detach(replay: &Replay, client: u32, acts: &[Act]) -> bool
 /// Whether an event that was done can have these acts.
 fn can_have(
     replay: &Replay,
-    event: KeptRef<'_>,
+    event: &Kept,
     finished: Finished,
     verdicts: &[Verdict],
     acts: &[Act],
 ) -> bool
     ensures { (edition : Edition) (owner : UserId) (h : History) →
         StandsAfter replay.now edition owner h →
-        result ≡ can_have h (kept_lent event.entry) finished verdicts.now acts.now }
+        result ≡ can_have h event.now finished verdicts.now acts.now }
 {
     match event {
-        KeptRef::Attach { user, .. } => attaches_one(finished.made, user, acts),
-        KeptRef::Detach { client } => all_detach(replay, client, acts),
-        KeptRef::Keys { client } => made_by(Some(client), from_command(verdicts), acts),
-        KeptRef::Command { .. } => made_by(None, from_command(verdicts), acts),
-        KeptRef::Open { user, .. } => opens_one(finished.made, user, acts),
-        KeptRef::Closed { window } => all_shut(window, acts),
+        Kept::Attach { user, .. } => attaches_one(finished.made, *user, acts),
+        Kept::Detach { client } => all_detach(replay, *client, acts),
+        Kept::Keys { client } => made_by(Some(*client), from_command(verdicts), acts),
+        Kept::Command { .. } => made_by(None, from_command(verdicts), acts),
+        Kept::Open { user, .. } => opens_one(finished.made, *user, acts),
+        Kept::Closed { window } => all_shut(*window, acts),
     }
 }
 
 /// Whether an entry of this event has only acts that the event can have, and none if it was refused.
-pub fn fits(replay: &Replay, event: KeptRef<'_>, entry: &Filed) -> bool
+pub fn fits(replay: &Replay, event: &Kept, entry: &TrailEntry) -> bool
     ensures { (edition : Edition) (owner : UserId) (h : History) →
         StandsAfter replay.now edition owner h → (result ≡ true)
-        ↔ Fits h (kept_lent event.entry) entry.now.reply entry.now.verdicts entry.now.acts }
+        ↔ Fits h event.now entry.now.reply entry.now.verdicts entry.now.acts }
 {
     match entry.ending() {
         Ok(finished) => can_have(replay, event, finished, entry.verdicts(), entry.acts()),
@@ -78,17 +77,17 @@ pub fn fits(replay: &Replay, event: KeptRef<'_>, entry: &Filed) -> bool
 }
 
 /// Whether an Attach, a Command or an Open is a known user's, or it wasn't done. True of other events.
-pub fn is_of_known(replay: &Replay, event: KeptRef<'_>, ending: &Ending) -> bool
+pub fn is_of_known(replay: &Replay, event: &Kept, ending: &Ending) -> bool
     ensures { (edition : Edition) (owner : UserId) (h : History) →
         StandsAfter replay.now edition owner h → (result ≡ true)
-        ↔ IsOfKnown owner h (kept_lent event.entry) ending.now }
+        ↔ IsOfKnown owner h event.now ending.now }
 {
     match ending {
         Ok(_) => match event {
-            KeptRef::Attach { user, .. } => replay.knows(user),
-            KeptRef::Command { user, .. } => replay.knows(user),
-            KeptRef::Open { user, .. } => replay.knows(user),
-            KeptRef::Detach { .. } | KeptRef::Keys { .. } | KeptRef::Closed { .. } => true,
+            Kept::Attach { user, .. } => replay.knows(*user),
+            Kept::Command { user, .. } => replay.knows(*user),
+            Kept::Open { user, .. } => replay.knows(*user),
+            Kept::Detach { .. } | Kept::Keys { .. } | Kept::Closed { .. } => true,
         },
         Err(_) => true,
     }

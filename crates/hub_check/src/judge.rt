@@ -6,7 +6,6 @@ ghost use Rattle.acl.specs.declared.user_id.UserId.{UserId};
 ghost use Rattle.acl.specs.History.{History};
 ghost use Rattle.hub_trail.specs.Legal.{AreOfUser, acts_after};
 ghost use Rattle.hub_trail.specs.Trails.{Entry};
-ghost use Rattle.hub_record.specs.Stored.{kept_lent};
 ghost use Rattle.hub_check.specs.Following.{StandsAfter};
 ghost use Rattle.hub_check.specs.Parts.{IsAnswered, IsJudged};
 ghost use Rattle.hub_check.specs.Judges.{HasJudged, Judges};
@@ -18,7 +17,8 @@ use crate::replay::Replay;
 use crate::replies::{carries_failed, is_denied};
 use crate::verdicts::{are_of, are_of_client, are_true, failed};
 use acl::{Edition, UserId};
-use hub_record::{Filed, KeptRef};
+use hub_record::TrailEntry;
+use hub_trail::Kept;
 use session_model::Verdict;
 use std::alloc::{AllocError, Global};
 
@@ -42,22 +42,22 @@ impl Drop for Judge {
 
 /// Whether the verdicts of a Command or an Open are of its user, and those of Keys are of the user of
 /// their client.
-fn are_of_user(replay: &Replay, event: KeptRef<'_>, verdicts: &[Verdict]) -> bool
+fn are_of_user(replay: &Replay, event: &Kept, verdicts: &[Verdict]) -> bool
     ensures { (edition : Edition) (owner : UserId) (h : History) →
         StandsAfter replay.now edition owner h →
-        (result ≡ true) ↔ AreOfUser h (kept_lent event.entry) verdicts.now }
+        (result ≡ true) ↔ AreOfUser h event.now verdicts.now }
 {
     match event {
-        KeptRef::Keys { client } => are_of_client(replay, client, verdicts),
-        KeptRef::Command { user, .. } => are_of(user, verdicts),
-        KeptRef::Open { user, .. } => are_of(user, verdicts),
-        KeptRef::Attach { .. } | KeptRef::Detach { .. } | KeptRef::Closed { .. } => true,
+        Kept::Keys { client } => are_of_client(replay, *client, verdicts),
+        Kept::Command { user, .. } => are_of(*user, verdicts),
+        Kept::Open { user, .. } => are_of(*user, verdicts),
+        Kept::Attach { .. } | Kept::Detach { .. } | Kept::Closed { .. } => true,
     }
 }
 
 /// Whether a denial carries the verdict that failed, and the event was denied if it had to be.
-fn is_answered(event: KeptRef<'_>, entry: &Filed) -> bool
-    ensures { (result ≡ true) ↔ IsAnswered (kept_lent event.entry) entry.now }
+fn is_answered(event: &Kept, entry: &TrailEntry) -> bool
+    ensures { (result ≡ true) ↔ IsAnswered event.now entry.now }
 {
     let failed = failed(entry.verdicts());
     let ending = entry.ending();
@@ -69,13 +69,13 @@ fn is_legal(
     alloc: Global,
     owner: UserId,
     replay: &Replay,
-    entry: &Filed,
+    entry: &TrailEntry,
 ) -> Result<bool, AllocError>
     ensures { IfOk result (λ legal. (edition : Edition) (h : History) →
         StandsAfter replay.now edition owner h →
         (legal ≡ true) ↔ IsJudged edition owner h entry.now) }
 {
-    let event = entry.event().get();
+    let event = entry.event();
     let verdicts = entry.verdicts();
     if !are_true(replay, verdicts) {
         return Ok(false);
@@ -113,7 +113,7 @@ impl Judge {
 
     /// Whether the next entry is good: tables can judge it, and it is legal. After an entry that isn't
     /// good, or when memory was refused, the judge must not be used again.
-    pub fn take(&mut self, entry: &Filed) -> Result<bool, AllocError>
+    pub fn take(&mut self, entry: &TrailEntry) -> Result<bool, AllocError>
         ensures { IfOk result (λ good. Judges good self.old self.new entry.now) }
     {
         if !is_legal(self.alloc, self.owner, &self.replay, entry)? {

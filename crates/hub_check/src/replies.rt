@@ -4,11 +4,9 @@ ghost use Rattle.std.specs.Prelude.{◌≡◌, ◌↔◌, true, false};
 ghost use Rattle.std.specs.Option.{option_map_or};
 ghost use Rattle.hub_trail.specs.Legal.{is_denial, is_named, is_of, denies};
 ghost use Rattle.hub_trail.specs.Legal.{CarriesFailed, IsDenied};
-ghost use Rattle.hub_record.specs.Stored.{kept_lent};
 
 use acl::Object;
-use hub_record::KeptRef;
-use hub_trail::Ending;
+use hub_trail::{Ending, Kept};
 use session_model::{Denied, Refusal, Verdict};
 
 /// Whether the refusal denies a right or a lock.
@@ -89,14 +87,11 @@ fn denies(ending: &Ending) -> bool
 }
 
 /// Whether a Command or an Open was denied, or no verdict failed. True of other events.
-pub fn is_denied(event: KeptRef<'_>, failed: Option<Verdict>, ending: &Ending) -> bool
-    ensures { (result ≡ true) ↔ IsDenied (kept_lent event.entry) failed ending.now }
+pub fn is_denied(event: &Kept, failed: Option<Verdict>, ending: &Ending) -> bool
+    ensures { (result ≡ true) ↔ IsDenied event.now failed ending.now }
 {
     match event {
-        KeptRef::Command { .. } | KeptRef::Open { .. } => failed.is_none() || denies(ending),
-        KeptRef::Attach { .. }
-        | KeptRef::Detach { .. }
-        | KeptRef::Keys { .. }
-        | KeptRef::Closed { .. } => true,
+        Kept::Command { .. } | Kept::Open { .. } => failed.is_none() || denies(ending),
+        Kept::Attach { .. } | Kept::Detach { .. } | Kept::Keys { .. } | Kept::Closed { .. } => true,
     }
 }

@@ -5,7 +5,7 @@ use Rattle.std.specs.Prelude.{option_to_list, slice_get}
 use Rattle.std.specs.List.{AllByRecursion}
 use Rattle.std.proofs.lemmas.Grind.{flat_map-append}
 use Rattle.hub_trail.specs.Trails.{Entry}
-use Rattle.hub_record.specs.Rolls.{listed}
+use Rattle.hub_record.specs.EntryLists.{listed}
 
 abbrev pub Below : ℕ → List ℕ → Type 0
 Below n codes = AllByRecursion (λ c. c < n) codes

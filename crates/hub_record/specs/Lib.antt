@@ -1,3 +1,3 @@
 pub mod Stored
-pub mod Rolls
+pub mod EntryLists
 pub mod Receipts

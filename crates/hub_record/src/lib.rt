@@ -2,19 +2,17 @@
 //! is what happened, and lists in which equal ones share one stored form.
 #![tactic(auto)]
 
-mod event;
-mod filed;
+mod entry_list;
+mod new_entry;
 mod receipts;
 mod refusals;
 mod reply;
-mod roll;
-mod same;
 mod search;
-mod slip;
+mod trail_entry;
 
-pub use event::{KeptEvent, KeptRef};
-pub use filed::Filed;
+pub use entry_list::EntryList;
+pub use hub_trail::Kept;
+pub use new_entry::NewEntry;
 pub use receipts::{Receipt, Receipts};
 pub use reply::KeptReply;
-pub use roll::Roll;
-pub use slip::Slip;
+pub use trail_entry::TrailEntry;

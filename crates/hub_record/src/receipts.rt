@@ -2,14 +2,13 @@
 
 ghost use Rattle.std.specs.Prelude.{◌≡◌, ◌↔◌, ◌∷◌, ◌++◌, ◌<◌, ◌≤◌, [], true, length, slice_get};
 ghost use Rattle.std.specs.Prelude.{IfSome, OnOk, Some, vec_len, vec_capacity};
-ghost use Rattle.hub_record.specs.Rolls.{HasOneMore};
+ghost use Rattle.hub_record.specs.EntryLists.{HasOneMore};
 ghost use Rattle.hub_record.specs.Receipts.{HasRoom, IsOf, LosesLast};
 
-use crate::event::KeptEvent;
-use crate::filed::Filed;
 use crate::reply::KeptReply;
 use crate::search::{KEPT, WAYS, first_by, number_of_event, slot_of};
-use hub_trail::Ending;
+use crate::trail_entry::TrailEntry;
+use hub_trail::{Ending, Kept};
 use std::alloc::{AllocError, Global};
 use std::marker::Model;
 use std::mem::size_of;
@@ -26,7 +25,7 @@ const _: () = prove!(size_of::<PlaceCode>() <= 8);
 /// The event and the reply that receipts share.
 #[derive(Drop)]
 struct Form {
-    event: KeptEvent,
+    event: Kept,
     reply: KeptReply,
 }
 
@@ -54,7 +53,7 @@ impl<'a> Receipt<'a> {
     }
 
     /// The entry's event.
-    pub fn event(&self) -> &'a KeptEvent
+    pub fn event(&self) -> &'a Kept
         ensures { result.now ≡ self.now.event }
     {
         &self.form.event
@@ -68,7 +67,7 @@ impl<'a> Receipt<'a> {
     }
 
     /// Whether the receipt has the event and the reply of the entry.
-    pub fn is_of(&self, entry: &Filed) -> bool
+    pub fn is_of(&self, entry: &TrailEntry) -> bool
         ensures { (result ≡ true) ↔ IsOf entry.now self.now }
     {
         entry.is_told(&self.form.event, &self.form.reply)
@@ -143,7 +142,7 @@ fn store(forms: &mut Vec<Form>, kept: &mut [u32], form: Form) -> u32
     ensures code { slice_get forms.new.items result ≡ Some form }
     ensures more { HasOneMore forms.old.items forms.new.items }
 {
-    let first = first_by(number_of_event(form.event.get()), &form.reply);
+    let first = first_by(number_of_event(&form.event), &form.reply);
     if let Some(code) = find(forms.as_slice(), kept, first, &form) {
         return code;
     }
@@ -198,7 +197,7 @@ impl Receipts {
     }
 
     /// Puts a receipt after the others, for which there is room.
-    pub fn push(&mut self, place: usize, event: KeptEvent, reply: KeptReply)
+    pub fn push(&mut self, place: usize, event: Kept, reply: KeptReply)
         requires room { HasRoom self.old }
         requires place { place < 4294967296 }
         ensures { self.new.receipts

@@ -9,22 +9,15 @@ use session_model::{Refusal, Reply};
 use std::alloc::{AllocError, Global};
 use std::marker::Model;
 
-/// How a reply is stored.
-#[derive(Drop)]
-enum Form {
-    Done(Finished),
-    Refused(Box<Refusal>),
-}
-
 /// A reply without its text. It takes 24 bytes, and a block of memory if it is a refusal. Contracts
 /// see it as the `Ending` of hub_trail.
 pub struct KeptReply {
-    form: Form,
+    ending: Result<Finished, Box<Refusal>>,
 }
 
 impl Drop for KeptReply {
     fn drop(self) {
-        let KeptReply { form: _ } = self;
+        let KeptReply { ending: _ } = self;
     }
 }
 
@@ -35,7 +28,7 @@ impl Model for KeptReply {
 
     ghost use Rattle.hub_record.specs.Stored.{ending_in};
 
-    ghost view = { λ r. ending_in r.form };
+    ghost view = { λ r. ending_in r.ending };
 }
 
 impl KeptReply {
@@ -44,15 +37,15 @@ impl KeptReply {
     pub fn of(reply: &Reply, spare: Box<Refusal>) -> KeptReply
         ensures { result ≡ ending_of reply.now }
     {
-        let form = match reply {
-            Ok(done) => Form::Done(Finished::of(done)),
+        let ending = match reply {
+            Ok(done) => Ok(Finished::of(done)),
             Err(refusal) => {
                 let mut block = spare;
                 *block = *refusal;
-                Form::Refused(block)
+                Err(block)
             }
         };
-        KeptReply { form }
+        KeptReply { ending }
     }
 
     /// A copy of the reply. `AllocError` if memory is refused; unless it is a refusal, it takes no
@@ -60,14 +53,14 @@ impl KeptReply {
     pub fn copy(&self, alloc: Global) -> Result<KeptReply, AllocError>
         ensures { IfOk result (λ copy. copy ≡ self.now) }
     {
-        match &self.form {
-            Form::Done(finished) => Ok(KeptReply {
-                form: Form::Done(*finished),
+        match &self.ending {
+            Ok(finished) => Ok(KeptReply {
+                ending: Ok(*finished),
             }),
-            Form::Refused(refusal) => {
+            Err(refusal) => {
                 let refusal = Box::new(alloc, **refusal)?;
                 Ok(KeptReply {
-                    form: Form::Refused(refusal),
+                    ending: Err(refusal),
                 })
             }
         }
@@ -77,9 +70,9 @@ impl KeptReply {
     pub fn ending(&self) -> Ending
         ensures { result ≡ self.now }
     {
-        match &self.form {
-            Form::Done(finished) => Ok(*finished),
-            Form::Refused(refusal) => Err(**refusal),
+        match &self.ending {
+            Ok(finished) => Ok(*finished),
+            Err(refusal) => Err(**refusal),
         }
     }
 
@@ -87,11 +80,11 @@ impl KeptReply {
     pub fn is_same(&self, other: &KeptReply) -> bool
         ensures { (result ≡ true) ↔ (self.now ≡ other.now) }
     {
-        match (&self.form, &other.form) {
-            (Form::Done(finished), Form::Done(other)) => *finished == *other,
-            (Form::Refused(refusal), Form::Refused(other)) => is_same(refusal, other),
-            (Form::Done(_), Form::Refused(_)) => false,
-            (Form::Refused(_), Form::Done(_)) => false,
+        match (&self.ending, &other.ending) {
+            (Ok(finished), Ok(other)) => *finished == *other,
+            (Err(refusal), Err(other)) => is_same(refusal, other),
+            (Ok(_), Err(_)) => false,
+            (Err(_), Ok(_)) => false,
         }
     }
 }

@@ -1,13 +1,13 @@
 //! The search for a stored form.
 
 ghost use Rattle.std.specs.Prelude.{◌≡◌, ◌≤◌, Some, IfSome, slice_get};
-ghost use Rattle.hub_record.specs.Rolls.{entry_in};
+ghost use Rattle.hub_record.specs.EntryLists.{entry_in};
 
-use crate::event::KeptRef;
-use crate::filed::Filed;
+use crate::new_entry::NewEntry;
 use crate::reply::KeptReply;
-use crate::slip::Slip;
+use crate::trail_entry::TrailEntry;
 use acl::Object;
+use hub_trail::Kept;
 use session_model::Verdict;
 
 /// The number of codes that are tried for an entry or a receipt.
@@ -26,12 +26,12 @@ fn number_of(bytes: &[u8]) -> u32 {
 }
 
 /// A hash of the event: equal events have the same one.
-pub fn number_of_event(event: KeptRef<'_>) -> u32 {
+pub fn number_of_event(event: &Kept) -> u32 {
     match event {
-        KeptRef::Keys { client } => client.wrapping_mul(7),
-        KeptRef::Command { line, .. } => number_of(line),
-        KeptRef::Attach { .. } | KeptRef::Detach { .. } | KeptRef::Open { .. } => 1,
-        KeptRef::Closed { .. } => 2,
+        Kept::Keys { client } => (*client).wrapping_mul(7),
+        Kept::Command { line, .. } => number_of(line.as_slice()),
+        Kept::Attach { .. } | Kept::Detach { .. } | Kept::Open { .. } => 1,
+        Kept::Closed { .. } => 2,
     }
 }
 
@@ -62,14 +62,14 @@ pub fn first_by(number: u32, reply: &KeptReply) -> usize
 }
 
 /// The index among the kept codes at which the search for an entry begins.
-pub fn first_of(slip: &Slip) -> usize
+pub fn first_of(entry: &NewEntry) -> usize
     ensures { result ≤ 4092 }
 {
-    let mut number = number_of_event(slip.event.get());
-    if let Some(verdict) = slip.verdicts.first() {
+    let mut number = number_of_event(&entry.event);
+    if let Some(verdict) = entry.verdicts.first() {
         number = number.wrapping_mul(31).wrapping_add(window_of(*verdict));
     }
-    first_by(number, &slip.reply)
+    first_by(number, &entry.reply)
 }
 
 /// The index among the kept codes at which the next code is put, if the search began at `first`.
@@ -82,14 +82,14 @@ pub fn slot_of(first: usize, code: u32) -> usize
 
 /// The code of a form equal to the entry, among the kept codes from `first` on; `None` if none of
 /// those tried is.
-pub fn find(forms: &[Filed], kept: &[u32], first: usize, slip: &Slip) -> Option<u32>
+pub fn find(forms: &[TrailEntry], kept: &[u32], first: usize, entry: &NewEntry) -> Option<u32>
     requires { first ≤ 4092 }
-    ensures { IfSome result (λ code. slice_get forms.now code ≡ Some (entry_in slip.now)) }
+    ensures { IfSome result (λ code. slice_get forms.now code ≡ Some (entry_in entry.now)) }
 {
     for way in 0..WAYS {
         if let Some(code) = kept.get(first + way) {
             if let Some(form) = forms.get(*code as usize) {
-                if slip.is_of(form) {
+                if entry.is_of(form) {
                     return Some(*code);
                 }
             }

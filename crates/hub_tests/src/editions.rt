@@ -1,9 +1,9 @@
-//! A trail of each edition, as a hub filed it: it is legal for its owner alone, and where its last
-//! verdict is turned round, the check names that entry.
+//! A trail of each edition, as a hub filed it: it is legal for its owner alone. If the first verdict of
+//! its last entry is turned round, the check names that entry.
 
 ghost use Rattle.std.specs.Prelude.{◌≡◌, IfOk};
 ghost use Rattle.session_model.specs.Trace.{begun};
-ghost use Rattle.hub_ledger.specs.Seats.{StandsFor};
+ghost use Rattle.hub.specs.Seats.{StandsFor};
 
 use crate::entries::entry_with;
 use crate::steps::{are_done, line_of};

@@ -1,10 +1,10 @@
 //! Entries, and a trail of them.
 
-use hub_record::{Filed, KeptEvent, KeptReply, Roll, Slip};
+use hub_record::{EntryList, Kept, KeptReply, NewEntry, TrailEntry};
 use session_model::{Done, Event, Refusal, Reply, Verdict};
 use std::alloc::{AllocError, Global};
 
-fn slip(alloc: Global, event: Event<'_>) -> Result<Slip, AllocError> {
+fn new_entry(alloc: Global, event: Event<'_>) -> Result<NewEntry, AllocError> {
     let reply: Reply = Ok(Done {
         taken: 1,
         made: 0,
@@ -12,8 +12,8 @@ fn slip(alloc: Global, event: Event<'_>) -> Result<Slip, AllocError> {
         text: None,
     });
     let spare = Box::new(alloc, Refusal::NoMemory)?;
-    Ok(Slip {
-        event: KeptEvent::of(alloc, event)?.ok_or(AllocError)?,
+    Ok(NewEntry {
+        event: Kept::of(alloc, event)?.ok_or(AllocError)?,
         verdicts: Vec::new(alloc),
         acts: Vec::new(alloc),
         reply: KeptReply::of(&reply, spare),
@@ -29,8 +29,8 @@ pub fn keys(place: usize) -> Event<'static> {
 }
 
 /// The entry of an event.
-pub fn entry(alloc: Global, event: Event<'_>) -> Result<Filed, AllocError> {
-    Ok(slip(alloc, event)?.into_entry())
+pub fn entry(alloc: Global, event: Event<'_>) -> Result<TrailEntry, AllocError> {
+    Ok(new_entry(alloc, event)?.into_entry())
 }
 
 /// The entry of an event with these verdicts, which has no acts.
@@ -38,19 +38,19 @@ pub fn entry_with(
     alloc: Global,
     event: Event<'_>,
     verdicts: Vec<Verdict>,
-) -> Result<Filed, AllocError> {
-    let mut made = slip(alloc, event)?;
+) -> Result<TrailEntry, AllocError> {
+    let mut made = new_entry(alloc, event)?;
     made.verdicts = verdicts;
     Ok(made.into_entry())
 }
 
 /// A trail of `count` keys.
-pub fn trail(alloc: Global, count: usize) -> Result<Roll, AllocError> {
-    let mut roll = Roll::new(alloc)?;
+pub fn trail(alloc: Global, count: usize) -> Result<EntryList, AllocError> {
+    let mut list = EntryList::new(alloc)?;
     for place in 0..count.min(10_000) {
-        let next = slip(alloc, keys(place))?;
-        roll.reserve()?;
-        roll.push(next);
+        let next = new_entry(alloc, keys(place))?;
+        list.reserve()?;
+        list.push(next);
     }
-    Ok(roll)
+    Ok(list)
 }

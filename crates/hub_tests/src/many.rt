@@ -4,7 +4,7 @@
 
 ghost use Rattle.std.specs.Prelude.{◌≡◌};
 ghost use Rattle.session_model.specs.Trace.{begun};
-ghost use Rattle.hub_ledger.specs.Seats.{StandsFor};
+ghost use Rattle.hub.specs.Seats.{StandsFor};
 
 use crate::compare::{are_same, is_same_reply, parts_of};
 use crate::turns::{STEPS, Turn, seat_of};
@@ -62,8 +62,8 @@ fn taken<L: Begun, R: Wait>(
     Some(kinds)
 }
 
-/// How many entries an event writes, none or one, if it is answered by this reply. Where the seat
-/// asks for its entry the answer has it.
+/// How many entries an event writes, none or one, if it is answered by this reply. If the seat
+/// asks for its entry, the answer has it.
 fn entries_of<L: Begun, R: Wait>(
     rt: &R,
     hub: &Hub<L>,

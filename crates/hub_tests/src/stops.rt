@@ -3,8 +3,8 @@
 use crate::disk::Disk;
 use crate::entries::{entry, keys};
 use acl::UserId;
-use hub_record::Filed;
-use server_trail::{Recorder, Stopped};
+use hub_record::TrailEntry;
+use server_trail::{Recorder, StopCause};
 use session_model::Event;
 use std::alloc::Global;
 use std::sync::Wait;
@@ -12,7 +12,7 @@ use std::time::Clock;
 use trail_lines::Cause;
 
 // An entry whose line is long.
-fn long_entry(alloc: Global) -> Option<Filed> {
+fn long_entry(alloc: Global) -> Option<TrailEntry> {
     let event = Event::Command {
         user: UserId::of(b"own")?,
         window: None,
@@ -22,7 +22,7 @@ fn long_entry(alloc: Global) -> Option<Filed> {
 }
 
 // Why the file can't go on after 2,000 long lines, and after 60 more.
-fn stops(rt: &impl Wait, alloc: Global) -> Option<(Option<Stopped>, Option<Stopped>)> {
+fn stops(rt: &impl Wait, alloc: Global) -> Option<(Option<StopCause>, Option<StopCause>)> {
     let entry = long_entry(alloc)?;
     let recorder = Recorder::new(alloc, 1);
     for place in 0..2_000 {
@@ -38,7 +38,7 @@ fn stops(rt: &impl Wait, alloc: Global) -> Option<(Option<Stopped>, Option<Stopp
 #[test]
 fn lines_wait_up_to_sixteen_mebibytes(rt: HostRuntime) {
     let stops = stops(&rt, rt.alloc());
-    assert!(rt; stops == Some((None, Some(Stopped::Disk))));
+    assert!(rt; stops == Some((None, Some(StopCause::Disk))));
 }
 
 // The lines of two entries, when memory is refused for the third.
@@ -69,6 +69,6 @@ fn is_stopped<R: Wait + Clock>(rt: &R, alloc: Global) -> Option<bool> {
 }
 
 #[test]
-fn nothing_is_taken_behind_a_refusal(rt: HostRuntime) {
+fn nothing_is_taken_after_a_refusal(rt: HostRuntime) {
     assert!(rt; is_stopped(&rt, rt.alloc()) == Some(true));
 }

@@ -1,23 +1,19 @@
 -- What a step files is legal in what was asked and answered, and a step that writes no entry has no
 -- acts.
 use Rattle.std.proofs.Common.{◌≡◌, ◌∙◌, ℕ, Bool, true, false, List, [], ◌∷◌, ◌++◌, Option, Some, None, Result, Ok, Err}
-use Rattle.std.proofs.Common.{refl, ap, subst, sym, inl, inr, ◌⊎◌, ⊎_elim, take}
+use Rattle.std.proofs.Common.{refl, ap, inl, inr, ◌⊎◌, ⊎_elim, take}
 use Rattle.std.specs.Prelude.{◌==◌, if◌then◌else◌}
 use Rattle.std.specs.List.{AllByRecursion}
-use Rattle.std.proofs.lemmas.Bool.{and_from, or_left, eq-eqb, both_ways}
-use Rattle.acl.specs.declared.edition.Edition.{Edition}
+use Rattle.std.proofs.lemmas.Bool.{and_from, or_left, eq-eqb}
 use Rattle.acl.specs.declared.user_id.UserId.{UserId}
-use Rattle.acl.specs.History.{History}
 use Rattle.acl.specs.declared.act.Object.TheVariants as object
-use Rattle.acl.specs.declared.bits.Bit.TheVariants.{Write, Execute}
+use Rattle.acl.specs.declared.bits.Bit.TheVariants.{Write}
 use Rattle.acl.specs.Same.{same_user}
 use Rattle.acl.proofs.StandsForLemmas.{same_user-refl}
 use Rattle.writelock.specs.LockTable.{stops_nobody_but}
 use Rattle.command_lang.specs.declared.command.Command.{Command as Order}
 use Rattle.command_lang.specs.declared.fault.ParseFault.{ParseFault}
-use Rattle.command_lang.specs.Names.{name_of}
 use Rattle.command_lang.specs.Relation.{read_line}
-use Rattle.command_lang.proofs.OneReading.{relates-reads}
 use Rattle.keys.specs.Grammar.{Item, typed, bound, line}
 use Rattle.session_model.specs.declared.check.Check.{Check}
 use Rattle.session_model.specs.declared.event.Done.{Done}
@@ -25,188 +21,41 @@ use Rattle.session_model.specs.declared.event.Reason.TheVariants as reason
 use Rattle.session_model.specs.declared.message.StatusMessage.{StatusMessage}
 use Rattle.session_model.specs.declared.message.StatusMessage.TheVariants as message
 use Rattle.session_model.specs.declared.refusal.Refusal.{Refusal}
-use Rattle.session_model.specs.declared.refusal.Refusal.TheVariants.{UnknownUser, NoWindow, Line}
+use Rattle.session_model.specs.declared.refusal.Refusal.TheVariants.{NoWindow, Line}
 use Rattle.session_model.specs.declared.verdict.Verdict.{Verdict}
 use Rattle.session_model.specs.declared.verdict.Verdict.TheVariants as verdict
 use Rattle.session_model.specs.Trace.{EventValue, Attach, Detach, Keys, Command, Open, Closed}
 use Rattle.session_model.specs.Sound.{ActsAgree}
 use Rattle.session_model.specs.Tables.{Window, Client, Tables, window_at, client_at, with_client, focused_window}
-use Rattle.session_model.specs.Tables.{is_known}
 use Rattle.session_model.specs.Rights.{may_in, holder_in}
 use Rattle.session_model.specs.Texts.{text_of}
-use Rattle.session_model.specs.Lines.{Caller, caller_of, line_caller}
+use Rattle.session_model.specs.Lines.{caller_of}
 use Rattle.session_model.specs.Checks.{verdicts, first_fault, checks, typing_checks}
 use Rattle.session_model.specs.Deeds.{Deed, Answer, changing, parts, closes}
 use Rattle.session_model.specs.Commands.{does}
 use Rattle.session_model.specs.Keying.{items_behind, typed_bytes, command_item, taken}
-use Rattle.session_model.specs.Outcomes.{Outcome, finished, refused, where_passed, left_acts, reply_of, done}
+use Rattle.session_model.specs.Outcomes.{Outcome, finished, left_acts, done}
 use Rattle.session_model.specs.Events.{outcome}
 use Rattle.session_model.specs.Comings.{attaches, opens, attach_checks, open_checks, new_client, new_window}
-use Rattle.session_model.specs.Answering.{line_ruling, answered, commanded, told, typing_verdicts, message_of, keyed}
+use Rattle.session_model.specs.Answering.{told, typing_verdicts, message_of, keyed}
 use Rattle.session_model.specs.Answering.{by_line, ordered, Ordered, reading, types, keys_outcome}
 use Rattle.session_model.specs.Promises.{OnlyRead}
 use Rattle.session_laws.proofs.Doing.{Either}
 use Rattle.session_laws.proofs.Granting.{told_read}
 use Rattle.session_laws.proofs.Lists.{all_append, all_weaken}
-use Rattle.session_laws.proofs.Quiet.{Of}
 use Rattle.session_laws.proofs.Unread.{SameClients, typing_clients, nobody_left}
 use Rattle.session_laws.proofs.Outcomes as outcomes
 use Rattle.hub_trail.specs.declared.kept.Kept.{Kept}
 use Rattle.hub_trail.specs.declared.kept.Kept.TheVariants as kept
-use Rattle.hub_trail.specs.Trails.{Entry}
-use Rattle.hub_trail.specs.Legal.{IsTrue, AreOfUser, AsksForCommand, AsksFirst, AreLet, CarriesFailed, IsDenied}
-use Rattle.hub_trail.specs.Legal.{HasItsActs}
-use Rattle.hub_trail.specs.Legal.{is_let, is_granted, from_command, failed, first_names, is_client_of, is_of_user}
+use Rattle.hub_trail.specs.Legal.{is_granted, from_command, failed, is_client_of}
 use Rattle.hub_trail.specs.Legal.{user_of}
-use Rattle.hub_trail.specs.Filing.{kept_of, ending_of}
-use Rattle.hub_trail.proofs.Verdicts.{AreTrue, true_verdicts, AreOf, own_verdicts, all_pass, Tells, IsPlain, IsCheckOf}
-use Rattle.hub_trail.proofs.Verdicts.{tells, plain_refusal, plain_tells, denial_carries, refusal_denies, none_denied}
-use Rattle.hub_trail.proofs.Verdicts.{plain_checks, own_checks, own_typing}
+use Rattle.hub_trail.specs.Filing.{kept_of}
+use Rattle.hub_trail.proofs.Verdicts.{AreTrue, true_verdicts, AreOf, own_verdicts, all_pass, IsCheckOf}
+use Rattle.hub_trail.proofs.Verdicts.{own_checks, own_typing}
 use Rattle.hub_trail.proofs.Sights.{stays_alike, left_none, with_stays, parted_found, closed_found, attached}
-use Rattle.hub_trail.proofs.Names.{HasFirst, HasEach, has_first, each_then}
 use Rattle.hub_trail.proofs.Rules.{rules, Still, stills, listed_rules, read_rules}
-
-abbrev pub entry : Kept → Outcome → Entry
-entry k o = record { event = k; verdicts = o.verdicts; acts = o.acts; reply = ending_of o.reply }
-
--- the verdicts and the reply of an entry are legal, and it has its acts; `Fitting`, `Saying` and
--- `Knowing` prove the rest
-pub record IsAnswered (edition : Edition) (owner : UserId) (h : History) (e : Entry) : Type 0 where
-  pub verdicts : AllByRecursion (IsTrue edition owner h) e.verdicts
-  pub user : AreOfUser h e.event e.verdicts
-  pub first : AsksForCommand owner h e.event e.verdicts
-  pub acts : AreLet e.event e.verdicts e.acts
-  pub denial : CarriesFailed (failed e.verdicts) e.reply
-  pub denied : IsDenied e.event (failed e.verdicts) e.reply
-  pub done : HasItsActs owner h e.event e.reply e.acts
-
-abbrev pub Legal : Tables → Kept → Outcome → Type 0
-Legal t k o = IsAnswered t.edition t.owner t.acts (entry k o)
-
--- ---- a refused step, and one that was done
-
-refused_legal : (t : Tables) (k : Kept) (cs : List Check) (r : Refusal) → AreOfUser t.acts k (verdicts t cs)
-    → AsksForCommand t.owner t.acts k (verdicts t cs)
-    → Tells (Some r) (failed (verdicts t cs)) → Legal t k (refused t (verdicts t cs) r)
-refused_legal t k cs r user first told = record {
-  verdicts = true_verdicts t cs;
-  user = user;
-  first = first;
-  acts = inl refl;
-  denial = denial_carries r (failed (verdicts t cs)) told;
-  denied = refusal_denies k r (failed (verdicts t cs)) told;
-  done = tt;
-}
-
-finished_legal : (t : Tables) (k : Kept) (cs : List Check) (y : Done) (d : Deed) → AreOfUser t.acts k (verdicts t cs)
-    → AsksForCommand t.owner t.acts k (verdicts t cs)
-    → is_let k (verdicts t cs) ≡ true → Tells None (failed (verdicts t cs))
-    → HasItsActs t.owner t.acts k (ending_of (Ok y)) (finished t (verdicts t cs) (Ok y) d).acts
-    → Legal t k (finished t (verdicts t cs) (Ok y) d)
-finished_legal t k cs y d user first passing told has = record {
-  verdicts = true_verdicts t cs;
-  user = user;
-  first = first;
-  acts = inr passing;
-  denial = tt;
-  denied = none_denied k (failed (verdicts t cs)) (ending_of (Ok y)) told;
-  done = has;
-}
-
--- a step that isn't a command is done if its checks pass
-passed_legal : (t : Tables) (k : Kept) (cs : List Check) (y : Done) (d : Deed) → AllByRecursion IsPlain cs
-    → AreOfUser t.acts k (verdicts t cs) → AsksForCommand t.owner t.acts k (verdicts t cs)
-    → (first_fault t cs ≡ None → is_let k (verdicts t cs) ≡ true)
-    → HasItsActs t.owner t.acts k (ending_of (Ok y)) (finished t (verdicts t cs) (Ok y) d).acts
-    → Legal t k (where_passed t cs (Ok y) d)
-passed_legal t k cs y d plain user first passing has =
-    outcomes.passed (Legal t k) t (verdicts t cs) (first_fault t cs) (Ok y) d
-    (λ r is. refused_legal t k cs r user first (subst (λ f. Tells f (failed (verdicts t cs))) is (tells t cs plain)))
-    (λ is. finished_legal t k cs y d user first (passing is)
-    (subst (λ f. Tells f (failed (verdicts t cs))) is (tells t cs plain)) has)
-
--- the checks of one user give verdicts on this user
-own_user : (t : Tables) (user : UserId) (cs : List Check) → AllByRecursion (IsCheckOf user) cs
-    → AllByRecursion (λ v. is_of_user user v ≡ true) (verdicts t cs)
-own_user t user cs own =
-    all_weaken (λ v. user_of v ≡ user) (λ v. is_of_user user v ≡ true) (verdicts t cs)
-    (λ v same. ap (λ u. same_user u user) same ∙ same_user-refl user) (own_verdicts t user cs own)
-
--- ---- a line that is a command
-
-order_in : Order → Result Order ParseFault → Order
-order_in c (Ok d) = d
-order_in c (Err f) = c
-
-one_order : (c d : Order) (r : Result Order ParseFault) → r ≡ Ok c → r ≡ Ok d → c ≡ d
-unfolding order_in
-one_order c d r a b = ap (order_in c) (sym a ∙ b)
-
-fault_or_order : {P : Type 0} (f : ParseFault) (c : Order) (r : Result Order ParseFault) → r ≡ Err f → r ≡ Ok c → P
-fault_or_order f c r a b = let e : Err f ≡ Ok c = sym a ∙ b in absurd (cc (e))
-
-granted_first : (t : Tables) (k : Caller) (c : Order) → first_fault t (checks t k c) ≡ None
-    → is_granted (verdicts t (checks t k c)) ≡ true
-granted_first t k c none = all_pass t (checks t k c) none
-
-asks_own : (t : Tables) (k : Caller) (c d : Order) → c ≡ d → AsksFirst k.user (name_of d) (verdicts t (checks t k c))
-asks_own t k c d e = subst (λ (d : Order). AsksFirst k.user (name_of d) (verdicts t (checks t k c))) e
-    (may_in t k.user Execute (object.Command (name_of c)), refl)
-
-module _ (t : Tables) (user : UserId) (number : Option ℕ) (bytes : List ℕ) where
-  abbrev k : Caller
-  k = line_caller t user number
-
-  abbrev event : Kept
-  event = kept.Command user number bytes
-
-  -- the command of the line
-  module _ (c : Order) (read : read_line bytes ≡ Ok c) where
-    own : AreOfUser t.acts event (verdicts t (checks t k c))
-    own = own_user t user (checks t k c) (own_checks t k c)
-
-    first : AsksForCommand t.owner t.acts event (verdicts t (checks t k c))
-    first known d said = asks_own t k c d (one_order c d (read_line bytes) read (relates-reads bytes d said))
-
-    named : (d : Deed) → HasFirst t c d
-        → HasItsActs t.owner t.acts event (ending_of (reply_of 0 0 0 d.lists))
-        (d.acts ++ left_acts t.clients d.tables.clients)
-    named d has o said =
-        subst (λ (o : Order). HasEach (d.acts ++ left_acts t.clients d.tables.clients) (first_names t.owner t.acts o))
-        (one_order c o (read_line bytes) read (relates-reads bytes o said))
-        (each_then d.acts (left_acts t.clients d.tables.clients) (first_names t.owner t.acts c) has)
-
-    does_legal : (a : Answer) → first_fault t (checks t k c) ≡ None → Tells None (failed (verdicts t (checks t k c)))
-        → Either (Still t) a → Of (HasFirst t c) a
-        → Legal t event (answered t (verdicts t (checks t k c)) a)
-    does_legal (Err r) none told plain has = refused_legal t event (checks t k c) r own first
-        (plain_tells r (failed (verdicts t (checks t k c))) (plain_refusal r plain) told)
-    does_legal (Ok d) none told still has =
-        finished_legal t event (checks t k c) (record { taken = 0; made = 0; number = 0; text = d.lists }) d own first
-        (granted_first t k c none) told (named d has)
-
-    ruled_legal : (f : Option Refusal) → first_fault t (checks t k c) ≡ f
-        → Tells f (failed (verdicts t (checks t k c)))
-        → Legal t event (answered t (verdicts t (checks t k c))
-        (elim f as (λ _. Answer) [ Some r ↦ Err r | None ↦ does t k c ]))
-    ruled_legal (Some r) is told = refused_legal t event (checks t k c) r own first told
-    ruled_legal None is told = does_legal (does t k c) is told (stills t k c) (has_first t k c)
-
-  line_legal : (r : Result Order ParseFault) → read_line bytes ≡ r → Legal t event (commanded t (line_ruling t k r))
-  line_legal (Ok c) read = ruled_legal c read (first_fault t (checks t k c)) refl
-      (tells t (checks t k c) (plain_checks t k c))
-  line_legal (Err f) read =
-      refused_legal t event [] (Line f) tt
-      (λ known d said. fault_or_order f d (read_line bytes) read (relates-reads bytes d said)) refl
-
-  known_legal : (b : Bool) → is_known t user ≡ b
-      → Legal t event (if b then commanded t (line_ruling t k (read_line bytes)) else refused t [] UnknownUser)
-  known_legal true is = line_legal (read_line bytes) refl
-  known_legal false is = refused_legal t event [] UnknownUser tt
-      (λ known d said. absurd (both_ways (is_known t user) is known)) refl
-
-  command_legal : Legal t event (outcome t (Command user number bytes))
-  command_legal = known_legal (is_known t user) refl
+use Rattle.hub_trail.proofs.Answered.{Legal, refused_legal, finished_legal, passed_legal, own_user, granted_first}
+use Rattle.hub_trail.proofs.Answered.{command_legal}
 
 -- ---- Attach, Open, Detach, Closed
 

@@ -55,7 +55,8 @@ use Rattle.hub_trail.specs.declared.kept.Kept.TheVariants as kept
 use Rattle.hub_trail.specs.Trails.{Entry}
 use Rattle.hub_trail.specs.Legal.{AsksFirst, Fits, from_command, is_client_of}
 use Rattle.hub_trail.specs.Filing.{kept_of, ending_of, entry_of}
-use Rattle.hub_trail.proofs.Entries.{entry, asks_none}
+use Rattle.hub_trail.proofs.Answered.{entry}
+use Rattle.hub_trail.proofs.Entries.{asks_none}
 use Rattle.hub_trail.proofs.Sights.{attached}
 use Rattle.hub_trail.specs.Fitting.{makes, made_by, enters_once, attaches_one, opens_one, detaches, shuts}
 use Rattle.session_laws.proofs.GuestsLeaving.{LeftBy, left_where, nobody, parted, appended, shut, left_read}

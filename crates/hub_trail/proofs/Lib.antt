@@ -2,12 +2,14 @@ pub mod Verdicts
 pub mod Sights
 pub mod Names
 pub mod Rules
+pub mod Answered
 pub mod Entries
 pub mod Serials
 pub mod Listed
 pub mod Making
 pub mod Below
 pub mod Fitting
+pub mod Worded
 pub mod Saying
 pub mod Knowing
 pub mod Runs

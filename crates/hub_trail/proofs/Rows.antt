@@ -42,7 +42,8 @@ use Rattle.session_laws.proofs.FitCommands.{Holds, page_of, has_there}
 use Rattle.session_laws.proofs.Lists.{all_append}
 use Rattle.session_laws.proofs.Unread.{row_at}
 use Rattle.hub_trail.specs.Judging.{CanFollow}
-use Rattle.hub_trail.proofs.Following.{is_free, AllFree, free_follow, users_stay, follow_append, change_leads, add_leads}
+use Rattle.hub_trail.proofs.Following.{is_free, AllFree, free_follow, users_stay, follow_append, change_leads}
+use Rattle.hub_trail.proofs.Following.{add_leads}
 use Rattle.hub_trail.proofs.Following.{mask_leads, here_follow, removal_follows, group_follows}
 use Rattle.hub_trail.proofs.Naming.{OpenIs, AreThere, there_open, every_there, list_there, focus_open}
 

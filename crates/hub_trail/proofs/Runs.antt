@@ -23,7 +23,8 @@ use Rattle.hub_trail.specs.Legal.{IsTrue, AreLegal, IsLegal, acts_after, acts_of
 use Rattle.hub_trail.specs.Filing.{kept_of, entry_of, filed, entries_of, trail_of, ending_of}
 use Rattle.hub_trail.proofs.Rules.{Rules}
 use Rattle.hub_trail.proofs.Serials.{rules_after}
-use Rattle.hub_trail.proofs.Entries.{entry, IsAnswered, IsLegalStep, legal_step}
+use Rattle.hub_trail.proofs.Answered.{entry, IsAnswered}
+use Rattle.hub_trail.proofs.Entries.{IsLegalStep, legal_step}
 use Rattle.hub_trail.proofs.Fitting.{EntryFits, filed_fits}
 use Rattle.hub_trail.proofs.Saying.{EntrySays, filed_says}
 use Rattle.hub_trail.proofs.Knowing.{EntryIsOfKnown, filed_known}

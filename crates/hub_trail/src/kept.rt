@@ -1,9 +1,10 @@
 //! What a trail keeps of an event and of its reply.
 
-ghost use Rattle.std.specs.Prelude.{◌≡◌, IfOk, false, is_ok, true};
+ghost use Rattle.std.specs.Prelude.{◌≡◌, ◌↔◌, IfOk, false, is_ok, true};
 ghost use Rattle.session_model.specs.Trace.{happening};
 ghost use Rattle.hub_trail.specs.Filing.{copies, ending_of, finished_by, kept_of};
 
+use crate::same::{is_command, is_open};
 use acl::UserId;
 use session_model::{Bytes, Done, Event, Refusal, Reply};
 use std::alloc::{AllocError, Global};
@@ -97,6 +98,85 @@ impl Kept {
             Event::Resize { .. } | Event::Output { .. } | Event::Draw { .. } => return Ok(None),
         };
         Ok(Some(kept))
+    }
+
+    /// A copy of the event. `AllocError` if memory is refused; only a line or a title takes memory.
+    pub fn copy(&self, alloc: Global) -> Result<Kept, AllocError>
+        ensures { IfOk result (λ copy. copy ≡ self.now) }
+    {
+        match self {
+            Kept::Attach {
+                user,
+                rows,
+                columns,
+            } => Ok(Kept::Attach {
+                user: *user,
+                rows: *rows,
+                columns: *columns,
+            }),
+            Kept::Detach { client } => Ok(Kept::Detach { client: *client }),
+            Kept::Keys { client } => Ok(Kept::Keys { client: *client }),
+            Kept::Command { user, window, line } => {
+                let line = Bytes::of(alloc, line.as_slice())?;
+                Ok(Kept::Command {
+                    user: *user,
+                    window: *window,
+                    line,
+                })
+            }
+            Kept::Open {
+                user,
+                rows,
+                columns,
+                keep,
+                title,
+            } => {
+                let title = Bytes::of(alloc, title.as_slice())?;
+                Ok(Kept::Open {
+                    user: *user,
+                    rows: *rows,
+                    columns: *columns,
+                    keep: *keep,
+                    title,
+                })
+            }
+            Kept::Closed { window } => Ok(Kept::Closed { window: *window }),
+        }
+    }
+
+    /// Whether both events are equal.
+    pub fn is_same(&self, other: &Kept) -> bool
+        ensures { (result ≡ true) ↔ (self.now ≡ other.now) }
+    {
+        match (self, other) {
+            (
+                Kept::Attach {
+                    user,
+                    rows,
+                    columns,
+                },
+                Kept::Attach {
+                    user: named,
+                    rows: height,
+                    columns: width,
+                },
+            ) => user == named && rows == height && columns == width,
+            (Kept::Detach { client }, Kept::Detach { client: named }) => client == named,
+            (Kept::Keys { client }, Kept::Keys { client: named }) => client == named,
+            (Kept::Command { user, window, line }, _) => is_command(other, *user, *window, line),
+            (
+                Kept::Open {
+                    user,
+                    rows,
+                    columns,
+                    keep,
+                    title,
+                },
+                _,
+            ) => is_open(other, *user, (*rows, *columns), *keep, title),
+            (Kept::Closed { window }, Kept::Closed { window: named }) => window == named,
+            _ => false,
+        }
     }
 }
 

@@ -14,6 +14,7 @@ mod has;
 mod kept;
 mod laws;
 mod makes;
+mod same;
 mod says;
 
 pub use asked::{asks_for_command, from_command};

@@ -3,12 +3,12 @@
 ghost use Rattle.std.specs.Prelude.{◌≡◌, ◌<◌, ◌≤◌, IfOk};
 ghost use Rattle.acl.specs.declared.edition.Edition.TheVariants.{Second};
 ghost use Rattle.session_model.specs.Trace.{begun};
-ghost use Rattle.hub_ledger.specs.Seats.{StandsFor};
+ghost use Rattle.hub.specs.Seats.{StandsFor};
 
 use crate::setting_up::set_up;
 use crate::shared_session::SharedSession;
 use acl::UserId;
-use hub::{Begun as Roll, Hub, Seat, Session, Trail};
+use hub::{Begun, Hub, Seat, Session, Trail};
 use program_words::SetupFault;
 use server_trail::Recorder;
 use server_users::Users;
@@ -51,7 +51,7 @@ impl From<SetupFault> for LoopsFault {
 /// Runs the loops. Each is given a place of type `P` to begin with.
 pub trait LoopBody<P: Drop, R> {
     /// Runs one loop to its end, and gives its seat back if it ended well.
-    fn run<L: Roll>(
+    fn run<L: Begun>(
         &self,
         rt: &R,
         alloc: Global,
@@ -93,12 +93,12 @@ pub struct Start<P: Drop> {
 
 // A session while its loops run, and the seats of the loops that ended well.
 #[derive(Drop)]
-struct Kept<L: Roll> {
+struct Kept<L: Begun> {
     shared: SharedSession<L>,
     left: Mutex<Vec<Seat<L>>>,
 }
 
-impl<L: Roll> Kept<L> {
+impl<L: Begun> Kept<L> {
     // Takes note that a loop has ended. One that ended well gives its seat back.
     fn leave(&self, rt: &impl Wait, seat: Option<Seat<L>>) {
         if let Some(seat) = seat {
@@ -110,7 +110,7 @@ impl<L: Roll> Kept<L> {
 
 // What the loops begin with: each takes a seat and a place.
 #[derive(Drop)]
-struct Starts<L: Roll, P: Drop> {
+struct Starts<L: Begun, P: Drop> {
     alloc: Global,
     seats: Vec<Seat<L>>,
     places: Vec<P>,
@@ -119,7 +119,7 @@ struct Starts<L: Roll, P: Drop> {
 // Runs every loop to its end, each in a thread of its own.
 fn run_all<L, P, K, R>(rt: &R, kept: &Kept<L>, starts: Starts<L, P>, loop_body: &K)
 where
-    L: Roll + Send + Sync,
+    L: Begun + Send + Sync,
     P: Send + Drop,
     K: LoopBody<P, R> + Sync,
     R: Clock + Threads + Wait + Sync,
@@ -154,7 +154,7 @@ where
 }
 
 // A new session of this owner.
-fn new_session<L: Roll>(alloc: Global, owner: UserId) -> Result<Session, Refusal>
+fn new_session<L: Begun>(alloc: Global, owner: UserId) -> Result<Session, Refusal>
     requires { (L.edition ≡ Second) × (L.owner ≡ owner) }
     ensures { IfOk result (StandsFor (begun L.edition L.owner)) }
 {
@@ -162,7 +162,7 @@ fn new_session<L: Roll>(alloc: Global, owner: UserId) -> Result<Session, Refusal
 }
 
 // A new session of this owner, and a seat for each loop.
-fn begin<L: Roll>(
+fn begin<L: Begun>(
     alloc: Global,
     blank: Blank,
     owner: UserId,
@@ -191,7 +191,7 @@ fn recorder<L, P, K, R>(
     loop_body: &K,
 ) -> Option<Recorder>
 where
-    L: Roll,
+    L: Begun,
     P: Drop,
     K: LoopBody<P, R>,
     R: Clock,
@@ -221,7 +221,7 @@ fn keep_as<L, P, K, R, B>(
     begun: B,
 ) -> Result<bool, LoopsFault>
 where
-    L: Roll + Send + Sync,
+    L: Begun + Send + Sync,
     P: Send + Drop,
     K: LoopBody<P, R> + Sync,
     R: Clock + Threads + Wait + Sync,

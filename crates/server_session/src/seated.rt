@@ -3,7 +3,7 @@
 use crate::accounts::Accounts;
 use crate::shared_session::SharedSession;
 use acl::UserId;
-use hub::{Begun as Roll, FULL, HubFault, Seat};
+use hub::{Begun, FULL, HubFault, Seat};
 use server_connections::{Answer, GuestKind, SeatFault, SessionSeat};
 use server_users::{Outcome, Users};
 use session_model::{Effect, Event, Refusal, Reply, Verdict};
@@ -44,13 +44,13 @@ fn outcome_of(reply: &Reply, verdicts: &[Verdict]) -> Outcome {
 
 /// A seat in a session, with the session and its users' accounts.
 #[derive(Drop)]
-pub struct Seated<'a, L: Roll> {
+pub struct Seated<'a, L: Begun> {
     shared: &'a SharedSession<L>,
     accounts: &'a Accounts,
     seat: Seat<L>,
 }
 
-impl<'a, L: Roll> Seated<'a, L> {
+impl<'a, L: Begun> Seated<'a, L> {
     pub fn new(
         shared: &'a SharedSession<L>,
         accounts: &'a Accounts,
@@ -69,7 +69,7 @@ impl<'a, L: Roll> Seated<'a, L> {
     }
 }
 
-impl<L: Roll> SessionSeat for Seated<'_, L> {
+impl<L: Begun> SessionSeat for Seated<'_, L> {
     fn users(&self) -> &Users {
         &self.shared.users
     }

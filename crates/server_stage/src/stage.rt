@@ -6,11 +6,10 @@ use crate::latch::{Calls, Latch};
 use crate::outside::Outside;
 use crate::stop::Stop;
 use crate::streams::{Habit, Near};
-use hub_record::{Filed, KeptRef};
+use hub_record::{KeptRef, TrailEntry};
 use server_loop::{Gate, Loop, SessionSeat};
 use server_session::{
-    Accounts, Begun as Roll, Limits, LoopBody, LoopsFault, Seat, Seated, SharedSession, Start,
-    Trail, keep,
+    Accounts, Begun, Limits, LoopBody, LoopsFault, Seat, Seated, SharedSession, Start, Trail, keep,
 };
 use server_users::{Users, UsersFault};
 use std::alloc::Global;
@@ -127,7 +126,7 @@ fn perform_all<G: Gate + Drop, J: SessionSeat + Drop>(
     Ok(())
 }
 
-fn letter(entry: &Filed) -> u8 {
+fn letter(entry: &TrailEntry) -> u8 {
     match entry.event().get() {
         KeptRef::Attach { .. } => b'A',
         KeptRef::Detach { .. } => b'D',
@@ -189,7 +188,7 @@ struct Playing<'a> {
 }
 
 impl<R: Clock + Wait> LoopBody<usize, R> for Playing<'_> {
-    fn run<L: Roll>(
+    fn run<L: Begun>(
         &self,
         rt: &R,
         alloc: Global,

@@ -1,5 +1,7 @@
 -- Lines are put down, and made ready.
-use Rattle.std.proofs.Common.{◌≡◌, ℕ, zero, suc, ◌+◌, ◌-◌, ◌^◌, ◌<◌, ◌≤◌, ◌==◌, if◌then◌else◌, true, false, List, [], ◌∷◌, ◌++◌, Option, Some, None, refl, sym, ◌∙◌, ap, subst, arith, append_assoc, add-one, add-zero, ⊎_elim}
+use Rattle.std.proofs.Common.{◌≡◌, ℕ, zero, suc, ◌+◌, ◌-◌, ◌^◌, ◌<◌, ◌≤◌, ◌==◌, if◌then◌else◌, true, false, List, []}
+use Rattle.std.proofs.Common.{◌∷◌, ◌++◌, Option, Some, None, refl, sym, ◌∙◌, ap, subst, arith, append_assoc, add-one}
+use Rattle.std.proofs.Common.{add-zero, ⊎_elim}
 use Rattle.std.specs.Prelude.{IsSome, is_some, option_map, vec_len, vec_capacity, sum_by, unwrap_or}
 use Rattle.std.specs.Ordering.{nat_cmp}
 use Rattle.std.specs.BTreeMap as tree
@@ -13,7 +15,8 @@ use Rattle.std.proofs.lemmas.Map.Entries.{sum_by-remove_entry, sum_by-insert_ent
 use Rattle.std.proofs.lemmas.Bool.{cases_eq}
 use Rattle.std.proofs.lemmas.Grind.{common_steps}
 use Rattle.server_trail.specs.declared.merge.Merge.{Merge}
-use Rattle.server_trail.specs.Merging.{Placed, line_for, bytes_of, text_below, early_line, early_bytes, IsMerging, HasMerged}
+use Rattle.server_trail.specs.Merging.{Placed, line_for, bytes_of, text_below, early_line, early_bytes, IsMerging}
+use Rattle.server_trail.specs.Merging.{HasMerged}
 
 -- ---- one line more
 

@@ -5,10 +5,10 @@ ghost use Rattle.std.specs.Io.{WritesAtMost};
 use crate::file::{TrailFile, begin, header_of};
 use crate::reading::is_trail;
 use crate::recorder::Recorder;
-use crate::stop::Stopped;
+use crate::stop::StopCause;
 use crate::writing::Written;
 use acl::{Edition, UserId};
-use hub_record::Roll;
+use hub_record::EntryList;
 use session_model::Bytes;
 use std::alloc::Global;
 use std::fs::{File, OpenOptions};
@@ -90,14 +90,14 @@ impl TrailFile for Disk {
 
 // The fault of a file, from why it had to stop, whether its last line was written, and the last error.
 fn fault_of(
-    stopped: Option<Stopped>,
+    stopped: Option<StopCause>,
     is_ended: bool,
     error: Option<io::Error>,
 ) -> Option<JournalFault> {
     match (stopped, error) {
-        (Some(Stopped::Memory), _) => Some(JournalFault::Memory),
-        (Some(Stopped::Disk), Some(error)) => Some(JournalFault::Refused(error)),
-        (Some(Stopped::Disk), None) => Some(JournalFault::TooSlow),
+        (Some(StopCause::Memory), _) => Some(JournalFault::Memory),
+        (Some(StopCause::Disk), Some(error)) => Some(JournalFault::Refused(error)),
+        (Some(StopCause::Disk), None) => Some(JournalFault::TooSlow),
         (None, _) if is_ended => None,
         (None, Some(error)) => Some(JournalFault::Cut(error)),
         (None, None) => Some(JournalFault::Unended),
@@ -178,7 +178,7 @@ impl<'a> Journal<'a> {
     ) {
         let stopped = recorder.stopped();
         let mut disk = self.file.lock(rt);
-        let is_ended = match stopped.map(Stopped::cause).or(cause) {
+        let is_ended = match stopped.map(StopCause::cause).or(cause) {
             Some(cause) => recorder.end(rt, &mut *disk, written, cause),
             None => {
                 let _ = disk.sync();
@@ -190,7 +190,7 @@ impl<'a> Journal<'a> {
     }
 
     // Reads the file back. The answer is whether it is the trail of a session of this edition and owner.
-    fn is_whole(&self, edition: Edition, owner: UserId, entries: &Roll) -> io::Result<bool> {
+    fn is_whole(&self, edition: Edition, owner: UserId, entries: &EntryList) -> io::Result<bool> {
         let header = Header {
             edition,
             owner,
@@ -204,7 +204,7 @@ impl<'a> Journal<'a> {
 
     /// Reads the file back, if it was written to its end, and compares it with the session's trail:
     /// its edition, its owner and its entries.
-    pub fn compare(&self, rt: &impl Wait, edition: Edition, owner: UserId, entries: &Roll) {
+    pub fn compare(&self, rt: &impl Wait, edition: Edition, owner: UserId, entries: &EntryList) {
         let mut fault = self.fault.lock(rt);
         if fault.is_none() {
             *fault = match self.is_whole(edition, owner, entries) {

@@ -14,6 +14,6 @@ pub use journal::{Journal, JournalFault};
 pub use merge::Merge;
 pub use reading::is_trail;
 pub use recorder::Recorder;
-pub use stop::Stopped;
+pub use stop::StopCause;
 pub use trail_lines::Cause;
 pub use writing::Written;

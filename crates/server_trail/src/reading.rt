@@ -5,7 +5,7 @@ ghost use Rattle.trail_lines.specs.Entries.{line_of};
 ghost use Rattle.trail_lines.specs.Heading.{header_text};
 ghost use Rattle.server_trail.specs.Files.{Reads, Cuts, ReadsLines, IsTrailOf, IsLastOf};
 
-use hub_record::{Filed, Roll};
+use hub_record::{EntryList, TrailEntry};
 use line_fields::u64_at;
 use std::alloc::{AllocError, Global};
 use std::io::{self, BufRead};
@@ -33,7 +33,12 @@ fn is_over<R: BufRead>(reader: &mut R, line: &mut Vec<u8>) -> io::Result<bool>
 }
 
 // Whether the line is the one of the entry at this place, with any time.
-fn is_line_of(alloc: Global, line: &[u8], place: u64, entry: &Filed) -> Result<bool, AllocError>
+fn is_line_of(
+    alloc: Global,
+    line: &[u8],
+    place: u64,
+    entry: &TrailEntry,
+) -> Result<bool, AllocError>
     ensures { IfOk result (λ is. is ≡ true
         → (ms : ℕ) × (line.now ≡ line_of (place, ms, entry.now))) }
 {
@@ -69,7 +74,11 @@ fn is_last(alloc: Global, line: &[u8], count: u64) -> Result<bool, AllocError>
 }
 
 // Whether the next lines are the lines of the entries.
-fn are_lines<R: BufRead>(reader: &mut R, line: &mut Vec<u8>, entries: &Roll) -> io::Result<bool>
+fn are_lines<R: BufRead>(
+    reader: &mut R,
+    line: &mut Vec<u8>,
+    entries: &EntryList,
+) -> io::Result<bool>
     ensures { IfOk result (λ is. is ≡ true → ReadsLines entries.now.entries
         (R.remaining reader.old) (R.remaining reader.new)) }
 {
@@ -90,7 +99,7 @@ pub fn is_trail<R: BufRead>(
     alloc: Global,
     reader: &mut R,
     header: &Header,
-    entries: &Roll,
+    entries: &EntryList,
 ) -> io::Result<bool>
     ensures { IfOk result (λ is. is ≡ true
         → Reads (R.remaining reader.old) (IsTrailOf header.now entries.now.entries)) }

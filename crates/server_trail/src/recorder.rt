@@ -5,8 +5,8 @@ ghost use Rattle.trail_lines.specs.Entries.{line_of};
 
 use crate::file::time;
 use crate::merge::Merge;
-use crate::stop::Stopped;
-use hub_record::Filed;
+use crate::stop::StopCause;
+use hub_record::TrailEntry;
 use std::alloc::{AllocError, Global};
 use std::sync::atomic::{AtomicU64, Ordering};
 use std::sync::{Condvar, Mutex, OnceLock, Wait};
@@ -21,7 +21,7 @@ pub const BLOCK: usize = 65_536;
 
 /// What the loops and the writer share.
 #[derive(Drop)]
-pub struct Waiting {
+pub struct WaitingLines {
     pub merge: Merge,
     /// How many loops haven't ended.
     pub loops: usize,
@@ -32,15 +32,15 @@ pub struct Waiting {
 #[derive(Drop)]
 pub struct Recorder {
     pub(crate) alloc: Global,
-    pub(crate) waiting: Mutex<Waiting>,
+    pub(crate) waiting: Mutex<WaitingLines>,
     pub(crate) news: Condvar,
     // The stamp of lines, in milliseconds since 1970.
     pub(crate) ms: AtomicU64,
-    stopped: OnceLock<Stopped>,
+    stopped: OnceLock<StopCause>,
 }
 
 /// The line of an entry, with its line feed.
-fn line_of(alloc: Global, place: usize, ms: u64, entry: &Filed) -> Result<Vec<u8>, AllocError>
+fn line_of(alloc: Global, place: usize, ms: u64, entry: &TrailEntry) -> Result<Vec<u8>, AllocError>
     ensures { IfOk result (λ line.
         line.items ≡ line_of (place, ms, entry.now) ++ 0x0A ∷ []) }
 {
@@ -50,16 +50,16 @@ fn line_of(alloc: Global, place: usize, ms: u64, entry: &Filed) -> Result<Vec<u8
     Ok(line)
 }
 
-impl Waiting {
+impl WaitingLines {
     // Puts a line down. The answer is whether the writer must be woken: the first bytes are ready, or as
     // many as it waits for. Bytes that the writer has taken don't wait, however long the disk takes.
-    fn put(&mut self, place: usize, line: Vec<u8>) -> Result<bool, Stopped> {
+    fn put(&mut self, place: usize, line: Vec<u8>) -> Result<bool, StopCause> {
         if self.merge.waiting() > MOST {
-            return Err(Stopped::Disk);
+            return Err(StopCause::Disk);
         }
         let before = self.merge.ready();
         if self.merge.put(place, line).is_err() {
-            return Err(Stopped::Memory);
+            return Err(StopCause::Memory);
         }
         let ready = self.merge.ready();
         Ok((before == 0 && ready > 0) || (before < BLOCK && ready >= BLOCK))
@@ -71,7 +71,7 @@ impl Recorder {
     pub fn new(alloc: Global, loops: usize) -> Recorder {
         Recorder {
             alloc,
-            waiting: Mutex::new(Waiting {
+            waiting: Mutex::new(WaitingLines {
                 merge: Merge::new(alloc),
                 loops,
             }),
@@ -90,7 +90,7 @@ impl Recorder {
 
     /// Puts down the line of an entry, which stands at this place in the trail; None if memory was
     /// refused for a copy of the entry. Once the file has stopped, nothing is put down.
-    pub fn put(&self, rt: &impl Wait, place: usize, entry: Option<&Filed>) {
+    pub fn put(&self, rt: &impl Wait, place: usize, entry: Option<&TrailEntry>) {
         if self.stopped().is_some() {
             return;
         }
@@ -109,7 +109,7 @@ impl Recorder {
         }
         let put = match line {
             Ok(line) => waiting.put(place, line),
-            Err(_) => Err(Stopped::Memory),
+            Err(_) => Err(StopCause::Memory),
         };
         let is_news = match put {
             Ok(is_news) => is_news,
@@ -125,7 +125,7 @@ impl Recorder {
     }
 
     /// Why the file can't go on; None as long as it can.
-    pub fn stopped(&self) -> Option<Stopped> {
+    pub fn stopped(&self) -> Option<StopCause> {
         self.stopped.get().copied()
     }
 

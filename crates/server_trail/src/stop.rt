@@ -4,19 +4,19 @@ use trail_lines::Cause;
 
 /// Why a trail's file can't go on.
 #[derive(Clone, Copy, PartialEq, Eq, Debug)]
-pub enum Stopped {
+pub enum StopCause {
     /// More than 16 MiB waited for the disk.
     Disk,
     /// Memory was refused for a line, or for the copy of its entry.
     Memory,
 }
 
-impl Stopped {
+impl StopCause {
     /// The cause that the file's last line names.
     pub fn cause(self) -> Cause {
         match self {
-            Stopped::Disk => Cause::Disk,
-            Stopped::Memory => Cause::Memory,
+            StopCause::Disk => Cause::Disk,
+            StopCause::Memory => Cause::Memory,
         }
     }
 }

@@ -10,7 +10,7 @@ ghost use Rattle.server_trail.specs.Merging.{Placed, HasMerged, early_bytes};
 use crate::file::TrailFile;
 use crate::merge::Merge;
 use crate::recorder::{BLOCK, Recorder};
-use crate::stop::Stopped;
+use crate::stop::StopCause;
 use std::alloc::{AllocError, Global};
 use std::io::Write;
 use std::sync::Wait;
@@ -53,7 +53,7 @@ impl Written {
 
 // How much was written; `is_written` says whether every ready line was. A file that hasn't stopped isn't
 // whole if a line still waits for an earlier one that never came.
-fn written_of(merge: &Merge, is_written: bool, stopped: Option<Stopped>) -> Written
+fn written_of(merge: &Merge, is_written: bool, stopped: Option<StopCause>) -> Written
     ensures entries { result.entries ≡ merge.now.next }
     ensures whole { (put : List Placed) (taken : List ℕ) → HasMerged put taken merge.now →
         result.is_whole ≡ (is_written && (is_some stopped

@@ -12,7 +12,7 @@ use crate::events::{event_at, push_count, push_event};
 use crate::replies::{push_reply, read_reply};
 use crate::unread::Unread;
 use acl::Act;
-use hub_record::{Filed, KeptReply};
+use hub_record::{KeptReply, TrailEntry};
 use hub_trail::Ending;
 use line_fields::acts::{push_act, read_act};
 use line_fields::verdicts::{push_verdict, read_verdict};
@@ -25,7 +25,7 @@ use std::alloc::{AllocError, Global};
 pub struct Line {
     pub place: u64,
     pub ms: u64,
-    pub entry: Filed,
+    pub entry: TrailEntry,
 }
 
 /// What follows a reply: a check, or an act.
@@ -65,7 +65,7 @@ fn push_acts(acts: &[Act], out: &mut Vec<u8>) -> Result<(), AllocError>
 }
 
 /// Appends what follows an event: the reply, what was checked, and what was done.
-fn push_tail(entry: &Filed, out: &mut Vec<u8>) -> Result<(), AllocError>
+fn push_tail(entry: &TrailEntry, out: &mut Vec<u8>) -> Result<(), AllocError>
     ensures { OnOk result (out.new.items ≡ out.old.items ++ tail_text entry.now) }
 {
     push_reply(&entry.ending(), out)?;
@@ -74,7 +74,7 @@ fn push_tail(entry: &Filed, out: &mut Vec<u8>) -> Result<(), AllocError>
 }
 
 /// Appends the line of an entry, without a line feed.
-fn push_line(place: u64, ms: u64, entry: &Filed, out: &mut Vec<u8>) -> Result<(), AllocError>
+fn push_line(place: u64, ms: u64, entry: &TrailEntry, out: &mut Vec<u8>) -> Result<(), AllocError>
     ensures { OnOk result (out.new.items ≡ out.old.items ++ line_of (place, ms, entry.now)) }
 {
     push_count(place, out)?;
@@ -85,7 +85,12 @@ fn push_line(place: u64, ms: u64, entry: &Filed, out: &mut Vec<u8>) -> Result<()
 
 /// Appends the line of an entry, without a line feed: its place in the trail, its time in
 /// milliseconds since 1970, and what the trail keeps. After an `Err` nothing has changed.
-pub fn print_line(place: u64, ms: u64, entry: &Filed, out: &mut Vec<u8>) -> Result<(), AllocError>
+pub fn print_line(
+    place: u64,
+    ms: u64,
+    entry: &TrailEntry,
+    out: &mut Vec<u8>,
+) -> Result<(), AllocError>
     ensures ok { OnOk result (out.new.items ≡ out.old.items ++ line_of (place, ms, entry.now)) }
     ensures err { OnErr result (out.new.items ≡ out.old.items) }
 {
@@ -183,7 +188,7 @@ fn said_in(alloc: Global, line: &[u8]) -> Result<Line, Unread>
     let (reply, notes) = read_tail(alloc, rest)?;
     let reply = keep(alloc, reply)?;
     let Notes { verdicts, acts } = notes;
-    let entry = Filed::new(event, verdicts, acts, reply);
+    let entry = TrailEntry::new(event, verdicts, acts, reply);
     Ok(Line { place, ms, entry })
 }
 

@@ -14,7 +14,7 @@ ghost use Rattle.trail_lines.specs.Unreadable.{Gives};
 
 use crate::unread::Unread;
 use acl::UserId;
-use hub_record::{KeptEvent, KeptRef};
+use hub_record::{Kept, KeptRef};
 use line_fields::parts::{push_name, user_at};
 use line_fields::{cut, push_escaped, read_u8, u16_at, u32_at, unescape};
 use session_model::{Event, push_decimal};
@@ -165,14 +165,14 @@ fn read_window(word: &[u8]) -> Option<Option<u8>>
 }
 
 /// What is kept of an event.
-fn keep(alloc: Global, event: Event<'_>) -> Result<KeptEvent, Unread>
+fn keep(alloc: Global, event: Event<'_>) -> Result<Kept, Unread>
     ensures { Gives (λ kept. kept) result (kept_of (happening event.entry)) }
 {
-    KeptEvent::of(alloc, event)?.ok_or(Unread::Malformed)
+    Kept::of(alloc, event)?.ok_or(Unread::Malformed)
 }
 
 /// `USER ROWS COLS`
-fn attach_at(alloc: Global, bytes: &[u8]) -> Result<(KeptEvent, &[u8]), Unread>
+fn attach_at(alloc: Global, bytes: &[u8]) -> Result<(Kept, &[u8]), Unread>
     ensures { Gives (λ p. (p.0, p.1.now)) result (attach_at bytes.now) }
 {
     let (user, rest) = user_at(bytes, b' ').ok_or(Unread::Malformed)?;
@@ -187,7 +187,7 @@ fn attach_at(alloc: Global, bytes: &[u8]) -> Result<(KeptEvent, &[u8]), Unread>
 }
 
 /// `CLIENT`
-fn detach_at(alloc: Global, bytes: &[u8]) -> Result<(KeptEvent, &[u8]), Unread>
+fn detach_at(alloc: Global, bytes: &[u8]) -> Result<(Kept, &[u8]), Unread>
     ensures { Gives (λ p. (p.0, p.1.now)) result (detach_at bytes.now) }
 {
     let (client, rest) = u32_at(bytes, b' ').ok_or(Unread::Malformed)?;
@@ -195,7 +195,7 @@ fn detach_at(alloc: Global, bytes: &[u8]) -> Result<(KeptEvent, &[u8]), Unread>
 }
 
 /// `CLIENT`
-fn keys_at(alloc: Global, bytes: &[u8]) -> Result<(KeptEvent, &[u8]), Unread>
+fn keys_at(alloc: Global, bytes: &[u8]) -> Result<(Kept, &[u8]), Unread>
     ensures { Gives (λ p. (p.0, p.1.now)) result (keys_at bytes.now) }
 {
     let (client, rest) = u32_at(bytes, b' ').ok_or(Unread::Malformed)?;
@@ -209,7 +209,7 @@ fn keep_command(
     user: UserId,
     window: Option<u8>,
     word: &[u8],
-) -> Result<KeptEvent, Unread>
+) -> Result<Kept, Unread>
     ensures { Gives (λ kept. kept) result (option_map (Command user window) (text_in word.now)) }
 {
     let line = read_text(alloc, word)?;
@@ -222,7 +222,7 @@ fn keep_command(
 }
 
 /// `USER NUMBER TEXT`
-fn command_at(alloc: Global, bytes: &[u8]) -> Result<(KeptEvent, &[u8]), Unread>
+fn command_at(alloc: Global, bytes: &[u8]) -> Result<(Kept, &[u8]), Unread>
     ensures { Gives (λ p. (p.0, p.1.now)) result (command_at bytes.now) }
 {
     let (user, rest) = user_at(bytes, b' ').ok_or(Unread::Malformed)?;
@@ -255,7 +255,7 @@ fn keep_open(
     user: UserId,
     shape: (u16, u16, u16),
     word: &[u8],
-) -> Result<KeptEvent, Unread>
+) -> Result<Kept, Unread>
     ensures { Gives (λ kept. kept) result (option_map (Open user shape.0 shape.1 shape.2) (title_in word.now)) }
 {
     let (rows, columns, keep_lines) = shape;
@@ -272,7 +272,7 @@ fn keep_open(
 }
 
 /// `USER ROWS COLS KEEP TEXT`
-fn open_at(alloc: Global, bytes: &[u8]) -> Result<(KeptEvent, &[u8]), Unread>
+fn open_at(alloc: Global, bytes: &[u8]) -> Result<(Kept, &[u8]), Unread>
     ensures { Gives (λ p. (p.0, p.1.now)) result (open_at bytes.now) }
 {
     let (user, rest) = user_at(bytes, b' ').ok_or(Unread::Malformed)?;
@@ -282,7 +282,7 @@ fn open_at(alloc: Global, bytes: &[u8]) -> Result<(KeptEvent, &[u8]), Unread>
 }
 
 /// `WINDOW`
-fn closed_at(alloc: Global, bytes: &[u8]) -> Result<(KeptEvent, &[u8]), Unread>
+fn closed_at(alloc: Global, bytes: &[u8]) -> Result<(Kept, &[u8]), Unread>
     ensures { Gives (λ p. (p.0, p.1.now)) result (closed_at bytes.now) }
 {
     let (window, rest) = u32_at(bytes, b' ').ok_or(Unread::Malformed)?;
@@ -290,7 +290,7 @@ fn closed_at(alloc: Global, bytes: &[u8]) -> Result<(KeptEvent, &[u8]), Unread>
 }
 
 /// The event of a kind whose fields follow its word.
-fn event_by<'a>(alloc: Global, word: &[u8], rest: &'a [u8]) -> Result<(KeptEvent, &'a [u8]), Unread>
+fn event_by<'a>(alloc: Global, word: &[u8], rest: &'a [u8]) -> Result<(Kept, &'a [u8]), Unread>
     ensures { Gives (λ p. (p.0, p.1.now)) result (event_by word.now rest.now) }
 {
     if word == b"keys".as_slice() {
@@ -312,7 +312,7 @@ fn event_by<'a>(alloc: Global, word: &[u8], rest: &'a [u8]) -> Result<(KeptEvent
 
 /// An event, and the bytes after its fields.
 #[tactic(auto, unfolding(crate::specs::Events::event_at))]
-pub fn event_at(alloc: Global, bytes: &[u8]) -> Result<(KeptEvent, &[u8]), Unread>
+pub fn event_at(alloc: Global, bytes: &[u8]) -> Result<(Kept, &[u8]), Unread>
     ensures { Gives (λ p. (p.0, p.1.now)) result (event_at bytes.now) }
 {
     let (word, rest) = cut(bytes, b' ').ok_or(Unread::Malformed)?;

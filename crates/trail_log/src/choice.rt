@@ -10,7 +10,7 @@ use crate::checks::window_of;
 use crate::names::Names;
 use crate::titles::{Titled, title_in};
 use acl::{Act, Object, UserId};
-use hub_record::{Filed, KeptRef};
+use hub_record::{KeptRef, TrailEntry};
 use session_model::{Bytes, Verdict};
 use trail_lines::Line;
 
@@ -141,7 +141,7 @@ fn acts_on(titles: &[Titled], asked: &Wanted, acts: &[Act]) -> bool
 }
 
 /// Whether an entry is of a window that is asked for.
-fn is_of_window(titles: &[Titled], entry: &Filed, asked: &Wanted) -> bool
+fn is_of_window(titles: &[Titled], entry: &TrailEntry, asked: &Wanted) -> bool
     ensures { result ≡ is_of_window titles.now entry.now asked.now }
 {
     let event = entry.event().get();
@@ -152,7 +152,7 @@ fn is_of_window(titles: &[Titled], entry: &Filed, asked: &Wanted) -> bool
 }
 
 /// Whether an entry is of a window that is asked for, if one is.
-fn is_of_wanted(titles: &[Titled], entry: &Filed, asked: &Option<Wanted>) -> bool
+fn is_of_wanted(titles: &[Titled], entry: &TrailEntry, asked: &Option<Wanted>) -> bool
     ensures { result ≡ is_of_wanted titles.now entry.now asked.now }
 {
     match asked {

@@ -1,14 +1,13 @@
 use Rattle.std.proofs.Common.{◌≡◌, Bool, true, sym, subst}
 use Rattle.std.specs.Prelude.{◌↔◌}
 use Rattle.std.proofs.lemmas.Result.{IfOk-weaker}
-use Rattle.hub_record.specs.declared.event.KeptRef.{KeptRef}
-use Rattle.hub_record.specs.Stored.{kept_lent}
+use Rattle.hub_trail.specs.declared.kept.Kept.{Kept}
 use Rattle.hub_check.specs.Parts.{FitsLine}
 use Rattle.hub_check.proofs.commands.fits_line.Goals as goal
 
 pub returns-in-Command : goal.returns-in-Command
 returns-in-Command c = IfOk-weaker c.fits_text.result _ _
     (λ (b : Bool) f edition h s. subst
-    (λ (x : KeptRef). (b ≡ true) ↔ FitsLine c.args.owner h (kept_lent x) c.args.entry.now) (sym c.in-Command.is)
-    (f edition h c.in-Command.window s))
+    (λ (x : Kept). (b ≡ true) ↔ FitsLine c.args.owner h x c.args.entry.now) (sym c.in-Command.is)
+    (f edition h c.in-Command.window.now s))
     c.fits_text.ensures

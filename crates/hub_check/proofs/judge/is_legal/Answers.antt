@@ -1,8 +1,7 @@
-use Rattle.std.proofs.Common.{◌≡◌, ◌∙◌, Bool, List, sym, subst}
+use Rattle.std.proofs.Common.{◌≡◌, Bool, List, sym, subst}
 use Rattle.std.proofs.lemmas.Result.{IfOk-weaker}
 use Rattle.acl.specs.declared.act.Act.{Act}
 use Rattle.session_model.specs.declared.verdict.Verdict.{Verdict}
-use Rattle.hub_record.specs.Stored.{kept_lent}
 use Rattle.hub_trail.specs.Trails.{Ending}
 use Rattle.hub_trail.specs.Legal.{AreOfUser, AreLet, IsOfKnown}
 use Rattle.hub_check.specs.Parts.{AreTrue, FitsLine}
@@ -13,8 +12,8 @@ pub returns : goal.returns
 returns c =
     let e = c.args.entry.now in
     let owner = c.args.owner in
-    let event = kept_lent c.get-event.result in
-    let is : event ≡ e.event = c.get-event.ensures ∙ c.event.ensures in
+    let event = c.event-event.result.now in
+    let is : event ≡ e.event = c.event-event.ensures in
     let vs = c.verdicts-verdicts.ensures in
     IfOk-weaker c.fits_line.result _ _
     (λ (b : Bool) f edition h s. (

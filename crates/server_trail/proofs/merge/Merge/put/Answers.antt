@@ -4,12 +4,17 @@ use Rattle.server_trail.specs.declared.merge.Merge.{Merge}
 use Rattle.server_trail.specs.Merging.{early_bytes}
 use Rattle.server_trail.proofs.Merging.{put_down, dropped, has_early, inserted}
 use Rattle.server_trail.proofs.merge.Merge.put.Goals as goal
-use Rattle.server_trail.proofs.merge.Merge.put.Goals.{then-place-self-via-then-place-self, then-place-self-via-else-place-self+then-contains_key}
+use Rattle.server_trail.proofs.merge.Merge.put.Goals.{then-place-self-via-then-place-self}
+use Rattle.server_trail.proofs.merge.Merge.put.Goals.{then-place-self-via-else-place-self+then-contains_key}
 
 pub returns-then-place-self-clause-ok : goal.returns-then-place-self-clause-ok
 returns-then-place-self-clause-ok c = λ put taken h. elim c.then-place-self.branch [
-  | then-place-self-via-then-place-self w ↦ dropped put taken c.args.self.now (c.args.place, c.args.line.items) h (h.in_order.whole c.args.place w.if-place-self.true)
-  | then-place-self-via-else-place-self+then-contains_key w ↦ dropped put taken c.args.self.now (c.args.place, c.args.line.items) h (has_early put taken c.args.self.now c.args.place h w.if-place-self.false (sym w.contains_key.ensures ∙ w.if-contains_key.true))
+  | then-place-self-via-then-place-self w ↦ dropped put taken c.args.self.now (c.args.place, c.args.line.items) h
+      (h.in_order.whole c.args.place w.if-place-self.true)
+  | then-place-self-via-else-place-self+then-contains_key w ↦
+      dropped put taken c.args.self.now (c.args.place, c.args.line.items) h
+      (has_early put taken c.args.self.now c.args.place h w.if-place-self.false
+      (sym w.contains_key.ensures ∙ w.if-contains_key.true))
 ]
 
 pub returns-clause-ok : goal.returns-clause-ok
