@@ -1,5 +1,6 @@
 pub mod Cutting
 pub mod Numbers
+pub mod Rows
 pub mod Texts
 pub mod Parts
 pub mod Acts

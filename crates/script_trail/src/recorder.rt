@@ -1,7 +1,7 @@
 //! A session whose steps are written down.
 
 use acl::{Edition, UserId};
-use hub_record::{Filed, KeptEvent, KeptReply};
+use hub_record::{Filed, Kept, KeptReply};
 use session::{Bytes, Event, Notes, Refusal, Reply, Session};
 use std::alloc::{AllocError, Global};
 use trail_lines::{Cause, Ended, Header, print_end, print_header, print_line};
@@ -51,7 +51,7 @@ impl Recorder {
 
     /// Takes one step, and writes its entry, if it has one.
     pub fn step(&mut self, event: Event) -> Result<Reply, AllocError> {
-        let kept = KeptEvent::of(self.alloc, event)?;
+        let kept = Kept::of(self.alloc, event)?;
         let spare = Box::new(self.alloc, Refusal::NoMemory)?;
         let mut effects = Vec::new(self.alloc);
         let mut notes = Notes::new(self.alloc);
