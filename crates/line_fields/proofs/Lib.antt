@@ -4,4 +4,5 @@ pub mod Spelled
 pub mod ReadBack
 pub mod Rows
 pub mod Again
+pub mod EventParts
 pub mod Joined

@@ -3,7 +3,8 @@ use Rattle.std.proofs.Common.{◌≡◌, ℕ, List, [], ◌∷◌, ◌++◌, ref
 use Rattle.std.specs.Prelude.{◌&&◌, not, true, false, Option, Some, None, option_map}
 use Rattle.line_fields.specs.Cutting.{◌>>=◌, is_byte}
 use Rattle.line_fields.specs.Rows.{Values, Maker, made_by, Row, row, fields_in, made_in, Prints, after_each}
-use Rattle.line_fields.specs.Rows.{each_ended, Reads, value_at, read_between, read_ended, read_in, read_ended_in}
+use Rattle.line_fields.specs.Rows.{PrintsThen, all_then, Reads, value_at, read_between, read_in, ReadsAt}
+use Rattle.line_fields.specs.Rows.{read_all, read_all_in}
 use Rattle.line_fields.specs.Rows.{AllBut, Each}
 use Rattle.line_fields.proofs.Words.{IsFree, first_field, free_append}
 
@@ -63,24 +64,23 @@ each_but P [] v said = tt
 each_but P (f ∷ []) v said = said.0
 each_but P (f ∷ g ∷ fs) v said = (said.0, each_but P (g ∷ fs) v.1 said.1)
 
--- ---- fields with a separator after each
+-- ---- fields that are each ended
 
-ended_again : {F R : Type 0} (V : F → Type 0) (separator : ℕ) (text : Prints V) (read : Reads V)
-    (P : (f : F) → V f → Type 0) → ((f : F) (v : V f) → P f v → IsAgain V separator text read f v)
+all_again : {F R : Type 0} (V : F → Type 0) (put : PrintsThen V) (at : ReadsAt V) (P : (f : F) → V f → Type 0)
+    → ((f : F) (v : V f) (rest : List ℕ) → P f v → at f (put f v rest) ≡ Some (v, rest))
     → (fs : List F) (make : Maker V R fs) (v : Values V fs) (rest : List ℕ) → Each P fs v
-    → read_ended V separator read fs make (each_ended separator text fs v rest) ≡ Some (made_by V fs make v, rest)
-ended_again V separator text read P each [] make v rest said = refl
-ended_again V separator text read P each (f ∷ fs) make v rest said =
-    ap (λ o. o >>= λ x. read_ended V separator read fs (make x.0) x.1)
-    (at_again V separator text read f v.0 (each_ended separator text fs v.1 rest) (each f v.0 said.0))
-    ∙ ended_again V separator text read P each fs (make v.0) v.1 rest said.1
+    → read_all V at fs make (all_then put fs v rest) ≡ Some (made_by V fs make v, rest)
+all_again V put at P each [] make v rest said = refl
+all_again V put at P each (f ∷ fs) make v rest said =
+    ap (λ o. o >>= λ x. read_all V at fs (make x.0) x.1) (each f v.0 (all_then put fs v.1 rest) said.0)
+    ∙ all_again V put at P each fs (make v.0) v.1 rest said.1
 
-pub row_ended_again : {F R : Type 0} (V : F → Type 0) (separator : ℕ) (text : Prints V) (read : Reads V)
-    (P : (f : F) → V f → Type 0) → ((f : F) (v : V f) → P f v → IsAgain V separator text read f v)
+pub row_all_again : {F R : Type 0} (V : F → Type 0) (put : PrintsThen V) (at : ReadsAt V)
+    (P : (f : F) → V f → Type 0)
+    → ((f : F) (v : V f) (rest : List ℕ) → P f v → at f (put f v rest) ≡ Some (v, rest))
     → (r : Row V R) (v : Values V (fields_in r)) (rest : List ℕ) → Each P (fields_in r) v
-    → read_ended_in separator read r (each_ended separator text (fields_in r) v rest) ≡ Some (made_in r v, rest)
-row_ended_again V separator text read P each (row word fields make) v rest said =
-    ended_again V separator text read P each fields make v rest said
+    → read_all_in at r (all_then put (fields_in r) v rest) ≡ Some (made_in r v, rest)
+row_all_again V put at P each (row word fields make) v rest said = all_again V put at P each fields make v rest said
 
 -- ---- texts without a byte
 
@@ -97,11 +97,10 @@ after_free V byte separator text P other each (f ∷ fs) v said =
     (free_append byte (text f v.0) (after_each separator text fs v.1) (each f v.0 said.0)
     (after_free V byte separator text P other each fs v.1 said.1))
 
-pub ended_free : {F : Type 0} (V : F → Type 0) (byte separator : ℕ) (text : Prints V) (P : (f : F) → V f → Type 0)
-    → is_byte byte separator ≡ false → ((f : F) (v : V f) → P f v → IsFree byte (text f v))
+pub all_free : {F : Type 0} (V : F → Type 0) (byte : ℕ) (put : PrintsThen V) (P : (f : F) → V f → Type 0)
+    → ((f : F) (v : V f) (rest : List ℕ) → P f v → IsFree byte rest → IsFree byte (put f v rest))
     → (fs : List F) (v : Values V fs) (rest : List ℕ) → Each P fs v → IsFree byte rest
-    → IsFree byte (each_ended separator text fs v rest)
-ended_free V byte separator text P other each [] v rest said is = is
-ended_free V byte separator text P other each (f ∷ fs) v rest said is =
-    free_append byte (text f v.0) (separator ∷ each_ended separator text fs v.1 rest) (each f v.0 said.0)
-    (byte_then byte separator _ other (ended_free V byte separator text P other each fs v.1 rest said.1 is))
+    → IsFree byte (all_then put fs v rest)
+all_free V byte put P each [] v rest said is = is
+all_free V byte put P each (f ∷ fs) v rest said is =
+    each f v.0 (all_then put fs v.1 rest) said.0 (all_free V byte put P each fs v.1 rest said.1 is)

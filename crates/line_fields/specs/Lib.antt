@@ -4,6 +4,7 @@ pub mod Rows
 pub mod Texts
 pub mod Parts
 pub mod Acts
+pub mod Events
 pub mod Sayable
 pub mod Meaning
 pub mod Dates

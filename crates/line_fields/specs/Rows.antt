@@ -38,11 +38,13 @@ abbrev pub after_each : {F : Type 0} {V : F → Type 0} → ℕ → Prints V →
 after_each separator text [] v = []
 after_each separator text (f ∷ fs) v = separator ∷ (text f v.0 ++ after_each separator text fs v.1)
 
--- each value with a separator after it, and then more
-abbrev pub each_ended : {F : Type 0} {V : F → Type 0} → ℕ → Prints V → (fs : List F) → Values V fs
-    → List ℕ → List ℕ
-each_ended separator text [] v rest = rest
-each_ended separator text (f ∷ fs) v rest = text f v.0 ++ separator ∷ each_ended separator text fs v.1 rest
+-- how the value of a field is printed with what ends it, and then more
+abbrev pub PrintsThen : {F : Type 0} → (F → Type 0) → Type 0
+PrintsThen {F} V = (f : F) → V f → List ℕ → List ℕ
+
+abbrev pub all_then : {F : Type 0} {V : F → Type 0} → PrintsThen V → (fs : List F) → Values V fs → List ℕ → List ℕ
+all_then put [] v rest = rest
+all_then put (f ∷ fs) v rest = put f v.0 (all_then put fs v.1 rest)
 
 -- ---- reading
 
@@ -65,20 +67,20 @@ read_between V separator read (f ∷ []) make bytes = option_map make (read f by
 read_between V separator read (f ∷ g ∷ fs) make bytes =
     value_at separator read f bytes >>= λ x. read_between V separator read (g ∷ fs) (make x.0) x.1
 
--- fields with a separator after each, and the bytes after them
-abbrev pub read_ended : {F R : Type 0} (V : F → Type 0) → ℕ → Reads V → (fs : List F) → Maker V R fs
-    → List ℕ → Option (R × List ℕ)
-read_ended V separator read [] make bytes = Some (make, bytes)
-read_ended V separator read (f ∷ fs) make bytes =
-    value_at separator read f bytes >>= λ x. read_ended V separator read fs (make x.0) x.1
-
 abbrev pub read_in : {F R : Type 0} {V : F → Type 0} → ℕ → Reads V → Row V R → List ℕ → Option R
 read_in {V = V} separator read (row word fields make) bytes = read_between V separator read fields make bytes
 
-abbrev pub read_ended_in : {F R : Type 0} {V : F → Type 0} → ℕ → Reads V → Row V R → List ℕ
+-- how a field is read with what ends it: its value, and the bytes after it
+abbrev pub ReadsAt : {F : Type 0} → (F → Type 0) → Type 0
+ReadsAt {F} V = (f : F) → List ℕ → Option (V f × List ℕ)
+
+abbrev pub read_all : {F R : Type 0} (V : F → Type 0) → ReadsAt V → (fs : List F) → Maker V R fs → List ℕ
     → Option (R × List ℕ)
-read_ended_in {V = V} separator read (row word fields make) bytes =
-    read_ended V separator read fields make bytes
+read_all V at [] make bytes = Some (make, bytes)
+read_all V at (f ∷ fs) make bytes = at f bytes >>= λ x. read_all V at fs (make x.0) x.1
+
+abbrev pub read_all_in : {F R : Type 0} {V : F → Type 0} → ReadsAt V → Row V R → List ℕ → Option (R × List ℕ)
+read_all_in {V = V} at (row word fields make) bytes = read_all V at fields make bytes
 
 -- ---- what can be said
 
