@@ -1,5 +1,6 @@
 -- Parts, acts and verdicts that were printed are read again.
-use Rattle.std.proofs.Common.{◌≡◌, ℕ, ◌<◌, ◌≤◌, ◌^◌, List, [], ◌∷◌, ◌++◌, length, ap, refl, sym, ◌∙◌, arith, append-nil}
+use Rattle.std.proofs.Common.{◌≡◌, ℕ, ◌<◌, ◌≤◌, ◌^◌, List, [], ◌∷◌, ◌++◌, length, ap, refl, sym, ◌∙◌, arith}
+use Rattle.std.proofs.Common.{append-nil, subst}
 use Rattle.std.specs.Prelude.{Bool, true, false, cond, not, ◌&&◌, ◌||◌, ◌==◌, Option, Some, None, option_map, codes}
 use Rattle.std.specs.Prelude.{decimal, map}
 use Rattle.std.specs.List.{list_all}
@@ -26,7 +27,7 @@ use Rattle.session_model.specs.declared.verdict.Verdict.{Verdict}
 use Rattle.session_model.specs.declared.verdict.Verdict.TheVariants as verdict
 use Rattle.line_fields.specs.Cutting.{◌>>=◌, is_byte, cut}
 use Rattle.line_fields.specs.Numbers.{number_below, is_number}
-use Rattle.line_fields.proofs.Words.{IsFree, passing, first_field}
+use Rattle.line_fields.proofs.Words.{IsFree, passing, first_field, free_append}
 use Rattle.line_fields.proofs.Digits.{digits, number_again, not_number}
 use Rattle.line_fields.specs.declared.acts.ActKind.{ActKind}
 use Rattle.line_fields.specs.declared.acts.ActKind.TheVariants as kind
@@ -34,9 +35,13 @@ use Rattle.line_fields.specs.Parts.{colon, blank, comma, field, user_at, nobody,
 use Rattle.line_fields.specs.Parts.{change_in, object_text, command_in, window_or, object_in, mode_text, mode_in}
 use Rattle.line_fields.specs.Parts.{preset_text, preset_in}
 use Rattle.line_fields.specs.Numbers.{number_at}
-use Rattle.line_fields.specs.Acts.{kind_text, kind_in, kind_of, act_rest, act_text, rest_in, act_in, lock, verdict_text}
-use Rattle.line_fields.specs.Acts.{verdict_in}
-use Rattle.line_fields.specs.Sayable.{IsNamed, IsNamedIfAny, IsSerial, IsObject, IsAct, IsVerdict}
+use Rattle.line_fields.specs.Acts.{PartKind, User, Leader, Serial, Change, Target, Mode, Preset, Value}
+use Rattle.line_fields.specs.Acts.{part_text, part_in, row_of, Parts, of_parts, kind_text, text_of, kind_in}
+use Rattle.line_fields.specs.Acts.{act_text, act_in, lock, verdict_text, verdict_in}
+use Rattle.line_fields.specs.Rows.{fields_in, made_in}
+use Rattle.line_fields.proofs.Rows.{IsAgain, HasField, first_then, after_is, row_again, each_but, after_free}
+use Rattle.line_fields.specs.Sayable.{IsNamed, IsNamedIfAny, IsSerial, IsObject, IsPartOfAct, AreParts}
+use Rattle.line_fields.specs.Sayable.{IsAct, IsVerdict}
 
 -- ---- bytes of parts
 
@@ -222,9 +227,13 @@ unfolding kind_in
 kind_again kind.Known = refl
 kind_again _ = refl
 
-pub kind_part : (k : ActKind) → IsPart (kind_text k)
+kind_part : (k : ActKind) → IsPart (kind_text k)
 kind_part kind.Known = record { bytes = refl }
 kind_part _ = record { bytes = refl }
+
+has_part : (k : ActKind) → HasField (fields_in (row_of k))
+has_part kind.Known = tt
+has_part _ = tt
 
 user_colon : (user : UserId) (rest : List ℕ) → IsNamed user
     → user_at colon (field colon (name_of user) rest) ≡ Some (user, rest)
@@ -234,47 +243,78 @@ serial_colon : (n : ℕ) (rest : List ℕ) → IsSerial n
     → number_at (2 ^ 32) colon (field colon (decimal n) rest) ≡ Some (n, rest)
 serial_colon n rest small = number_at_again colon (2 ^ 32) n rest apart_colon small most32
 
-serial_again : (n : ℕ) → IsSerial n → number_below (2 ^ 32) (decimal n) ≡ Some n
-serial_again n small = number_again (2 ^ 32) n small most32
-
 cut_part : (word rest : List ℕ) → IsPart word → cut colon (field colon word rest) ≡ Some (word, rest)
 cut_part word rest is = first_field colon word rest (free colon word apart_colon is)
 
-rest_again : (a : Act) → IsAct a → rest_in (kind_of a) (act_rest a) ≡ Some a
-rest_again (act.Known u) is = ap (option_map act.Known) is
-rest_again (act.Gone u) is = ap (option_map act.Gone) is
-rest_again (act.Set u b o value) is =
-    rw (
-      user_colon u (field colon (change_text b value) (object_text o)) is.0,
-      cut_part (change_text b value)
-          (object_text o) (change_part b value),
-      change_again b value,
-      object_again o is.1,
-    ) refl
-rest_again (act.Grouped u leader) is = rw (user_colon u (user_text leader) is.0, user_again leader is.1) refl
-rest_again (act.Masked by u b value) is =
-    rw (
-      user_colon by (field colon (name_of u) (change_text b value)) is.0,
-      user_colon u (change_text b value) is.1,
-      change_again b value,
-    ) refl
-rest_again (act.Preset p b value) is = rw
-    (cut_part (preset_text p) (change_text b value) (preset_part p), preset_again p, change_again b value) refl
-rest_again (act.Opened by w) is = rw (user_colon by (decimal w) is.0, serial_again w is.1) refl
-rest_again (act.Closed w) is = ap (option_map act.Closed) (serial_again w is)
-rest_again (act.Attached c u) is = rw (serial_colon c (name_of u) is.0, is.1) refl
-rest_again (act.Parted c) is = ap (option_map act.Parted) (serial_again c is)
-rest_again (act.Entered u w) is = rw (user_colon u (decimal w) is.0, serial_again w is.1) refl
-rest_again (act.Left u w) is = rw (user_colon u (decimal w) is.0, serial_again w is.1) refl
-rest_again (act.Mode by w m) is =
-    rw (user_colon by (field colon (decimal w) (mode_text m)) is.0, serial_colon w (mode_text m) is.1, mode_again m)
-    refl
-rest_again (act.Default m) is = ap (option_map act.Default) (mode_again m)
+value_again : (p : PartKind) (v : Value p) → IsPartOfAct p v → part_in p (part_text p v) ≡ Some v
+value_again User user is = is
+value_again Leader user is = user_again user is
+value_again Serial n is = number_again (2 ^ 32) n is most32
+value_again Change c is = change_again c.bit c.value
+value_again Target o is = object_again o is
+value_again Mode m is = mode_again m
+value_again Preset p is = preset_again p
+
+value_part : (p : PartKind) (v : Value p) → IsPartOfAct p v → IsPart (part_text p v)
+value_part User user is = name_part user is
+value_part Leader user is = user_part user is
+value_part Serial n is = number_part n (wide (2 ^ 32) n is most32)
+value_part Change c is = change_part c.bit c.value
+value_part Target o is = object_part o is
+value_part Mode m is = mode_part m
+value_part Preset p is = preset_part p
+
+each_again : (p : PartKind) (v : Value p) → IsPartOfAct p v → IsAgain Value colon part_text part_in p v
+each_again p v is =
+    record { free = free colon (part_text p v) apart_colon (value_part p v is); again = value_again p v is }
+
+text_again : (k : ActKind) (v : Parts k) → AreParts k v → act_in (text_of k v) ≡ Some (made_in (row_of k) v)
+unfolding act_in
+text_again k v said =
+    let fields = fields_in (row_of k) in
+    ap (λ more. act_in (kind_text k ++ more)) (after_is colon part_text fields v (has_part k))
+    ∙ rw (cut_part (kind_text k) (first_then colon part_text fields v) (kind_part k), kind_again k)
+    (row_again Value colon part_text part_in IsPartOfAct IsPartOfAct each_again value_again (row_of k) v (has_part k)
+    (each_but IsPartOfAct fields v said))
+
+abbrev Whole : Type 0
+Whole = (k : ActKind) × Parts k
+
+abbrev whole : (k : ActKind) → Parts k → Whole
+whole k v = (k, v)
+
+abbrev parts_of : Act → Whole
+parts_of a = of_parts whole a
+
+-- an act is made of its parts
+made_again : (a : Act) → made_in (row_of (parts_of a).0) (parts_of a).1 ≡ a
+made_again (act.Known u) = refl
+made_again _ = refl
+
+again : (k : ActKind) (v : Parts k) → IsAct (made_in (row_of k) v)
+    → act_in (act_text (made_in (row_of k) v)) ≡ Some (made_in (row_of k) v)
+again kind.Known v is = text_again kind.Known v is
+again k v is = text_again k v is
 
 pub act_again : (a : Act) → IsAct a → act_in (act_text a) ≡ Some a
-unfolding act_in
-act_again a is =
-    rw (cut_part (kind_text (kind_of a)) (act_rest a) (kind_part (kind_of a)), kind_again (kind_of a)) (rest_again a is)
+act_again a = subst (λ n. IsAct n → act_in (act_text n) ≡ Some n) (made_again a) (again (parts_of a).0 (parts_of a).1)
+
+-- a byte that no part has, and that isn't the colon
+text_free : (byte : ℕ) → IsApart byte → is_byte byte colon ≡ false → (k : ActKind) (v : Parts k) → AreParts k v
+    → IsFree byte (text_of k v)
+text_free byte apart other k v said =
+    free_append byte (kind_text k) _ (free byte (kind_text k) apart (kind_part k))
+    (after_free Value byte colon part_text IsPartOfAct other
+    (λ p v is. free byte (part_text p v) apart (value_part p v is)) (fields_in (row_of k)) v said)
+
+made_free : (byte : ℕ) → IsApart byte → is_byte byte colon ≡ false → (k : ActKind) (v : Parts k)
+    → IsAct (made_in (row_of k) v) → IsFree byte (act_text (made_in (row_of k) v))
+made_free byte apart other kind.Known v is = text_free byte apart other kind.Known v is
+made_free byte apart other k v is = text_free byte apart other k v is
+
+pub act_free : (byte : ℕ) → IsApart byte → is_byte byte colon ≡ false → (a : Act) → IsAct a → IsFree byte (act_text a)
+act_free byte apart other a = subst (λ n. IsAct n → IsFree byte (act_text n)) (made_again a)
+    (made_free byte apart other (parts_of a).0 (parts_of a).1)
 
 -- ---- verdicts
 
@@ -305,3 +345,20 @@ verdict_again (verdict.Lock u w held) is =
       serial_colon w (user_text held) is.1,
       user_again held is.2,
     ) refl
+
+colon_then : (byte : ℕ) (a b : List ℕ) → is_byte byte colon ≡ false → IsFree byte a → IsFree byte b
+    → IsFree byte (field colon a b)
+colon_then byte a b other f g =
+    free_append byte a (colon ∷ b) f (record { free = λ i. not (other i) && g.free i })
+
+pub verdict_free : (byte : ℕ) → IsApart byte → is_byte byte colon ≡ false → (v : Verdict) → IsVerdict v
+    → IsFree byte (verdict_text v)
+verdict_free byte apart other (verdict.Right u b o answer) is =
+    colon_then byte (name_of u) _ other (free byte _ apart (name_part u is.0))
+    (colon_then byte (change_text b answer) _ other (free byte _ apart (change_part b answer))
+    (free byte _ apart (object_part o is.1)))
+verdict_free byte apart other (verdict.Lock u w held) is =
+    colon_then byte (name_of u) _ other (free byte _ apart (name_part u is.0))
+    (colon_then byte lock _ other (free byte lock apart (record { bytes = refl }))
+    (colon_then byte (decimal w) _ other (free byte _ apart (number_part w (wide (2 ^ 32) w is.1 most32)))
+    (free byte _ apart (user_part held is.2))))

@@ -1,39 +1,86 @@
 -- The words of acts and verdicts.
 use Rattle.std.specs.Prelude.{ℕ, ◌^◌, Bool, if◌then◌else◌, List, [], ◌∷◌, ◌++◌}
-use Rattle.std.specs.Prelude.{Option, Some, None, option_map, find, codes, decimal}
+use Rattle.std.specs.Prelude.{Option, Some, find, codes, decimal}
 use Rattle.std.specs.Str.{bytes_eq}
 use Rattle.acl.specs.declared.act.Act.{Act}
 use Rattle.acl.specs.declared.act.Act.TheVariants as act
+use Rattle.acl.specs.declared.act.LockMode.{LockMode}
+use Rattle.acl.specs.declared.act.Object.{Object}
+use Rattle.acl.specs.declared.act.PresetKind.{PresetKind}
+use Rattle.acl.specs.declared.bits.BitChange.{BitChange}
 use Rattle.acl.specs.declared.user_id.UserId.{UserId}
 use Rattle.acl.specs.Names.{name_of, named_by}
 use Rattle.session_model.specs.declared.verdict.Verdict.{Verdict}
 use Rattle.session_model.specs.declared.verdict.Verdict.TheVariants as verdict
 use Rattle.line_fields.specs.Cutting.{◌>>=◌, cut}
-use Rattle.line_fields.specs.Numbers.{number_below}
+use Rattle.line_fields.specs.Numbers.{number_below, number_at}
+use Rattle.line_fields.specs.Parts.{colon, field, user_at, user_text, user_in, change_text, change_in}
+use Rattle.line_fields.specs.Parts.{object_text, object_in, mode_text, mode_in, preset_text, preset_in}
+use Rattle.line_fields.specs.Rows.{Row, row, Values, word_in, fields_in, after_each, read_in}
 use Rattle.line_fields.specs.declared.acts.ActKind.{ActKind}
 use Rattle.line_fields.specs.declared.acts.ActKind.TheVariants as kind
-use Rattle.line_fields.specs.Parts.{colon, field, user_at, user_text, user_in}
-use Rattle.line_fields.specs.Numbers.{number_at}
-use Rattle.line_fields.specs.Parts.{change_text, change_in, object_text, object_in, mode_text}
-use Rattle.line_fields.specs.Parts.{mode_in, preset_text, preset_in}
+use Rattle.line_fields.specs.declared.acts.Part.{Part}
+use Rattle.line_fields.specs.declared.acts.Part.TheVariants as part
 
--- ---- the kind of an act, by the word that it begins with
+-- ---- the parts of an act
 
-abbrev pub kind_text : ActKind → List ℕ
-kind_text kind.Known = codes "known"
-kind_text kind.Gone = codes "gone"
-kind_text kind.Set = codes "set"
-kind_text kind.Grouped = codes "grouped"
-kind_text kind.Masked = codes "masked"
-kind_text kind.Preset = codes "preset"
-kind_text kind.Opened = codes "opened"
-kind_text kind.Closed = codes "closed"
-kind_text kind.Attached = codes "attached"
-kind_text kind.Parted = codes "parted"
-kind_text kind.Entered = codes "entered"
-kind_text kind.Left = codes "left"
-kind_text kind.Mode = codes "mode"
-kind_text kind.Default = codes "default"
+-- the object of a part is its target
+pub data PartKind : Type 0 where
+  User : PartKind
+  Leader : PartKind
+  Serial : PartKind
+  Change : PartKind
+  Target : PartKind
+  Mode : PartKind
+  Preset : PartKind
+
+abbrev pub Value : PartKind → Type 0
+Value User = UserId
+Value Leader = Option UserId
+Value Serial = ℕ
+Value Change = BitChange
+Value Target = Object
+Value Mode = LockMode
+Value Preset = PresetKind
+
+abbrev pub part_text : (p : PartKind) → Value p → List ℕ
+part_text User user = name_of user
+part_text Leader user = user_text user
+part_text Serial serial = decimal serial
+part_text Change change = change_text change.bit change.value
+part_text Target o = object_text o
+part_text Mode m = mode_text m
+part_text Preset p = preset_text p
+
+abbrev pub part_in : (p : PartKind) → List ℕ → Option (Value p)
+part_in User word = named_by word
+part_in Leader word = user_in word
+part_in Serial word = number_below (2 ^ 32) word
+part_in Change word = change_in word
+part_in Target word = object_in word
+part_in Mode word = mode_in word
+part_in Preset word = preset_in word
+
+-- ---- the table of acts: `set:bob:-w:3`
+
+abbrev pub ActRow : Type 0
+ActRow = Row Value Act
+
+abbrev pub row_of : ActKind → ActRow
+row_of kind.Known = row (codes "known") (User ∷ []) act.Known
+row_of kind.Gone = row (codes "gone") (User ∷ []) act.Gone
+row_of kind.Set = row (codes "set") (User ∷ Change ∷ Target ∷ []) (λ u c o. act.Set u c.bit o c.value)
+row_of kind.Grouped = row (codes "grouped") (User ∷ Leader ∷ []) act.Grouped
+row_of kind.Masked = row (codes "masked") (User ∷ User ∷ Change ∷ []) (λ by u c. act.Masked by u c.bit c.value)
+row_of kind.Preset = row (codes "preset") (Preset ∷ Change ∷ []) (λ p c. act.Preset p c.bit c.value)
+row_of kind.Opened = row (codes "opened") (User ∷ Serial ∷ []) act.Opened
+row_of kind.Closed = row (codes "closed") (Serial ∷ []) act.Closed
+row_of kind.Attached = row (codes "attached") (Serial ∷ User ∷ []) act.Attached
+row_of kind.Parted = row (codes "parted") (Serial ∷ []) act.Parted
+row_of kind.Entered = row (codes "entered") (User ∷ Serial ∷ []) act.Entered
+row_of kind.Left = row (codes "left") (User ∷ Serial ∷ []) act.Left
+row_of kind.Mode = row (codes "mode") (User ∷ Serial ∷ Mode ∷ []) act.Mode
+row_of kind.Default = row (codes "default") (Mode ∷ []) act.Default
 
 abbrev pub all_kinds : List ActKind
 all_kinds =
@@ -41,122 +88,62 @@ all_kinds =
     ∷ kind.Closed ∷ kind.Attached ∷ kind.Parted ∷ kind.Entered ∷ kind.Left ∷ kind.Mode
     ∷ kind.Default ∷ []
 
+-- the word that acts of a kind begin with
+abbrev pub kind_text : ActKind → List ℕ
+kind_text k = word_in (row_of k)
+
+abbrev pub Parts : ActKind → Type 0
+Parts k = Values Value (fields_in (row_of k))
+
+-- a function of an act's kind and of its parts
+abbrev pub of_parts {ℓ} : {A : Type ℓ} → ((k : ActKind) → Parts k → A) → Act → A
+of_parts f (act.Known u) = f kind.Known (u, tt)
+of_parts f (act.Gone u) = f kind.Gone (u, tt)
+of_parts f (act.Set u b o value) = f kind.Set (u, (record { bit = b; value = value }, (o, tt)))
+of_parts f (act.Grouped u leader) = f kind.Grouped (u, (leader, tt))
+of_parts f (act.Masked by u b value) = f kind.Masked (by, (u, (record { bit = b; value = value }, tt)))
+of_parts f (act.Preset p b value) = f kind.Preset (p, (record { bit = b; value = value }, tt))
+of_parts f (act.Opened by w) = f kind.Opened (by, (w, tt))
+of_parts f (act.Closed w) = f kind.Closed (w, tt)
+of_parts f (act.Attached c u) = f kind.Attached (c, (u, tt))
+of_parts f (act.Parted c) = f kind.Parted (c, tt)
+of_parts f (act.Entered u w) = f kind.Entered (u, (w, tt))
+of_parts f (act.Left u w) = f kind.Left (u, (w, tt))
+of_parts f (act.Mode by w m) = f kind.Mode (by, (w, (m, tt)))
+of_parts f (act.Default m) = f kind.Default (m, tt)
+
+-- the word of a kind, and a colon before each part
+abbrev pub text_of : (k : ActKind) → Parts k → List ℕ
+text_of k v = kind_text k ++ after_each colon part_text (fields_in (row_of k)) v
+
+abbrev pub act_text : Act → List ℕ
+act_text a = of_parts text_of a
+
 unfoldable pub kind_in : List ℕ → Option ActKind
 kind_in word = find (λ k. bytes_eq (kind_text k) word) all_kinds
 
-abbrev pub kind_of : Act → ActKind
-kind_of (act.Known u) = kind.Known
-kind_of (act.Gone u) = kind.Gone
-kind_of (act.Set u b o value) = kind.Set
-kind_of (act.Grouped u leader) = kind.Grouped
-kind_of (act.Masked by u b value) = kind.Masked
-kind_of (act.Preset p b value) = kind.Preset
-kind_of (act.Opened by w) = kind.Opened
-kind_of (act.Closed w) = kind.Closed
-kind_of (act.Attached c u) = kind.Attached
-kind_of (act.Parted c) = kind.Parted
-kind_of (act.Entered u w) = kind.Entered
-kind_of (act.Left u w) = kind.Left
-kind_of (act.Mode by w m) = kind.Mode
-kind_of (act.Default m) = kind.Default
-
--- ---- acts
-
--- what follows the kind
-abbrev pub act_rest : Act → List ℕ
-act_rest (act.Known u) = name_of u
-act_rest (act.Gone u) = name_of u
-act_rest (act.Set u b o value) =
-    field colon (name_of u) (field colon (change_text b value) (object_text o))
-act_rest (act.Grouped u leader) = field colon (name_of u) (user_text leader)
-act_rest (act.Masked by u b value) =
-    field colon (name_of by) (field colon (name_of u) (change_text b value))
-act_rest (act.Preset p b value) = field colon (preset_text p) (change_text b value)
-act_rest (act.Opened by w) = field colon (name_of by) (decimal w)
-act_rest (act.Closed w) = decimal w
-act_rest (act.Attached c u) = field colon (decimal c) (name_of u)
-act_rest (act.Parted c) = decimal c
-act_rest (act.Entered u w) = field colon (name_of u) (decimal w)
-act_rest (act.Left u w) = field colon (name_of u) (decimal w)
-act_rest (act.Mode by w m) = field colon (name_of by) (field colon (decimal w) (mode_text m))
-act_rest (act.Default m) = mode_text m
-
--- `set:bob:-w:3`
-abbrev pub act_text : Act → List ℕ
-act_text a = field colon (kind_text (kind_of a)) (act_rest a)
-
-abbrev pub serial_in : List ℕ → Option ℕ
-serial_in word = number_below (2 ^ 32) word
-
--- a user and a serial
-abbrev pub user_and_serial : List ℕ → Option (UserId × ℕ)
-user_and_serial rest = do
-  user ← user_at colon rest
-  serial ← serial_in user.1
-  Some (user.0, serial)
-
-abbrev pub set_in : List ℕ → Option Act
-set_in rest = do
-  user ← user_at colon rest
-  parts ← cut colon user.1
-  change ← change_in parts.0
-  object ← object_in parts.1
-  Some (act.Set user.0 change.bit object change.value)
-
-abbrev pub grouped_in : List ℕ → Option Act
-grouped_in rest = do
-  user ← user_at colon rest
-  leader ← user_in user.1
-  Some (act.Grouped user.0 leader)
-
-abbrev pub masked_in : List ℕ → Option Act
-masked_in rest = do
-  by ← user_at colon rest
-  user ← user_at colon by.1
-  change ← change_in user.1
-  Some (act.Masked by.0 user.0 change.bit change.value)
-
-abbrev pub preset_act_in : List ℕ → Option Act
-preset_act_in rest = do
-  parts ← cut colon rest
-  kind ← preset_in parts.0
-  change ← change_in parts.1
-  Some (act.Preset kind change.bit change.value)
-
-abbrev pub attached_in : List ℕ → Option Act
-attached_in rest = do
-  client ← number_at (2 ^ 32) colon rest
-  user ← named_by client.1
-  Some (act.Attached client.0 user)
-
-abbrev pub mode_act_in : List ℕ → Option Act
-mode_act_in rest = do
-  user ← user_at colon rest
-  window ← number_at (2 ^ 32) colon user.1
-  mode ← mode_in window.1
-  Some (act.Mode user.0 window.0 mode)
-
 abbrev pub rest_in : ActKind → List ℕ → Option Act
-rest_in kind.Known rest = option_map act.Known (named_by rest)
-rest_in kind.Gone rest = option_map act.Gone (named_by rest)
-rest_in kind.Set rest = set_in rest
-rest_in kind.Grouped rest = grouped_in rest
-rest_in kind.Masked rest = masked_in rest
-rest_in kind.Preset rest = preset_act_in rest
-rest_in kind.Opened rest = option_map (λ p. act.Opened p.0 p.1) (user_and_serial rest)
-rest_in kind.Closed rest = option_map act.Closed (serial_in rest)
-rest_in kind.Attached rest = attached_in rest
-rest_in kind.Parted rest = option_map act.Parted (serial_in rest)
-rest_in kind.Entered rest = option_map (λ p. act.Entered p.0 p.1) (user_and_serial rest)
-rest_in kind.Left rest = option_map (λ p. act.Left p.0 p.1) (user_and_serial rest)
-rest_in kind.Mode rest = mode_act_in rest
-rest_in kind.Default rest = option_map act.Default (mode_in rest)
+rest_in k rest = read_in colon part_in (row_of k) rest
 
 unfoldable pub act_in : List ℕ → Option Act
 act_in word = do
   parts ← cut colon word
   kind ← kind_in parts.0
   rest_in kind parts.1
+
+-- ---- as the code has it
+
+abbrev pub said : Part → List ℕ
+said (part.User user) = part_text User user
+said (part.Leader user) = part_text Leader user
+said (part.Serial serial) = part_text Serial serial
+said (part.Change b value) = change_text b value
+said (part.Target o) = part_text Target o
+said (part.Mode m) = part_text Mode m
+said (part.Preset p) = part_text Preset p
+
+abbrev pub after_colon : Part → List ℕ
+after_colon p = colon ∷ said p
 
 -- ---- verdicts
 

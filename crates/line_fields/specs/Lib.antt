@@ -1,8 +1,10 @@
 pub mod Cutting
 pub mod Numbers
+pub mod Rows
 pub mod Texts
 pub mod Parts
 pub mod Acts
+pub mod Events
 pub mod Sayable
 pub mod Meaning
 pub mod Dates

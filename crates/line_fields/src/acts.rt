@@ -1,12 +1,9 @@
 //! The words of acts.
 
-ghost use Rattle.std.specs.Prelude.{◌≡◌, ◌++◌, [], OnOk, option_map};
-ghost use Rattle.acl.specs.Names.{name_of};
-ghost use Rattle.acl.specs.declared.act.Act.TheVariants.{Entered};
-ghost use Rattle.line_fields.specs.Acts.{kind_text, kind_in, kind_of, act_rest, act_text};
-ghost use Rattle.line_fields.specs.Acts.{user_and_serial, set_in, grouped_in, masked_in};
-ghost use Rattle.line_fields.specs.Acts.{preset_act_in, attached_in, mode_act_in, rest_in, act_in};
-ghost use Rattle.line_fields.specs.Parts.{colon, field};
+ghost use Rattle.std.specs.Prelude.{◌≡◌, ◌++◌, OnOk, option_map};
+ghost use Rattle.std.specs.List.{flat_map};
+ghost use Rattle.acl.specs.declared.act.Act.TheVariants as act;
+ghost use Rattle.line_fields.specs.Acts.{kind_text, kind_in, said, after_colon, act_text, rest_in, act_in};
 
 use crate::cutting::cut;
 use crate::numbers::{read_u32, u32_at};
@@ -14,9 +11,47 @@ use crate::parts::{
     push_change, push_mode, push_name, push_object, push_preset, push_user, read_change, read_mode,
     read_object, read_preset, read_user, user_at,
 };
+use Part::{Change, Leader, Mode, Preset, Serial, Target, User};
 use acl::{Act, Bit, LockMode, Object, PresetKind, UserId};
 use session_model::push_decimal;
 use std::alloc::AllocError;
+
+/// A part of an act.
+#[derive(Clone, Copy)]
+enum Part {
+    User(UserId),
+    Leader(Option<UserId>),
+    Serial(u32),
+    Change(Bit, bool),
+    Target(Object),
+    Mode(LockMode),
+    Preset(PresetKind),
+}
+
+impl Part {
+    /// Appends the part.
+    fn push(self, out: &mut Vec<u8>) -> Result<(), AllocError>
+        ensures { OnOk result (out.new.items ≡ out.old.items ++ said self) }
+    {
+        match self {
+            Part::User(user) => push_name(user, out),
+            Part::Leader(user) => push_user(user, out),
+            Part::Serial(serial) => push_decimal(u64::from(serial), out),
+            Part::Change(bit, value) => push_change(bit, value, out),
+            Part::Target(object) => push_object(object, out),
+            Part::Mode(mode) => push_mode(mode, out),
+            Part::Preset(kind) => push_preset(kind, out),
+        }
+    }
+
+    /// Appends a colon and the part.
+    fn push_after_colon(self, out: &mut Vec<u8>) -> Result<(), AllocError>
+        ensures { OnOk result (out.new.items ≡ out.old.items ++ after_colon self) }
+    {
+        out.extend_from_slice(b":")?;
+        self.push(out)
+    }
+}
 
 /// The kind of an act.
 #[derive(Clone, Copy)]
@@ -78,26 +113,16 @@ impl ActKind {
         }
     }
 
-    /// The kind of an act.
-    fn of(act: &Act) -> ActKind
-        ensures { result ≡ kind_of act.now }
+    /// Appends the word of the kind, and the parts, each after a colon.
+    fn push(self, parts: &[Part], out: &mut Vec<u8>) -> Result<(), AllocError>
+        ensures { OnOk result (out.new.items
+            ≡ out.old.items ++ (kind_text self ++ flat_map after_colon parts.now)) }
     {
-        match act {
-            Act::Known { .. } => ActKind::Known,
-            Act::Gone { .. } => ActKind::Gone,
-            Act::Set { .. } => ActKind::Set,
-            Act::Grouped { .. } => ActKind::Grouped,
-            Act::Masked { .. } => ActKind::Masked,
-            Act::Preset { .. } => ActKind::Preset,
-            Act::Opened { .. } => ActKind::Opened,
-            Act::Closed { .. } => ActKind::Closed,
-            Act::Attached { .. } => ActKind::Attached,
-            Act::Parted { .. } => ActKind::Parted,
-            Act::Entered { .. } => ActKind::Entered,
-            Act::Left { .. } => ActKind::Left,
-            Act::Mode { .. } => ActKind::Mode,
-            Act::Default { .. } => ActKind::Default,
+        out.extend_from_slice(self.word())?;
+        for part in parts {
+            part.push_after_colon(out)?;
         }
+        Ok(())
     }
 
     /// The kind whose acts begin with the word.
@@ -111,145 +136,52 @@ impl ActKind {
     }
 }
 
-/// Appends a user, a colon and a serial.
-fn push_serial(user: UserId, serial: u32, out: &mut Vec<u8>) -> Result<(), AllocError>
-    ensures { OnOk result (out.new.items ≡ out.old.items ++ act_rest (Entered user serial)) }
-{
-    push_name(user, out)?;
-    out.extend_from_slice(b":")?;
-    push_decimal(u64::from(serial), out)
-}
-
-/// Appends a user and a colon.
-fn push_user_part(user: UserId, out: &mut Vec<u8>) -> Result<(), AllocError>
-    ensures { OnOk result (out.new.items ≡ out.old.items ++ field colon (name_of user) []) }
-{
-    push_name(user, out)?;
-    out.extend_from_slice(b":")
-}
-
-/// `USER:CHANGE:OBJECT`
-fn push_set(
-    user: UserId,
-    bit: Bit,
-    object: Object,
-    value: bool,
-    out: &mut Vec<u8>,
-) -> Result<(), AllocError>
-    ensures { OnOk result (out.new.items
-        ≡ out.old.items ++ act_rest (Act.Set user bit object value)) }
-{
-    push_user_part(user, out)?;
-    push_change(bit, value, out)?;
-    out.extend_from_slice(b":")?;
-    push_object(object, out)
-}
-
-/// `USER:LEADER`
-fn push_grouped(user: UserId, leader: Option<UserId>, out: &mut Vec<u8>) -> Result<(), AllocError>
-    ensures { OnOk result (out.new.items ≡ out.old.items ++ act_rest (Act.Grouped user leader)) }
-{
-    push_user_part(user, out)?;
-    push_user(leader, out)
-}
-
-/// `USER:USER:CHANGE`
-fn push_masked(
-    by: UserId,
-    user: UserId,
-    bit: Bit,
-    value: bool,
-    out: &mut Vec<u8>,
-) -> Result<(), AllocError>
-    ensures { OnOk result (out.new.items
-        ≡ out.old.items ++ act_rest (Act.Masked by user bit value)) }
-{
-    push_user_part(by, out)?;
-    push_user_part(user, out)?;
-    push_change(bit, value, out)
-}
-
-/// `PRESET:CHANGE`
-fn push_preset_act(
-    kind: PresetKind,
-    bit: Bit,
-    value: bool,
-    out: &mut Vec<u8>,
-) -> Result<(), AllocError>
-    ensures { OnOk result (out.new.items ≡ out.old.items ++ act_rest (Act.Preset kind bit value)) }
-{
-    push_preset(kind, out)?;
-    out.extend_from_slice(b":")?;
-    push_change(bit, value, out)
-}
-
-/// `CLIENT:USER`
-fn push_attached(client: u32, user: UserId, out: &mut Vec<u8>) -> Result<(), AllocError>
-    ensures { OnOk result (out.new.items ≡ out.old.items ++ act_rest (Act.Attached client user)) }
-{
-    push_decimal(u64::from(client), out)?;
-    out.extend_from_slice(b":")?;
-    push_name(user, out)
-}
-
-/// `USER:WINDOW:MODE`
-fn push_mode_act(
-    by: UserId,
-    window: u32,
-    mode: LockMode,
-    out: &mut Vec<u8>,
-) -> Result<(), AllocError>
-    ensures { OnOk result (out.new.items ≡ out.old.items ++ act_rest (Act.Mode by window mode)) }
-{
-    push_serial(by, window, out)?;
-    out.extend_from_slice(b":")?;
-    push_mode(mode, out)
-}
-
-/// Appends what follows an act's kind.
-fn push_rest(act: &Act, out: &mut Vec<u8>) -> Result<(), AllocError>
-    ensures { OnOk result (out.new.items ≡ out.old.items ++ act_rest act.now) }
+/// Appends an act.
+pub fn push_act(act: &Act, out: &mut Vec<u8>) -> Result<(), AllocError>
+    ensures { OnOk result (out.new.items ≡ out.old.items ++ act_text act.now) }
 {
     match *act {
-        Act::Known { user } => push_name(user, out),
-        Act::Gone { user } => push_name(user, out),
+        Act::Known { user } => ActKind::Known.push(&[User(user)], out),
+        Act::Gone { user } => ActKind::Gone.push(&[User(user)], out),
         Act::Set {
             user,
             bit,
             object,
             value,
-        } => push_set(user, bit, object, value, out),
-        Act::Grouped { user, leader } => push_grouped(user, leader, out),
+        } => ActKind::Set.push(&[User(user), Change(bit, value), Target(object)], out),
+        Act::Grouped { user, leader } => ActKind::Grouped.push(&[User(user), Leader(leader)], out),
         Act::Masked {
             by,
             user,
             bit,
             value,
-        } => push_masked(by, user, bit, value, out),
-        Act::Preset { kind, bit, value } => push_preset_act(kind, bit, value, out),
-        Act::Opened { by, window } => push_serial(by, window, out),
-        Act::Closed { window } => push_decimal(u64::from(window), out),
-        Act::Attached { client, user } => push_attached(client, user, out),
-        Act::Parted { client } => push_decimal(u64::from(client), out),
-        Act::Entered { user, window } => push_serial(user, window, out),
-        Act::Left { user, window } => push_serial(user, window, out),
-        Act::Mode { by, window, mode } => push_mode_act(by, window, mode, out),
-        Act::Default { mode } => push_mode(mode, out),
+        } => ActKind::Masked.push(&[User(by), User(user), Change(bit, value)], out),
+        Act::Preset { kind, bit, value } => ActKind::Preset.push(
+            &[Preset(kind), Change(bit, value)],
+            out,
+        ),
+        Act::Opened { by, window } => ActKind::Opened.push(&[User(by), Serial(window)], out),
+        Act::Closed { window } => ActKind::Closed.push(&[Serial(window)], out),
+        Act::Attached { client, user } => ActKind::Attached.push(
+            &[Serial(client), User(user)],
+            out,
+        ),
+        Act::Parted { client } => ActKind::Parted.push(&[Serial(client)], out),
+        Act::Entered { user, window } => ActKind::Entered.push(&[User(user), Serial(window)], out),
+        Act::Left { user, window } => ActKind::Left.push(&[User(user), Serial(window)], out),
+        Act::Mode { by, window, mode } => ActKind::Mode.push(
+            &[User(by), Serial(window), Mode(mode)],
+            out,
+        ),
+        Act::Default { mode } => ActKind::Default.push(&[Mode(mode)], out),
     }
-}
-
-/// Appends an act.
-pub fn push_act(act: &Act, out: &mut Vec<u8>) -> Result<(), AllocError>
-    ensures { OnOk result (out.new.items ≡ out.old.items ++ act_text act.now) }
-{
-    out.extend_from_slice(ActKind::of(act).word())?;
-    out.extend_from_slice(b":")?;
-    push_rest(act, out)
 }
 
 /// `USER:SERIAL`
 fn read_serial(rest: &[u8]) -> Option<(UserId, u32)>
-    ensures { result ≡ user_and_serial rest.now }
+    ensures opened { option_map (λ p. act.Opened p.0 p.1) result ≡ rest_in ActKind.Opened rest.now }
+    ensures entered { option_map (λ p. act.Entered p.0 p.1) result ≡ rest_in ActKind.Entered rest.now }
+    ensures left { option_map (λ p. act.Left p.0 p.1) result ≡ rest_in ActKind.Left rest.now }
 {
     let (user, rest) = user_at(rest, b':')?;
     Some((user, read_u32(rest)?))
@@ -257,7 +189,7 @@ fn read_serial(rest: &[u8]) -> Option<(UserId, u32)>
 
 /// `USER:CHANGE:OBJECT`
 fn read_set(rest: &[u8]) -> Option<Act>
-    ensures { result ≡ set_in rest.now }
+    ensures { result ≡ rest_in ActKind.Set rest.now }
 {
     let (user, rest) = user_at(rest, b':')?;
     let (change, object) = cut(rest, b':')?;
@@ -272,7 +204,7 @@ fn read_set(rest: &[u8]) -> Option<Act>
 
 /// `USER:LEADER`
 fn read_grouped(rest: &[u8]) -> Option<Act>
-    ensures { result ≡ grouped_in rest.now }
+    ensures { result ≡ rest_in ActKind.Grouped rest.now }
 {
     let (user, leader) = user_at(rest, b':')?;
     let leader = read_user(leader)?;
@@ -281,7 +213,7 @@ fn read_grouped(rest: &[u8]) -> Option<Act>
 
 /// `USER:USER:CHANGE`
 fn read_masked(rest: &[u8]) -> Option<Act>
-    ensures { result ≡ masked_in rest.now }
+    ensures { result ≡ rest_in ActKind.Masked rest.now }
 {
     let (by, rest) = user_at(rest, b':')?;
     let (user, change) = user_at(rest, b':')?;
@@ -296,7 +228,7 @@ fn read_masked(rest: &[u8]) -> Option<Act>
 
 /// `PRESET:CHANGE`
 fn read_preset_act(rest: &[u8]) -> Option<Act>
-    ensures { result ≡ preset_act_in rest.now }
+    ensures { result ≡ rest_in ActKind.Preset rest.now }
 {
     let (kind, change) = cut(rest, b':')?;
     let kind = read_preset(kind)?;
@@ -310,7 +242,7 @@ fn read_preset_act(rest: &[u8]) -> Option<Act>
 
 /// `CLIENT:USER`
 fn read_attached(rest: &[u8]) -> Option<Act>
-    ensures { result ≡ attached_in rest.now }
+    ensures { result ≡ rest_in ActKind.Attached rest.now }
 {
     let (client, user) = u32_at(rest, b':')?;
     let user = UserId::of(user)?;
@@ -319,7 +251,7 @@ fn read_attached(rest: &[u8]) -> Option<Act>
 
 /// `USER:WINDOW:MODE`
 fn read_mode_act(rest: &[u8]) -> Option<Act>
-    ensures { result ≡ mode_act_in rest.now }
+    ensures { result ≡ rest_in ActKind.Mode rest.now }
 {
     let (by, rest) = user_at(rest, b':')?;
     let (window, mode) = u32_at(rest, b':')?;

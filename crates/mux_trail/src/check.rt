@@ -32,11 +32,24 @@ impl Finish {
 }
 
 /// What a line says that begins as a last line does, if it is the last line of this many entries.
-pub fn end_in(alloc: Global, count: u64, line: &[u8]) -> Result<Option<Ended>, AllocError> {
+fn end_in(alloc: Global, count: u64, line: &[u8]) -> Result<Option<Ended>, AllocError> {
     match read_end(alloc, line) {
         Ok(ended) if ended.entries == count => Ok(Some(ended)),
         Ok(_) | Err(Unread::Malformed) => Ok(None),
         Err(Unread::NoMemory) => Err(AllocError),
+    }
+}
+
+/// How a file ends at a line that begins as a last line does, if nothing comes after it.
+pub fn finish_at(
+    alloc: Global,
+    count: u64,
+    number: u64,
+    line: &[u8],
+) -> Result<Finish, AllocError> {
+    match end_in(alloc, count, line)? {
+        Some(ended) => Ok(Finish::Ended { ended }),
+        None => Ok(Finish::Miscounted { line: number }),
     }
 }
 
@@ -48,11 +61,12 @@ fn finish_in<R: BufRead>(
     reader: &mut R,
     line: &mut Vec<u8>,
 ) -> io::Result<Finish> {
-    let Some(ended) = end_in(alloc, count, line.as_slice())? else {
-        return Ok(Finish::Miscounted { line: number });
-    };
+    let finish = finish_at(alloc, count, number, line.as_slice())?;
+    if finish.is_bad() {
+        return Ok(finish);
+    }
     match next_line(reader, line)? {
-        Came::Nothing => Ok(Finish::Ended { ended }),
+        Came::Nothing => Ok(finish),
         Came::Whole | Came::Torn => Ok(Finish::Continued { line: number }),
     }
 }

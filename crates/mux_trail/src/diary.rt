@@ -1,7 +1,7 @@
 //! The log of a trail, for people: a line an entry, one line for bytes that a user types one after
 //! another, and a line for each new day.
 
-use crate::check::{Finish, end_in, finish_of};
+use crate::check::{Finish, finish_at, finish_of};
 use crate::fault::Fault;
 use crate::heading::heading_of;
 use crate::tell::{LEGAL, tell_finish};
@@ -140,23 +140,6 @@ impl Diary {
     }
 }
 
-/// How a file that is followed ends. Nothing is waited for after its last line.
-fn finish_at<R: BufRead>(
-    alloc: Global,
-    count: u64,
-    halt: Halt,
-    reader: &mut R,
-    line: &mut Vec<u8>,
-) -> io::Result<Finish> {
-    match halt {
-        Halt::Last { line: number } => match end_in(alloc, count, line.as_slice())? {
-            Some(ended) => Ok(Finish::Ended { ended }),
-            None => Ok(Finish::Miscounted { line: number }),
-        },
-        halt => finish_of(alloc, count, halt, reader, line),
-    }
-}
-
 /// Writes the log of a trail of this owner, after its first line.
 fn write_diary<R: BufRead, W: Write>(
     mut diary: Diary,
@@ -171,10 +154,15 @@ fn write_diary<R: BufRead, W: Write>(
     diary.write_held(&mut text, output)?;
     let halt = halt?;
     let count = diary.log.count();
-    let finish = if diary.follows {
-        finish_at(alloc, count, halt, reader, &mut line)?
-    } else {
-        finish_of(alloc, count, halt, reader, &mut line)?
+    let finish = match halt {
+        // Nothing is waited for after the last line of a file that is followed.
+        Halt::Last { line: number } if diary.follows => finish_at(
+            alloc,
+            count,
+            number,
+            line.as_slice(),
+        )?,
+        halt => finish_of(alloc, count, halt, reader, &mut line)?,
     };
     diary.write_finish(finish, owner, output)
 }

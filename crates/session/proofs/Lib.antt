@@ -6,9 +6,6 @@ pub mod Serials
 pub mod Rising
 pub mod Parts
 pub mod Giving
-mod Cutting
-mod Events
 mod ScriptLines
 mod ReadBack
 mod LineTexts
-mod EventWords

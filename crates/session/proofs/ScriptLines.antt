@@ -1,8 +1,7 @@
 -- The line of an event is read as this event.
-use Rattle.std.proofs.Common.{◌≡◌, ℕ, suc, ◌<◌, ◌≤◌, ◌^◌, List, [], ◌∷◌, ◌++◌, length, ap, refl, ◌∙◌, arith, append-nil}
+use Rattle.std.proofs.Common.{◌≡◌, ℕ, ◌<◌, ◌≤◌, ◌^◌, List, [], ◌∷◌, ◌++◌, length, ap, refl, ◌∙◌, arith, subst}
 use Rattle.std.specs.Prelude.{Bool, true, false, ◌&&◌, cond, nat_le, min, Option, Some, None, option_map, codes}
 use Rattle.std.specs.List.{list_all}
-use Rattle.std.specs.Option.{option_zip}
 use Rattle.std.specs.Char.{is_ascii_digit}
 use Rattle.std.specs.Fmt.{decimal}
 use Rattle.std.specs.Str.{is_utf8, bytes_eq}
@@ -11,24 +10,29 @@ use Rattle.std.proofs.lemmas.Bool.Decides.{nat_tests}
 use Rattle.std.proofs.lemmas.Fmt.{length-decimal-le}
 use Rattle.acl.specs.declared.user_id.UserId.{UserId}
 use Rattle.acl.specs.Names.{is_name_byte, is_name, name_of}
-use Rattle.session_model.specs.Texts.{behind, separated}
-use Rattle.session_model.specs.Trace.{EventValue, Draw}
-use Rattle.session.specs.declared.kind.Kind.{Kind}
-use Rattle.session.specs.declared.kind.Kind.TheVariants as kind
 use Rattle.line_fields.specs.Cutting.{is_byte}
+use Rattle.line_fields.specs.Events.{Field, User, Number, Serial, Window, Bytes, Text, Title, Value}
+use Rattle.line_fields.specs.Events.{row_of, word_of, Parts}
 use Rattle.line_fields.specs.Numbers.{number_below}
+use Rattle.line_fields.specs.Parts.{blank}
+use Rattle.line_fields.specs.Rows.{Values, fields_in, made_in, Each, AllBut}
+use Rattle.line_fields.specs.declared.events.EventKind.{EventKind}
+use Rattle.line_fields.specs.declared.events.EventKind.TheVariants as kind
+use Rattle.line_fields.proofs.Again.{free, apart_blank}
 use Rattle.line_fields.proofs.Digits as numbers
-use Rattle.line_fields.proofs.Words.{passing}
-use Rattle.session.specs.Fields.{Field, User, Number, Window, Text, Title, Value, value_of, Values, values_of}
-use Rattle.session.specs.Fields.{values_in}
-use Rattle.session.specs.Fields.{fields, number_of, window_of, if_utf8, title_of}
-use Rattle.session.specs.Script.{Row, row, row_of, word_of, fields_in, made_by, made_in, event_from, event_in}
-use Rattle.session.specs.Script.{kind_of, parts_of, event_of_kind, event_by, event_of}
+use Rattle.line_fields.proofs.EventParts.{kind_again, word_part, parts_of, made_again}
+use Rattle.line_fields.proofs.Rows.{IsAgain, HasField, first_then, after_is, row_again}
+use Rattle.line_fields.proofs.Words.{IsFree, passing, first_field}
+use Rattle.session.specs.Fields.{number_of, window_of, value_of, if_utf8, title_of}
+use Rattle.session.specs.Script.{event_of}
 use Rattle.session.specs.Printed.{escaped}
-use Rattle.session.specs.ReadBack.{IsText, IsNamed, IsNumber, IsWindow, window_field, printed, all_printed}
-use Rattle.session.specs.ReadBack.{CanSay, CanSayAll, line_of, ReadsEvents}
+use Rattle.session.specs.ReadBack.{IsText, IsNamed, IsNumber, IsWindow, window_field, printed, line_of}
+use Rattle.session.specs.ReadBack.{event_line, CanSay, CanSayAll, IsSayable, ReadsEvents}
 use Rattle.session.proofs.ReadBack.{reads_texts}
-use Rattle.session.proofs.EventWords.{IsWord, first_field, last_field}
+
+-- a word has no blank
+abbrev IsWord : List ℕ → Type 0
+IsWord word = IsFree blank word
 
 -- ---- numbers
 
@@ -103,6 +107,7 @@ title_again title text is = ap if_utf8 (reads_texts title text) ∙ ap (λ b. co
 
 -- fields of one word
 abbrev is_word : Field → Bool
+is_word Bytes = false
 is_word Text = false
 is_word Title = false
 is_word f = true
@@ -116,85 +121,64 @@ is_row (f ∷ g ∷ fs) = is_word f && is_row (g ∷ fs)
 one_word : (f : Field) (v : Value f) → is_word f ≡ true → CanSay f v → IsWord (printed f v)
 one_word User user is can = name_word user can
 one_word Number n is can = number_word n can
+one_word Serial n is can = number_word n can
 one_word Window window is can = window_word window can
+one_word Bytes bytes is can = absurd (cc (is))
 one_word Text bytes is can = absurd (cc (is))
 one_word Title title is can = absurd (cc (is))
 
 value_again : (f : Field) (v : Value f) → CanSay f v → value_of f (printed f v) ≡ Some v
 value_again User user can = can
 value_again Number n can = number_again n can
+value_again Serial n can = number_again n can
 value_again Window window can = window_again window can
-value_again Text bytes can = reads_texts bytes can
+value_again Bytes bytes can = reads_texts bytes can
+value_again Text text can = reads_texts text can
 value_again Title title can = title_again title can.0 can.1
 
-values_again : (fs : List Field) (v : Values fs) → is_row fs ≡ true → CanSayAll fs v
-    → values_of fs (all_printed fs v) ≡ Some v
-values_again [] v is can = absurd (cc (is))
-values_again (f ∷ []) v is can = value_again f v can
-values_again (f ∷ g ∷ fs) v is can =
-    (λ i. option_zip (value_again f v.0 can.0 i)
-    (values_again (g ∷ fs) v.1 (and_parts (is_word f) (is_row (g ∷ fs)) is).1 can.1 i))
+-- a field before others
+abbrev IsBefore : (f : Field) → Value f → Type 0
+IsBefore f v = (is_word f ≡ true) × CanSay f v
 
-fields_again : (f : Field) (fs : List Field) (v : Values (f ∷ fs)) → is_row (f ∷ fs) ≡ true → CanSayAll (f ∷ fs) v
-    → fields (length fs) (separated (codes " ") (all_printed (f ∷ fs) v)) ≡ all_printed (f ∷ fs) v
-fields_again f [] v is can = last_field (printed f v)
-fields_again f (g ∷ []) v is can = first_field 0 (printed f v.0) _ _
-    (one_word f v.0 (and_parts (is_word f) (true) is).0 can.0) (fields_again g [] v.1 refl can.1)
-fields_again f (g ∷ h ∷ fs) v is can =
-    first_field (suc (length fs)) (printed f v.0) _ _
-    (one_word f v.0 (and_parts (is_word f) (is_row (g ∷ h ∷ fs)) is).0 can.0)
-    (fields_again g (h ∷ fs) v.1 (and_parts (is_word f) (is_row (g ∷ h ∷ fs)) is).1 can.1)
+each_again : (f : Field) (v : Value f) → IsBefore f v → IsAgain Value blank printed value_of f v
+each_again f v is = record { free = one_word f v is.0 is.1; again = value_again f v is.1 }
 
-read_again : (fs : List Field) (v : Values fs) → is_row fs ≡ true → CanSayAll fs v
-    → values_in fs (separated (codes " ") (all_printed fs v)) ≡ Some v
-read_again [] v is can = absurd (cc (is))
-read_again (f ∷ []) v is can = ap (value_of f) (append-nil (printed f v)) ∙ value_again f v can
-read_again (f ∷ g ∷ fs) v is can = ap (values_of (f ∷ g ∷ fs)) (fields_again f (g ∷ fs) v is can)
-    ∙ values_again (f ∷ g ∷ fs) v is can
-
-behind_again : (fs : List Field) (v : Values fs) → is_row fs ≡ true
-    → behind (codes " ") (all_printed fs v) ≡ 0x20 ∷ separated (codes " ") (all_printed fs v)
-behind_again [] v is = absurd (cc (is))
-behind_again (f ∷ []) v is = refl
-behind_again (f ∷ g ∷ fs) v is = refl
+are_before : (fs : List Field) (v : Values Value fs) → is_row fs ≡ true → Each CanSay fs v
+    → AllBut IsBefore CanSay fs v
+are_before [] v is can = tt
+are_before (f ∷ []) v is can = can.0
+are_before (f ∷ g ∷ fs) v is can =
+    let both = and_parts (is_word f) (is_row (g ∷ fs)) is in
+    ((both.0, can.0), are_before (g ∷ fs) v.1 both.1 can.1)
 
 -- ---- kinds
 
-kind_again : (k : Kind) → kind_of (word_of k) ≡ Some k
-unfolding kind_of
-kind_again kind.Draw = refl
-kind_again k = refl
+has_field : (k : EventKind) → HasField (fields_in (row_of k))
+has_field kind.Draw = tt
+has_field k = tt
 
-kind_word : (k : Kind) → IsWord (word_of k)
-kind_word kind.Draw = record { free = refl }
-kind_word k = record { free = refl }
-
-are_rows : (k : Kind) → is_row (fields_in (row_of k)) ≡ true
+are_rows : (k : EventKind) → is_row (fields_in (row_of k)) ≡ true
 are_rows kind.Draw = refl
 are_rows k = refl
 
-of_kind : (k : Kind) (rest : List ℕ) → event_of (word_of k ++ 0x20 ∷ rest) ≡ event_in k rest
-unfolding fields
-of_kind k rest =
-    ap event_by (first_field 0 (word_of k) rest (rest ∷ []) (kind_word k) refl)
-    ∙ ap (λ found. event_of_kind found rest) (kind_again k)
-
 -- ---- events
 
-by_row : (r : Row) (v : Values (fields_in r)) → is_row (fields_in r) ≡ true → CanSayAll (fields_in r) v
-    → event_from r (separated (codes " ") (all_printed (fields_in r) v)) ≡ Some (made_in r v)
-by_row (row word fs make) v is can = ap (option_map (made_by fs make)) (read_again fs v is can)
-
-line_again : (k : Kind) (v : Values (fields_in (row_of k))) → CanSayAll (fields_in (row_of k)) v
-    → event_of (line_of (row_of k) v) ≡ Some (made_in (row_of k) v)
+line_again : (k : EventKind) (v : Parts k) → CanSayAll k v → event_of (line_of k v) ≡ Some (made_in (row_of k) v)
 line_again k v can =
-    ap (λ rest. event_of (word_of k ++ rest)) (behind_again (fields_in (row_of k)) v (are_rows k))
-    ∙ of_kind k (separated (codes " ") (all_printed (fields_in (row_of k)) v))
-    ∙ by_row (row_of k) v (are_rows k) can
+    let fields = fields_in (row_of k) in
+    ap (λ more. event_of (word_of k ++ more)) (after_is blank printed fields v (has_field k))
+    ∙ rw (
+      first_field blank (word_of k) (first_then blank printed fields v)
+          (free blank (word_of k) apart_blank (word_part k)),
+      kind_again k,
+    ) (row_again Value blank printed value_of IsBefore CanSay each_again value_again (row_of k) v (has_field k)
+    (are_before fields v (are_rows k) can))
 
-made_again : (event : EventValue) → made_in (row_of (parts_of event).0) (parts_of event).1 ≡ event
-made_again (Draw client) = refl
-made_again event = refl
+again : (k : EventKind) (v : Parts k) → IsSayable (made_in (row_of k) v)
+    → event_of (event_line (made_in (row_of k) v)) ≡ Some (made_in (row_of k) v)
+again kind.Draw v is = line_again kind.Draw v is
+again k v is = line_again k v is
 
 pub reads_events : ReadsEvents
-reads_events event is = line_again (parts_of event).0 (parts_of event).1 is ∙ ap Some (made_again event)
+reads_events event = subst (λ e. IsSayable e → event_of (event_line e) ≡ Some e) (made_again event)
+    (again (parts_of event).0 (parts_of event).1)

@@ -1,17 +1,20 @@
 -- What is printed is read back.
-use Rattle.std.specs.Prelude.{ℕ, ◌<◌, ◌≤◌, ◌≡◌, true, List, [], ◌∷◌, length, codes}
+use Rattle.std.specs.Prelude.{ℕ, ◌<◌, ◌≤◌, ◌≡◌, true, List, ◌++◌, length, codes}
 use Rattle.std.specs.Prelude.{Option, Some, None}
 use Rattle.std.specs.List.{AllByRecursion}
 use Rattle.std.specs.Fmt.{decimal}
 use Rattle.std.specs.Str.{is_utf8}
 use Rattle.acl.specs.declared.user_id.UserId.{UserId}
 use Rattle.acl.specs.Names.{name_of, named_by}
-use Rattle.session_model.specs.Texts.{separated}
 use Rattle.session_model.specs.Trace.{EventValue}
 use Rattle.session.specs.Printed.{escaped}
-use Rattle.session.specs.Fields.{Field, User, Number, Window, Text, Title}
-use Rattle.session.specs.Fields.{Value, Values, text_of}
-use Rattle.session.specs.Script.{Row, row_of, word_in, fields_in, parts_of, event_of}
+use Rattle.line_fields.specs.Events.{Field, User, Number, Serial, Window, Bytes, Text, Title, Value}
+use Rattle.line_fields.specs.Events.{row_of, word_of, Parts, of_parts}
+use Rattle.line_fields.specs.Parts.{blank}
+use Rattle.line_fields.specs.Rows.{fields_in, after_each, Each}
+use Rattle.line_fields.specs.declared.events.EventKind.{EventKind}
+use Rattle.session.specs.Fields.{text_of}
+use Rattle.session.specs.Script.{event_of}
 
 -- ---- texts
 
@@ -33,21 +36,18 @@ window_field (Some number) = decimal number
 abbrev pub printed : (f : Field) → Value f → List ℕ
 printed User user = name_of user
 printed Number number = decimal number
+printed Serial serial = decimal serial
 printed Window window = window_field window
-printed Text bytes = escaped bytes
+printed Bytes bytes = escaped bytes
+printed Text text = escaped text
 printed Title title = escaped title
 
-abbrev pub all_printed : (fs : List Field) → Values fs → List (List ℕ)
-all_printed [] v = []
-all_printed (f ∷ []) v = printed f v ∷ []
-all_printed (f ∷ g ∷ fs) v = printed f v.0 ∷ all_printed (g ∷ fs) v.1
-
--- the line of an event
-abbrev pub line_of : (r : Row) → Values (fields_in r) → List ℕ
-line_of r v = separated (codes " ") (word_in r ∷ all_printed (fields_in r) v)
+-- the word of a kind, and a blank before each field
+abbrev pub line_of : (k : EventKind) → Parts k → List ℕ
+line_of k v = word_of k ++ after_each blank printed (fields_in (row_of k)) v
 
 abbrev pub event_line : EventValue → List ℕ
-event_line event = let p = parts_of event in line_of (row_of p.0) p.1
+event_line event = of_parts line_of event
 
 -- a user whose name names them
 abbrev pub IsNamed : UserId → Type 0
@@ -65,18 +65,18 @@ IsWindow (Some number) = number < 256
 abbrev pub CanSay : (f : Field) → Value f → Type 0
 CanSay User user = IsNamed user
 CanSay Number number = IsNumber number
+CanSay Serial serial = IsNumber serial
 CanSay Window window = IsWindow window
-CanSay Text bytes = IsText bytes
+CanSay Bytes bytes = IsText bytes
+CanSay Text text = IsText text
 CanSay Title title = IsText title × (is_utf8 title ≡ true)
 
-abbrev pub CanSayAll : (fs : List Field) → Values fs → Type 0
-CanSayAll [] v = Unit {0}
-CanSayAll (f ∷ []) v = CanSay f v
-CanSayAll (f ∷ g ∷ fs) v = CanSay f v.0 × CanSayAll (g ∷ fs) v.1
+abbrev pub CanSayAll : (k : EventKind) → Parts k → Type 0
+CanSayAll k v = Each CanSay (fields_in (row_of k)) v
 
 -- an event that a line can say
 abbrev pub IsSayable : EventValue → Type 0
-IsSayable event = let p = parts_of event in CanSayAll (fields_in (row_of p.0)) p.1
+IsSayable event = of_parts CanSayAll event
 
 -- the line of an event is read as this event
 abbrev pub ReadsEvents : Type 0

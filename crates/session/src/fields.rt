@@ -1,24 +1,17 @@
 //! The fields of a line: words, numbers and texts.
 
-ghost use Rattle.std.specs.Prelude.{◌≡◌, ℕ, suc, ◌∷◌, [], IfOk, MatchOption, option_copied};
-ghost use Rattle.session.specs.Fields.{fields, number_of, window_of, text_of, title_of};
+ghost use Rattle.std.specs.Prelude.{◌≡◌, IfOk, option_copied, option_map};
+ghost use Rattle.line_fields.specs.Events.{Number, Serial};
+ghost use Rattle.line_fields.specs.Parts.{blank};
+ghost use Rattle.line_fields.specs.Rows.{value_at};
+ghost use Rattle.session.specs.Fields.{number_of, window_of, text_of, title_of, value_of};
 
-use line_fields::{read_u16, unescape};
+use line_fields::{cut, read_u16, unescape};
 use std::alloc::AllocError;
 use std::str;
 
 /// The most bytes of a text.
 const LONGEST_TEXT: usize = 8192;
-
-/// The bytes before the first blank, and those after it.
-pub fn cut(line: &[u8]) -> Option<(&[u8], &[u8])>
-    ensures { MatchOption result
-        ((more : ℕ) → fields (suc more) line.now ≡ line.now ∷ [])
-        (λ parts. (more : ℕ)
-        → fields (suc more) line.now ≡ parts.0.now ∷ fields more parts.1.now) }
-{
-    line_fields::cut(line, b' ')
-}
 
 /// A number of one to four digits.
 pub fn read_number(word: &[u8]) -> Option<u16>
@@ -35,6 +28,22 @@ pub fn read_serial(word: &[u8]) -> Option<u32>
     ensures { result ≡ number_of word.now }
 {
     read_number(word).map(u32::from)
+}
+
+/// A number that a blank ends, and the bytes after the blank.
+pub fn number_at(bytes: &[u8]) -> Option<(u16, &[u8])>
+    ensures { option_map (λ p. (p.0, p.1.now)) result ≡ value_at blank value_of Number bytes.now }
+{
+    let (word, rest) = cut(bytes, b' ')?;
+    Some((read_number(word)?, rest))
+}
+
+/// A serial that a blank ends, and the bytes after the blank.
+pub fn serial_at(bytes: &[u8]) -> Option<(u32, &[u8])>
+    ensures { option_map (λ p. (p.0, p.1.now)) result ≡ value_at blank value_of Serial bytes.now }
+{
+    let (word, rest) = cut(bytes, b' ')?;
+    Some((read_serial(word)?, rest))
 }
 
 /// The number of a command's window, or `-` for none. A number above 255 is read as 255, which is no

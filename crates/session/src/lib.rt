@@ -4,7 +4,6 @@
 
 mod fault;
 mod fields;
-mod kind;
 mod player;
 mod printing;
 mod script;

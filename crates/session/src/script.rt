@@ -1,15 +1,17 @@
 //! Scripts of events, one a line.
 
-ghost use Rattle.std.specs.Prelude.{◌≡◌, ◌∷◌, [], None, IfOk, IfSome, option_map};
-ghost use Rattle.session_model.specs.Trace.{happening, Command, Open};
-ghost use Rattle.session.specs.declared.kind.Kind.TheVariants as kinds;
-ghost use Rattle.session.specs.Fields.{Number, Text, values_in, text_of, title_of};
+ghost use Rattle.std.specs.Prelude.{◌≡◌, None, IfOk, IfSome, option_map};
+ghost use Rattle.session_model.specs.Trace.{happening, Command, Keys, Open, Output};
+ghost use Rattle.session.specs.Fields.{text_of, title_of};
 ghost use Rattle.session.specs.Script.{event_in, event_of};
 ghost use Rattle.session.specs.ReadBack.{ReadsTexts, ReadsEvents};
 
-use crate::fields::{cut, read_number, read_serial, read_text, read_title, read_window};
-use crate::kind::Kind;
+use crate::fields::{
+    number_at, read_number, read_serial, read_text, read_title, read_window, serial_at,
+};
 use acl::UserId;
+use line_fields::parts::user_at;
+use line_fields::{EventKind, cut};
 use session_model::Event;
 use std::alloc::AllocError;
 
@@ -17,10 +19,10 @@ use std::alloc::AllocError;
 pub fn read_event<'a>(line: &[u8], text: &'a mut Vec<u8>) -> Result<Option<Event<'a>>, AllocError>
     ensures { IfOk result (λ event. option_map happening event ≡ event_of line.now) }
 {
-    let Some((word, rest)) = cut(line) else {
+    let Some((word, rest)) = cut(line, b' ') else {
         return Ok(None);
     };
-    let Some(kind) = Kind::of(word) else {
+    let Some(kind) = EventKind::named(word) else {
         return Ok(None);
     };
     read_fields(kind, rest, text)
@@ -28,41 +30,41 @@ pub fn read_event<'a>(line: &[u8], text: &'a mut Vec<u8>) -> Result<Option<Event
 
 /// The event of a kind whose fields follow its word.
 fn read_fields<'a>(
-    kind: Kind,
+    kind: EventKind,
     rest: &[u8],
     text: &'a mut Vec<u8>,
 ) -> Result<Option<Event<'a>>, AllocError>
     ensures { IfOk result (λ event. option_map happening event ≡ event_in kind rest.now) }
 {
     match kind {
-        Kind::Attach => Ok(read_attach(rest)),
-        Kind::Detach => Ok(read_detach(rest)),
-        Kind::Keys => read_keys(rest, text),
-        Kind::Command => read_command(rest, text),
-        Kind::Resize => Ok(read_resize(rest)),
-        Kind::Open => read_open(rest, text),
-        Kind::Output => read_output(rest, text),
-        Kind::Closed => Ok(read_closed(rest)),
-        Kind::Draw => Ok(read_draw(rest)),
+        EventKind::Attach => Ok(read_attach(rest)),
+        EventKind::Detach => Ok(read_detach(rest)),
+        EventKind::Keys => read_keys(rest, text),
+        EventKind::Command => read_command(rest, text),
+        EventKind::Resize => Ok(read_resize(rest)),
+        EventKind::Open => read_open(rest, text),
+        EventKind::Output => read_output(rest, text),
+        EventKind::Closed => Ok(read_closed(rest)),
+        EventKind::Draw => Ok(read_draw(rest)),
     }
 }
 
 /// `USER ROWS COLS`
 fn read_attach(rest: &[u8]) -> Option<Event<'static>>
-    ensures { option_map happening result ≡ event_in kinds.Attach rest.now }
+    ensures { option_map happening result ≡ event_in EventKind.Attach rest.now }
 {
-    let (user, rest) = cut(rest)?;
-    let (rows, columns) = cut(rest)?;
+    let (user, rest) = user_at(rest, b' ')?;
+    let (rows, columns) = number_at(rest)?;
     Some(Event::Attach {
-        user: UserId::of(user)?,
-        rows: read_number(rows)?,
+        user,
+        rows,
         columns: read_number(columns)?,
     })
 }
 
 /// `C`
 fn read_detach(rest: &[u8]) -> Option<Event<'static>>
-    ensures { option_map happening result ≡ event_in kinds.Detach rest.now }
+    ensures { option_map happening result ≡ event_in EventKind.Detach rest.now }
 {
     Some(Event::Detach {
         client: read_serial(rest)?,
@@ -71,14 +73,12 @@ fn read_detach(rest: &[u8]) -> Option<Event<'static>>
 
 /// `C TEXT` or `W TEXT`
 fn read_bytes<'a>(rest: &[u8], text: &'a mut Vec<u8>) -> Result<Option<(u32, &'a [u8])>, AllocError>
-    ensures { IfOk result
-        (λ read. option_map (λ parts. (parts.0, parts.1.now)) read
-        ≡ values_in (Number ∷ Text ∷ []) rest.now) }
+    ensures keys { IfOk result
+        (λ read. option_map (λ p. Keys p.0 p.1.now) read ≡ event_in EventKind.Keys rest.now) }
+    ensures output { IfOk result
+        (λ read. option_map (λ p. Output p.0 p.1.now) read ≡ event_in EventKind.Output rest.now) }
 {
-    let Some((serial, escaped)) = cut(rest) else {
-        return Ok(None);
-    };
-    let Some(serial) = read_serial(serial) else {
+    let Some((serial, escaped)) = serial_at(rest) else {
         return Ok(None);
     };
     let Some(bytes) = read_text(escaped, text)? else {
@@ -89,7 +89,7 @@ fn read_bytes<'a>(rest: &[u8], text: &'a mut Vec<u8>) -> Result<Option<(u32, &'a
 
 /// `C TEXT`
 fn read_keys<'a>(rest: &[u8], text: &'a mut Vec<u8>) -> Result<Option<Event<'a>>, AllocError>
-    ensures { IfOk result (λ event. option_map happening event ≡ event_in kinds.Keys rest.now) }
+    ensures { IfOk result (λ event. option_map happening event ≡ event_in EventKind.Keys rest.now) }
 {
     let Some((client, bytes)) = read_bytes(rest, text)? else {
         return Ok(None);
@@ -107,14 +107,14 @@ struct Request<'a> {
 
 impl<'a> Request<'a> {
     fn read(rest: &'a [u8]) -> Option<Request<'a>>
-        ensures none { result ≡ None → event_in kinds.Command rest.now ≡ None }
-        ensures some { IfSome result (λ r. event_in kinds.Command rest.now
+        ensures none { result ≡ None → event_in EventKind.Command rest.now ≡ None }
+        ensures some { IfSome result (λ r. event_in EventKind.Command rest.now
             ≡ option_map (Command r.user r.window) (text_of r.line.now)) }
     {
-        let (user, rest) = cut(rest)?;
-        let (window, line) = cut(rest)?;
+        let (user, rest) = user_at(rest, b' ')?;
+        let (window, line) = cut(rest, b' ')?;
         Some(Request {
-            user: UserId::of(user)?,
+            user,
             window: read_window(window)?,
             line,
         })
@@ -123,7 +123,7 @@ impl<'a> Request<'a> {
 
 /// `USER W TEXT`
 fn read_command<'a>(rest: &[u8], text: &'a mut Vec<u8>) -> Result<Option<Event<'a>>, AllocError>
-    ensures { IfOk result (λ event. option_map happening event ≡ event_in kinds.Command rest.now) }
+    ensures { IfOk result (λ event. option_map happening event ≡ event_in EventKind.Command rest.now) }
 {
     let Some(request) = Request::read(rest) else {
         return Ok(None);
@@ -138,29 +138,16 @@ fn read_command<'a>(rest: &[u8], text: &'a mut Vec<u8>) -> Result<Option<Event<'
     }))
 }
 
-/// A serial and two numbers, as of `C ROWS COLS`.
-fn read_numbers(rest: &[u8]) -> Option<(u32, u16, u16)>
-    ensures { option_map (λ n. (n.0, (n.1, n.2))) result
-        ≡ values_in (Number ∷ Number ∷ Number ∷ []) rest.now }
-{
-    let (serial, rest) = cut(rest)?;
-    let (first, second) = cut(rest)?;
-    Some((
-        read_serial(serial)?,
-        read_number(first)?,
-        read_number(second)?,
-    ))
-}
-
 /// `C ROWS COLS`
 fn read_resize(rest: &[u8]) -> Option<Event<'static>>
-    ensures { option_map happening result ≡ event_in kinds.Resize rest.now }
+    ensures { option_map happening result ≡ event_in EventKind.Resize rest.now }
 {
-    let (client, rows, columns) = read_numbers(rest)?;
+    let (client, rest) = serial_at(rest)?;
+    let (rows, columns) = number_at(rest)?;
     Some(Event::Resize {
         client,
         rows,
-        columns,
+        columns: read_number(columns)?,
     })
 }
 
@@ -176,19 +163,19 @@ struct Opening<'a> {
 
 impl<'a> Opening<'a> {
     fn read(rest: &'a [u8]) -> Option<Opening<'a>>
-        ensures none { result ≡ None → event_in kinds.Open rest.now ≡ None }
-        ensures some { IfSome result (λ o. event_in kinds.Open rest.now
+        ensures none { result ≡ None → event_in EventKind.Open rest.now ≡ None }
+        ensures some { IfSome result (λ o. event_in EventKind.Open rest.now
             ≡ option_map (Open o.user o.rows o.columns o.keep) (title_of o.title.now)) }
     {
-        let (user, rest) = cut(rest)?;
-        let (rows, rest) = cut(rest)?;
-        let (columns, rest) = cut(rest)?;
-        let (keep, title) = cut(rest)?;
+        let (user, rest) = user_at(rest, b' ')?;
+        let (rows, rest) = number_at(rest)?;
+        let (columns, rest) = number_at(rest)?;
+        let (keep, title) = number_at(rest)?;
         Some(Opening {
-            user: UserId::of(user)?,
-            rows: read_number(rows)?,
-            columns: read_number(columns)?,
-            keep: read_number(keep)?,
+            user,
+            rows,
+            columns,
+            keep,
             title,
         })
     }
@@ -196,7 +183,7 @@ impl<'a> Opening<'a> {
 
 /// `USER ROWS COLS KEEP TEXT`
 fn read_open<'a>(rest: &[u8], text: &'a mut Vec<u8>) -> Result<Option<Event<'a>>, AllocError>
-    ensures { IfOk result (λ event. option_map happening event ≡ event_in kinds.Open rest.now) }
+    ensures { IfOk result (λ event. option_map happening event ≡ event_in EventKind.Open rest.now) }
 {
     let Some(opening) = Opening::read(rest) else {
         return Ok(None);
@@ -215,7 +202,7 @@ fn read_open<'a>(rest: &[u8], text: &'a mut Vec<u8>) -> Result<Option<Event<'a>>
 
 /// `W TEXT`
 fn read_output<'a>(rest: &[u8], text: &'a mut Vec<u8>) -> Result<Option<Event<'a>>, AllocError>
-    ensures { IfOk result (λ event. option_map happening event ≡ event_in kinds.Output rest.now) }
+    ensures { IfOk result (λ event. option_map happening event ≡ event_in EventKind.Output rest.now) }
 {
     let Some((window, bytes)) = read_bytes(rest, text)? else {
         return Ok(None);
@@ -225,7 +212,7 @@ fn read_output<'a>(rest: &[u8], text: &'a mut Vec<u8>) -> Result<Option<Event<'a
 
 /// `W`
 fn read_closed(rest: &[u8]) -> Option<Event<'static>>
-    ensures { option_map happening result ≡ event_in kinds.Closed rest.now }
+    ensures { option_map happening result ≡ event_in EventKind.Closed rest.now }
 {
     Some(Event::Closed {
         window: read_serial(rest)?,
@@ -234,7 +221,7 @@ fn read_closed(rest: &[u8]) -> Option<Event<'static>>
 
 /// `C`
 fn read_draw(rest: &[u8]) -> Option<Event<'static>>
-    ensures { option_map happening result ≡ event_in kinds.Draw rest.now }
+    ensures { option_map happening result ≡ event_in EventKind.Draw rest.now }
 {
     Some(Event::Draw {
         client: read_serial(rest)?,

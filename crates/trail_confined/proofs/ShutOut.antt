@@ -1,4 +1,4 @@
--- Users are confined exactly where each premise holds.
+-- Users are confined exactly if each premise holds.
 use Rattle.std.proofs.Common.{◌≡◌, ◌∙◌, Bool, true, false, not, ◌&&◌, ◌||◌, List, [], ◌∷◌, ◌++◌, refl, ap, sym, subst}
 use Rattle.std.specs.Prelude.{◌↔◌, cond, filter}
 use Rattle.std.specs.List.{AllByRecursion, flat_map, list_any}

@@ -79,7 +79,7 @@ fn push_line(place: u64, ms: u64, entry: &TrailEntry, out: &mut Vec<u8>) -> Resu
 {
     push_count(place, out)?;
     push_count(ms, out)?;
-    push_event(entry.event().get(), out)?;
+    push_event(entry.event(), out)?;
     push_tail(entry, out)
 }
 

@@ -1,7 +1,6 @@
 //! Which entries are asked for.
 
 ghost use Rattle.std.specs.Prelude.{◌≡◌, ◌||◌, option_map};
-ghost use Rattle.hub_record.specs.Stored.{kept_lent};
 ghost use Rattle.trail_lines.specs.Entries.{said};
 ghost use Rattle.trail_log.specs.Choosing.{acts_on, checks, closes, giver, has_title, is_chosen, is_of_wanted};
 ghost use Rattle.trail_log.specs.Choosing.{is_of_window, is_user, is_wanted, opens, window_of_act};
@@ -10,7 +9,7 @@ use crate::checks::window_of;
 use crate::names::Names;
 use crate::titles::{Titled, title_in};
 use acl::{Act, Object, UserId};
-use hub_record::{KeptRef, TrailEntry};
+use hub_record::{Filed, Kept};
 use session_model::{Bytes, Verdict};
 use trail_lines::Line;
 
@@ -31,16 +30,16 @@ pub struct Choice {
 }
 
 /// The user who gives an event: nobody if a window's program ended.
-fn giver(names: &Names, event: KeptRef<'_>) -> Option<UserId>
-    ensures { result ≡ giver names.now.0 (kept_lent event.entry) }
+fn giver(names: &Names, event: &Kept) -> Option<UserId>
+    ensures { result ≡ giver names.now.0 event.now }
 {
     match event {
-        KeptRef::Attach { user, .. } => Some(user),
-        KeptRef::Command { user, .. } => Some(user),
-        KeptRef::Open { user, .. } => Some(user),
-        KeptRef::Detach { client } => names.user_of(client),
-        KeptRef::Keys { client } => names.user_of(client),
-        KeptRef::Closed { .. } => None,
+        Kept::Attach { user, .. } => Some(*user),
+        Kept::Command { user, .. } => Some(*user),
+        Kept::Open { user, .. } => Some(*user),
+        Kept::Detach { client } => names.user_of(*client),
+        Kept::Keys { client } => names.user_of(*client),
+        Kept::Closed { .. } => None,
     }
 }
 
@@ -97,21 +96,21 @@ fn is_wanted(titles: &[Titled], asked: &Wanted, window: Option<u32>) -> bool
 }
 
 /// Whether an event opens a window of a title that is asked for.
-fn opens(asked: &Wanted, event: KeptRef<'_>) -> bool
-    ensures { result ≡ opens asked.now (kept_lent event.entry) }
+fn opens(asked: &Wanted, event: &Kept) -> bool
+    ensures { result ≡ opens asked.now event.now }
 {
     match (asked, event) {
-        (Wanted::Title(title), KeptRef::Open { title: named, .. }) => named == title.as_slice(),
+        (Wanted::Title(title), Kept::Open { title: named, .. }) => named.as_slice() == title.as_slice(),
         _ => false,
     }
 }
 
 /// Whether an event is the end of a window that is asked for.
-fn closes(titles: &[Titled], asked: &Wanted, event: KeptRef<'_>) -> bool
-    ensures { result ≡ closes titles.now asked.now (kept_lent event.entry) }
+fn closes(titles: &[Titled], asked: &Wanted, event: &Kept) -> bool
+    ensures { result ≡ closes titles.now asked.now event.now }
 {
     match event {
-        KeptRef::Closed { window } => is_wanted(titles, asked, Some(window)),
+        Kept::Closed { window } => is_wanted(titles, asked, Some(*window)),
         _ => false,
     }
 }
@@ -141,10 +140,10 @@ fn acts_on(titles: &[Titled], asked: &Wanted, acts: &[Act]) -> bool
 }
 
 /// Whether an entry is of a window that is asked for.
-fn is_of_window(titles: &[Titled], entry: &TrailEntry, asked: &Wanted) -> bool
+fn is_of_window(titles: &[Titled], entry: &Filed, asked: &Wanted) -> bool
     ensures { result ≡ is_of_window titles.now entry.now asked.now }
 {
-    let event = entry.event().get();
+    let event = entry.event();
     if opens(asked, event) || closes(titles, asked, event) {
         return true;
     }
@@ -152,7 +151,7 @@ fn is_of_window(titles: &[Titled], entry: &TrailEntry, asked: &Wanted) -> bool
 }
 
 /// Whether an entry is of a window that is asked for, if one is.
-fn is_of_wanted(titles: &[Titled], entry: &TrailEntry, asked: &Option<Wanted>) -> bool
+fn is_of_wanted(titles: &[Titled], entry: &Filed, asked: &Option<Wanted>) -> bool
     ensures { result ≡ is_of_wanted titles.now entry.now asked.now }
 {
     match asked {
@@ -169,7 +168,7 @@ impl Choice {
         if line.ms < self.since {
             return false;
         }
-        if !is_user(self.user, giver(names, line.entry.event().get())) {
+        if !is_user(self.user, giver(names, line.entry.event())) {
             return false;
         }
         is_of_wanted(names.titles(), &line.entry, &self.window)

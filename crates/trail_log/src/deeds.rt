@@ -2,7 +2,6 @@
 
 ghost use Rattle.std.specs.Prelude.{◌≡◌, ◌++◌, [], OnOk, codes, decimal};
 ghost use Rattle.hub_check.specs.Clients.{user_in};
-ghost use Rattle.hub_record.specs.Stored.{kept_lent};
 ghost use Rattle.trail_log.specs.Causes.{cause_text};
 ghost use Rattle.trail_log.specs.Lines.{attach_text, client_text, closed_text, command_line, deed_text, detach_text};
 ghost use Rattle.trail_log.specs.Lines.{ended_text, open_text};
@@ -13,7 +12,7 @@ use crate::names::Names;
 use crate::pressed::push_keys;
 use crate::titles::{Titled, push_on, push_titled, push_window};
 use acl::UserId;
-use hub_record::KeptRef;
+use hub_record::Kept;
 use hub_trail::Ending;
 use session_model::{Refusal, Verdict, push_decimal};
 use std::alloc::AllocError;
@@ -134,35 +133,35 @@ fn push_closed(
 /// Appends who gave an event, and what became of it.
 pub fn push_deed(
     names: &Names,
-    event: KeptRef<'_>,
+    event: &Kept,
     verdicts: &[Verdict],
     ending: Ending,
     out: &mut Vec<u8>,
 ) -> Result<(), AllocError>
     ensures { OnOk result (out.new.items ≡ out.old.items
-        ++ deed_text names.now (kept_lent event.entry) verdicts.now ending) }
+        ++ deed_text names.now event.now verdicts.now ending) }
 {
     match event {
-        KeptRef::Attach { user, .. } => {
+        Kept::Attach { user, .. } => {
             out.extend_from_slice(user.as_bytes())?;
             push_attach(ending, out)
         }
-        KeptRef::Detach { client } => {
-            push_client(names.user_of(client), client, out)?;
-            push_detach(client, ending, out)
+        Kept::Detach { client } => {
+            push_client(names.user_of(*client), *client, out)?;
+            push_detach(*client, ending, out)
         }
-        KeptRef::Keys { client } => {
-            push_client(names.user_of(client), client, out)?;
+        Kept::Keys { client } => {
+            push_client(names.user_of(*client), *client, out)?;
             push_keys(names.titles(), verdicts, ending, out)
         }
-        KeptRef::Command { user, line, .. } => {
+        Kept::Command { user, line, .. } => {
             out.extend_from_slice(user.as_bytes())?;
-            push_command(names.titles(), line, window_in(verdicts), ending, out)
+            push_command(names.titles(), line.as_slice(), window_in(verdicts), ending, out)
         }
-        KeptRef::Open { user, title, .. } => {
+        Kept::Open { user, title, .. } => {
             out.extend_from_slice(user.as_bytes())?;
-            push_open(title, ending, out)
+            push_open(title.as_slice(), ending, out)
         }
-        KeptRef::Closed { window } => push_closed(names.titles(), window, ending, out),
+        Kept::Closed { window } => push_closed(names.titles(), *window, ending, out),
     }
 }

@@ -1,7 +1,6 @@
 //! A line of a log, before it is printed.
 
 ghost use Rattle.std.specs.Prelude.{◌≡◌, ◌++◌, ◌∷◌, [], IfOk, OnOk};
-ghost use Rattle.hub_record.specs.Stored.{kept_lent};
 ghost use Rattle.trail_lines.specs.Entries.{said};
 ghost use Rattle.trail_log.specs.Joining.{bytes_text, deed_line, line_of, line_text, plain_text, typed_head};
 ghost use Rattle.trail_log.specs.Joining.{typed_in, typed_line};
@@ -13,7 +12,7 @@ use crate::names::Names;
 use crate::pressed::{push_count, push_typed_rest, typed_verb};
 use client_words::put_visible;
 use hub_check::failed;
-use hub_record::KeptRef;
+use hub_record::Kept;
 use hub_trail::{Ending, from_command};
 use line_fields::push_clock;
 use session_model::{Bytes, Verdict};
@@ -33,15 +32,15 @@ pub struct LogLine {
 }
 
 /// The client that typed bytes, and their number, if an entry is about nothing else.
-fn typed_in(event: KeptRef<'_>, verdicts: &[Verdict], ending: Ending) -> Option<(u32, usize)>
-    ensures { result ≡ typed_in (kept_lent event.entry) verdicts.now ending }
+fn typed_in(event: &Kept, verdicts: &[Verdict], ending: Ending) -> Option<(u32, usize)>
+    ensures { result ≡ typed_in event.now verdicts.now ending }
 {
     let Ok(finished) = ending else {
         return None;
     };
     match event {
-        KeptRef::Keys { client } => match from_command(verdicts) {
-            [] => Some((client, finished.taken)),
+        Kept::Keys { client } => match from_command(verdicts) {
+            [] => Some((*client, finished.taken)),
             [_, ..] => None,
         },
         _ => None,
@@ -96,7 +95,7 @@ fn deed_line(alloc: Global, names: &Names, line: &Line) -> Result<LogLine, Alloc
     ensures { IfOk result (λ l. l ≡ deed_line names.now (said line.now)) }
 {
     let entry = &line.entry;
-    let event = entry.event().get();
+    let event = entry.event();
     let mut head = Vec::new(alloc);
     push_deed(names, event, entry.verdicts(), entry.ending(), &mut head)?;
     Ok(LogLine {
@@ -113,7 +112,7 @@ pub fn line_of(alloc: Global, names: &Names, line: &Line) -> Result<LogLine, All
     ensures { IfOk result (λ l. l ≡ line_of names.now (said line.now)) }
 {
     let entry = &line.entry;
-    match typed_in(entry.event().get(), entry.verdicts(), entry.ending()) {
+    match typed_in(entry.event(), entry.verdicts(), entry.ending()) {
         Some((client, taken)) => typed_line(alloc, names, line, client, taken),
         None => deed_line(alloc, names, line),
     }

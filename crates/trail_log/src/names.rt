@@ -2,7 +2,6 @@
 
 ghost use Rattle.std.specs.Prelude.{◌≡◌, IfOk, OnOk, Some};
 ghost use Rattle.hub_check.specs.Clients.{user_in};
-ghost use Rattle.hub_record.specs.Stored.{kept_lent};
 ghost use Rattle.trail_lines.specs.Entries.{said};
 ghost use Rattle.trail_log.specs.Naming.{change_by, follow, follow_all, line_by, names_with, nobody, retitled};
 ghost use Rattle.trail_log.specs.Naming.{some_title, title_said, typed_change, with_change};
@@ -12,7 +11,7 @@ use crate::titles::{Titled, follow_titles, forget, set_title};
 use acl::{Act, UserId};
 use command_lang::{Command, FaultKind, ParseFault, parse};
 use hub_check::{all_pass, follow_clients, user_of_client};
-use hub_record::KeptRef;
+use hub_record::Kept;
 use hub_trail::{Ending, from_command};
 use session_model::{Bytes, Verdict};
 use std::alloc::{AllocError, Global};
@@ -117,20 +116,20 @@ fn opened_change(alloc: Global, window: u32, title: &[u8]) -> Result<Option<Chan
 /// What an entry changes.
 fn change_by(
     alloc: Global,
-    event: KeptRef<'_>,
+    event: &Kept,
     verdicts: &[Verdict],
     ending: Ending,
 ) -> Result<Option<Change>, AllocError>
-    ensures { IfOk result (λ change. change ≡ change_by (kept_lent event.entry) verdicts.now ending) }
+    ensures { IfOk result (λ change. change ≡ change_by event.now verdicts.now ending) }
 {
     let Ok(finished) = ending else {
         return Ok(None);
     };
     match event {
-        KeptRef::Open { title, .. } => opened_change(alloc, finished.made, title),
-        KeptRef::Command { line, .. } => line_by(alloc, line, window_in(verdicts)),
-        KeptRef::Keys { .. } => Ok(typed_change(from_command(verdicts))),
-        KeptRef::Attach { .. } | KeptRef::Detach { .. } | KeptRef::Closed { .. } => Ok(None),
+        Kept::Open { title, .. } => opened_change(alloc, finished.made, title.as_slice()),
+        Kept::Command { line, .. } => line_by(alloc, line.as_slice(), window_in(verdicts)),
+        Kept::Keys { .. } => Ok(typed_change(from_command(verdicts))),
+        Kept::Attach { .. } | Kept::Detach { .. } | Kept::Closed { .. } => Ok(None),
     }
 }
 
@@ -207,7 +206,7 @@ impl Names {
     {
         let entry = &line.entry;
         let alloc = *self.titles.allocator();
-        let change = change_by(alloc, entry.event().get(), entry.verdicts(), entry.ending())?;
+        let change = change_by(alloc, entry.event(), entry.verdicts(), entry.ending())?;
         self.follow_all(entry.acts())?;
         self.retitle(change)
     }

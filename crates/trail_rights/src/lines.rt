@@ -3,7 +3,7 @@
 use crate::json::{write_end, write_entry};
 use crate::shown_texts::behind_words;
 use crate::texts::write_when;
-use hub_record::KeptRef;
+use hub_record::Kept;
 use line_fields::{push_escaped, push_means};
 use std::alloc::{AllocError, Global};
 use std::io::{self, BufRead, Write};
@@ -30,18 +30,18 @@ enum Shown {
 }
 
 /// How many words an event has.
-fn count_words(event: KeptRef<'_>) -> usize {
+fn count_words(event: &Kept) -> usize {
     match event {
-        KeptRef::Attach { .. } | KeptRef::Command { .. } => 4,
-        KeptRef::Open { .. } => 6,
-        KeptRef::Detach { .. } | KeptRef::Keys { .. } | KeptRef::Closed { .. } => 2,
+        Kept::Attach { .. } | Kept::Command { .. } => 4,
+        Kept::Open { .. } => 6,
+        Kept::Detach { .. } | Kept::Keys { .. } | Kept::Closed { .. } => 2,
     }
 }
 
 /// The line of a command. Empty for other events.
-fn line_of(event: KeptRef<'_>) -> &[u8] {
+fn line_of(event: &Kept) -> &[u8] {
     match event {
-        KeptRef::Command { line, .. } => line,
+        Kept::Command { line, .. } => line.as_slice(),
         _ => &[],
     }
 }
@@ -50,7 +50,7 @@ fn line_of(event: KeptRef<'_>) -> &[u8] {
 fn means_of(alloc: Global, line: &Line) -> Result<Vec<u8>, AllocError> {
     let mut means = Vec::new(alloc);
     if let Err(refusal) = line.entry.ending() {
-        push_means(&refusal, line_of(line.entry.event().get()), &mut means)?;
+        push_means(&refusal, line_of(line.entry.event()), &mut means)?;
     }
     let mut text = Vec::new(alloc);
     push_escaped(0x20, means.as_slice(), &mut text)?;
@@ -63,7 +63,7 @@ fn read_said(alloc: Global, text: &[u8]) -> Result<Said, Unread> {
     Ok(Said {
         place: line.place,
         ms: line.ms,
-        words: count_words(line.entry.event().get()),
+        words: count_words(line.entry.event()),
         means: means_of(alloc, &line)?,
     })
 }

@@ -1,13 +1,12 @@
 //! Marks of acts: the entry that has the act, its time, and who gave its event.
 
 ghost use Rattle.std.specs.Prelude.{◌≡◌};
-ghost use Rattle.hub_record.specs.Stored.{kept_lent};
 ghost use Rattle.trail_lines.specs.Entries.{said};
 ghost use Rattle.trail_rights.specs.Marks.{giver_among, mark_among};
 
 use acl::UserId;
 use hub_check::user_of_client;
-use hub_record::KeptRef;
+use hub_record::Kept;
 use trail_lines::Line;
 
 /// The place of an entry, its time in milliseconds since 1970, and the user who gave its event: nobody
@@ -20,16 +19,16 @@ pub struct Mark {
 }
 
 /// The user who gives an event, when these clients are attached.
-fn giver_among(clients: &[(u32, UserId)], event: KeptRef<'_>) -> Option<UserId>
-    ensures { result ≡ giver_among clients.now (kept_lent event.entry) }
+fn giver_among(clients: &[(u32, UserId)], event: &Kept) -> Option<UserId>
+    ensures { result ≡ giver_among clients.now event.now }
 {
     match event {
-        KeptRef::Attach { user, .. } => Some(user),
-        KeptRef::Command { user, .. } => Some(user),
-        KeptRef::Open { user, .. } => Some(user),
-        KeptRef::Detach { client } => user_of_client(clients, client),
-        KeptRef::Keys { client } => user_of_client(clients, client),
-        KeptRef::Closed { .. } => None,
+        Kept::Attach { user, .. } => Some(*user),
+        Kept::Command { user, .. } => Some(*user),
+        Kept::Open { user, .. } => Some(*user),
+        Kept::Detach { client } => user_of_client(clients, *client),
+        Kept::Keys { client } => user_of_client(clients, *client),
+        Kept::Closed { .. } => None,
     }
 }
 
@@ -40,6 +39,6 @@ pub fn mark_among(clients: &[(u32, UserId)], line: &Line) -> Mark
     Mark {
         place: line.place,
         ms: line.ms,
-        giver: giver_among(clients, line.entry.event().get()),
+        giver: giver_among(clients, line.entry.event()),
     }
 }

@@ -4,7 +4,7 @@ use Rattle.std.specs.Result.{is_ok}
 use Rattle.trail_lines.specs.Heading.{cause_text}
 use Rattle.trail_log.proofs.lines.push_why.Goals as goal
 
--- what a list is where something was appended
+-- a list to which something was appended
 on_ok : {T E : Type 0} (r : Result T E) (now more old all : List ℕ) → now ≡ (if is_ok r then more else old)
     → more ≡ all → OnOk r (now ≡ all)
 on_ok (Ok x) now more old all is same = is ∙ same

@@ -5,7 +5,7 @@ use Rattle.acl.specs.declared.PresetKind.TheVariants as kind
 use Rattle.trail_rights.specs.Masking.{preset_text}
 use Rattle.trail_rights.proofs.masks.push_newcomer.Goals as goal
 
--- what a list is where something was appended
+-- a list to which something was appended
 on_ok : {T E : Type 0} (r : Result T E) (now more old all : List ℕ) → now ≡ (if is_ok r then more else old)
     → more ≡ all → OnOk r (now ≡ all)
 on_ok (Ok x) now more old all is same = is ∙ same
