@@ -1,19 +1,19 @@
 //! What a command's line says of users and rights.
 
-ghost use Rattle.std.specs.Prelude.{◌≡◌, ◌==◌, ◌||◌, false, nat_eq};
-ghost use Rattle.std.specs.List.{list_all, list_any};
+ghost use Rattle.std.specs.Prelude.{◌≡◌, false};
+ghost use Rattle.std.specs.List.{list_any};
 ghost use Rattle.std.specs.Option.{option_map_or};
 ghost use Rattle.acl.specs.Commands.{names_user, chosen_leader};
 ghost use Rattle.acl.specs.Names.{named_by};
 ghost use Rattle.acl.specs.Same.{same_command};
 ghost use Rattle.command_lang.specs.Names.{command_named};
-ghost use Rattle.session_model.specs.Naming.{is_wide, new_leader_of};
+ghost use Rattle.session_model.specs.Naming.{new_leader_of};
 ghost use Rattle.hub_trail.specs.Saying.{same_value, changes, item_says, items_say, same_leader};
 ghost use Rattle.hub_trail.specs.Saying.{gives, removes, leads};
 
 use crate::makes::is_same;
 use acl::{Bit, BitChange, CommandName, Object, UserId};
-use command_lang::{Command, Leader, Text, command_named};
+use command_lang::{Command, Leader, Text, command_named, has_byte, is_wide};
 
 /// Whether the word names the user.
 fn is_named_by(user: UserId, word: &Text) -> bool
@@ -46,27 +46,6 @@ fn changes(bits: &[BitChange], bit: Bit, value: bool) -> bool
     bits.iter().any(|change| change.bit == bit && same_value(change.value, value))
 }
 
-/// Whether each byte is `#` or `?`.
-fn has_wide_bytes(item: &[u8]) -> bool
-    ensures { result ≡ list_all (λ b. b == 0x23 || b == 0x3F) item.now }
-{
-    item.iter().all(|b| *b == b'#' || *b == b'?')
-}
-
-/// Whether an item of a list is made of `#` and `?`.
-fn is_wide(item: &str) -> bool
-    ensures { result ≡ is_wide item.now }
-{
-    !item.is_empty() && has_wide_bytes(item.as_bytes())
-}
-
-/// Whether the item has the byte.
-fn has(item: &str, byte: u8) -> bool
-    ensures { result ≡ list_any (nat_eq byte) item.now }
-{
-    item.as_bytes().contains(&byte)
-}
-
 /// Whether the item is this command's name or alias.
 fn is_called(item: &str, command: CommandName) -> bool
     ensures { result ≡ option_map_or (λ c. same_command c command) (command_named item.now) false }
@@ -83,7 +62,7 @@ fn item_says(command: CommandName, item: &Text) -> bool
 {
     let item = item.as_str();
     if is_wide(item) {
-        has(item, b'?')
+        has_byte(item, b'?')
     } else {
         is_called(item, command)
     }

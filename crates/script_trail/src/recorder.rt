@@ -1,7 +1,7 @@
 //! A session whose steps are written down.
 
 use acl::{Edition, UserId};
-use hub_record::{Filed, Kept, KeptReply};
+use hub_record::{TrailEntry, Kept, KeptReply};
 use session::{Bytes, Event, Notes, Refusal, Reply, Session};
 use std::alloc::{AllocError, Global};
 use trail_lines::{Cause, Ended, Header, print_end, print_header, print_line};
@@ -61,7 +61,7 @@ impl Recorder {
         }
         if let Some(kept) = kept {
             let (acts, verdicts) = notes.into_parts();
-            let entry = Filed::new(kept, verdicts, acts, KeptReply::of(&reply, spare));
+            let entry = TrailEntry::new(kept, verdicts, acts, KeptReply::of(&reply, spare));
             self.write(&entry)?;
         }
         Ok(reply)
@@ -106,7 +106,7 @@ impl Recorder {
         Ok(text)
     }
 
-    fn write(&mut self, entry: &Filed) -> Result<(), AllocError> {
+    fn write(&mut self, entry: &TrailEntry) -> Result<(), AllocError> {
         print_line(self.entries, NO_TIME, entry, &mut self.text)?;
         self.text.push(b'\n')?;
         self.entries = self.entries.saturating_add(1);

@@ -9,7 +9,7 @@ use crate::checks::window_of;
 use crate::names::Names;
 use crate::titles::{Titled, title_in};
 use acl::{Act, Object, UserId};
-use hub_record::{Filed, Kept};
+use hub_record::{TrailEntry, Kept};
 use session_model::{Bytes, Verdict};
 use trail_lines::Line;
 
@@ -140,7 +140,7 @@ fn acts_on(titles: &[Titled], asked: &Wanted, acts: &[Act]) -> bool
 }
 
 /// Whether an entry is of a window that is asked for.
-fn is_of_window(titles: &[Titled], entry: &Filed, asked: &Wanted) -> bool
+fn is_of_window(titles: &[Titled], entry: &TrailEntry, asked: &Wanted) -> bool
     ensures { result ≡ is_of_window titles.now entry.now asked.now }
 {
     let event = entry.event();
@@ -151,7 +151,7 @@ fn is_of_window(titles: &[Titled], entry: &Filed, asked: &Wanted) -> bool
 }
 
 /// Whether an entry is of a window that is asked for, if one is.
-fn is_of_wanted(titles: &[Titled], entry: &Filed, asked: &Option<Wanted>) -> bool
+fn is_of_wanted(titles: &[Titled], entry: &TrailEntry, asked: &Option<Wanted>) -> bool
     ensures { result ≡ is_of_wanted titles.now entry.now asked.now }
 {
     match asked {
