@@ -29,7 +29,7 @@ use Rattle.session_model.specs.Tables.{Window, Tables}
 use Rattle.session_model.specs.Naming.{is_wide, wide_objects, item_objects, objects_of, every_window}
 use Rattle.session_model.specs.Naming.{every_command, window_named}
 use Rattle.session_laws.proofs.Lists.{itself, both_true, all_weaken, all_append, all_map, all_of, all_passed}
-use Rattle.session_guests.proofs.Leaving.{or_early, or_late}
+use Rattle.session_laws.proofs.GuestsLeaving.{or_early, or_late}
 use Rattle.hub_trail.specs.Saying.{same_value, changes, item_says, items_say}
 
 -- whether an item names the object, if that is a command

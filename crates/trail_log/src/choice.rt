@@ -9,7 +9,7 @@ use crate::checks::window_of;
 use crate::names::Names;
 use crate::titles::{Titled, title_in};
 use acl::{Act, Object, UserId};
-use hub_record::{TrailEntry, Kept};
+use hub_record::{Kept, TrailEntry};
 use session_model::{Bytes, Verdict};
 use trail_lines::Line;
 
@@ -100,7 +100,8 @@ fn opens(asked: &Wanted, event: &Kept) -> bool
     ensures { result ≡ opens asked.now event.now }
 {
     match (asked, event) {
-        (Wanted::Title(title), Kept::Open { title: named, .. }) => named.as_slice() == title.as_slice(),
+        (Wanted::Title(title), Kept::Open { title: named, .. }) => named.as_slice()
+            == title.as_slice(),
         _ => false,
     }
 }

@@ -156,7 +156,13 @@ pub fn push_deed(
         }
         Kept::Command { user, line, .. } => {
             out.extend_from_slice(user.as_bytes())?;
-            push_command(names.titles(), line.as_slice(), window_in(verdicts), ending, out)
+            push_command(
+                names.titles(),
+                line.as_slice(),
+                window_in(verdicts),
+                ending,
+                out,
+            )
         }
         Kept::Open { user, title, .. } => {
             out.extend_from_slice(user.as_bytes())?;
