@@ -120,7 +120,8 @@ of_kind-lamed kinds.Single h = refl
 lamed_width : char_width false 0x5DC ≡ Some 1
 unfolding char_width alone kind_number
 lamed_width =
-    let is : eqb (kind_number 0x5DC) 11 ≡ true = ap (λ (n : ℕ). eqb n 11) (kind_number_stepped.gives 0x5DC) ∙ lamed_is in
+    let is : eqb (kind_number 0x5DC) 11 ≡ true =
+    ap (λ (n : ℕ). eqb n 11) (kind_number_stepped.gives 0x5DC) ∙ lamed_is in
     ap Some (of_kind-lamed (kind 0x5DC) is)
 
 marks_are : all_are 0 0x300 0x338 kind_number_stepped.steps ≡ true
