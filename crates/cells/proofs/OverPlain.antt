@@ -44,6 +44,17 @@ next_written at count next codes old line unread plains inside within more writt
     (subst (λ n. AreWritten at codes old n (set line (at + count) (fresh_at fresh count))) more
     (put_next at fresh old count line written inside))
 
+pub next_read_written : (at count next : ℕ) (codes : List ℕ) (old line : List Cell) (unread : Cell) (character : ℕ)
+    → character ≡ get_or codes count 0 → ArePlainFrom at old
+    → at + count < length line → count < length codes → count + 1 ≡ next → AreWritten at codes old count line
+    → AreWritten at codes old next
+    (set line (at + count) (record (get_or line (at + count) unread) { character = character }))
+next_read_written at count next codes old line unread character is plains inside within more written =
+    subst
+    (λ (n : ℕ). AreWritten at codes old next
+    (set line (at + count) (record (get_or line (at + count) unread) { character = n })))
+    (sym is) (next_written at count next codes old line unread plains inside within more written)
+
 -- no wide character stands in a plain cell
 uncut : (column : ℕ) (cells : List Cell) → IsPlain (cell_at cells column) → cut_of column cells ≡ cells
 uncut column cells is = ap

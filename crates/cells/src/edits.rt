@@ -290,6 +290,31 @@ pub fn put_run_over_plain(cells: &mut [Cell], at: usize, codes: &[u8])
     }
 }
 
+/// Puts characters of width 1, from all of Unicode, without rendition or protection over as many
+/// cells, from `at` on. All old cells from `at` on differ from blanks in their characters only, so
+/// only characters are written, eight at a time.
+pub fn put_letters_over_plain(cells: &mut [Cell], at: usize, letters: &[char])
+    requires paired { IsPaired cells.old }
+    requires plain { ArePlainFrom at cells.old }
+    requires room { at + length letters.now ≤ length cells.old }
+    ensures { cells.new ≡ cells_spliced at
+        (narrow_cells letters.now plain false) (at + length letters.now) cells.old }
+{
+    if letters.is_empty() {
+        return;
+    }
+    let eights = letters.len() / 8;
+    for eight in 0..eights {
+        for place in 0..8 {
+            let column = 8 * eight + place;
+            cells[at + column].character = letters[column];
+        }
+    }
+    for column in 8 * eights..letters.len() {
+        cells[at + column].character = letters[column];
+    }
+}
+
 /// Blanks the cells from `from` up to but not including `end`. They differ from blanks in their
 /// characters only, so only characters are written.
 pub fn blank_plain(cells: &mut [Cell], from: usize, end: usize)

@@ -90,6 +90,30 @@ fn put_run_behind(cells: &mut [Cell], plain_from: usize, at: usize, codes: &[u8]
     }
 }
 
+/// Puts characters of width 1, from all of Unicode, over as many cells, from `at` on, each in a copy
+/// of a space. The cells from `plain_from` on differ from blanks in their characters only.
+fn put_letters_behind(
+    cells: &mut [Cell],
+    plain_from: usize,
+    at: usize,
+    letters: &[char],
+    space: Cell,
+)
+    requires paired { IsPaired cells.old }
+    requires plain { ArePlainFrom plain_from cells.old }
+    requires room { at + length letters.now ≤ length cells.old }
+    requires space { space ≡ narrow_cell 0x20 space.rendition space.is_protected }
+    ensures { cells.new ≡ cells_spliced at
+        (narrow_cells letters.now space.rendition space.is_protected)
+        (at + length letters.now) cells.old }
+{
+    if plain_from <= at && space.is_blank() {
+        edits::put_letters_over_plain(cells, at, letters);
+    } else {
+        edits::put_letters(cells, at, letters, space.rendition, space.is_protected);
+    }
+}
+
 /// The column from which on a line is blank, after its cells from `rest` on were moved to `start`.
 fn used_after(used: usize, start: usize, rest: usize, width: usize) -> usize
     ensures { result ≡ min (used - rest + start) width }
@@ -290,15 +314,11 @@ impl Line {
         ensures { self.new ≡ cells_spliced at
             (narrow_cells letters.now rendition is_protected) (at + length letters.now) self.old }
     {
-        edits::put_letters(
-            self.cells.as_mut_slice(),
-            at,
-            letters,
-            rendition,
-            is_protected,
-        );
+        let space = Cell::narrow(' ', rendition, is_protected);
+        let plain_from = self.plain_from();
+        put_letters_behind(self.cells.as_mut_slice(), plain_from, at, letters, space);
         self.used = self.used.max(at + letters.len());
-        self.is_plain = false;
+        self.is_plain = self.is_plain & space.is_blank();
     }
 
     /// Puts characters of width 2 over twice as many old cells, from `at` on. An old half that

@@ -120,7 +120,8 @@ of_kind-lamed kinds.Single h = refl
 lamed_width : char_width false 0x5DC ≡ Some 1
 unfolding char_width alone kind_number
 lamed_width =
-    let is : eqb (kind_number 0x5DC) 11 ≡ true = ap (λ (n : ℕ). eqb n 11) (kind_number_stepped.gives 0x5DC) ∙ lamed_is in
+    let is : eqb (kind_number 0x5DC) 11 ≡ true =
+    ap (λ (n : ℕ). eqb n 11) (kind_number_stepped.gives 0x5DC) ∙ lamed_is in
     ap Some (of_kind-lamed (kind 0x5DC) is)
 
 marks_are : all_are 0 0x300 0x338 kind_number_stepped.steps ≡ true
@@ -158,6 +159,22 @@ hebrew_width c low high =
           ]
     ]
 
+points_are : all_are 0 0x591 0x5BE kind_number_stepped.steps ≡ true
+unfolding tables kind_number_stepped all_are
+points_are = refl
+
+hiragana_are : all_are 2 0x3041 0x3097 kind_number_stepped.steps ≡ true
+unfolding tables kind_number_stepped all_are
+hiragana_are = refl
+
+katakana_are : all_are 2 0x30A0 0x3100 kind_number_stepped.steps ≡ true
+unfolding tables kind_number_stepped all_are
+katakana_are = refl
+
+emoticons_are : all_are 2 0x1F600 0x1F650 kind_number_stepped.steps ≡ true
+unfolding tables kind_number_stepped all_are
+emoticons_are = refl
+
 mark_width : (c : ℕ) → 0x300 ≤ c → c < 0x370 → (c ≡ 0x338 → ⊥) → char_width false c ≡ Some 0
 mark_width c low high other =
     elim (cases_lt c 0x338) [
@@ -179,13 +196,37 @@ pub mark_drawn : (c : ℕ) → 0x300 ≤ c → c < 0x370 → (c ≡ 0x338 → �
 unfolding drawn
 mark_drawn c low high other = ap (λ (w : Option ℕ). drawn_as w c) (mark_width c low high other)
 
-ideograph_width : (c : ℕ) → 0x3400 ≤ c → c < 0xA000 → char_width false c ≡ Some 2
-ideograph_width c low high = known 2 0x3400 0xA000 c ideographs_are (omega arith) (omega arith) low high
+point_width : (c : ℕ) → 0x591 ≤ c → c < 0x5BE → char_width false c ≡ Some 0
+point_width c low high = known 0 0x591 0x5BE c points_are (omega arith) (omega arith) low high
+
+pub point_columns : (c : ℕ) → 0x591 ≤ c → c < 0x5BE → columns_of c ≡ 0
+unfolding columns_of
+point_columns c low high = ap glyph_columns (point_width c low high)
+
+pub point_drawn : (c : ℕ) → 0x591 ≤ c → c < 0x5BE → drawn c ≡ c
+unfolding drawn
+point_drawn c low high = ap (λ (w : Option ℕ). drawn_as w c) (point_width c low high)
+
+wide_is : (c : ℕ) → 0xA0 ≤ c → char_width false c ≡ Some 2 → IsWide c
+unfolding columns_of drawn
+wide_is c beyond width = record {
+  beyond = beyond;
+  columns = ap glyph_columns width;
+  drawn = ap (λ (w : Option ℕ). drawn_as w c) width;
+}
 
 pub ideograph_wide : (c : ℕ) → 0x3400 ≤ c → c < 0xA000 → IsWide c
-unfolding columns_of drawn
-ideograph_wide c low high = record {
-  beyond = omega arith;
-  columns = ap glyph_columns (ideograph_width c low high);
-  drawn = ap (λ (w : Option ℕ). drawn_as w c) (ideograph_width c low high);
-}
+ideograph_wide c low high =
+    wide_is c (omega arith) (known 2 0x3400 0xA000 c ideographs_are (omega arith) (omega arith) low high)
+
+pub hiragana_wide : (c : ℕ) → 0x3041 ≤ c → c < 0x3097 → IsWide c
+hiragana_wide c low high =
+    wide_is c (omega arith) (known 2 0x3041 0x3097 c hiragana_are (omega arith) (omega arith) low high)
+
+pub katakana_wide : (c : ℕ) → 0x30A0 ≤ c → c < 0x3100 → IsWide c
+katakana_wide c low high =
+    wide_is c (omega arith) (known 2 0x30A0 0x3100 c katakana_are (omega arith) (omega arith) low high)
+
+pub emoticon_wide : (c : ℕ) → 0x1F600 ≤ c → c < 0x1F650 → IsWide c
+emoticon_wide c low high =
+    wide_is c (omega arith) (known 2 0x1F600 0x1F650 c emoticons_are (omega arith) (omega arith) low high)

@@ -224,12 +224,13 @@ pub fn is_letter(character: char) -> bool
     }
 }
 
-/// Whether a character is a combining diacritical mark: one of U+0300 to U+036F, which take no
-/// column. U+0338 is looked up instead.
+/// Whether a character is a combining diacritical mark or a Hebrew point: one of U+0300 to U+036F
+/// or of U+0591 to U+05BD, which take no column. U+0338 is looked up instead.
 #[inline(always)]
 pub fn is_mark(character: char) -> bool
     ensures columns { IsTrue result → columns_of character ≡ 0 }
     ensures drawn { IsTrue result → drawn character ≡ character }
 {
-    '\u{300}' <= character && character < '\u{370}' && character != OVERLAY
+    ('\u{300}' <= character && character < '\u{370}' && character != OVERLAY)
+        || ('\u{591}' <= character && character < '\u{5BE}')
 }

@@ -97,7 +97,7 @@ impl Display {
         ensures some { 0 < result }
         ensures few { result ≤ length characters.now }
     {
-        if !takes_runs(&self.state) {
+        if characters.len() == 1 || !takes_runs(&self.state) {
             self.print_code(characters[0]);
             return 1;
         }
@@ -112,6 +112,7 @@ impl Display {
     /// Returns how many, at least 1.
     fn print_some_others(&mut self, characters: &[char]) -> usize
         requires fit { IsFit self.old }
+        requires takes { TakesRuns self.old.state }
         requires some { 0 < length characters.now }
         ensures screen { ActsByAll self.old (prints (take result characters.now)) self.new }
         ensures fit { IsFit self.new }
@@ -132,13 +133,12 @@ impl Display {
     /// there as they are; 0 if a wrap is due or the old cells move.
     fn wide_count(&self, characters: &[char]) -> usize
         requires { IsFit self.now }
-        ensures runs { 0 < result → TakesRuns self.now.state }
         ensures settled { 0 < result → self.now.state.is_wrap_pending ≡ false }
         ensures wide { (k : ℕ) → k < result → IsWide (slice_index characters.now k) }
         ensures few { result ≤ length characters.now }
         ensures room { self.now.state.column + 2 * result ≤ self.now.state.columns }
     {
-        if !takes_runs(&self.state) || self.state.is_wrap_pending {
+        if self.state.is_wrap_pending {
             return 0;
         }
         wide_front(characters, (self.state.columns - self.state.column) / 2)
@@ -255,13 +255,15 @@ fn wide_front(characters: &[char], most: usize) -> usize
     count
 }
 
-/// Whether a character takes two columns and is in no set. Most are ideographs, which are known
-/// without looking up the width.
+/// Whether a character takes two columns and is in no set. Most are ideographs, kana or emoticons,
+/// which are known without looking up the width.
 #[inline(always)]
 fn is_wide(character: char) -> bool
     ensures { IsTrue result → IsWide character }
 {
-    is_ideograph(character) || (!is_mark(character) && is_broad(character))
+    is_ideograph(character)
+        || (!is_mark(character)
+            && (is_kana(character) || is_emoticon(character) || is_broad(character)))
 }
 
 /// Whether a character is one of U+3400 to U+9FFF, which take two columns each.
@@ -270,6 +272,24 @@ fn is_ideograph(character: char) -> bool
     ensures { IsTrue result → IsWide character }
 {
     '\u{3400}' <= character && character < '\u{A000}'
+}
+
+/// Whether a character is a kana: one of U+3041 to U+3096 or of U+30A0 to U+30FF, which take two
+/// columns each.
+#[inline(always)]
+fn is_kana(character: char) -> bool
+    ensures { IsTrue result → IsWide character }
+{
+    ('\u{3041}' <= character && character < '\u{3097}')
+        || ('\u{30A0}' <= character && character < '\u{3100}')
+}
+
+/// Whether a character is one of U+1F600 to U+1F64F, which take two columns each.
+#[inline(always)]
+fn is_emoticon(character: char) -> bool
+    ensures { IsTrue result → IsWide character }
+{
+    '\u{1F600}' <= character && character < '\u{1F650}'
 }
 
 /// Whether a character takes two columns and is in no set, by looking up its width.

@@ -14,7 +14,7 @@ returns-clause-screen c =
     let size : length run ≡ n = omega (arith, length-take n c.args.characters.now) in
     c.place_wide_run.ensures.screen
     ∙ sym
-    (wides_run run (screen_of c.args.self.now) (c.wide_count-count.ensures.runs some)
+    (wides_run run (screen_of c.args.self.now) c.requires.takes
     (c.wide_count-count.ensures.settled some) c.requires.fit.sound
     (front_wide c.args.characters.now n few c.wide_count-count.ensures.wide) (omega arith)
     (omega (arith, c.wide_count-count.ensures.room)))
@@ -33,7 +33,7 @@ returns-clause-places c =
     let size : length run ≡ n = omega (arith, length-take n c.args.characters.now) in
     c.place_wide_run.ensures.lines.places
     ∙ sym
-    (wides_places run (screen_of c.args.self.now) c.args.self.now.page.places (c.wide_count-count.ensures.runs some)
+    (wides_places run (screen_of c.args.self.now) c.args.self.now.page.places c.requires.takes
     (c.wide_count-count.ensures.settled some) c.requires.fit.sound
     (front_wide c.args.characters.now n few c.wide_count-count.ensures.wide)
     (omega (arith, c.wide_count-count.ensures.room)))

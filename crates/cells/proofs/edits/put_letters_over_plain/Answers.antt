@@ -1,0 +1,60 @@
+use Rattle.std.proofs.Common.{◌≡◌, ◌+◌, ◌*◌, ◌/◌, ◌∙◌, ℕ, length, refl, subst, arith}
+use Rattle.std.proofs.lemmas.Bool.Decides.{nat_tests}
+use Rattle.std.proofs.lemmas.Grind.{get_or_default_zero}
+use Rattle.cells.proofs.OverPlain.{AreWritten, none_written, next_read_written, all_written, nothing_written}
+use Rattle.cells.proofs.edits.put_letters_over_plain.Goals as goal
+
+pub returns-then-is_empty : goal.returns-then-is_empty
+returns-then-is_empty c = nothing_written c.args.at c.args.letters.now c.args.cells.now
+    (grind (arith, nat_tests, c.if-is_empty.true, c.is_empty.ensures)) c.requires.paired
+
+pub loop-eight-init : goal.loop-eight-init
+loop-eight-init c = none_written c.args.at c.args.letters.now c.args.cells.now
+
+pub loop-place-init : goal.loop-place-init
+loop-place-init c = subst (λ n. AreWritten c.args.at c.args.letters.now c.args.cells.now n c.loop-eight.cells)
+    (omega arith) c.loop-eight.invariant
+
+pub loop-place-preserved : goal.loop-place-preserved
+loop-place-preserved c =
+    let count : ℕ = 8 * c.loop-eight.eight + c.loop-place.place in
+    next_read_written c.args.at count (8 * c.loop-eight.eight + (c.loop-place.place + 1)) c.args.letters.now
+    c.args.cells.now c.loop-place.cells _ c.index-letters-column.result
+    (c.index-letters-column.is
+    ∙ get_or_default_zero c.args.letters.now count c.index-letters-column.result
+    (omega (arith, c.loop-place.auto, c.loop-eight.auto)))
+    c.requires.plain (omega (arith, c.loop-place.auto, c.loop-eight.auto, c.requires.room))
+    (omega arith) (omega arith)
+    c.loop-place.invariant
+
+pub loop-eight-preserved : goal.loop-eight-preserved
+loop-eight-preserved c =
+    let all : 8 * c.loop-eight.eight + c.loop-place.place ≡ 8 * (c.loop-eight.eight + 1) = omega arith in
+    subst (λ n. AreWritten c.args.at c.args.letters.now c.args.cells.now n c.loop-place.cells) all
+    c.loop-place.invariant
+
+pub loop-column-init : goal.loop-column-init
+loop-column-init c =
+    let all : 8 * c.loop-eight.eight ≡ 8 * (length c.args.letters.now / 8) = omega arith in
+    subst (λ n. AreWritten c.args.at c.args.letters.now c.args.cells.now n c.loop-eight.cells) all
+    c.loop-eight.invariant
+
+pub loop-column-preserved : goal.loop-column-preserved
+loop-column-preserved c =
+    next_read_written c.args.at c.loop-column.column (c.loop-column.column + 1) c.args.letters.now c.args.cells.now
+    c.loop-column.cells _ c.index-letters-column-in-loop-column.result
+    (c.index-letters-column-in-loop-column.is
+    ∙ get_or_default_zero c.args.letters.now c.loop-column.column c.index-letters-column-in-loop-column.result
+    c.loop-column-test.true)
+    c.requires.plain (omega (arith, c.loop-column.auto, c.loop-eight.auto, c.requires.room))
+    c.loop-column-test.true refl c.loop-column.invariant
+
+pub returns : goal.returns
+returns c =
+    let same : length c.loop-column.cells ≡ length c.args.cells.now = c.loop-column.auto.cells
+    ∙ c.loop-eight.auto.cells in
+    let all : c.loop-column.column ≡ length c.args.letters.now = omega arith in
+    all_written c.args.at c.args.letters.now c.args.cells.now c.loop-column.cells c.requires.room
+    (grind (arith, nat_tests, c.if-is_empty.false, c.is_empty.ensures)) c.requires.paired c.requires.plain same
+    (subst (λ n. AreWritten c.args.at c.args.letters.now c.args.cells.now n c.loop-column.cells) all
+    c.loop-column.invariant)
