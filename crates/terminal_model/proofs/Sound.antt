@@ -60,7 +60,6 @@ IsPage-blank rows columns = record {
       (cases_lt line rows);
 }
 
-
 paged : (x : Screen) (o : ℕ → ℕ → Origin) → IsSound x
     → IsSound (with_page x (Motion.unpending x.state) (page_from o x.page))
 paged x o h = with-page x (Motion.unpending x.state) (page_from o x.page) h (same-place x h)

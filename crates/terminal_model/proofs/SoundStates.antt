@@ -90,7 +90,6 @@ same-place x h = record {
   joined = tt;
 }
 
-
 -- home, with any margins
 pub home-fits : (rows columns : ℕ) (s : State) → s.rows ≡ rows → s.columns ≡ columns → 0 < columns → s.top < s.bottom
     → s.bottom < rows → Fits rows columns (Motion.home s)
