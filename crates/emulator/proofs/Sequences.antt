@@ -1,5 +1,6 @@
 -- Control sequences of digits and semicolons, read from a list of bytes at once.
-use Rattle.std.proofs.Common.{◌≡◌, ℕ, ◌+◌, ◌-◌, ◌<◌, ◌≤◌, true, false, arith, List, [], ◌∷◌, ◌++◌, length, take, drop, set}
+use Rattle.std.proofs.Common.{◌≡◌, ℕ, ◌+◌, ◌-◌, ◌<◌, ◌≤◌, true, false, arith, List, [], ◌∷◌, ◌++◌, length, take}
+use Rattle.std.proofs.Common.{drop, set}
 use Rattle.std.proofs.Common.{get_or, Option, Some, None, IfSome, refl, sym, ap, ◌∙◌, subst, length-take-le}
 use Rattle.std.specs.Prelude.{◌==◌}
 use Rattle.std.proofs.lemmas.Bool.Decides.{nat_tests}
@@ -85,7 +86,7 @@ params-more : (params : List ℕ) (count value : ℕ) → count < length params
 params-more params count value few =
     with_last-pushed (take count params) value ∙ sym (take_more_set params count value few)
 
--- a semicolon behind a parameter
+-- a semicolon after a parameter
 pub parameter-read : (bytes : List ℕ) (at count value : ℕ) (mark : Option ℕ) (params : List ℕ) → at < length bytes
     → IsNumerals bytes at (record no_text { mark = mark; params = take count params ++ 0 ∷ [] }) value
     → get_or bytes at 0 ≡ 0x3B → count < 15 → count < length params
@@ -102,7 +103,7 @@ parameter-read bytes at count value mark params room read c few inside =
           (omega (arith, inside, length-set params count value)),
     ))
 
--- a final byte behind a parameter
+-- a final byte after a parameter
 pub final-read : (bytes : List ℕ) (at count value : ℕ) (mark : Option ℕ) (params : List ℕ) → at < length bytes
     → IsNumerals bytes at (record no_text { mark = mark; params = take count params ++ 0 ∷ [] }) value
     → 0x3F < get_or bytes at 0 → get_or bytes at 0 < 0x7F → count < length params

@@ -140,8 +140,8 @@ pub sequence-taken : (old new : Parts) (x y : Screen) (bytes : List ℕ) (n : �
     → take 2 bytes ≡ 0x1B ∷ 0x5B ∷ [] → IsBetween old → old.decoding.coding ≡ Utf8
     → 0 < n → n + 2 ≤ length bytes → TakesWhole old bytes (n + 2) new
 sequence-taken old new x y bytes n f read e k r s s' d p begins between coding some room =
-    let whole : take (n + 2) bytes ≡ 0x1B ∷ 0x5B ∷ take n (take (length bytes - 2) (drop 2 bytes)) = front-more bytes 0x1B 0x5B n
-    begins ∙ ap (λ (v : List ℕ). 0x1B ∷ 0x5B ∷ take n v) (sym (rest-lent bytes 2)) in
+    let whole : take (n + 2) bytes ≡ 0x1B ∷ 0x5B ∷ take n (take (length bytes - 2) (drop 2 bytes)) =
+    front-more bytes 0x1B 0x5B n begins ∙ ap (λ (v : List ℕ). 0x1B ∷ 0x5B ∷ take n v) (sym (rest-lent bytes 2)) in
     let reads : ReadsAs Utf8 (take (n + 2) bytes) (f ∷ []) = subst (λ (v : List ℕ). ReadsAs Utf8 v (f ∷ [])) (sym whole)
     (read some) in
     let keeps : KeepsCoding old.screen f = subst (λ (z : Screen). KeepsCoding z f) (sym s)

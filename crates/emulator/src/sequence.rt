@@ -1,6 +1,6 @@
 //! Control sequences at the beginning of a list of bytes, which are read at once.
 
-ghost use Rattle.std.specs.Prelude.{◌≡◌, ℕ, ◌-◌, ◌<◌, ◌≤◌, true, false, length, slice_index, take};
+ghost use Rattle.std.specs.Prelude.{◌≡◌, ℕ, ◌+◌, ◌*◌, ◌-◌, ◌<◌, ◌≤◌, true, false, length, slice_index, take};
 ghost use Rattle.std.specs.Prelude.{[], ◌∷◌, IfSome, IsTrue, None};
 ghost use Rattle.control_parser.specs.declared.func.Func.TheVariants.{Csi};
 ghost use Rattle.control_parser.specs.Spelling.{ReadsBehindCsi};
@@ -95,18 +95,31 @@ fn numeral(bytes: &[u8]) -> (u16, usize, u8)
     if first > 9 {
         return (0, 1, c);
     }
-    let c = bytes[1];
-    let second = digit(c);
-    if second > 9 {
-        return (first as u16, 2, c);
-    }
-    let number = first * 10 + second;
-    let c = bytes[2];
+    let (number, count) = with_second(first, digit(bytes[1]));
+    let c = bytes[count];
+    // With one digit that is the same byte as before.
     let third = digit(c);
     if third > 9 {
-        return (number as u16, 3, c);
+        return (number as u16, count + 1, c);
     }
     ((number * 10 + third) as u16, 4, bytes[3])
+}
+
+/// The number of one digit and of the next byte, if that is a digit too, and how many digits it has.
+/// Whether a number has one digit or two can't be foreseen, so there is no branch.
+#[inline(always)]
+fn with_second(first: u32, second: u32) -> (u32, usize)
+    requires { first ≤ 9 }
+    ensures one { 9 < second → result ≡ (first, 1) }
+    ensures two { second ≤ 9 → result ≡ (first * 10 + second, 2) }
+    ensures few { result.1 ≤ 2 }
+    ensures small { result.0 ≤ 99 }
+{
+    if second <= 9 {
+        (first * 10 + second, 2)
+    } else {
+        (first, 1)
+    }
 }
 
 /// The value of a digit; more than 9 for any other byte.

@@ -35,11 +35,11 @@ use Rattle.terminal_model.specs.Places.{place}
 use Rattle.terminal_model.specs.Drawable.{IsGlyph, IsDrawableLine, AreDrawableLines, IsDrawableScreen}
 use Rattle.terminal_model.proofs.Codings.{is_ordinary, keep, func-keep, alone-keeps, between-escape}
 use Rattle.terminal_model.proofs.DrawableGlyphs.{IsGivenUnit, mapped_given, drawn_glyph, columns_few, letter_e}
-use Rattle.terminal_model.proofs.DrawableLines.{IsOldOrBlank, old_or_blank, old_or_blank_if, edited_drawable}
-use Rattle.terminal_model.proofs.DrawableLines.{spliced_drawable, page_from-drawable, first_stays, blanks_drawable}
-use Rattle.terminal_model.proofs.DrawableLines.{narrow_drawable, wide_drawable, drawable_nil, marked_drawable}
-use Rattle.terminal_model.proofs.DrawableLines.{marked_stays, taken_drawable, page_resized-drawable}
-use Rattle.terminal_model.proofs.DrawableLines.{kept_resized-drawable}
+use Rattle.terminal_model.proofs.DrawableOrigins.{IsOldOrBlank, old_or_blank, old_or_blank_if, edited_drawable}
+use Rattle.terminal_model.proofs.DrawableOrigins.{page_from-drawable, drawable_nil}
+use Rattle.terminal_model.proofs.DrawableLines.{spliced_drawable, first_stays, blanks_drawable, narrow_drawable}
+use Rattle.terminal_model.proofs.DrawableLines.{wide_drawable, marked_drawable, marked_stays, taken_drawable}
+use Rattle.terminal_model.proofs.DrawableLines.{page_resized-drawable, kept_resized-drawable}
 
 -- PAGES
 

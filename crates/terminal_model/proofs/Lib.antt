@@ -5,8 +5,11 @@ pub mod Spellings
 pub mod Resets
 pub mod Ignored
 pub mod Resizes
+pub mod DrawableOrigins
 pub mod DrawableLines
 pub mod DrawableScreens
+pub mod SoundStates
+pub mod SoundPrinting
 pub mod Sound
 pub mod Terminals
 pub mod DrawableTerminals

@@ -1,4 +1,5 @@
-use Rattle.std.proofs.Common.{◌≡◌, get_or, ◌+◌, ◌<◌, ◌≤◌, ◌-◌, ◌∷◌, ◌++◌, [], List, ℕ, Option, length, take, set, subst, arith}
+use Rattle.std.proofs.Common.{◌≡◌, get_or, ◌+◌, ◌<◌, ◌≤◌, ◌-◌, ◌∷◌, ◌++◌, [], List, ℕ, Option, length, take, set}
+use Rattle.std.proofs.Common.{subst, arith}
 use Rattle.std.proofs.Common.{sym, ◌∙◌}
 use Rattle.std.proofs.lemmas.List.{length-set}
 use Rattle.charsets.specs.declared.unit.Coding.TheVariants.{Utf8}
@@ -16,7 +17,8 @@ loop-at-init c =
       inside = is.few;
       few = omega arith;
       room = c.requires;
-      read = begun-read c.args.bytes.now c.first_mark-mark.result.0 c.first_mark-mark.result.1 is.mark is.is is.one is.none;
+      read = begun-read c.args.bytes.now c.first_mark-mark.result.0 c.first_mark-mark.result.1 is.mark is.is is.one
+          is.none;
     }
 
 pub loop-at-preserved : goal.loop-at-preserved
@@ -30,8 +32,8 @@ loop-at-preserved c =
     let params : List ℕ = c.loop-at.params in
     let mark : Option ℕ = c.first_mark-mark.result.0 in
     let some : at + behind ≤ length bytes = omega (arith, is.few, c.saturating_sub-end.ensures, c.loop-at-test.true) in
-    let read = numeral-read bytes at behind value mark (take count params) some is.some c.loop-at.invariant.read is.value
-    is.digits in
+    let read = numeral-read bytes at behind value mark (take count params) some is.some c.loop-at.invariant.read
+    is.value is.digits in
     let semicolon : c.numeral-value.result.2 ≡ 0x3B = omega arith in
     let here : get_or bytes (at + behind - 1) 0 ≡ 0x3B = sym
     (numeral-last bytes at behind c.numeral-value.result.2 some is.some is.behind) ∙ semicolon in
@@ -60,8 +62,8 @@ returns-then-c-le126-clause-reads c = λ positive.
     let params : List ℕ = c.loop-at.params in
     let mark : Option ℕ = c.first_mark-mark.result.0 in
     let some : at + behind ≤ length bytes = omega (arith, is.few, c.saturating_sub-end.ensures, c.loop-at-test.true) in
-    let read = numeral-read bytes at behind value mark (take count params) some is.some c.loop-at.invariant.read is.value
-    is.digits in
+    let read = numeral-read bytes at behind value mark (take count params) some is.some c.loop-at.invariant.read
+    is.value is.digits in
     let here : last ≡ get_or bytes (at + behind - 1) 0 = numeral-last bytes at behind last some is.some is.behind in
     let whole : ReadsAs Utf8 (0x1B ∷ 0x5B ∷ take (at + behind - 1 + 1) bytes)
     (Csi mark (take (count + 1) (set params count value)) [] (get_or bytes (at + behind - 1) 0) ∷ []) =

@@ -24,8 +24,8 @@ returns-in-0-to-31 c = record {
       let e = front-one c.args.bytes.now b c.requires.some refl in
       let reads : ReadsAs Utf8 (take 1 c.args.bytes.now) (f ∷ []) = subst (λ (v : List ℕ). ReadsAs Utf8 v (f ∷ []))
       (sym e) (spelled_reads f control) in
-      quiet-has-read c.args.self.now _ t _ said f c.requires.idle c.requires.coding (effect-coding c.args.self.now.screen f refl)
-      reads
+      quiet-has-read c.args.self.now _ t _ said f c.requires.idle c.requires.coding
+      (effect-coding c.args.self.now.screen f refl) reads
       (c.control.ensures.effect ∙ ap (λ (v : Parts). effect v.screen f) c.self.view_is)
       (ap (λ (v : Parts). v.decoding) c.self.view_is) (ap (λ (v : Parts). v.parsing) c.self.view_is)
       (ap (λ (v : Parts). report v.screen f) (sym c.self.view_is) ∙ c.control.ensures.silent) h;
