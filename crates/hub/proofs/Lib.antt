@@ -1,10 +1,1 @@
-pub mod Steps
-pub mod Stripping
-pub mod Counting
-pub mod Tellings
-pub mod Standing
-pub mod Filing
 pub mod Crossing
-pub mod Places
-pub mod Queues
-pub mod Rising

@@ -1,6 +1,5 @@
-//! A session that threads share under one lock: the session, its trail, the effects that wait for
-//! each seat of clients and windows, and the seats with their receipts. Each call of `Hub` is one call
-//! of the `Ledger` under the lock. Only the module `ledger` can make answers and trails.
+//! A session that threads share under one lock. Each call of `Hub` is one call of the `Ledger`
+//! under the lock; only the ledger makes answers and trails.
 //!
 //! A program names the hub's ledger once, where it calls a function that is generic in it:
 //! `serve::<Brand, _>(rt, alloc, Blank::new(seats), owner, ..)` with `fn serve<L: Begun + Send +
@@ -13,31 +12,15 @@
 ghost use Rattle.std.specs.Prelude.{◌≡◌, ◌↔◌, ◌<◌, ◌≤◌, length, IfOk, IfErr, OnErr, None, []};
 ghost use Rattle.session_model.specs.Trace.{begun, happening};
 ghost use Rattle.hub_trail.specs.Legal.{IsLegal};
-ghost use Rattle.hub.specs.Closing.{AreThere, IsFirstWrong, receipts_of};
-ghost use Rattle.hub.specs.Seats.{Answers, AreNumbered, NoneAsks, StandsFor};
-ghost use Rattle.hub.specs.declared.ledger.answer.HubFault.TheVariants.{NoMemory};
+ghost use Rattle.hub_ledger.specs.Closing.{AreThere, IsFirstWrong, receipts_of};
+ghost use Rattle.hub_ledger.specs.Seats.{Answers, AreNumbered, NoneAsks, StandsFor};
+ghost use Rattle.hub_ledger.specs.declared.ledger.answer.HubFault.TheVariants.{NoMemory};
 
-mod begun;
-mod checking;
-mod closing;
-mod filed_session;
-mod growing_trail;
-mod laws;
-mod ledger;
-mod peers;
-mod prepared;
-mod receipt;
-mod seat;
-mod waiting;
-
-pub use begun::Begun;
-pub use checking::check_trail;
-pub use hub_check::CheckFault;
-pub use hub_record::{Kept, Receipt, Receipts, TrailEntry};
-pub use laws::kept_trails_are_legal;
-pub use ledger::{Answer, FULL, HubFault, Ledger, Trail};
-pub use seat::Seat;
-pub use session_core::Session;
+use hub_ledger::Ledger;
+pub use hub_ledger::{
+    Answer, Begun, CheckFault, FULL, HubFault, Kept, Receipt, Receipts, Seat, Session, Trail,
+    TrailEntry, check_trail, kept_trails_are_legal,
+};
 use session_model::{Effect, Event};
 use std::alloc::Global;
 use std::sync::ledger::Blank;

@@ -3,7 +3,7 @@
 
 ghost use Rattle.std.specs.Prelude.{◌≡◌, IfOk};
 ghost use Rattle.session_model.specs.Trace.{begun};
-ghost use Rattle.hub.specs.Seats.{StandsFor};
+ghost use Rattle.hub_ledger.specs.Seats.{StandsFor};
 
 use crate::entries::entry_with;
 use crate::steps::{are_done, line_of};

@@ -2,7 +2,7 @@
 
 ghost use Rattle.std.specs.Prelude.{◌≡◌};
 ghost use Rattle.session_model.specs.Trace.{begun};
-ghost use Rattle.hub.specs.Seats.{StandsFor};
+ghost use Rattle.hub_ledger.specs.Seats.{StandsFor};
 
 use crate::steps::{are_done, line_of};
 use acl::UserId;

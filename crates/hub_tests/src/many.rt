@@ -4,7 +4,7 @@
 
 ghost use Rattle.std.specs.Prelude.{◌≡◌};
 ghost use Rattle.session_model.specs.Trace.{begun};
-ghost use Rattle.hub.specs.Seats.{StandsFor};
+ghost use Rattle.hub_ledger.specs.Seats.{StandsFor};
 
 use crate::compare::{are_same, is_same_reply, parts_of};
 use crate::turns::{STEPS, Turn, seat_of};

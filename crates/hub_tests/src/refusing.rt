@@ -4,12 +4,13 @@
 
 ghost use Rattle.std.specs.Prelude.{◌≡◌};
 ghost use Rattle.session_model.specs.Trace.{begun};
-ghost use Rattle.hub.specs.Seats.{StandsFor};
+ghost use Rattle.hub_ledger.specs.Seats.{StandsFor};
 
 use crate::compare::{are_same, parts_of};
 use crate::turns::{STEPS, Turn, seat_of};
 use acl::UserId;
-use hub::{Begun, HubFault, Ledger, Seat, Session};
+use hub::{Begun, HubFault, Seat, Session};
+use hub_ledger::Ledger;
 use session_model::{Effect, Event};
 use std::alloc::Global;
 use std::marker::Brand;

@@ -3,7 +3,7 @@
 ghost use Rattle.std.specs.Prelude.{◌≡◌, ◌<◌, ◌≤◌, IfOk};
 ghost use Rattle.acl.specs.declared.edition.Edition.TheVariants.{Second};
 ghost use Rattle.session_model.specs.Trace.{begun};
-ghost use Rattle.hub.specs.Seats.{StandsFor};
+ghost use Rattle.hub_ledger.specs.Seats.{StandsFor};
 
 use crate::setting_up::set_up;
 use crate::shared_session::SharedSession;

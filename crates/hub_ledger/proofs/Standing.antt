@@ -1,0 +1,20 @@
+-- What is kept under the lock says that the trail is legal, and has the acts of the tables.
+use Rattle.std.proofs.Common.{◌≡◌, ap, ◌∙◌, subst, sym, []}
+use Rattle.session_model.specs.Trace.{Trace}
+use Rattle.session_model.specs.Run.{tables_of}
+use Rattle.hub_trail.specs.Trails as trails
+use Rattle.hub_trail.specs.Judging.{AreJudgeable}
+use Rattle.hub_trail.specs.Legal.{IsLegal, acts_of}
+use Rattle.hub_trail.proofs.Runs.{acts_run, legal_run}
+use Rattle.hub_trail.proofs.Steps.{judged_run}
+use Rattle.hub_ledger.specs.States.{State, Stood, IsKept}
+
+pub kept_legal : (s : State) → IsKept s → IsLegal s.trail
+kept_legal s kept = subst IsLegal kept.past.1.trail (legal_run kept.past.0 kept.past.1.stands.run)
+
+pub kept_acts : (s : State) (h : Trace) → Stood h s → acts_of s.trail ≡ (tables_of h).acts
+kept_acts s h stood = ap acts_of (sym stood.trail) ∙ acts_run h stood.stands.run
+
+pub kept_judgeable : (s : State) → IsKept s → AreJudgeable s.trail.edition s.trail.owner [] s.trail.entries
+kept_judgeable s kept = subst (λ (t : trails.Trail). AreJudgeable t.edition t.owner [] t.entries) kept.past.1.trail
+    (judged_run kept.past.0 kept.past.1.stands.run)

@@ -1,0 +1,7 @@
+use Rattle.std.proofs.Common.{take}
+use Rattle.hub_check.specs.Judges.{HasJudged}
+use Rattle.hub_ledger.proofs.checking.check_entries.Given as goal
+
+-- the entries before this one passed
+abbrev pub invariant-places : goal.invariant-places
+invariant-places l = HasJudged l.judge l.fn.edition l.fn.owner (take l.place l.entries.entries)

@@ -1,0 +1,29 @@
+use Rattle.std.proofs.Common.{◌≡◌, length, ap, arith}
+use Rattle.hub_ledger.specs.Seats.{Sitting}
+use Rattle.hub_ledger.proofs.Tellings.{pushed}
+use Rattle.hub_ledger.proofs.closing.count.Goals as goal
+
+pub returns-in_default : goal.returns-in_default
+returns-in_default g c = λ all. absurd
+    (let none = rw c.in_default.is at c.pop.ensures.cases in omega (arith, none.0, all, c.requires))
+
+pub merging-init : goal.merging-init
+merging-init g c =
+    let p = pushed c.args.seats.items c.pop.new.self.items c.in-Some.first c.in-Some.ensures.items in
+    let n : length c.first.inside.told.receipts ≡ length c.in-Some.first.receipts = ap
+    (λ (s : Sitting). length s.receipts) c.first.view_is in
+    let i = c.first.invariant in
+    record { parts = omega (arith, p.0, i.1); amount = omega (arith, p.1, i.2, n) }
+
+pub merging-preserved : goal.merging-preserved
+merging-preserved g c =
+    let p = pushed c.merging.rest.items c.pop-in-merging.new.self.items c.in-Some-pop.seat c.in-Some-pop.ensures.items
+    in
+    let n : length c.seat.inside.told.receipts ≡ length c.in-Some-pop.seat.receipts = ap
+    (λ (s : Sitting). length s.receipts) c.seat.view_is in
+    let i = c.seat.invariant in
+    let v = c.merging.invariant in
+    record {
+      parts = omega (arith, p.0, i.1, v.parts, c.merge.ensures.parts);
+      amount = omega (arith, p.1, i.2, n, v.amount, c.merge.ensures.amount);
+    }

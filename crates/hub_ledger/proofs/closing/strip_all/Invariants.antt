@@ -1,0 +1,14 @@
+use Rattle.std.proofs.Common.{◌≡◌, ◌≤◌, ◌+◌, ℕ, length, take, true}
+use Rattle.std.specs.Prelude.{◌↔◌, slice_get}
+use Rattle.hub_ledger.specs.Closing.{AreOf, before, receipts_of, times}
+use Rattle.hub_ledger.proofs.closing.strip_all.Given as goal
+
+abbrev pub invariant-seats : goal.invariant-seats
+invariant-seats g l = record {
+  done : receipts_of (take l.i l.seats) ≡ before l.place (receipts_of (take l.i l.initial.seats));
+  left : (k : ℕ) → l.i ≤ k → slice_get l.seats k ≡ slice_get l.initial.seats k;
+  times : l.named ≡ times l.place (receipts_of (take l.i l.initial.seats));
+  few : l.named ≤ l.i;
+  right : (l.right ≡ true) ↔ AreOf l.place l.entry (receipts_of (take l.i l.initial.seats));
+  total : l.book.total + length (receipts_of l.initial.seats) ≡ l.initial.book.total + length (receipts_of l.seats);
+}

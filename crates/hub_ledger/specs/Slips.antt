@@ -1,0 +1,25 @@
+-- What a step files.
+use Rattle.std.specs.Prelude.{List, [], ◌∷◌, ◌++◌, Option, Some, None, option_map}
+use Rattle.session_model.specs.Trace.{Reply}
+use Rattle.session_core.specs.Noted.{Noted}
+use Rattle.hub_trail.specs.declared.kept.Kept.{Kept}
+use Rattle.hub_trail.specs.Trails.{Entry, Trail}
+use Rattle.hub_trail.specs.Filing.{ending_of}
+use Rattle.hub_ledger.specs.declared.prepared.Prepared.{Prepared}
+
+-- what a trail keeps of the event
+abbrev pub kept_by : Option Prepared → Option Kept
+kept_by prepared = option_map (λ s. s.event) prepared
+
+-- the entry with the notes of a step and its reply, if the event writes one
+abbrev pub written : Option Kept → Noted → Reply → List Entry
+written None noted reply = []
+written (Some event) noted reply = record {
+  event = event;
+  verdicts = noted.verdicts;
+  acts = noted.acts;
+  reply = ending_of reply;
+} ∷ []
+
+abbrev pub with_entries : Trail → List Entry → Trail
+with_entries trail entries = record trail { entries = trail.entries ++ entries }

@@ -1,0 +1,77 @@
+-- What lies under the hub's lock.
+use Rattle.std.specs.Prelude.{ℕ, Bool, false, List, [], ◌≡◌, length, replicate}
+use Rattle.acl.specs.declared.edition.Edition.{Edition}
+use Rattle.acl.specs.declared.user_id.UserId.{UserId}
+use Rattle.session_model.specs.declared.event.Effect.{Effect}
+use Rattle.session_model.specs.Trace.{EventValue, Reply, Entry, Trace, with_step}
+use Rattle.session_model.specs.Run.{tables_of}
+use Rattle.session_core.specs.declared.session.Session.{Session}
+use Rattle.session_core.specs.Noted.{Noted}
+pub use Rattle.session_core.specs.Stands.{StandsFor, entry_of}
+use Rattle.hub_trail.specs.Trails.{Trail}
+use Rattle.hub_trail.specs.Filing.{filed, trail_of}
+use Rattle.hub_ledger.specs.Peers.{Owners, AreSeats, owners_of, with_peers}
+use Rattle.hub_ledger.specs.Routing.{views, AreRouted, marked}
+use Rattle.hub_ledger.specs.declared.growing_trail.GrowingTrail.{GrowingTrail}
+use Rattle.hub_ledger.specs.declared.filed_session.FiledSession.{FiledSession}
+use Rattle.hub_ledger.specs.Slips.{with_entries}
+
+-- the session; its trail; the seats of its peers; and for each seat the effects that wait and its
+-- mark
+pub record State : Type 0 where
+  pub session : Session
+  pub trail : Trail
+  pub owners : Owners
+  pub waiting : List (List Effect)
+  pub marks : List Bool
+
+abbrev pub trail_in : GrowingTrail → Trail
+trail_in e = record { edition = e.edition; owner = e.owner; entries = e.list.entries }
+
+abbrev pub state_of : FiledSession → State
+state_of d = record {
+  session = d.session;
+  trail = trail_in d.entries;
+  owners = owners_of d.peers;
+  waiting = views d.waiting.lists.items;
+  marks = d.waiting.marks.items;
+}
+
+-- the state with which a hub of n seats begins: no entry, no peer, and no effect that waits
+abbrev pub begun_with : Session → Edition → UserId → ℕ → State
+begun_with session edition owner seats = record {
+  session = session;
+  trail = record { edition = edition; owner = owner; entries = [] };
+  owners = record { clients = []; windows = [] };
+  waiting = replicate seats [];
+  marks = replicate seats false;
+}
+
+-- The session stands for a run; the trail that is kept is the trail of this run; and each client
+-- and each window that came has a seat at its serial.
+pub record Stood (h : Trace) (s : State) : Type 0 where
+  pub stands : StandsFor h s.session
+  pub trail : trail_of h ≡ s.trail
+  pub clients : length s.owners.clients ≡ (tables_of h).next_client
+  pub windows : length s.owners.windows ≡ (tables_of h).next_window
+
+-- that holds for some run, and all these seats are there
+pub record IsKept (s : State) : Type 0 where
+  pub past : (h : Trace) × Stood h s
+  pub seats : AreSeats (length s.waiting) s.owners
+
+-- The state after a step for a seat. Whichever run the session stood for, it stands for it with
+-- this step, whose entry is the last one of the trail. What came belongs to the seat. Each effect
+-- is put after those that wait for its peer's seat. A step other than a Draw marks every seat.
+pub record IsAfter (seat : ℕ) (step : Entry) (old new : State) : Type 0 where
+  pub stands : (h : Trace) → StandsFor h old.session → StandsFor (with_step h step) new.session
+  pub trail : new.trail ≡ with_entries old.trail (filed step)
+  pub owners : new.owners ≡ with_peers step.event step.reply seat old.owners
+  pub waiting : AreRouted old.owners step.effects old.waiting new.waiting
+  pub marks : new.marks ≡ marked step.event old.marks
+
+-- the state after a step of this event with this reply, for some acts, verdicts and effects
+abbrev pub Takes : ℕ → EventValue → Reply → State → State → Type 0
+Takes seat event reply old new =
+    (noted : Noted) × (effects : List Effect)
+    × IsAfter seat (entry_of event reply noted effects) old new

@@ -1,0 +1,188 @@
+//! A session with its trail, and the effects that wait for each seat.
+
+ghost use Rattle.std.specs.Prelude.{◌≡◌, ◌↔◌, ◌<◌, ◌≤◌, length, IfOk, OnOk, OnErr, Err};
+ghost use Rattle.std.specs.Prelude.{IfSome, Some, is_some, slice_get, true};
+ghost use Rattle.session_model.specs.Trace.{begun, happening};
+ghost use Rattle.session_core.specs.Stands.{StandsFor, wants_memory};
+ghost use Rattle.hub_trail.specs.Filing.{kept_of};
+ghost use Rattle.hub_ledger.specs.Seats.{AllBelow, IsReceived, Rise};
+ghost use Rattle.hub_ledger.specs.Slips.{kept_by};
+ghost use Rattle.hub_ledger.specs.States.{IsKept, Takes, begun_with, state_of};
+ghost use Rattle.hub_ledger.specs.declared.ledger.answer.HubFault.TheVariants.{TrailFull, Strange};
+ghost use Rattle.hub_ledger.specs.declared.ledger.TheConstants.{FULL};
+
+use crate::growing_trail::GrowingTrail;
+use crate::ledger::{FULL, HubFault};
+use crate::peers::Peers;
+use crate::prepared::Prepared;
+use crate::receipt::are_below;
+use crate::waiting::SeatEffects;
+use acl::{Edition, UserId};
+use hub_record::{EntryList, KeptReply, Receipts, TrailEntry};
+use session_core::{Notes, Session};
+use session_model::{Event, Refusal, Reply};
+use std::alloc::{AllocError, Global};
+
+/// A session with its trail, the seats of its peers, and the effects that wait for each seat.
+pub struct FiledSession {
+    pub alloc: Global,
+    pub session: Session,
+    pub entries: GrowingTrail,
+    pub peers: Peers,
+    pub waiting: SeatEffects,
+}
+
+impl Drop for FiledSession {
+    fn drop(self) {
+        let FiledSession {
+            alloc: _,
+            session: _,
+            entries: _,
+            peers: _,
+            waiting: _,
+        } = self;
+    }
+}
+
+/// Whether a step was refused because memory was refused.
+fn wants_memory(reply: &Reply) -> bool
+    ensures { result ≡ wants_memory reply.now }
+{
+    matches!(reply, Err(Refusal::NoMemory))
+}
+
+impl FiledSession {
+    /// A session that has taken no event, with an empty trail, and without effects that wait.
+    /// `AllocError` if memory is refused.
+    pub fn new(
+        alloc: Global,
+        edition: Edition,
+        owner: UserId,
+        session: Session,
+        seats: usize,
+    ) -> Result<FiledSession, AllocError>
+        requires { StandsFor (begun edition owner) session }
+        ensures state { IfOk result (λ filed. state_of filed
+            ≡ begun_with session edition owner seats) }
+        ensures kept { IfOk result (λ filed. IsKept (state_of filed)) }
+    {
+        let waiting = SeatEffects::new(alloc, seats)?;
+        let entries = GrowingTrail {
+            edition,
+            owner,
+            list: EntryList::new(alloc)?,
+        };
+        Ok(FiledSession {
+            alloc,
+            session,
+            entries,
+            peers: Peers::new(alloc),
+            waiting,
+        })
+    }
+
+    /// One step of the session, for a seat. If memory is refused, nothing has changed.
+    pub fn take_step(
+        &mut self,
+        seat: usize,
+        event: Event<'_>,
+        prepared: Option<Prepared>,
+    ) -> Result<Reply, AllocError>
+        requires kept { IsKept (state_of self.old) }
+        requires seat { seat < length self.old.waiting.lists.items }
+        requires few { length self.old.entries.list.entries < 4294967296 }
+        requires prepared { kept_by prepared ≡ kept_of (happening event) }
+        ensures step { IfOk result (λ reply. Takes seat (happening event.entry) reply
+            (state_of self.old) (state_of self.new)) }
+        ensures kept { IsKept (state_of self.new) }
+        ensures same { OnErr result (state_of self.new ≡ state_of self.old) }
+    {
+        self.entries.make_room()?;
+        self.peers.make_room()?;
+        self.waiting.make_room()?;
+        let mut effects = Vec::new(self.alloc);
+        let mut notes = Notes::new(self.alloc);
+        let reply = self.session.step(event, &mut effects, &mut notes);
+        if wants_memory(&reply) {
+            return Err(AllocError);
+        }
+        self.waiting.route(&self.peers, effects);
+        self.peers.add(event, &reply, seat);
+        self.waiting.mark(event);
+        self.entries.write(prepared, notes, &reply);
+        Ok(reply)
+    }
+
+    /// One step that writes an entry, for a seat with these receipts, which get one more. If it is
+    /// refused, nothing has changed.
+    pub fn file(
+        &mut self,
+        seat: usize,
+        told: &mut Receipts,
+        event: Event<'_>,
+    ) -> Result<Reply, HubFault>
+        requires kept { IsKept (state_of self.old) }
+        requires seat { seat < length self.old.waiting.lists.items }
+        requires most { length self.old.entries.list.entries ≤ FULL }
+        requires rise { Rise told.old.receipts }
+        requires writes { is_some (kept_of (happening event)) ≡ true }
+        ensures step { IfOk result (λ reply. Takes seat (happening event.entry) reply
+            (state_of self.old) (state_of self.new)) }
+        ensures kept { IsKept (state_of self.new) }
+        ensures told { IfOk result (λ reply. IsReceived (kept_of (happening event.entry)) reply
+            (length self.old.entries.list.entries) told.old.receipts told.new.receipts) }
+        ensures room { OnOk result (length self.old.entries.list.entries < FULL) }
+        ensures full { (result ≡ Err TrailFull)
+            ↔ (length self.old.entries.list.entries ≡ FULL) }
+        ensures strange { (result ≡ Err Strange)
+            ↔ ((length self.old.entries.list.entries < FULL)
+            × (AllBelow told.old.receipts (length self.old.entries.list.entries) → ⊥)) }
+        ensures same { OnErr result ((state_of self.new ≡ state_of self.old)
+            × (told.new.receipts ≡ told.old.receipts)) }
+    {
+        let place = self.entries.list.len();
+        if place >= FULL {
+            return Err(HubFault::TrailFull);
+        }
+        if !are_below(told, place) {
+            return Err(HubFault::Strange);
+        }
+        told.reserve()?;
+        let Some(copy) = Prepared::of(self.alloc, event)? else {
+            unreachable!()
+        };
+        let prepared = Prepared::of(self.alloc, event)?;
+        let reply = self.take_step(seat, event, prepared)?;
+        let ending = KeptReply::of(&reply, copy.spare);
+        told.push(place, copy.event, ending);
+        Ok(reply)
+    }
+
+    /// A copy of the entry at a place, for a seat that asks for entries; `None` if it doesn't, or
+    /// if memory is refused.
+    pub fn copied(&self, asks: bool, place: usize) -> Option<TrailEntry>
+        requires { place < length self.now.entries.list.entries }
+        ensures { IfSome result (λ e. (asks ≡ true)
+            × (slice_get self.now.entries.list.entries place ≡ Some e)) }
+    {
+        if asks {
+            self.entries.list.at(place).copy(self.alloc).ok()
+        } else {
+            None
+        }
+    }
+
+    /// The entries, without the session and the effects.
+    pub fn into_entries(self) -> GrowingTrail
+        ensures { result ≡ self.entries }
+    {
+        let FiledSession {
+            alloc: _,
+            session: _,
+            entries,
+            peers: _,
+            waiting: _,
+        } = self;
+        entries
+    }
+}

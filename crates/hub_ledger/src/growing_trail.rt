@@ -1,0 +1,51 @@
+//! The entries of a trail that grows.
+
+ghost use Rattle.std.specs.Prelude.{◌≡◌, ◌<◌, OnOk, length};
+ghost use Rattle.hub_record.specs.EntryLists.{HasRoom};
+ghost use Rattle.hub_ledger.specs.Slips.{kept_by, with_entries, written};
+ghost use Rattle.hub_ledger.specs.States.{trail_in};
+
+use crate::prepared::Prepared;
+use acl::{Edition, UserId};
+use hub_record::{EntryList, KeptReply, NewEntry};
+use session_core::Notes;
+use session_model::Reply;
+use std::alloc::AllocError;
+
+/// The entries of all steps of a session, with its edition and its owner.
+#[derive(Drop)]
+pub struct GrowingTrail {
+    pub edition: Edition,
+    pub owner: UserId,
+    pub list: EntryList,
+}
+
+impl GrowingTrail {
+    /// Makes room for one more entry. `AllocError` if memory is refused.
+    pub fn make_room(&mut self) -> Result<(), AllocError>
+        ensures same { trail_in self.new ≡ trail_in self.old }
+        ensures room { OnOk result (HasRoom self.new.list) }
+    {
+        self.list.reserve()
+    }
+
+    /// Writes the entry of a step, if it has one. The memory that the step had taken is given back:
+    /// an entry keeps only the memory that it needs, and only 4 bytes if an equal one is found.
+    pub fn write(&mut self, prepared: Option<Prepared>, notes: Notes, reply: &Reply)
+        requires room { HasRoom self.old.list }
+        requires few { length self.old.list.entries < 4294967296 }
+        ensures { trail_in self.new ≡ with_entries (trail_in self.old)
+            (written (kept_by prepared) notes reply.now) }
+    {
+        if let Some(Prepared { event, spare }) = prepared {
+            let (acts, verdicts) = notes.into_parts();
+            let reply = KeptReply::of(reply, spare);
+            self.list.push(NewEntry {
+                event,
+                verdicts,
+                acts,
+                reply,
+            });
+        }
+    }
+}

@@ -1,0 +1,135 @@
+//! The answer to a submitted event.
+
+ghost use Rattle.std.specs.Prelude.{◌≡◌};
+ghost use Rattle.std.specs.Option.{option_copied};
+ghost use Rattle.session_model.specs.Trace.{happening};
+ghost use Rattle.hub_ledger.specs.declared.ledger.answer.HubFault.TheVariants.{NoMemory as OfMemory};
+
+use hub_record::TrailEntry;
+use session_model::{Event, Reply};
+use std::alloc::{AllocError, AllocFailed};
+use std::marker::Model;
+use thiserror::Error;
+
+/// Why a submitted event wasn't taken.
+#[derive(Clone, Copy, PartialEq, Eq, Debug, Error)]
+pub enum HubFault {
+    /// The event would write an entry, and the trail has 4,194,304 entries already.
+    #[error("the trail is full")]
+    TrailFull,
+    #[error("out of memory")]
+    NoMemory,
+    /// The event would write an entry, and the seat has a receipt whose place isn't below the
+    /// trail's length.
+    #[error("the seat is of another hub")]
+    Strange,
+}
+
+impl HubFault {
+    ghost use Rattle.std.specs.Prelude.{◌≡◌};
+    ghost use Rattle.hub_ledger.specs.Faults.{number_of_fault};
+
+    /// The fault's number, 1 to 3.
+    pub fn number(self) -> u8
+        ensures { result ≡ number_of_fault self }
+    {
+        match self {
+            HubFault::TrailFull => 1,
+            HubFault::NoMemory => 2,
+            HubFault::Strange => 3,
+        }
+    }
+}
+
+impl From<AllocError> for HubFault {
+    ghost from_gives = { λ _ fault. fault ≡ OfMemory };
+
+    fn from(_e: AllocError) -> HubFault {
+        HubFault::NoMemory
+    }
+}
+
+impl<T: Drop> From<AllocFailed<T>> for HubFault {
+    ghost from_gives = { λ _ fault. fault ≡ OfMemory };
+
+    fn from(_e: AllocFailed<T>) -> HubFault {
+        HubFault::NoMemory
+    }
+}
+
+/// The answer to one submitted event. Only a submit makes one, and nothing copies it.
+pub struct Answer<'a> {
+    pub(super) event: Event<'a>,
+    pub(super) reply: Reply,
+    pub(super) place: Option<usize>,
+    pub(super) entry: Option<TrailEntry>,
+}
+
+impl Drop for Answer<'_> {
+    fn drop(self) {
+        let Answer {
+            event: _,
+            reply: _,
+            place: _,
+            entry: _,
+        } = self;
+    }
+}
+
+impl<'a> Model for Answer<'a> {
+    ghost use Rattle.hub_ledger.specs.Seats.{Told};
+    ghost use Rattle.session_model.specs.Trace.{happening};
+
+    ghost Value = { Told };
+
+    ghost view = { λ a. record {
+      event = happening a.event;
+      reply = a.reply;
+      place = a.place;
+      entry = a.entry;
+    } };
+}
+
+impl<'a> Answer<'a> {
+    /// The event that was submitted.
+    pub fn event(&self) -> Event<'a>
+        ensures { happening result ≡ self.now.event }
+    {
+        self.event
+    }
+
+    /// The session's reply.
+    pub fn reply(&self) -> &Reply
+        ensures { result.now ≡ self.now.reply }
+    {
+        &self.reply
+    }
+
+    /// The session's reply, when nothing else of the answer is needed any more.
+    pub fn into_reply(self) -> Reply
+        ensures { result ≡ self.entry.reply }
+    {
+        let Answer {
+            event: _,
+            reply,
+            place: _,
+            entry: _,
+        } = self;
+        reply
+    }
+
+    /// The place of the entry in the trail, from 0; `None` if the event writes no entry.
+    pub fn place(&self) -> Option<usize>
+        ensures { result ≡ self.now.place }
+    {
+        self.place
+    }
+
+    /// The entry, if the event writes one and the seat asks for entries. Such a seat still gets
+    /// `None` if memory for a copy was refused; the step is done nevertheless.
+    pub fn entry(&self) -> Option<&TrailEntry>
+        ensures { option_copied result ≡ self.now.entry }
+    {
+        self.entry.as_ref()
+    }
+}

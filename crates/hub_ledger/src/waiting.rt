@@ -1,0 +1,146 @@
+//! What waits for each seat.
+
+ghost use Rattle.std.specs.Prelude.{◌≡◌, ◌≤◌, ◌<◌, [], length, map, true, false, IfOk, OnOk, Some};
+ghost use Rattle.std.specs.Prelude.{slice_get, slice_set, replicate};
+ghost use Rattle.std.specs.List.{AllByRecursion};
+ghost use Rattle.session_model.specs.Trace.{happening};
+ghost use Rattle.hub_ledger.specs.Peers.{AreSeats, HasPeer, owners_of};
+ghost use Rattle.hub_ledger.specs.Routing.{views, HaveRoom, AreRouted, marked, is_draw};
+
+use crate::peers::Peers;
+use session_model::{Effect, Event};
+use std::alloc::{AllocError, Global};
+use std::mem;
+
+/// The most effects that one step has.
+pub const MOST: usize = 256;
+
+/// The effects that wait for each seat, and whether a step other than a Draw came since its effects
+/// were last taken.
+pub struct SeatEffects {
+    pub lists: Vec<Vec<Effect>>,
+    pub marks: Vec<bool>,
+}
+
+impl Drop for SeatEffects {
+    fn drop(self) {
+        let SeatEffects { lists: _, marks: _ } = self;
+    }
+}
+
+impl SeatEffects {
+    /// No effect waits for these seats. `AllocError` if memory is refused.
+    pub fn new(alloc: Global, seats: usize) -> Result<SeatEffects, AllocError>
+        ensures lists { IfOk result (λ w. views w.lists.items ≡ replicate seats []) }
+        ensures marks { IfOk result (λ w. w.marks.items ≡ replicate seats false) }
+    {
+        let mut lists = Vec::new(alloc);
+        let mut marks = Vec::new(alloc);
+        'seats: for _seat in 0..seats {
+            lists.push(Vec::new(alloc))?;
+            marks.push(false)?;
+        }
+        Ok(SeatEffects { lists, marks })
+    }
+
+    /// Makes room for the effects of one step, after those that wait for each seat. `AllocError` if
+    /// memory is refused.
+    pub fn make_room(&mut self) -> Result<(), AllocError>
+        ensures lists { views self.new.lists.items ≡ views self.old.lists.items }
+        ensures marks { self.new.marks ≡ self.old.marks }
+        ensures room { OnOk result (HaveRoom 256 self.new.lists.items) }
+    {
+        make_room(self.lists.as_mut_slice())
+    }
+
+    /// Puts each effect after those that wait for the seat of its peer.
+    pub fn route(&mut self, peers: &Peers, effects: Vec<Effect>)
+        requires seats { AreSeats (length self.old.lists.items) (owners_of peers.now) }
+        requires come { AllByRecursion (HasPeer (owners_of peers.now)) effects.items }
+        requires few { length effects.items ≤ 256 }
+        requires room { HaveRoom 256 self.old.lists.items }
+        ensures lists { AreRouted (owners_of peers.now) effects.items
+            (views self.old.lists.items) (views self.new.lists.items) }
+        ensures marks { self.new.marks ≡ self.old.marks }
+    {
+        route(self.lists.as_mut_slice(), peers, effects)
+    }
+
+    /// Marks every seat, unless the step was a Draw.
+    pub fn mark(&mut self, event: Event)
+        ensures marks { self.new.marks.items ≡ marked (happening event.entry)
+            self.old.marks.items }
+        ensures lists { self.new.lists ≡ self.old.lists }
+    {
+        if !is_draw(event) {
+            mark_all(self.marks.as_mut_slice());
+        }
+    }
+
+    /// Hands out the effects that wait for a seat, and its mark. It needs no memory: if memory is
+    /// refused, they are handed out in the list in which they waited.
+    pub fn take(&mut self, alloc: Global, seat: usize) -> (Vec<Effect>, bool)
+        requires lists { seat < length self.old.lists.items }
+        requires marks { seat < length self.old.marks.items }
+        ensures effects { slice_get (views self.old.lists.items) seat ≡ Some result.0.items }
+        ensures mark { slice_get self.old.marks.items seat ≡ Some result.1 }
+        ensures lists { views self.new.lists.items
+            ≡ slice_set (views self.old.lists.items) seat [] }
+        ensures marks { self.new.marks.items ≡ slice_set self.old.marks.items seat false }
+    {
+        let effects = emptied(alloc, &mut self.lists[seat]);
+        let marked = mem::replace(&mut self.marks[seat], false);
+        (effects, marked)
+    }
+}
+
+/// Takes all effects out of a list, which keeps its memory for those of the next steps, unless memory
+/// is refused.
+fn emptied(alloc: Global, list: &mut Vec<Effect>) -> Vec<Effect>
+    ensures effects { result.items ≡ list.old.items }
+    ensures rest { list.new.items ≡ [] }
+{
+    let mut effects = Vec::new(alloc);
+    if effects.append(list).is_err() {
+        mem::swap(&mut effects, list);
+    }
+    effects
+}
+
+fn make_room(waiting: &mut [Vec<Effect>]) -> Result<(), AllocError>
+    ensures same { views waiting.new ≡ views waiting.old }
+    ensures room { OnOk result (HaveRoom 256 waiting.new) }
+{
+    for i in 0..waiting.len() {
+        waiting[i].reserve(MOST)?;
+    }
+    Ok(())
+}
+
+fn route(waiting: &mut [Vec<Effect>], peers: &Peers, effects: Vec<Effect>)
+    requires seats { AreSeats (length waiting.old) (owners_of peers.now) }
+    requires come { AllByRecursion (HasPeer (owners_of peers.now)) effects.items }
+    requires few { length effects.items ≤ 256 }
+    requires room { HaveRoom 256 waiting.old }
+    ensures { AreRouted (owners_of peers.now) effects.items (views waiting.old)
+        (views waiting.new) }
+{
+    for effect in effects {
+        let seat = peers.seat_of(&effect);
+        waiting[seat].push_reserved(effect);
+    }
+}
+
+fn mark_all(marks: &mut [bool])
+    ensures { marks.new ≡ map (λ b. true) marks.old }
+{
+    for i in 0..marks.len() {
+        marks[i] = true;
+    }
+}
+
+fn is_draw(event: Event) -> bool
+    ensures { result ≡ is_draw (happening event.entry) }
+{
+    matches!(event, Event::Draw { .. })
+}
