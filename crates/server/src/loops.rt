@@ -4,8 +4,8 @@ use crate::loop_handle::{LoopStart, Shared};
 use crate::turns::run_loop;
 use server_loop::{End, Gate};
 use server_session::{
-    Accounts, Begun as Roll, LoopBody, LoopsFault, Recorder, Seat, Seated, SharedSession, Start,
-    Trail, keep,
+    Accounts, Begun, LoopBody, LoopsFault, Recorder, Seat, Seated, SharedSession, Start, Trail,
+    keep,
 };
 use server_system::{Host, ServeFault, Setup, SocketPath};
 use server_trail::{Cause, Journal};
@@ -93,10 +93,9 @@ where
     R: Clock + Wait,
     G: Gate + Copy + Sync + Drop,
 {
-    fn run<L: Roll>(
+    fn run<L: Begun>(
         &self,
         rt: &R,
-        _alloc: Global,
         session: &SharedSession<L>,
         seat: Seat<L>,
         start: LoopStart,

@@ -1,10 +1,9 @@
 //! How a loop's connections have their turn.
 
-use crate::end::End;
 use crate::gate::Gate;
 use crate::own::Loop;
 use crate::submitting::Submitted;
-use server_connections::{Arrival, Role, SessionSeat, each_awake};
+use server_connections::{Arrival, End, Role, SessionSeat, each_awake};
 use std::io::{Read, Write};
 use std::sync::Wait;
 
@@ -16,7 +15,7 @@ const READS: usize = 16;
 const STEPS: usize = 8;
 
 /// At most this many bytes of windows' output are done in a turn, and so by one step.
-pub(crate) const PIECE: usize = 4_096;
+pub(crate) const PIECE: usize = 16_384;
 
 /// What became of a message.
 #[derive(Clone, Copy, Debug, PartialEq, Eq)]

@@ -3,8 +3,8 @@
 use crate::accounts::Accounts;
 use crate::shared_session::SharedSession;
 use acl::UserId;
-use hub::{Begun as Roll, FULL, HubFault, Seat};
-use server_connections::{Answer, GuestKind, SeatFault, SessionSeat};
+use hub::{Begun, FULL, HubFault, Seat};
+use server_connections::{End, GuestKind, SeatAnswer, SeatFault, SessionSeat};
 use server_users::{Outcome, Users};
 use session_model::{Effect, Event, Refusal, Reply, Verdict};
 use std::sync::Wait;
@@ -44,13 +44,13 @@ fn outcome_of(reply: &Reply, verdicts: &[Verdict]) -> Outcome {
 
 /// A seat in a session, with the session and its users' accounts.
 #[derive(Drop)]
-pub struct Seated<'a, L: Roll> {
+pub struct Seated<'a, L: Begun> {
     shared: &'a SharedSession<L>,
     accounts: &'a Accounts,
     seat: Seat<L>,
 }
 
-impl<'a, L: Roll> Seated<'a, L> {
+impl<'a, L: Begun> Seated<'a, L> {
     pub fn new(
         shared: &'a SharedSession<L>,
         accounts: &'a Accounts,
@@ -69,12 +69,12 @@ impl<'a, L: Roll> Seated<'a, L> {
     }
 }
 
-impl<L: Roll> SessionSeat for Seated<'_, L> {
+impl<L: Begun> SessionSeat for Seated<'_, L> {
     fn users(&self) -> &Users {
         &self.shared.users
     }
 
-    fn submit<R: Wait>(&mut self, rt: &R, event: Event<'_>) -> Result<Answer, SeatFault> {
+    fn submit<R: Wait>(&mut self, rt: &R, event: Event<'_>) -> Result<SeatAnswer, SeatFault> {
         match self.shared.submit(rt, &mut self.seat, event) {
             Ok(answer) => {
                 let filled = match answer.place() {
@@ -86,15 +86,15 @@ impl<L: Roll> SessionSeat for Seated<'_, L> {
                     Some(entry) => outcome_of(answer.reply(), entry.verdicts()),
                     None => Outcome::Granted,
                 };
-                Ok(Answer {
+                Ok(SeatAnswer {
                     reply: answer.into_reply(),
                     filled,
                     outcome,
                 })
             }
             Err(HubFault::NoMemory) => Err(SeatFault::NoMemory),
-            Err(HubFault::TrailFull) => Err(SeatFault::TrailFull),
-            Err(HubFault::Strange) => Err(SeatFault::Strange),
+            Err(HubFault::TrailFull) => Err(SeatFault::Over(End::TrailFull)),
+            Err(HubFault::Strange) => Err(SeatFault::Over(End::Fault)),
         }
     }
 

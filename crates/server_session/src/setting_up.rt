@@ -2,14 +2,14 @@
 
 use crate::loop_body::LoopsFault;
 use crate::shared_session::SharedSession;
-use hub::{Begun as Roll, Seat};
+use hub::{Begun, Seat};
 use program_words::{SetupLine, read_setup};
 use session_model::Event;
 use std::alloc::Global;
 use std::sync::Wait;
 
 // Submits a line as a command of the owner. There is no peer yet that it could act on.
-fn give<L: Roll, R: Wait>(
+fn give<L: Begun, R: Wait>(
     rt: &R,
     alloc: Global,
     shared: &SharedSession<L>,
@@ -37,7 +37,7 @@ fn give<L: Roll, R: Wait>(
 }
 
 /// Submits the lines of a setup's file, up to the first one that is refused.
-pub fn set_up<L: Roll, R: Wait>(
+pub fn set_up<L: Begun, R: Wait>(
     rt: &R,
     alloc: Global,
     shared: &SharedSession<L>,

@@ -1,6 +1,6 @@
 //! What the loops share.
 
-use hub::{Answer, Begun as Roll, Hub, HubFault, Seat};
+use hub::{Answer, Begun, Hub, HubFault, Seat};
 use server_trail::Recorder;
 use server_users::Users;
 use session_model::Event;
@@ -8,14 +8,14 @@ use std::sync::Wait;
 
 /// The session that the loops share, who may connect, and what writes its trail to a file.
 #[derive(Drop)]
-pub struct SharedSession<L: Roll> {
+pub struct SharedSession<L: Begun> {
     pub hub: Hub<L>,
     pub users: Users,
     /// None if no file is written.
     pub recorder: Option<Recorder>,
 }
 
-impl<L: Roll> SharedSession<L> {
+impl<L: Begun> SharedSession<L> {
     /// Submits an event to the session. If that makes an entry, its line goes to the trail's file.
     pub fn submit<'a>(
         &self,
