@@ -4,14 +4,10 @@ use crate::inbox::Asked;
 use crate::peer::{Peer, Role, Stage};
 use std::io::{ErrorKind, Read, Write};
 
-// A read of a client or a stranger takes at most this many bytes. The longest frame has a little more
-// than half of them.
-const READ_SIZE: usize = 16_384;
-
 /// What a read brought.
 #[derive(Clone, Copy, Debug, PartialEq, Eq)]
 pub enum Arrival {
-    /// As many bytes as a read takes: more may be there.
+    /// As many bytes as the buffer takes: more may be there.
     Much,
     /// Fewer bytes.
     Some,
@@ -22,14 +18,10 @@ pub enum Arrival {
 }
 
 impl<S: Read + Write + Drop> Peer<S> {
-    fn is_window(&self) -> bool {
-        matches!(self.role, Role::Window(_))
-    }
-
     // Adds the messages that these bytes complete; after them more may be there to read. A window's
     // output comes in long frames, so all of its messages are made at once.
     fn feed(&mut self, bytes: &[u8], has_more: bool) {
-        if self.is_window() {
+        if matches!(self.role, Role::Window(_)) {
             self.inbox.take_all(&mut self.reader, bytes);
         } else {
             self.inbox.take(&mut self.reader, bytes);
@@ -46,18 +38,12 @@ impl<S: Read + Write + Drop> Peer<S> {
     }
 
     /// Reads once, if the connection is open. The caller does so only when all that was read before is
-    /// done. Only a window's read takes the whole buffer. If fewer bytes came than a read takes, nothing
-    /// is left for now; but if the other end was closed, the end comes after them.
+    /// done. If fewer bytes came than the buffer takes, nothing is left for now; but if the other end
+    /// was closed, the end comes after them.
     pub fn read(&mut self, buffer: &mut [u8]) -> Arrival {
         if !self.stage.is_open() || !self.has_more() {
             return Arrival::Nothing;
         }
-        let most = if self.is_window() {
-            buffer.len()
-        } else {
-            buffer.len().min(READ_SIZE)
-        };
-        let buffer = &mut buffer[..most];
         let Some(stream) = &mut self.stream else {
             return Arrival::Nothing;
         };

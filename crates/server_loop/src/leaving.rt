@@ -149,7 +149,6 @@ impl<S: Read + Write + Drop, G: Gate + Drop, J: SessionSeat + Drop> Loop<S, G, J
                 peer.role = Role::Stranger;
                 peer.leaves = Role::Stranger;
                 peer.write();
-                peer.leaves = Role::Stranger;
             }
         }
         self.sweep(rt);

@@ -9,9 +9,8 @@ use server_users::Users;
 use std::alloc::{AllocError, Global};
 use std::time::Duration;
 
-// A read of a window takes at most this many bytes. The fewer reads empty its socket, the more seldom
-// its program is woken to fill it.
-const READ_SIZE: usize = 65_536;
+// A read takes at most this many bytes. The longest frame has a little more than half of them.
+const READ_SIZE: usize = 16_384;
 
 // At most this many news wait until they are taken. Later ones are left out.
 const MOST_NEWS: usize = 1_024;

@@ -51,14 +51,6 @@ fn kept_of(event: Event) -> usize {
     }
 }
 
-// How many bytes of keys were read.
-fn taken_of(answer: &SeatAnswer) -> usize {
-    match &answer.reply {
-        Ok(done) => done.taken,
-        Err(_) => 0,
-    }
-}
-
 impl<S: Read + Write + Drop, G: Gate + Drop, J: SessionSeat + Drop> Loop<S, G, J> {
     /// Does a message of a connection, or a step of it.
     pub(crate) fn obey(&mut self, rt: &impl Wait, key: usize, asked: &mut Asked) -> Progress {
@@ -125,7 +117,10 @@ impl<S: Read + Write + Drop, G: Gate + Drop, J: SessionSeat + Drop> Loop<S, G, J
         let bytes = asked.rest();
         let taken = match self.try_for(rt, user, Event::Keys { client, bytes }) {
             Ok(None) => return Progress::Held,
-            Ok(Some(answer)) => taken_of(&answer),
+            Ok(Some(answer)) => match &answer.reply {
+                Ok(done) => done.taken,
+                Err(_) => 0,
+            },
             Err(SeatFault::NoMemory) => {
                 self.fault(rt, key);
                 0

@@ -110,9 +110,9 @@ static SHARES: [Row; 4] = [
     (3, Wanted::HasTyped(0, b'a', true)),
 ];
 
-// A window prints this twice between two questions for its state, and a client types these commands
-// in one frame and then a letter; another client types a letter.
-fn busy<'a>(output: &'a [u8], commands: &'a [u8]) -> [Act<'a>; 20] {
+// A window prints this between two questions for its state, and a client types these commands in
+// one frame and then a letter; another client types a letter.
+fn busy<'a>(output: &'a [u8], commands: &'a [u8]) -> [Act<'a>; 19] {
     [
         Act::Connect(Habit::Whole, WINDOW),
         Act::Turns(2),
@@ -120,7 +120,6 @@ fn busy<'a>(output: &'a [u8], commands: &'a [u8]) -> [Act<'a>; 20] {
         Act::Connect(Habit::Whole, ATTACH),
         Act::Turns(2),
         Act::Send(0, ASK),
-        Act::Send(0, output),
         Act::Send(0, output),
         Act::Send(0, ASK),
         Act::Send(1, commands),
@@ -137,7 +136,7 @@ fn busy<'a>(output: &'a [u8], commands: &'a [u8]) -> [Act<'a>; 20] {
     ]
 }
 
-// Twice 8,192 bytes, and 1,000 commands.
+// 8,192 bytes, and 1,000 commands.
 fn nobody_waits(rt: &impl System) -> Result<bool, AllocError> {
     let alloc = rt.alloc();
     let output = often(alloc, b"O\x20\0", b"y", 8_192)?;
