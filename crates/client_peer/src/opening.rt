@@ -75,17 +75,6 @@ fn open_sizes<R: fs::Files<File = File>>(rt: &R, way: Way, path: &str) -> io::Re
     options.open(rt, path)
 }
 
-// The sizes' file, if the arguments name one.
-fn sizes_of<R: fs::Files<File = File>>(rt: &R, words: &Words<'_>) -> Result<Option<File>, Fault> {
-    match words.sizes {
-        Some(path) => match open_sizes(rt, words.way, path) {
-            Ok(file) => Ok(Some(file)),
-            Err(error) => Err(Fault::Refused(Part::Sizes, error)),
-        },
-        None => Ok(None),
-    }
-}
-
 /// The sizes' files of a peer.
 #[derive(Drop)]
 pub struct SizesFiles {
@@ -95,19 +84,23 @@ pub struct SizesFiles {
     pub told: Option<File>,
 }
 
-impl SizesFiles {
-    fn of(way: Way, sizes: Option<File>) -> SizesFiles {
-        match way {
-            Way::Attach => SizesFiles {
-                asked: sizes,
-                told: None,
-            },
-            _ => SizesFiles {
-                asked: None,
-                told: sizes,
-            },
+// The sizes' files, of which at most one is named by the arguments.
+fn sizes_of<R: fs::Files<File = File>>(rt: &R, words: &Words<'_>) -> Result<SizesFiles, Fault> {
+    let mut files = SizesFiles {
+        asked: None,
+        told: None,
+    };
+    if let Some(path) = words.sizes {
+        let file = match open_sizes(rt, words.way, path) {
+            Ok(file) => file,
+            Err(error) => return Err(Fault::Refused(Part::Sizes, error)),
+        };
+        match words.way {
+            Way::Attach => files.asked = Some(file),
+            _ => files.told = Some(file),
         }
     }
+    Ok(files)
 }
 
 /// The socket to connect to, and the first frame to send.
@@ -120,14 +113,6 @@ pub struct Door {
 }
 
 impl Door {
-    fn of(alloc: Global, words: &Words<'_>, frame: Vec<u8>) -> Result<Door, Fault> {
-        Ok(Door {
-            socket: String::from_str(alloc, words.socket)?,
-            frame,
-            can_leave: words.leave.is_some(),
-        })
-    }
-
     // Sends the first frame; if there is none, ends the sending side.
     fn begin(&self, stream: &UnixStream) -> io::Result<()> {
         if self.frame.is_empty() {
@@ -198,10 +183,13 @@ pub fn prepare<R: fs::Files<File = File> + AllocGlobal>(
     kept: &mut Vec<File>,
 ) -> Result<(Door, SizesFiles), Fault> {
     fill_closed(rt, kept)?;
-    let frame = frame_for(rt, words)?;
-    let door = Door::of(rt.alloc(), words, frame)?;
+    let door = Door {
+        frame: frame_for(rt, words)?,
+        socket: String::from_str(rt.alloc(), words.socket)?,
+        can_leave: words.leave.is_some(),
+    };
     match sizes_of(rt, words) {
-        Ok(sizes) => Ok((door, SizesFiles::of(words.way, sizes))),
+        Ok(files) => Ok((door, files)),
         Err(fault) => Err(fault),
     }
 }

@@ -89,33 +89,8 @@ fn send_typed<R: PeerHost + Threads + Wait, I: Source, O: Sink>(
     Ok(takes && !matches!(stage, InputStage::Left))
 }
 
-/// What to do after a read of the input.
-#[derive(Clone, Copy)]
-enum Next {
-    Read,
-    /// The input has ended.
-    End,
-    /// The user leaves, or the socket takes no more.
-    Stop,
-}
-
-// Reads the input once, and sends it.
-fn send_next<R: PeerHost + Threads + Wait, I: Source, O: Sink>(
-    rt: &R,
-    shared: &Arc<SharedPeer<I, O>, Global>,
-    input: &mut I,
-    buffer: &mut [u8],
-) -> Result<Next, Fault> {
-    let goes_on = match read_input(input, buffer) {
-        Ok(0) => return Ok(Next::End),
-        Ok(count) if shared.can_leave => send_typed(rt, shared, &buffer[..count])?,
-        Ok(count) => send_input(rt, shared, &buffer[..count])?,
-        Err(error) => return Err(Fault::Refused(Part::Input, error)),
-    };
-    Ok(if goes_on { Next::Read } else { Next::Stop })
-}
-
-// Reads and sends the input until its end. Returns whether to send DETACH then.
+// Reads and sends the input until its end, until the user leaves, or until the socket takes no more.
+// Returns whether it was the end.
 fn send_all<R: PeerHost + Threads + Wait, I: Source, O: Sink>(
     rt: &R,
     shared: &Arc<SharedPeer<I, O>, Global>,
@@ -123,10 +98,14 @@ fn send_all<R: PeerHost + Threads + Wait, I: Source, O: Sink>(
 ) -> Result<bool, Fault> {
     let mut buffer = vec![in shared.alloc; 0; LONGEST]?;
     for _ in 0..u64::MAX {
-        match send_next(rt, shared, input, buffer.as_mut_slice())? {
-            Next::Read => {}
-            Next::End => return Ok(true),
-            Next::Stop => return Ok(false),
+        let goes_on = match read_input(input, buffer.as_mut_slice()) {
+            Ok(0) => return Ok(true),
+            Ok(count) if shared.can_leave => send_typed(rt, shared, &buffer[..count])?,
+            Ok(count) => send_input(rt, shared, &buffer[..count])?,
+            Err(error) => return Err(Fault::Refused(Part::Input, error)),
+        };
+        if !goes_on {
+            return Ok(false);
         }
     }
     Ok(true)
@@ -150,18 +129,6 @@ fn send_to_end<R: PeerHost + Threads + Wait, I: Source, O: Sink>(
     }
 }
 
-// Sends a size. Returns whether to go on.
-fn send_size<R: PeerHost + Threads + Wait, I: Source, O: Sink>(
-    rt: &R,
-    shared: &Arc<SharedPeer<I, O>, Global>,
-    size: Size,
-) -> bool {
-    match size_frame(shared.alloc, size) {
-        Ok(frame) => send(rt, shared, &frame).is_ok(),
-        Err(_) => false,
-    }
-}
-
 // Sends the last of the sizes whose lines these bytes complete. Returns whether to go on.
 fn send_last<R: PeerHost + Threads + Wait, I: Source, O: Sink>(
     rt: &R,
@@ -175,23 +142,12 @@ fn send_last<R: PeerHost + Threads + Wait, I: Source, O: Sink>(
     if lines.has_dropped() {
         shared.standing.lock(rt).has_dropped = true;
     }
-    match size {
-        Some(size) => send_size(rt, shared, size),
-        None => true,
-    }
-}
-
-// Reads the sizes' file once, and sends the last size. Returns whether to go on.
-fn send_read<R: PeerHost + Threads + Wait, I: Source, O: Sink>(
-    rt: &R,
-    shared: &Arc<SharedPeer<I, O>, Global>,
-    file: &mut File,
-    lines: &mut SizeLines,
-    buffer: &mut [u8],
-) -> bool {
-    match file.read(buffer) {
-        Ok(0) | Err(_) => false,
-        Ok(count) => send_last(rt, shared, lines, &buffer[..count]),
+    let Some(size) = size else {
+        return true;
+    };
+    match size_frame(shared.alloc, size) {
+        Ok(frame) => send(rt, shared, &frame).is_ok(),
+        Err(_) => false,
     }
 }
 
@@ -204,7 +160,11 @@ fn send_sizes<R: PeerHost + Threads + Wait, I: Source, O: Sink>(
     let mut lines = SizeLines::new(shared.alloc);
     let mut buffer = vec![in shared.alloc; 0; LONGEST]?;
     for _ in 0..u64::MAX {
-        if !send_read(rt, shared, file, &mut lines, buffer.as_mut_slice()) {
+        let goes_on = match file.read(buffer.as_mut_slice()) {
+            Ok(0) | Err(_) => false,
+            Ok(count) => send_last(rt, shared, &mut lines, &buffer[..count]),
+        };
+        if !goes_on {
             break;
         }
     }

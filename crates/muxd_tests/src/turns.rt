@@ -59,8 +59,8 @@ static TURNS: [Turn; 22] = [
 ];
 
 // Whether a peer gets these bytes.
-fn is_sent(peers: &mut [Peer], who: usize, bytes: &[u8]) -> io::Result<bool> {
-    match peers.get_mut(who) {
+fn is_sent(peers: &mut [Peer], place: usize, bytes: &[u8]) -> io::Result<bool> {
+    match peers.get_mut(place) {
         Some(peer) => peer.is_sent(bytes),
         None => Ok(false),
     }
@@ -72,17 +72,17 @@ fn take<R: Net + Clock>(
     alloc: Global,
     calls: &Calls,
     peers: &mut Vec<Peer>,
-    (who, bytes, until): Turn,
+    (place, bytes, until): Turn,
 ) -> io::Result<bool> {
-    if who == peers.len() {
+    if place == peers.len() {
         peers.push(Peer::new(rt, alloc)?)?;
     }
-    if let Some(peer) = peers.get_mut(who) {
+    if let Some(peer) = peers.get_mut(place) {
         peer.send(bytes)?;
     }
     match until {
         Until::Held => Ok(wait(rt, &calls.begun, 0)),
-        Until::Sent(whom, bytes) => is_sent(peers, whom, bytes),
+        Until::Sent(receiver, bytes) => is_sent(peers, receiver, bytes),
     }
 }
 
@@ -104,11 +104,11 @@ fn wrong_turn<R: Net + Clock>(
 
 // Whether after `quit` a peer got all bytes that it must get. Without r bob must get nothing that the
 // window prints.
-fn is_right(who: usize, peer: &mut Peer) -> io::Result<bool> {
+fn is_right(place: usize, peer: &mut Peer) -> io::Result<bool> {
     let is_over = peer.is_over()?;
     let came = peer.came.as_slice();
     let is_client = came.starts_with(WELCOME) && came.ends_with(GONE_QUIT);
-    let is_right = match who {
+    let is_right = match place {
         SHELL => came == ALL_INPUT,
         OWN => is_client,
         BOB => is_client && !has(came, b"secret"),
@@ -119,10 +119,10 @@ fn is_right(who: usize, peer: &mut Peer) -> io::Result<bool> {
 
 // The first peer that didn't get all bytes that it must get.
 fn wrong_peer(peers: &mut [Peer]) -> Option<usize> {
-    for (who, peer) in peers.iter_mut().enumerate() {
-        match is_right(who, peer) {
+    for (place, peer) in peers.iter_mut().enumerate() {
+        match is_right(place, peer) {
             Ok(true) => {}
-            _ => return Some(who),
+            _ => return Some(place),
         }
     }
     None
@@ -144,7 +144,7 @@ pub fn first_wrong<R: Net + Clock>(rt: &R, alloc: Global, calls: &Calls) -> Opti
         return Some(turn);
     }
     match wrong_peer(&mut peers) {
-        Some(who) => Some(who.saturating_add(TURNS.len())),
+        Some(place) => Some(place.saturating_add(TURNS.len())),
         None => None,
     }
 }

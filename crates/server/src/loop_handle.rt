@@ -111,25 +111,6 @@ pub struct LoopStart {
 }
 
 impl Shared {
-    pub fn new(
-        alloc: Global,
-        loop_handles: Arc<Vec<LoopHandle>, Global>,
-        watched: Arc<WatchedUsers, Global>,
-        tells: bool,
-    ) -> Shared {
-        let log = Log::new(alloc, loop_handles.len());
-        Shared {
-            alloc,
-            loop_handles,
-            over: OnceLock::new(),
-            busy: AtomicU64::new(0),
-            watched,
-            wrong_tokens: AtomicU64::new(0),
-            log,
-            tells,
-        }
-    }
-
     pub fn wake_others(&self, me: usize) -> io::Result<()> {
         for (place, loop_handle) in self.loop_handles.iter().enumerate() {
             if place != me {

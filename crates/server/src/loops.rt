@@ -96,7 +96,6 @@ where
     fn run<L: Begun>(
         &self,
         rt: &R,
-        _alloc: Global,
         session: &SharedSession<L>,
         seat: Seat<L>,
         start: LoopStart,

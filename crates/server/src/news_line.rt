@@ -1,22 +1,9 @@
 //! News as a line of the log.
 
 use attach_proto::Why;
-use server_loop::{Guest, Name, News};
+use server_loop::{Name, News};
 use std::fmt;
 use std::fmt::{Display, Formatter};
-
-/// A guest, as the log names it.
-#[derive(Clone, Copy)]
-struct Named(Guest);
-
-impl Display for Named {
-    fn fmt<W: fmt::Write>(&self, f: &mut Formatter<W>) -> fmt::Result {
-        match self.0 {
-            Guest::Client(user, serial) => write!(f, "client {serial} of {}", Name(user)),
-            Guest::Window(user, number) => write!(f, "window {number} of {}", Name(user)),
-        }
-    }
-}
 
 fn cause(why: Option<Why>) -> &'static str {
     match why {
@@ -39,8 +26,8 @@ pub struct NewsLine(pub News, pub u64);
 impl Display for NewsLine {
     fn fmt<W: fmt::Write>(&self, f: &mut Formatter<W>) -> fmt::Result {
         match self.0 {
-            News::Came(guest) => write!(f, "{} came", Named(guest)),
-            News::Went(guest, why) => write!(f, "{} went: {}", Named(guest), cause(why)),
+            News::Came(guest) => write!(f, "{guest} came"),
+            News::Went(guest, why) => write!(f, "{guest} went: {}", cause(why)),
             News::Done(user) => write!(f, "a command of {}", Name(user)),
             News::Refused(user) => write!(f, "a command of {} was refused", Name(user)),
             News::WrongToken => write!(f, "unknown user or wrong token: {} by now", self.1),

@@ -10,14 +10,15 @@ use program_words::{of_server, tell};
 use server_loop::{Gate, Open};
 use server_session::{Accounts, Limits, Start};
 use server_system::{
-    Host, LastLook, ServeFault, Setup, SocketPath, Stamp, UsersFile, WatchedUsers,
+    Host, LastLook, Log, ServeFault, Setup, SocketPath, Stamp, UsersFile, WatchedUsers,
 };
 use server_trail::Journal;
 use server_users::Users;
 use std::alloc::Global;
 use std::io::Write;
 use std::rt::HostRuntime;
-use std::sync::{Arc, Wait};
+use std::sync::atomic::AtomicU64;
+use std::sync::{Arc, OnceLock, Wait};
 use std::thread::Threads;
 
 // The concrete runtime reads the users' file, since a bound with associated types (`Files`) of a generic
@@ -102,7 +103,16 @@ fn shared<R: Host + Threads + Wait>(
     let file = UsersFile::new(files, alloc, options.users);
     let watched = Arc::new(alloc, WatchedUsers::new(file, owner)?)?;
     let loop_handles = Arc::new(alloc, loop_handles)?;
-    let shared = Shared::new(alloc, loop_handles, watched, options.tells);
+    let shared = Shared {
+        alloc,
+        log: Log::new(alloc, loop_handles.len()),
+        loop_handles,
+        over: OnceLock::new(),
+        busy: AtomicU64::new(0),
+        watched,
+        wrong_tokens: AtomicU64::new(0),
+        tells: options.tells,
+    };
     start_watching(rt, &shared, LastLook::read(seen))?;
     Ok(shared)
 }

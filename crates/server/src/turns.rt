@@ -31,15 +31,20 @@ const LOOK: u64 = 1_000;
 // At most this many connections wait for their first message, by all loops together.
 const MOST_NEW: usize = 256;
 
-/// When a loop wakes the others, and when its draws wait.
+/// What comes to a loop: events of its connections, news, and connections to be taken in.
 #[derive(Drop)]
-struct Pacing<'a> {
-    shared: &'a Shared,
+pub struct Inlet<'a> {
+    pub shared: &'a Shared,
     me: usize,
+    loop_handle: &'a LoopHandle,
+    poll: Poll,
+    events: Events,
+    registry: &'a Registry,
+    acceptor: Option<Acceptor>,
     pace: Pace,
 }
 
-impl Pacing<'_> {
+impl Inlet<'_> {
     // Wakes the other loops if they may have something to do. While much comes to this one it doesn't
     // wake them for output: they look by themselves.
     fn tell_others(&self, submitted: Submitted, is_news: bool) -> io::Result<()> {
@@ -49,37 +54,19 @@ impl Pacing<'_> {
         Ok(())
     }
 
-    // How long the loop sleeps at most if nothing is to be done.
-    fn longest_sleep(&self) -> Option<Duration> {
-        self.pace.longest_sleep(&self.shared.busy)
-    }
-
     // A turn's reads are done. Returns whether its draws wait.
-    fn read(&mut self, now: Option<Duration>, reads: Reads) -> io::Result<bool> {
+    fn end_reads(&mut self, now: Option<Duration>, reads: Reads) -> io::Result<bool> {
         let is_news = self.pace.note(&self.shared.busy, now, reads.is_much);
         self.tell_others(reads.submitted, is_news)?;
         Ok(self.pace.holds(&self.shared.busy, now, reads.has_typed))
     }
 
     // A turn's writes are done.
-    fn written(&mut self, now: Option<Duration>, writes: Writes) -> io::Result<()> {
+    fn end_writes(&mut self, now: Option<Duration>, writes: Writes) -> io::Result<()> {
         self.pace.draw(now, writes.drawn);
         self.tell_others(writes.submitted, false)
     }
-}
 
-/// What comes to a loop: events of its connections, news, and connections to be taken in.
-#[derive(Drop)]
-pub struct Inlet<'a> {
-    poll: Poll,
-    events: Events,
-    loop_handle: &'a LoopHandle,
-    registry: &'a Registry,
-    acceptor: Option<Acceptor>,
-    pacing: Pacing<'a>,
-}
-
-impl Inlet<'_> {
     // Whether more connections may wait to be taken in.
     fn has_more(&self) -> bool {
         self.acceptor.as_ref().is_some_and(|it| it.has_more)
@@ -94,7 +81,7 @@ impl Inlet<'_> {
     fn timeout(&self, pending: Pending) -> Option<Duration> {
         if pending == Pending::Work || self.has_more() {
             Some(Duration::ZERO)
-        } else if let Some(longest) = self.pacing.longest_sleep() {
+        } else if let Some(longest) = self.pace.longest_sleep(&self.shared.busy) {
             Some(longest)
         } else if pending == Pending::Retry || self.is_stuck() {
             Some(Duration::from_millis(PAUSE))
@@ -118,7 +105,7 @@ impl Inlet<'_> {
 
     // How many connections of this loop may wait for their first message.
     fn share(&self) -> usize {
-        MOST_NEW / self.pacing.shared.loop_handles.len().clamp(1, MOST_NEW)
+        MOST_NEW / self.shared.loop_handles.len().clamp(1, MOST_NEW)
     }
 
     // Hands the connections that wait to the loops, if this loop does so. News that came before this
@@ -127,7 +114,7 @@ impl Inlet<'_> {
         let is_asked = is_asked || self.has_more() || self.is_stuck();
         if let Some(acceptor) = &mut self.acceptor {
             if is_asked {
-                acceptor.accept(rt, &self.pacing.shared.loop_handles)?;
+                acceptor.accept(rt, &self.shared.loop_handles)?;
             }
         }
         self.loop_handle.take_news();
@@ -230,24 +217,23 @@ fn begin_turn<'a, J: SessionSeat + Drop, G: Gate + Drop, R: Clock + Wait>(
 // One turn at this time: what came is read and done, and what comes of it is written.
 fn turn<J: SessionSeat + Drop, G: Gate + Drop, R: Clock + Wait>(
     rt: &R,
-    loop_handle: &LoopHandle,
-    pacing: &mut Pacing,
+    inlet: &mut Inlet,
     own: &mut Loop<Wired, G, J>,
     now: Option<Duration>,
 ) -> io::Result<()> {
     own.seat.set_time(rt);
     let reads = own.read_all(rt);
     if own.awaits_look() {
-        loop_handle.await_look();
-        own.set_look(pacing.shared.watched.ask(rt));
+        inlet.loop_handle.await_look();
+        own.set_look(inlet.shared.watched.ask(rt));
     }
-    let holds_draws = pacing.read(now, reads)?;
+    let holds_draws = inlet.end_reads(now, reads)?;
     own.expire();
     let writes = own.end_turn(rt, holds_draws);
-    pacing.written(now, writes)?;
-    tell_news(rt, pacing.shared, own.take_news());
+    inlet.end_writes(now, writes)?;
+    tell_news(rt, inlet.shared, own.take_news());
     match writes.end {
-        Some(end) => pacing.shared.end(end),
+        Some(end) => inlet.shared.end(end),
         None => Ok(()),
     }
 }
@@ -270,7 +256,6 @@ fn look_at_users<S: Read + Write + Drop, J: SessionSeat + Drop, G: Gate + Drop, 
 // Turns until the server ends.
 fn take_turns<'a, J: SessionSeat + Drop, G: Gate + Drop, R: Clock + Wait>(
     rt: &R,
-    shared: &Shared,
     inlet: &mut Inlet<'a>,
     own: &mut Loop<Wired<'a>, G, J>,
 ) -> io::Result<()> {
@@ -281,11 +266,11 @@ fn take_turns<'a, J: SessionSeat + Drop, G: Gate + Drop, R: Clock + Wait>(
         if own.has_held() {
             // A look that ends after this wakes the loop.
             inlet.loop_handle.await_look();
-            look_at_users(rt, shared, &mut count, own);
+            look_at_users(rt, inlet.shared, &mut count, own);
         }
-        turn(rt, inlet.loop_handle, &mut inlet.pacing, own, now)?;
-        if let Some(end) = shared.over.get() {
-            return wind_up(rt, shared, inlet, own, *end);
+        turn(rt, inlet, own, now)?;
+        if let Some(end) = inlet.shared.over.get() {
+            return wind_up(rt, inlet, own, *end);
         }
     }
     Ok(())
@@ -309,22 +294,20 @@ pub fn run_loop<J: SessionSeat + Drop, G: Gate + Copy + Drop, R: Clock + Wait>(
         return Ok(seat);
     };
     let mut inlet = Inlet {
+        shared,
+        me,
+        loop_handle,
         poll,
         events: Events::with_capacity(shared.alloc, 64)?,
-        loop_handle,
         registry: &registry,
         acceptor,
-        pacing: Pacing {
-            shared,
-            me,
-            pace: Pace::new(),
-        },
+        pace: Pace::new(),
     };
     let mut gate = gate;
     gate.stand_at(me);
     let loops = shared.loop_handles.len();
     let mut own: Loop<Wired, G, J> = Loop::new(shared.alloc, seat, gate, loops)?;
     own.tells = shared.tells;
-    take_turns(rt, shared, &mut inlet, &mut own)?;
+    take_turns(rt, &mut inlet, &mut own)?;
     Ok(own.into_seat())
 }

@@ -1,6 +1,5 @@
 //! How a loop ends.
 
-use crate::loop_handle::Shared;
 use crate::turns::{Inlet, tell_news};
 use server_loop::{End, Gate, Loop, SessionSeat};
 use server_system::Wired;
@@ -28,7 +27,6 @@ fn is_late<R: Clock>(rt: &R, began: Option<Duration>, pauses: u64) -> bool {
 /// writes the last news to the log.
 pub fn wind_up<J: SessionSeat + Drop, G: Gate + Drop, R: Clock + Wait>(
     rt: &R,
-    shared: &Shared,
     inlet: &mut Inlet,
     own: &mut Loop<Wired, G, J>,
     end: End,
@@ -43,6 +41,6 @@ pub fn wind_up<J: SessionSeat + Drop, G: Gate + Drop, R: Clock + Wait>(
         inlet.wait(Some(Duration::from_millis(PAUSE)))?;
         own.finish(rt, end);
     }
-    tell_news(rt, shared, own.take_news());
+    tell_news(rt, inlet.shared, own.take_news());
     Ok(())
 }

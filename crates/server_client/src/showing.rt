@@ -137,29 +137,15 @@ fn write<O: Write>(outlet: &mut Outlet<O>, writing: &Writing) -> io::Result<()> 
     outlet.output.flush()
 }
 
-// Writes the bytes that wait, unless another thread is writing. Returns whether it wrote some.
-fn write_next<R: Wait, I, O: Write>(
-    rt: &R,
-    shared: &SharedPeer<I, O>,
-    mine: bool,
-) -> io::Result<bool> {
-    match waiting(rt, shared, mine) {
-        Some(writing) => {
-            let mut outlet = shared.outlet.lock(rt);
-            write(&mut outlet, &writing)?;
-            Ok(true)
-        }
-        None => Ok(false),
-    }
-}
-
 // Writes until nothing waits, unless another thread does.
 fn write_waiting<R: Wait, I, O: Write>(rt: &R, shared: &SharedPeer<I, O>) -> io::Result<()> {
     let mut mine = false;
     for _ in rt.forever() {
-        if !write_next(rt, shared, mine)? {
+        let Some(writing) = waiting(rt, shared, mine) else {
             break;
-        }
+        };
+        let mut outlet = shared.outlet.lock(rt);
+        write(&mut outlet, &writing)?;
         mine = true;
     }
     Ok(())

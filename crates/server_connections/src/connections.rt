@@ -113,7 +113,7 @@ impl<S: Drop> Connections<S> {
         ensures { IsTrue result ↔ IsAt self.now.peers role key }
     {
         match self.get(key) {
-            Some(peer) => peer.role.is(role) && peer.listens(),
+            Some(peer) => peer.role == role && peer.listens(),
             None => false,
         }
     }

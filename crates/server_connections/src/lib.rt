@@ -18,7 +18,7 @@ pub use frames::{Sending, put, why_of};
 pub use inbox::Asked;
 pub use news::{Guest, Name, News};
 pub use peer::{Awaits, Peer, Role, Stage};
-pub use seat::{Answer, GuestKind, SeatFault, SessionSeat};
+pub use seat::{End, GuestKind, SeatAnswer, SeatFault, SessionSeat};
 pub use stream::Arrival;
 pub use turn::Turn;
 pub use walk::{HasConnections, each_awake};

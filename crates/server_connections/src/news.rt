@@ -16,22 +16,19 @@ impl Display for Name {
     }
 }
 
-/// A client or a window, with its user.
+/// A client or a window of a user.
 #[derive(Clone, Copy, Debug, PartialEq, Eq)]
-pub enum Guest {
-    /// A client of this serial.
-    Client(UserId, u32),
-    /// A window that began with this number.
-    Window(UserId, u8),
+pub struct Guest {
+    pub kind: GuestKind,
+    pub user: UserId,
+    /// A client's serial, or the number with which a window began.
+    pub number: u32,
 }
 
-impl Guest {
-    /// Its user, and what it is.
-    pub fn owner(self) -> (UserId, GuestKind) {
-        match self {
-            Guest::Client(user, _) => (user, GuestKind::Client),
-            Guest::Window(user, _) => (user, GuestKind::Window),
-        }
+impl Display for Guest {
+    fn fmt<W: fmt::Write>(&self, f: &mut Formatter<W>) -> fmt::Result {
+        let (kind, number) = (self.kind.word(), self.number);
+        write!(f, "{kind} {number} of {}", Name(self.user))
     }
 }
 

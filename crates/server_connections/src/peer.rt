@@ -1,6 +1,6 @@
 //! One connection.
 
-ghost use Rattle.std.specs.Prelude.{◌≡◌, ◌↔◌, IfOk, IsTrue, not};
+ghost use Rattle.std.specs.Prelude.{◌≡◌, IfOk, not};
 ghost use Rattle.server_connections.specs.Peers.{IsNewcomer, awaits, has_more, is_at_rest, is_awaited};
 ghost use Rattle.server_connections.specs.Peers.{is_closed, is_done, is_due, is_empty, is_new, is_open, is_stranger};
 ghost use Rattle.server_connections.specs.Peers.{listens};
@@ -30,18 +30,6 @@ pub enum Role {
 }
 
 impl Role {
-    /// Whether both are strangers, the same client or the same window.
-    pub fn is(self, other: Role) -> bool
-        ensures { IsTrue result ↔ (self ≡ other) }
-    {
-        match (self, other) {
-            (Role::Stranger, Role::Stranger) => true,
-            (Role::Client(one), Role::Client(another)) => one == another,
-            (Role::Window(one), Role::Window(another)) => one == another,
-            _ => false,
-        }
-    }
-
     pub fn is_stranger(self) -> bool
         ensures { result ≡ is_stranger self }
     {

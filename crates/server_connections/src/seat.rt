@@ -1,6 +1,7 @@
 //! The seat that a loop has in the session which the loops share.
 
 use acl::UserId;
+use attach_proto::Why;
 use server_users::{Outcome, Users};
 use session_model::{Effect, Event, Reply};
 use std::sync::Wait;
@@ -8,7 +9,7 @@ use std::time::{Clock, Duration};
 
 /// The answer to a submitted event.
 #[derive(Drop)]
-pub struct Answer {
+pub struct SeatAnswer {
     pub reply: Reply,
     /// How full the trail is by this event, in percent, if that is news.
     pub filled: Option<u8>,
@@ -23,14 +24,53 @@ pub enum GuestKind {
     Window,
 }
 
-/// Why a submitted event has no answer.
-#[derive(Clone, Copy)]
-pub enum SeatFault {
-    NoMemory,
+impl GuestKind {
+    pub fn word(self) -> &'static str {
+        match self {
+            GuestKind::Client => "client",
+            GuestKind::Window => "window",
+        }
+    }
+}
+
+/// Why a server ends.
+#[derive(Clone, Copy, Debug, PartialEq, Eq)]
+pub enum End {
+    /// A user gave the command `quit`.
+    Quit,
     /// No entry goes into the session's trail any more.
     TrailFull,
-    /// The session refused the seat.
-    Strange,
+    /// The hub refused a seat, or a loop failed.
+    Fault,
+}
+
+impl End {
+    /// The cause that the peers are told.
+    pub fn why(self) -> Why {
+        match self {
+            End::Quit => Why::Quit,
+            End::TrailFull => Why::TrailFull,
+            End::Fault => Why::Fault,
+        }
+    }
+}
+
+/// Why a submitted event has no answer.
+#[derive(Clone, Copy, Debug, PartialEq, Eq)]
+pub enum SeatFault {
+    NoMemory,
+    /// The server ends for this cause.
+    Over(End),
+}
+
+impl SeatFault {
+    /// The cause that the peer is told whose event it was.
+    pub fn why(self) -> Why {
+        match self {
+            SeatFault::NoMemory => Why::Fault,
+            SeatFault::Over(end) => end.why(),
+        }
+    }
 }
 
 /// A loop's seat in the session that all loops share.
@@ -39,7 +79,7 @@ pub trait SessionSeat {
     fn users(&self) -> &Users;
 
     /// Submits an event to the session.
-    fn submit<R: Wait>(&mut self, rt: &R, event: Event<'_>) -> Result<Answer, SeatFault>;
+    fn submit<R: Wait>(&mut self, rt: &R, event: Event<'_>) -> Result<SeatAnswer, SeatFault>;
 
     /// Pays `cost` thousandths of a unit for a step that a user is about to try, unless the user has
     /// to wait. Returns whether it was paid.

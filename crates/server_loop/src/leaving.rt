@@ -1,29 +1,24 @@
 //! How a connection leaves.
 
-use crate::end::End;
 use crate::gate::Gate;
 use crate::own::Loop;
-use crate::submitting::Unanswered;
 use attach_proto::Why;
-use server_connections::{Guest, News, Role, SessionSeat, Stage, each_awake};
+use server_connections::{End, News, Role, SeatFault, SessionSeat, Stage, each_awake};
 use std::io::{Read, Write};
 use std::sync::Wait;
 
 impl<S: Read + Write + Drop, G: Gate + Drop, J: SessionSeat + Drop> Loop<S, G, J> {
     // Tells the session that a connection left it. If there is no memory, it is told in a later turn.
-    pub(crate) fn tell_leaving(&mut self, rt: &impl Wait, key: usize) -> Result<(), Unanswered> {
+    pub(crate) fn tell_leaving(&mut self, rt: &impl Wait, key: usize) -> Result<(), SeatFault> {
         let Some(peer) = self.connections.get(key) else {
             return Ok(());
         };
         let Some(event) = peer.leaves.parting() else {
             return Ok(());
         };
-        match self.submit(rt, event) {
-            Err(Unanswered::NoMemory) => {
-                self.has_refused = true;
-                return Err(Unanswered::NoMemory);
-            }
-            Ok(_) | Err(Unanswered::Over) => {}
+        if let Err(SeatFault::NoMemory) = self.submit(rt, event) {
+            self.has_refused = true;
+            return Err(SeatFault::NoMemory);
         }
         if let Some(peer) = self.connections.touch(key) {
             peer.leaves = Role::Stranger;
@@ -106,18 +101,13 @@ impl<S: Read + Write + Drop, G: Gate + Drop, J: SessionSeat + Drop> Loop<S, G, J
         if let Some((_, key)) = oldest {
             if count >= most {
                 self.dismiss(key, Why::Fault);
-                self.close_at_once(rt, key);
+                if let Some(peer) = self.connections.touch(key) {
+                    peer.write();
+                    peer.close();
+                }
+                self.sweep(rt);
             }
         }
-    }
-
-    // Writes what a connection takes, and closes it.
-    fn close_at_once(&mut self, rt: &impl Wait, key: usize) {
-        if let Some(peer) = self.connections.touch(key) {
-            peer.write();
-            peer.close();
-        }
-        self.sweep(rt);
     }
 
     /// Connections whose first message didn't come in time are told to go, and those that were told
@@ -131,18 +121,13 @@ impl<S: Read + Write + Drop, G: Gate + Drop, J: SessionSeat + Drop> Loop<S, G, J
         });
     }
 
-    // A guest left: its user may have another one.
-    fn part(&mut self, rt: &impl Wait, guest: Guest, why: Option<Why>) {
-        let (user, kind) = guest.owner();
-        self.seat.remove(rt, user, kind);
-        self.tell(News::Went(guest, why));
-    }
-
-    // What is closed goes, and what has nothing to do rests.
+    // What is closed goes, and what has nothing to do rests. If it was a guest, its user may have
+    // another one.
     fn settle(&mut self, rt: &impl Wait, key: usize) {
         let gone = self.connections.touch(key).and_then(|peer| peer.farewell());
         if let Some((guest, why)) = gone {
-            self.part(rt, guest, why);
+            self.seat.remove(rt, guest.user, guest.kind);
+            self.tell(News::Went(guest, why));
         }
         self.connections.settle(key);
     }
@@ -164,7 +149,6 @@ impl<S: Read + Write + Drop, G: Gate + Drop, J: SessionSeat + Drop> Loop<S, G, J
                 peer.role = Role::Stranger;
                 peer.leaves = Role::Stranger;
                 peer.write();
-                peer.leaves = Role::Stranger;
             }
         }
         self.sweep(rt);

@@ -2,7 +2,6 @@
 //! sends and draws, and how connections leave.
 #![tactic(auto)]
 
-mod end;
 mod gate;
 mod leaving;
 mod own;
@@ -13,10 +12,9 @@ mod sending;
 mod submitting;
 mod turn;
 
-pub use end::End;
 pub use gate::{Gate, Open};
 pub use own::{Loop, Pending};
 pub use pace::Pace;
-pub use server_connections::{Answer, Connections, Guest, Name, News, SeatFault, SessionSeat};
+pub use server_connections::{Connections, End, Name, News, SessionSeat};
 pub use submitting::Submitted;
 pub use turn::{Reads, Writes};

@@ -1,11 +1,10 @@
 //! One loop: its connections, its seat in the session, and what it still has to do.
 
-use crate::end::End;
 use crate::gate::Gate;
 use crate::ration::Rations;
 use crate::submitting::Submitted;
 use crate::turn::PIECE;
-use server_connections::{Awaits, Connections, HasConnections, News, SessionSeat};
+use server_connections::{Awaits, Connections, End, HasConnections, News, SessionSeat};
 use server_users::Users;
 use std::alloc::{AllocError, Global};
 use std::time::Duration;

@@ -1,14 +1,14 @@
 //! What peers ask for.
 
-use crate::end::End;
 use crate::gate::Gate;
 use crate::own::Loop;
-use crate::submitting::Unanswered;
 use crate::turn::{PIECE, Progress};
 use acl::UserId;
 use attach_proto::{Message, Text, Token, Why};
 use command_lang::{Command, FaultKind, parse};
-use server_connections::{Answer, Asked, Guest, GuestKind, Name, News, Role, Sending, SessionSeat};
+use server_connections::{
+    Asked, End, Guest, GuestKind, Name, News, Role, SeatAnswer, SeatFault, Sending, SessionSeat,
+};
 use server_users::{Outcome, UNIT, authenticate, price};
 use session_model::{Done, Event, Refusal};
 use std::alloc::{AllocError, Global};
@@ -51,14 +51,6 @@ fn kept_of(event: Event) -> usize {
     }
 }
 
-// How many bytes of keys were read.
-fn taken_of(answer: &Answer) -> usize {
-    match &answer.reply {
-        Ok(done) => done.taken,
-        Err(_) => 0,
-    }
-}
-
 impl<S: Read + Write + Drop, G: Gate + Drop, J: SessionSeat + Drop> Loop<S, G, J> {
     /// Does a message of a connection, or a step of it.
     pub(crate) fn obey(&mut self, rt: &impl Wait, key: usize, asked: &mut Asked) -> Progress {
@@ -87,7 +79,7 @@ impl<S: Read + Write + Drop, G: Gate + Drop, J: SessionSeat + Drop> Loop<S, G, J
     // Submits an event whose answer nobody waits for. A refusal is passed over, unless there was no
     // memory.
     fn change(&mut self, rt: &impl Wait, key: usize, event: Event) {
-        if let Err(Unanswered::NoMemory) = self.submit(rt, event) {
+        if let Err(SeatFault::NoMemory) = self.submit(rt, event) {
             self.fault(rt, key);
         }
     }
@@ -99,7 +91,7 @@ impl<S: Read + Write + Drop, G: Gate + Drop, J: SessionSeat + Drop> Loop<S, G, J
         rt: &impl Wait,
         user: UserId,
         event: Event,
-    ) -> Result<Option<Answer>, Unanswered> {
+    ) -> Result<Option<SeatAnswer>, SeatFault> {
         let entries = entries_of(event);
         let cost = price(entries, kept_of(event));
         let now = self.now;
@@ -113,10 +105,7 @@ impl<S: Read + Write + Drop, G: Gate + Drop, J: SessionSeat + Drop> Loop<S, G, J
             Err(_) => Outcome::Untaken,
         };
         self.seat.settle(rt, user, cost, outcome);
-        match answer {
-            Ok(answer) => Ok(Some(answer)),
-            Err(unanswered) => Err(unanswered),
-        }
+        answer.map(|answer| Some(answer))
     }
 
     // A step reads keys up to the first command; the rest is the next step's.
@@ -128,12 +117,15 @@ impl<S: Read + Write + Drop, G: Gate + Drop, J: SessionSeat + Drop> Loop<S, G, J
         let bytes = asked.rest();
         let taken = match self.try_for(rt, user, Event::Keys { client, bytes }) {
             Ok(None) => return Progress::Held,
-            Ok(Some(answer)) => taken_of(&answer),
-            Err(Unanswered::NoMemory) => {
+            Ok(Some(answer)) => match &answer.reply {
+                Ok(done) => done.taken,
+                Err(_) => 0,
+            },
+            Err(SeatFault::NoMemory) => {
                 self.fault(rt, key);
                 0
             }
-            Err(Unanswered::Over) => 0,
+            Err(SeatFault::Over(_)) => 0,
         };
         self.reading.has_typed = true;
         asked.done = asked.done.saturating_add(taken);
@@ -171,13 +163,6 @@ impl<S: Read + Write + Drop, G: Gate + Drop, J: SessionSeat + Drop> Loop<S, G, J
     fn turn_away(&mut self, rt: &impl Wait, key: usize, text: &str) {
         self.send(rt, key, Sending::Say(text.as_bytes()));
         self.dismiss(key, Why::Fault);
-    }
-
-    fn why_unanswered(&self, unanswered: Unanswered) -> Why {
-        match (unanswered, self.end()) {
-            (Unanswered::Over, Some(end)) => end.why(),
-            (Unanswered::Over, None) | (Unanswered::NoMemory, _) => Why::Fault,
-        }
     }
 
     // Whether the users' file was looked at since the connection's first message came.
@@ -266,9 +251,8 @@ impl<S: Read + Write + Drop, G: Gate + Drop, J: SessionSeat + Drop> Loop<S, G, J
         }
         let answer = match self.try_for(rt, user, event) {
             Ok(answer) => answer,
-            Err(unanswered) => {
-                let why = self.why_unanswered(unanswered);
-                self.dismiss(key, why);
+            Err(fault) => {
+                self.dismiss(key, fault.why());
                 self.seat.remove(rt, user, kind);
                 return Progress::Done;
             }
@@ -290,10 +274,11 @@ impl<S: Read + Write + Drop, G: Gate + Drop, J: SessionSeat + Drop> Loop<S, G, J
 
     fn let_in(&mut self, rt: &impl Wait, newcomer: Newcomer, kind: GuestKind, done: &Done) {
         let Newcomer { key, user } = newcomer;
-        let (role, guest) = match kind {
-            GuestKind::Window => (Role::Window(done.made), Guest::Window(user, done.number)),
-            GuestKind::Client => (Role::Client(done.made), Guest::Client(user, done.made)),
+        let (role, number) = match kind {
+            GuestKind::Window => (Role::Window(done.made), u32::from(done.number)),
+            GuestKind::Client => (Role::Client(done.made), done.made),
         };
+        let guest = Guest { kind, user, number };
         if let Some(peer) = self.connections.touch(key) {
             peer.join(role, guest);
         }
@@ -318,16 +303,19 @@ impl<S: Read + Write + Drop, G: Gate + Drop, J: SessionSeat + Drop> Loop<S, G, J
         match self.try_for(rt, user, Event::Command { user, window, line }) {
             Ok(None) => return Progress::Held,
             Ok(Some(answer)) => self.tell_answer(rt, newcomer, &answer, is_quit),
-            Err(unanswered) => {
-                let why = self.why_unanswered(unanswered);
-                self.dismiss(key, why);
-            }
+            Err(fault) => self.dismiss(key, fault.why()),
         }
         Progress::Done
     }
 
     // Tells a connection the answer to its command.
-    fn tell_answer(&mut self, rt: &impl Wait, newcomer: Newcomer, answer: &Answer, is_quit: bool) {
+    fn tell_answer(
+        &mut self,
+        rt: &impl Wait,
+        newcomer: Newcomer,
+        answer: &SeatAnswer,
+        is_quit: bool,
+    ) {
         let Newcomer { key, user } = newcomer;
         self.send(rt, key, Sending::Welcome(0));
         match &answer.reply {
@@ -352,11 +340,8 @@ impl<S: Read + Write + Drop, G: Gate + Drop, J: SessionSeat + Drop> Loop<S, G, J
     // Tells a connection that its user has as many clients or windows as a user may have.
     fn say_too_many(&mut self, rt: &impl Wait, newcomer: Newcomer, kind: GuestKind, most: u8) {
         let Newcomer { key, user } = newcomer;
-        let what = match kind {
-            GuestKind::Client => "clients",
-            GuestKind::Window => "windows",
-        };
-        match format!(in self.alloc; "too many {what} of {}: at most {most}", Name(user)) {
+        let kind = kind.word();
+        match format!(in self.alloc; "too many {kind}s of {}: at most {most}", Name(user)) {
             Ok(text) => self.turn_away(rt, key, &text),
             Err(_) => self.dismiss(key, Why::Fault),
         }

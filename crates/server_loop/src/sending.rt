@@ -1,11 +1,11 @@
 //! What connections are sent, and when they are drawn.
 
-use crate::end::End;
 use crate::gate::Gate;
 use crate::own::Loop;
-use crate::submitting::Unanswered;
 use attach_proto::Why;
-use server_connections::{Role, Sending, SessionSeat, Stage, each_awake, put, why_of};
+use server_connections::{
+    End, Role, SeatFault, Sending, SessionSeat, Stage, each_awake, put, why_of,
+};
 use session_model::{Effect, Event, Reason};
 use std::io::{Read, Write};
 use std::sync::Wait;
@@ -102,8 +102,8 @@ impl<S: Read + Write + Drop, G: Gate + Drop, J: SessionSeat + Drop> Loop<S, G, J
                 }
                 self.draws.made = self.draws.made.saturating_add(1);
             }
-            Err(Unanswered::NoMemory) => self.has_refused = true,
-            Err(Unanswered::Over) => {}
+            Err(SeatFault::NoMemory) => self.has_refused = true,
+            Err(SeatFault::Over(_)) => {}
         }
     }
 

@@ -1,19 +1,10 @@
 //! Events that a loop submits to the session which the loops share.
 
-use crate::end::End;
 use crate::gate::Gate;
 use crate::own::Loop;
-use server_connections::{Answer, News, SeatFault, SessionSeat};
+use server_connections::{News, SeatAnswer, SeatFault, SessionSeat};
 use session_model::Event;
 use std::sync::Wait;
-
-/// Why a submitted event has no answer.
-#[derive(Clone, Copy, Debug, PartialEq, Eq)]
-pub(crate) enum Unanswered {
-    NoMemory,
-    /// The server ends.
-    Over,
-}
 
 /// Which steps a loop submitted.
 #[derive(Clone, Copy)]
@@ -43,36 +34,27 @@ impl Submitted {
 }
 
 impl<S: Drop, G: Gate + Drop, J: SessionSeat + Drop> Loop<S, G, J> {
-    /// Submits an event to the session that the loops share.
+    /// Submits an event to the session that the loops share. Notes how the server ends, if it does.
     pub(crate) fn submit(
         &mut self,
         rt: &impl Wait,
         event: Event<'_>,
-    ) -> Result<Answer, Unanswered> {
+    ) -> Result<SeatAnswer, SeatFault> {
         self.gate.before();
         let answer = self.seat.submit(rt, event);
         self.gate.after();
         self.is_behind = true;
         self.submitted.note(event);
-        match answer {
+        match &answer {
             Ok(answer) => {
                 if let Some(percent) = answer.filled {
                     self.tell(News::Filled(percent));
                 }
-                Ok(answer)
             }
-            Err(fault) => Err(self.unanswered(fault)),
+            Err(SeatFault::Over(end)) => self.end = Some(*end),
+            Err(SeatFault::NoMemory) => {}
         }
-    }
-
-    // Notes how the server ends if an event has no answer for another cause than memory.
-    fn unanswered(&mut self, fault: SeatFault) -> Unanswered {
-        match fault {
-            SeatFault::NoMemory => return Unanswered::NoMemory,
-            SeatFault::TrailFull => self.end = Some(End::TrailFull),
-            SeatFault::Strange => self.end = Some(End::Fault),
-        }
-        Unanswered::Over
+        answer
     }
 
     // Which steps were submitted since the last call.

@@ -1,10 +1,9 @@
 //! How a loop's connections have their turn.
 
-use crate::end::End;
 use crate::gate::Gate;
 use crate::own::Loop;
 use crate::submitting::Submitted;
-use server_connections::{Arrival, Role, SessionSeat, each_awake};
+use server_connections::{Arrival, End, Role, SessionSeat, each_awake};
 use std::io::{Read, Write};
 use std::sync::Wait;
 
@@ -16,7 +15,7 @@ const READS: usize = 16;
 const STEPS: usize = 8;
 
 /// At most this many bytes of windows' output are done in a turn, and so by one step.
-pub(crate) const PIECE: usize = 4_096;
+pub(crate) const PIECE: usize = 8_192;
 
 /// What became of a message.
 #[derive(Clone, Copy, Debug, PartialEq, Eq)]
@@ -62,12 +61,6 @@ impl<S: Read + Write + Drop, G: Gate + Drop, J: SessionSeat + Drop> Loop<S, G, J
         matches!(self.role_of(key), Role::Window(_))
     }
 
-    // Whether messages of a connection aren't done yet.
-    fn has_asked(&self, key: usize) -> bool {
-        let peer = self.connections.get(key);
-        peer.is_some_and(|peer| peer.has_asked())
-    }
-
     // Whether a connection has something to do. What was held is tried again.
     fn is_due_at(&mut self, key: usize) -> bool {
         let peer = self.connections.touch(key);
@@ -98,7 +91,8 @@ impl<S: Read + Write + Drop, G: Gate + Drop, J: SessionSeat + Drop> Loop<S, G, J
         if peer.is_some_and(|peer| peer.is_faulty()) {
             self.fault(rt, key);
         }
-        !self.has_asked(key)
+        let peer = self.connections.get(key);
+        !peer.is_some_and(|peer| peer.has_asked())
     }
 
     // Reads a connection once, if all that it asked for before is done.

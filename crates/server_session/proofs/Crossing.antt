@@ -10,10 +10,10 @@ use Rattle.std.proofs.Crossing.{crosses}
 use Rattle.server_users.proofs.users.Users.TheSendSync as users
 use Rattle.server_trail.proofs.recorder.Recorder.TheSendSync as recorder
 use Rattle.server_session.specs.contracts.shared_session.SharedSession as SharedSession
-use Rattle.server_session.specs.contracts.loop_body.Kept as Kept
+use Rattle.server_session.specs.contracts.loop_body.RunningSession as RunningSession
 
 pub session_sync : (L : RattleType) (b : Beginnings L.Denot) (g : Ghosts L.Denot) → IsSync (SharedSession.the_row L b g)
 session_sync L b g = declared_sync (SharedSession.the_type L b g) (hub_sync L b g, (users.the_sync, (search (recorder.the_sync, sendable, crosses) depth 60, tt)))
 
-pub kept_sync : (L : RattleType) (b : Beginnings L.Denot) (g : Ghosts L.Denot) → IsSync (Kept.the_row L b g)
-kept_sync L b g = declared_sync (Kept.the_type L b g) (session_sync L b g, (seats_sync L g, tt))
+pub running_sync : (L : RattleType) (b : Beginnings L.Denot) (g : Ghosts L.Denot) → IsSync (RunningSession.the_row L b g)
+running_sync L b g = declared_sync (RunningSession.the_type L b g) (session_sync L b g, (seats_sync L g, tt))

@@ -2,7 +2,7 @@
 
 ghost use Rattle.std.specs.Prelude.{◌≡◌, ◌<◌, ◌≤◌, IfOk};
 ghost use Rattle.acl.specs.declared.edition.Edition.TheVariants.{Second};
-ghost use Rattle.session_model.specs.Trace.{begun};
+ghost use Rattle.session_model.specs.Trace.{begun as run_begun};
 ghost use Rattle.hub_ledger.specs.Seats.{StandsFor};
 
 use crate::setting_up::set_up;
@@ -54,7 +54,6 @@ pub trait LoopBody<P: Drop, R> {
     fn run<L: Begun>(
         &self,
         rt: &R,
-        alloc: Global,
         shared: &SharedSession<L>,
         seat: Seat<L>,
         place: P,
@@ -93,12 +92,12 @@ pub struct Start<P: Drop> {
 
 // A session while its loops run, and the seats of the loops that ended well.
 #[derive(Drop)]
-struct Kept<L: Begun> {
+struct RunningSession<L: Begun> {
     shared: SharedSession<L>,
     left: Mutex<Vec<Seat<L>>>,
 }
 
-impl<L: Begun> Kept<L> {
+impl<L: Begun> RunningSession<L> {
     // Takes note that a loop has ended. One that ended well gives its seat back.
     fn leave(&self, rt: &impl Wait, seat: Option<Seat<L>>) {
         if let Some(seat) = seat {
@@ -108,42 +107,35 @@ impl<L: Begun> Kept<L> {
     }
 }
 
-// What the loops begin with: each takes a seat and a place.
-#[derive(Drop)]
-struct Starts<L: Begun, P: Drop> {
-    alloc: Global,
-    seats: Vec<Seat<L>>,
+// Runs every loop to its end, each in a thread of its own, with one of these seats and places.
+fn run_all<L, P, K, R>(
+    rt: &R,
+    running: &RunningSession<L>,
+    mut seats: Vec<Seat<L>>,
     places: Vec<P>,
-}
-
-// Runs every loop to its end, each in a thread of its own.
-fn run_all<L, P, K, R>(rt: &R, kept: &Kept<L>, starts: Starts<L, P>, loop_body: &K)
+    loop_body: &K,
+)
 where
     L: Begun + Send + Sync,
     P: Send + Drop,
     K: LoopBody<P, R> + Sync,
     R: Clock + Threads + Wait + Sync,
 {
-    let Starts {
-        alloc,
-        mut seats,
-        places,
-    } = starts;
     thread::scope(thread::scope_env(), rt, |scope| {
         for place in places {
             let Some(seat) = seats.pop() else {
                 return;
             };
             let started = scope.spawn(move || {
-                let left = loop_body.run(rt, alloc, &kept.shared, seat, place);
-                kept.leave(rt, left);
+                let left = loop_body.run(rt, &running.shared, seat, place);
+                running.leave(rt, left);
             });
             if started.is_err() {
                 loop_body.fail(rt);
-                kept.leave(rt, None);
+                running.leave(rt, None);
             }
         }
-        if let Some(recorder) = &kept.shared.recorder {
+        if let Some(recorder) = &running.shared.recorder {
             let writing = scope.spawn(move || loop_body.write_trail(rt, recorder));
             if writing.is_err() {
                 loop_body.fail(rt);
@@ -156,30 +148,9 @@ where
 // A new session of this owner.
 fn new_session<L: Begun>(alloc: Global, owner: UserId) -> Result<Session, Refusal>
     requires { (L.edition ≡ Second) × (L.owner ≡ owner) }
-    ensures { IfOk result (StandsFor (begun L.edition L.owner)) }
+    ensures { IfOk result (StandsFor (run_begun L.edition L.owner)) }
 {
     Session::new(alloc, owner)
-}
-
-// A new session of this owner, and a seat for each loop.
-fn begin<L: Begun>(
-    alloc: Global,
-    blank: Blank,
-    owner: UserId,
-    loops: usize,
-) -> Result<(Hub<L>, Vec<Seat<L>>), LoopsFault>
-    requires blank { (blank.name ≡ L.name) × (blank.parts ≡ L.parts) × (loops ≡ L.parts)
-        × (0 < loops) × (loops ≤ 8) }
-    requires begun { (L.edition ≡ Second) × (L.owner ≡ owner) }
-{
-    // A new session and a new hub are refused only if there is no memory.
-    let Ok(session) = new_session::<L>(alloc, owner) else {
-        return Err(LoopsFault::NoMemory);
-    };
-    match Hub::<L>::new(alloc, blank, session, loops) {
-        Ok(begun) => Ok(begun),
-        Err(_) => Err(LoopsFault::NoMemory),
-    }
 }
 
 // What writes the session's trail to a file, if there is one. The seats ask for entries in any case,
@@ -208,9 +179,52 @@ where
 // The owner and the number of loops of a new session, and a blank of as many parts.
 #[derive(Drop)]
 struct Parts {
+    alloc: Global,
     blank: Blank,
     owner: UserId,
     loops: usize,
+}
+
+// A new session with these users, after the commands of the setup, and a seat for each loop.
+fn begin<L, P, K, R>(
+    rt: &R,
+    parts: Parts,
+    users: Users,
+    loop_body: &K,
+) -> Result<(RunningSession<L>, Vec<Seat<L>>), LoopsFault>
+where
+    L: Begun,
+    P: Drop,
+    K: LoopBody<P, R>,
+    R: Clock + Wait,
+    requires blank { (parts.blank.name ≡ L.name) × (parts.blank.parts ≡ L.parts)
+        × (parts.loops ≡ L.parts) × (0 < parts.loops) × (parts.loops ≤ 8) }
+    requires session { (L.edition ≡ Second) × (L.owner ≡ parts.owner) }
+{
+    let Parts {
+        alloc,
+        blank,
+        owner,
+        loops,
+    } = parts;
+    let left = Mutex::new(Vec::with_capacity(alloc, loops)?);
+    // A new session and a new hub are refused only if there is no memory.
+    let Ok(session) = new_session::<L>(alloc, owner) else {
+        return Err(LoopsFault::NoMemory);
+    };
+    let Ok((hub, mut seats)) = Hub::<L>::new(alloc, blank, session, loops) else {
+        return Err(LoopsFault::NoMemory);
+    };
+    let recorder = recorder::<L, P, K, R>(rt, alloc, seats.as_mut_slice(), loop_body);
+    let shared = SharedSession {
+        hub,
+        users,
+        recorder,
+    };
+    if let Some(seat) = seats.first_mut() {
+        set_up(rt, alloc, &shared, seat, loop_body.setup())?;
+    }
+    Ok((RunningSession { shared, left }, seats))
 }
 
 fn keep_as<L, P, K, R, B>(
@@ -231,38 +245,13 @@ where
     requires session { (L.edition ≡ Second) × (L.owner ≡ parts.owner) }
     requires begun { B.IsAlwaysCallable begun }
 {
-    let Parts {
-        blank,
-        owner,
-        loops,
-    } = parts;
-    let Start {
-        alloc,
-        users,
-        places,
-    } = start;
-    let left = Mutex::new(Vec::with_capacity(alloc, loops)?);
-    let (hub, mut seats) = begin::<L>(alloc, blank, owner, loops)?;
-    let recorder = recorder::<L, P, K, R>(rt, alloc, seats.as_mut_slice(), loop_body);
-    let shared = SharedSession {
-        hub,
-        users,
-        recorder,
-    };
-    let kept = Kept { shared, left };
-    if let Some(seat) = seats.first_mut() {
-        set_up(rt, alloc, &kept.shared, seat, loop_body.setup())?;
-    }
+    let Start { users, places, .. } = start;
+    let (running, seats) = begin::<L, P, K, R>(rt, parts, users, loop_body)?;
     let has_begun = begun();
     if has_begun.is_ok() {
-        let starts = Starts {
-            alloc,
-            seats,
-            places,
-        };
-        run_all(rt, &kept, starts, loop_body);
+        run_all(rt, &running, seats, places, loop_body);
     }
-    let Kept { shared, left } = kept;
+    let RunningSession { shared, left } = running;
     let SharedSession { hub, .. } = shared;
     let (trail, wrong) = hub.close(left.into_inner());
     has_begun.map_err(LoopsFault::Untold)?;
@@ -288,6 +277,7 @@ where
 {
     let loops = start.places.len().clamp(1, MOST);
     let parts = Parts {
+        alloc: start.alloc,
         blank: Blank::new(loops as u64),
         owner: start.users.owner(),
         loops,

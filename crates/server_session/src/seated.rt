@@ -4,7 +4,7 @@ use crate::accounts::Accounts;
 use crate::shared_session::SharedSession;
 use acl::UserId;
 use hub::{Begun, FULL, HubFault, Seat};
-use server_connections::{Answer, GuestKind, SeatFault, SessionSeat};
+use server_connections::{End, GuestKind, SeatAnswer, SeatFault, SessionSeat};
 use server_users::{Outcome, Users};
 use session_model::{Effect, Event, Refusal, Reply, Verdict};
 use std::sync::Wait;
@@ -74,7 +74,7 @@ impl<L: Begun> SessionSeat for Seated<'_, L> {
         &self.shared.users
     }
 
-    fn submit<R: Wait>(&mut self, rt: &R, event: Event<'_>) -> Result<Answer, SeatFault> {
+    fn submit<R: Wait>(&mut self, rt: &R, event: Event<'_>) -> Result<SeatAnswer, SeatFault> {
         match self.shared.submit(rt, &mut self.seat, event) {
             Ok(answer) => {
                 let filled = match answer.place() {
@@ -86,15 +86,15 @@ impl<L: Begun> SessionSeat for Seated<'_, L> {
                     Some(entry) => outcome_of(answer.reply(), entry.verdicts()),
                     None => Outcome::Granted,
                 };
-                Ok(Answer {
+                Ok(SeatAnswer {
                     reply: answer.into_reply(),
                     filled,
                     outcome,
                 })
             }
             Err(HubFault::NoMemory) => Err(SeatFault::NoMemory),
-            Err(HubFault::TrailFull) => Err(SeatFault::TrailFull),
-            Err(HubFault::Strange) => Err(SeatFault::Strange),
+            Err(HubFault::TrailFull) => Err(SeatFault::Over(End::TrailFull)),
+            Err(HubFault::Strange) => Err(SeatFault::Over(End::Fault)),
         }
     }
 

@@ -180,6 +180,7 @@ impl Left {
 // Each loop performs the acts.
 #[derive(Drop)]
 struct Playing<'a> {
+    alloc: Global,
     acts: &'a [Act<'a>],
     loops: usize,
     calls: Calls,
@@ -191,7 +192,6 @@ impl<R: Clock + Wait> LoopBody<usize, R> for Playing<'_> {
     fn run<L: Begun>(
         &self,
         rt: &R,
-        alloc: Global,
         shared: &SharedSession<L>,
         seat: Seat<L>,
         place: usize,
@@ -199,9 +199,9 @@ impl<R: Clock + Wait> LoopBody<usize, R> for Playing<'_> {
         let latch = self.calls.latch(rt, place == 0);
         let seated = Seated::new(shared, &self.accounts, seat);
         let mut own: Loop<Near, Latch<R>, Seated<L>> = Loop::new(
-            alloc, seated, latch, self.loops,
+            self.alloc, seated, latch, self.loops,
         ).ok()?;
-        let mut outside = Outside::new(alloc);
+        let mut outside = Outside::new(self.alloc);
         let played = perform_all(rt, &mut own, &mut outside, self.acts);
         let mut left = self.left.lock(rt);
         if let Err(stop) = left.put(outside.into_notes(), played) {
@@ -268,6 +268,7 @@ pub fn perform(rt: &impl System, loops: usize, acts: &[Act]) -> Result<Seen, Sto
         places,
     };
     let playing = Playing {
+        alloc,
         acts,
         loops,
         calls: Calls::new(loops),

@@ -80,30 +80,6 @@ pub enum ServeFault {
 }
 
 impl ServeFault {
-    /// The users' file at this path can't be read.
-    pub(crate) fn of_no_file(alloc: Global, path: &str, error: io::Error) -> ServeFault {
-        match String::from_str(alloc, path) {
-            Ok(path) => ServeFault::NoFile(path, SystemError(error)),
-            Err(_) => ServeFault::NoMemory,
-        }
-    }
-
-    /// The users' file at this path has a fault.
-    pub(crate) fn of_users(alloc: Global, path: &str, fault: UsersFault) -> ServeFault {
-        match String::from_str(alloc, path) {
-            Ok(path) if fault != UsersFault::NoMemory => ServeFault::Users(path, fault),
-            _ => ServeFault::NoMemory,
-        }
-    }
-
-    /// The server can't listen on the socket at this path.
-    pub(crate) fn of_socket(alloc: Global, path: &str, fault: SocketFault) -> ServeFault {
-        match String::from_str(alloc, path) {
-            Ok(path) => ServeFault::Socket(path, fault),
-            Err(_) => ServeFault::NoMemory,
-        }
-    }
-
     /// The trail's file at this path has a fault.
     pub fn of_trail(alloc: Global, path: &str, fault: JournalFault) -> ServeFault {
         match String::from_str(alloc, path) {

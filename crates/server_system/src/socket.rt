@@ -116,7 +116,7 @@ impl SocketPath<'_> {
                 let lock = Mutex::new(Some(lock));
                 Ok((SocketPath { path, lock }, listener))
             }
-            Err(fault) => Err(ServeFault::of_socket(alloc, path, fault)),
+            Err(fault) => Err(ServeFault::Socket(String::from_str(alloc, path)?, fault)),
         }
     }
 

@@ -1,7 +1,7 @@
 //! The users' file, and whether it has changed.
 
-use crate::fault::ServeFault;
-use server_users::Users;
+use crate::fault::{ServeFault, SystemError};
+use server_users::{Users, UsersFault};
 use std::alloc::Global;
 use std::fs;
 use std::fs::Metadata;
@@ -56,25 +56,22 @@ impl<'p> UsersFile<'p> {
 
     /// Reads the users. A file that others may write is refused.
     pub fn read(&self) -> Result<(Users, Stamp), ServeFault> {
-        let found = match fs::metadata(&self.files, self.path) {
-            Ok(found) => found,
-            Err(error) => return Err(ServeFault::of_no_file(self.alloc, self.path, error)),
+        let path = String::from_str(self.alloc, self.path)?;
+        let stamp = match fs::metadata(&self.files, self.path) {
+            Ok(found) => Stamp::of(&found),
+            Err(error) => return Err(ServeFault::NoFile(path, SystemError(error))),
         };
-        let stamp = Stamp::of(&found);
         if stamp.mode & OTHERS_WRITE != 0 {
-            return Err(ServeFault::Writable(String::from_str(self.alloc, self.path)?));
+            return Err(ServeFault::Writable(path));
         }
-        Ok((self.read_users()?, stamp))
-    }
-
-    fn read_users(&self) -> Result<Users, ServeFault> {
         let file = match fs::read(&(self.files, self.alloc), self.path) {
             Ok(file) => file,
-            Err(error) => return Err(ServeFault::of_no_file(self.alloc, self.path, error)),
+            Err(error) => return Err(ServeFault::NoFile(path, SystemError(error))),
         };
         match Users::read(self.alloc, &file) {
-            Ok(users) => Ok(users),
-            Err(fault) => Err(ServeFault::of_users(self.alloc, self.path, fault)),
+            Ok(users) => Ok((users, stamp)),
+            Err(UsersFault::NoMemory) => Err(ServeFault::NoMemory),
+            Err(fault) => Err(ServeFault::Users(path, fault)),
         }
     }
 }

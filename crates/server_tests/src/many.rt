@@ -136,10 +136,10 @@ fn busy<'a>(output: &'a [u8], commands: &'a [u8]) -> [Act<'a>; 19] {
     ]
 }
 
-// 8,000 bytes, and 1,000 commands.
+// 8,192 bytes, and 1,000 commands.
 fn nobody_waits(rt: &impl System) -> Result<bool, AllocError> {
     let alloc = rt.alloc();
-    let output = often(alloc, b"O\x1F\x40", b"y", 8_000)?;
+    let output = often(alloc, b"O\x20\0", b"y", 8_192)?;
     let commands = often(alloc, b"K\x07\xD0", b"\x01n", 1_000)?;
     Ok(is_played(rt, &busy(&output, &commands), &SHARES))
 }

@@ -1,8 +1,8 @@
 use denote.Param.Send.{sendable}
 use Rattle.std.proofs.Crossing.{crosses}
 use Rattle.hub_ledger.proofs.seat.Seat.TheSendSync as seat
-use Rattle.server_session.proofs.Crossing.{kept_sync}
+use Rattle.server_session.proofs.Crossing.{running_sync}
 use Rattle.server_session.proofs.loop_body.fn.run_all.scope.Goals as goal
 
 pub spawn-started-requires-send-F : goal.spawn-started-requires-send-F
-spawn-started-requires-send-F g c κs within = search (kept_sync, seat.the_send, sendable, crosses) depth 60
+spawn-started-requires-send-F g c κs within = search (running_sync, seat.the_send, sendable, crosses) depth 60
