@@ -4,10 +4,10 @@ use crate::fault::WebFault;
 use acl::UserId;
 use attach_proto::Token;
 use clap::ArgMatches;
-use std::alloc::Global;
-use std::fs;
+use std::alloc::{AllocError, Global};
 use std::fs::{File, Files};
 use std::net::SocketAddr;
+use std::{env, fs};
 use web_client::{Site, Watcher};
 
 /// The files of the page.
@@ -24,7 +24,8 @@ pub struct Asked<'a> {
     watch_token: Option<&'a str>,
     /// How many pages may be open.
     pub most: usize,
-    page: &'a str,
+    // The folder of the page, if one is named.
+    page: Option<&'a str>,
     /// Whether it logs who comes and goes.
     pub tells: bool,
 }
@@ -45,7 +46,7 @@ impl<'a> Asked<'a> {
             watch: matches.get_str("watch"),
             watch_token: matches.get_str("watch-token"),
             most: usize::from(matches.get_one::<u16>("most").unwrap_or(1)),
-            page: matches.get_str("page").unwrap_or(""),
+            page: matches.get_str("page"),
             tells: matches.get_flag("log"),
         }
     }
@@ -120,6 +121,37 @@ fn watcher_of<R: Files<File = File> + AllocGlobal>(
     }
 }
 
+/// The folder of the page beside that of the program at this path: PREFIX/share/mux/web beside
+/// PREFIX/bin/mux-web.
+fn folder_beside(alloc: Global, program: &str) -> Result<String, AllocError> {
+    let folder = before_slash(program);
+    let prefix = before_slash(folder);
+    format!(in alloc; "{prefix}/share/mux/web")
+}
+
+/// The path before its last slash.
+fn before_slash(path: &str) -> &str {
+    match path.rfind('/') {
+        Some(place) => path.get(..place).unwrap_or(""),
+        None => "",
+    }
+}
+
+/// The folder of the page: the one that the arguments name, or the one beside the program.
+fn folder_of<R: Files<File = File> + AllocGlobal>(
+    rt: &R,
+    asked: Asked<'_>,
+) -> Result<String, WebFault> {
+    let alloc = rt.alloc();
+    if let Some(folder) = asked.page {
+        return Ok(String::from_str(alloc, folder)?);
+    }
+    match env::current_exe(rt) {
+        Ok(program) => Ok(folder_beside(alloc, program.to_str().unwrap_or(""))?),
+        Err(error) => Err(WebFault::NoPage(String::from_str(alloc, "/proc/self/exe")?, error)),
+    }
+}
+
 /// Reads a file of the page.
 fn read_file<R: Files<File = File> + AllocGlobal>(
     rt: &R,
@@ -146,8 +178,9 @@ pub fn site_of<R: Files<File = File> + AllocGlobal>(
         origins,
         watcher: watcher_of(rt, asked)?,
     };
+    let folder = folder_of(rt, asked)?;
     for name in FILES {
-        read_file(rt, &mut site, asked.page, name)?;
+        read_file(rt, &mut site, folder.as_str(), name)?;
     }
     Ok(site)
 }

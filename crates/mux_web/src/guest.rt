@@ -1,6 +1,7 @@
 //! A browser, and the connection to the server of its own client.
 
 use crate::around::Around;
+use crate::halls::HallNumber;
 use crate::streams::{Browser, Came, came_of, write_some};
 use mio::Token;
 use mio::net::UnixStream;
@@ -35,7 +36,7 @@ pub struct Guest {
     browser: Browser,
     server: Server,
     /// The hall whose page it watches.
-    pub hall: Option<usize>,
+    pub hall: Option<HallNumber>,
     pub browser_ready: bool,
     pub server_ready: bool,
     has_begun: bool,
@@ -117,7 +118,7 @@ impl Guest {
     // Its own client's connection ended. If the server said why, the page is still to be told that.
     fn lose_server(&mut self) {
         let is_told = match &self.visitor.seat {
-            Seat::Own(client) => client.gone().is_some(),
+            Seat::Own(client) => client.display.gone().is_some(),
             _ => false,
         };
         if !is_told {
@@ -147,7 +148,7 @@ impl Guest {
     // Its own client takes bytes of the server.
     fn hear(&mut self, bytes: &[u8]) {
         let is_lost = match &mut self.visitor.seat {
-            Seat::Own(client) => client.hear_all(bytes).is_err(),
+            Seat::Own(client) => client.display.hear_all(bytes).is_err(),
             _ => false,
         };
         if is_lost {

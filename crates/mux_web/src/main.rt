@@ -9,6 +9,7 @@ mod bridge;
 mod fault;
 mod guest;
 mod halls;
+mod log;
 mod serving;
 mod streams;
 

@@ -3,31 +3,37 @@
 use crate::asked::{Asked, Listen, origins_of, site_of};
 use crate::bridge::{Bridge, serve};
 use crate::fault::WebFault;
+use crate::log::start_log;
 use crate::streams::Door;
 use program_words::{of_web, tell};
 use server_system::{Host, SocketPath};
 use std::io::Write;
-use std::net::{Net, SocketAddr};
+use std::net::SocketAddr;
 use std::sync::Wait;
-use std::time::Clock;
+use std::thread::Threads;
 use web_client::Site;
 
 // Serves browsers that come in through a door.
-fn serve_at<R: Net + Clock + Wait + Eprint + AllocGlobal, O: Write>(
+fn serve_at<R: Host + Threads + Wait + Eprint, O: Write>(
     rt: &R,
     asked: Asked<'_>,
     site: Site,
     door: Door,
     output: &mut O,
 ) -> Result<(), WebFault> {
-    let bridge = Bridge::new(rt.alloc(), site, asked.socket, asked.most, asked.tells)?;
+    let log = if asked.tells {
+        Some(start_log(rt, rt.alloc())?)
+    } else {
+        None
+    };
+    let bridge = Bridge::new(rt.alloc(), site, asked.socket, asked.most, log)?;
     writeln!(output, "mux-web: ready")?;
     output.flush()?;
     Ok(serve(rt, bridge, door)?)
 }
 
 // Serves at an address of this machine.
-fn serve_address<R: Net + Clock + Wait + Eprint + AllocGlobal, O: Write>(
+fn serve_address<R: Host + Threads + Wait + Eprint, O: Write>(
     rt: &R,
     asked: Asked<'_>,
     site: Site,
@@ -43,8 +49,9 @@ fn serve_address<R: Net + Clock + Wait + Eprint + AllocGlobal, O: Write>(
     }
 }
 
-// Serves at a socket, which is removed at the end.
-fn serve_socket<R: Host + Wait + Eprint, O: Write>(
+// Serves at a socket, which is removed if the system refuses to wait. A signal ends the program at once and
+// leaves it: the next start replaces it.
+fn serve_socket<R: Host + Threads + Wait + Eprint, O: Write>(
     rt: &R,
     asked: Asked<'_>,
     site: Site,
@@ -61,7 +68,7 @@ fn serve_socket<R: Host + Wait + Eprint, O: Write>(
     }
 }
 
-fn serve_asked<R: Host + Wait + Eprint, O: Write>(
+fn serve_asked<R: Host + Threads + Wait + Eprint, O: Write>(
     rt: &R,
     asked: Asked<'_>,
     origins: &[&str],
@@ -79,7 +86,7 @@ fn serve_asked<R: Host + Wait + Eprint, O: Write>(
 /// Serves until the system refuses to wait. Returns the status to exit with.
 pub fn run<R, O, E>(rt: &R, words: &[String], output: &mut O, errors: &mut E) -> u8
 where
-    R: Host + Wait + Eprint,
+    R: Host + Threads + Wait + Eprint,
     O: Write,
     E: Write,
 {

@@ -6,6 +6,7 @@ use mio::{Interest, Registry, Token};
 use std::io;
 use std::io::{ErrorKind, Read, Write};
 use std::net::{Net, SocketAddr};
+use web_client::drop_front;
 
 /// Where browsers come in.
 #[derive(Drop)]
@@ -114,7 +115,8 @@ pub fn write_some<W: Write>(bytes: &mut Vec<u8>, writer: &mut W) -> bool {
         match writer.write(bytes.as_slice()) {
             Ok(0) => return false,
             Ok(count) => {
-                bytes.drain(..count.min(bytes.len()));
+                let count = count.min(bytes.len());
+                drop_front(bytes, count);
             }
             Err(error) => match error.kind() {
                 ErrorKind::WouldBlock => return true,

@@ -1,2 +1,4 @@
 pub mod Writing
 pub mod Hearing
+pub mod Tokens
+pub mod Adding
