@@ -1,5 +1,5 @@
 -- Pages that show no window.
-use Rattle.std.specs.Prelude.{◌≡◌, ℕ, ◌+◌, ◌-◌, ◌<◌, Bool, true, false, ◌&&◌, ◌==◌, List, [], ◌∷◌, length}
+use Rattle.std.specs.Prelude.{◌≡◌, ℕ, ◌+◌, ◌-◌, ◌<◌, ◌≤◌, Bool, true, false, ◌&&◌, ◌==◌, List, [], ◌∷◌, length}
 use Rattle.std.specs.List.{list_all}
 use Rattle.cells.specs.declared.cell.Cell.{Cell}
 use Rattle.cells.specs.Page.{line_at}
@@ -13,7 +13,8 @@ is_caption [] = false
 is_caption (a ∷ []) = false
 is_caption (a ∷ b ∷ rest) = (a.character == 0x2D) && (b.character == 0x2D) && list_all is_blank rest
 
--- the caption is in the last row, and all other rows are blank
+-- a client's page: the last row is for messages, the one above it is the caption, and the others are blank
 pub record IsVacant (page : List (List Cell)) : Type 0 where
-  pub caption : is_caption (line_at page (length page - 1)) ≡ true
-  pub blank : (n : ℕ) → n + 1 < length page → list_all is_blank (line_at page n) ≡ true
+  pub tall : 2 ≤ length page
+  pub caption : is_caption (line_at page (length page - 2)) ≡ true
+  pub blank : (n : ℕ) → n + 2 < length page → list_all is_blank (line_at page n) ≡ true

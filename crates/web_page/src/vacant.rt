@@ -29,19 +29,19 @@ fn is_caption(cells: &[Cell]) -> bool
     }
 }
 
-/// Whether an emulator's page is that of a client that sees no window.
+/// Whether an emulator's page is that of a client that sees no window. Its last row is for messages.
 pub fn is_vacant(emulator: &Emulator) -> bool
     ensures { IsTrue result ↔ IsVacant emulator.now.screen.page }
 {
     let page = emulator.page(0);
     let count = page.rows();
-    if count == 0 {
+    if count < 2 {
         return false;
     }
-    for number in 0..count - 1 {
+    for number in 0..count - 2 {
         if !are_blank(page.line(number)) {
             return false;
         }
     }
-    is_caption(page.line(count - 1))
+    is_caption(page.line(count - 2))
 }
