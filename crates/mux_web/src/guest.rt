@@ -71,23 +71,23 @@ impl Guest {
             if !self.browser_ready || !self.visitor.can_read() {
                 break;
             }
-            match came_of(self.browser.read(buffer)) {
+            match came_of(self.visitor.receive(&mut self.browser, buffer)) {
                 Came::Nothing => self.browser_ready = false,
                 Came::End => {
                     self.is_over = true;
                     self.browser_ready = false;
                 }
-                Came::Bytes(count) => self.take(around, &buffer[..count.min(buffer.len())]),
+                Came::Bytes(_) => self.take(around),
             }
         }
         !was_open && self.visitor.is_open()
     }
 
-    // Takes bytes of the browser.
-    fn take(&mut self, around: Around<'_>, bytes: &[u8]) {
+    // Takes what came of the browser.
+    fn take(&mut self, around: Around<'_>) {
         self.heard = around.now;
         self.has_asked = false;
-        if self.visitor.take(around.site, bytes).is_err() {
+        if self.visitor.take(around.site).is_err() {
             self.is_over = true;
         }
     }

@@ -1,5 +1,6 @@
 -- Frames that messages add, one message after another.
-use Rattle.std.proofs.Common.{◌≡◌, ℕ, List, [], ◌∷◌, ◌++◌, take, drop, inl, inr, sym, ap, ◌∙◌, subst, append_assoc, append-nil}
+use Rattle.std.proofs.Common.{◌≡◌, ℕ, List, [], ◌∷◌, ◌++◌, Result, Ok, Err, OnOk, OnErr, take, drop}
+use Rattle.std.proofs.Common.{inl, inr, sym, ap, ◌∙◌, subst, append_assoc, append-nil}
 use Rattle.std.proofs.lemmas.Grind.{flat_map-append}
 use Rattle.std.specs.List.{flat_map, AllByRecursion}
 use Rattle.attach_proto.specs.declared.message.Message.{Message}
@@ -135,3 +136,9 @@ more (Own a) Left c h k = absurd h
 more (Watching rows columns) b c h k = later b c h k
 more Unknown b c h k = later b c h k
 more Left b c h k = later b c h k
+
+-- so a message adds a frame at most, whether it is taken or not
+pub either : {A E : Type 0} (r : Result A E) (s after : Seat) (message : List ℕ)
+    → OnOk r (Takes s message after) → OnErr r (Keeps s after) → Asks s after
+either (Ok v) s after message h k = taken s message after h
+either (Err e) s after message h k = kept s after k

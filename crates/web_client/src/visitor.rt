@@ -1,7 +1,8 @@
 //! A browser's connection: its request, its messages, and who it is.
 
-ghost use Rattle.std.specs.Prelude.{◌≡◌};
+ghost use Rattle.std.specs.Prelude.{◌≡◌, ℕ, List, OnOk};
 ghost use Rattle.web_client.specs.Asking.{Asks, Keeps};
+ghost use Rattle.web_client.specs.Sending.{IsReceived};
 
 use crate::display::Display;
 use crate::front::drop_front;
@@ -11,6 +12,8 @@ use crate::site::Site;
 use crate::wire::{End, Stage, View, Wire};
 use attach_proto::Why;
 use std::alloc::Global;
+use std::io;
+use std::io::Read;
 use websocket::protocol::{CloseCode, FrameStatus, Message, NoMask};
 
 /// While more bytes wait for the server, the browser isn't read.
@@ -180,12 +183,22 @@ impl Visitor {
         Ok(())
     }
 
-    /// Takes bytes of the browser. For its own client they add frames that it may send, and nothing
-    /// else.
-    pub fn take(&mut self, site: &Site, bytes: &[u8]) -> Result<(), End>
+    /// Reads the browser once. What came waits to be taken.
+    pub fn receive<B: Read>(&mut self, browser: &mut B, buffer: &mut [u8]) -> io::Result<usize>
+        ensures received { (sent : List ℕ) → IsReceived sent (B.remaining browser.old) self.old.input.items
+            → OnOk result (IsReceived sent (B.remaining browser.new) self.new.input.items) }
+        ensures seat { self.new.seat ≡ self.old.seat }
+    {
+        let count = browser.read(buffer)?;
+        self.input.extend_from_slice(&buffer[..count])?;
+        Ok(count)
+    }
+
+    /// Takes what came of the browser. For its own client it adds frames that the browser may ask for,
+    /// and nothing else.
+    pub fn take(&mut self, site: &Site) -> Result<(), End>
         ensures { Asks self.old.seat self.new.seat }
     {
-        self.input.extend_from_slice(bytes)?;
         if self.wire.stage == Stage::Request {
             let answer = answered(self.wire.alloc, site, &self.input)?;
             self.take_answer(answer)?;

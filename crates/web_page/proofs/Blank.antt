@@ -1,7 +1,5 @@
 -- There is one blank sheet of each size.
 use Rattle.std.proofs.Common.{◌≡◌, ℕ, List, sym, ap, ◌∙◌}
-use Rattle.charsets.specs.Units.{Decoding}
-use Rattle.control_parser.specs.declared.state.State.{State}
 use Rattle.terminal_model.specs.Screen.{Screen, starting}
 use Rattle.terminal_model.specs.Reading.{Terminal, ready}
 use Rattle.emulator.specs.Standing.{Parts, StandsFor}
@@ -14,9 +12,9 @@ same-parts : (t : Terminal) (e f : Parts) → StandsFor e t → StandsFor f t �
 same-parts t e f a b =
     ap (λ (x : Screen). record { screen = x; decoding = e.decoding; parsing = e.parsing })
     (a.screen ∙ sym b.screen)
-    ∙ ap (λ (d : Decoding). record { screen = f.screen; decoding = d; parsing = e.parsing })
+    ∙ ap (λ d. record { screen = f.screen; decoding = d; parsing = e.parsing })
     (a.decoding ∙ sym b.decoding)
-    ∙ ap (λ (s : State). record { screen = f.screen; decoding = f.decoding; parsing = s })
+    ∙ ap (λ s. record { screen = f.screen; decoding = f.decoding; parsing = s })
     (a.parsing ∙ sym b.parsing)
 
 pub same-blank : (rows columns : ℕ) (a b : Sheet) → IsBlank rows columns a → IsBlank rows columns b → a ≡ b
