@@ -2,7 +2,7 @@
 
 use crate::around::Around;
 use crate::halls::HallNumber;
-use crate::streams::{Browser, Came, came_of, write_some};
+use crate::streams::{Arrival, Browser, arrival_of, write_some};
 use mio::Token;
 use mio::net::UnixStream;
 use std::alloc::Global;
@@ -71,13 +71,13 @@ impl Guest {
             if !self.browser_ready || !self.visitor.can_read() {
                 break;
             }
-            match came_of(self.visitor.receive(&mut self.browser, buffer)) {
-                Came::Nothing => self.browser_ready = false,
-                Came::End => {
+            match arrival_of(self.visitor.receive(&mut self.browser, buffer)) {
+                Arrival::Nothing => self.browser_ready = false,
+                Arrival::End => {
                     self.is_over = true;
                     self.browser_ready = false;
                 }
-                Came::Bytes(_) => self.take(around),
+                Arrival::Bytes(_) => self.take(around),
             }
         }
         !was_open && self.visitor.is_open()
@@ -137,10 +137,10 @@ impl Guest {
             let Server::Connected(server) = &mut self.server else {
                 return;
             };
-            match came_of(server.read(buffer)) {
-                Came::Nothing => self.server_ready = false,
-                Came::End => self.lose_server(),
-                Came::Bytes(count) => self.hear(&buffer[..count.min(buffer.len())]),
+            match arrival_of(server.read(buffer)) {
+                Arrival::Nothing => self.server_ready = false,
+                Arrival::End => self.lose_server(),
+                Arrival::Bytes(count) => self.hear(&buffer[..count.min(buffer.len())]),
             }
         }
     }

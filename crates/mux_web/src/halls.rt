@@ -1,7 +1,7 @@
 //! Pages that several watchers share: one client of the server for each size.
 
 use crate::around::{Around, hall_token};
-use crate::streams::{Came, came_of};
+use crate::streams::{Arrival, arrival_of};
 use mio::net::UnixStream;
 use std::alloc::Global;
 use std::io::Read;
@@ -47,10 +47,10 @@ impl Hall {
             if !self.is_ready || self.is_lost {
                 break;
             }
-            match came_of(self.stream.read(buffer)) {
-                Came::Nothing => self.is_ready = false,
-                Came::End => self.is_lost = true,
-                Came::Bytes(count) => {
+            match arrival_of(self.stream.read(buffer)) {
+                Arrival::Nothing => self.is_ready = false,
+                Arrival::End => self.is_lost = true,
+                Arrival::Bytes(count) => {
                     let count = count.min(buffer.len());
                     if self.client.display.hear_all(&buffer[..count]).is_err() {
                         self.is_lost = true;

@@ -87,21 +87,21 @@ impl Write for Browser {
 
 /// What a read came to.
 #[derive(Clone, Copy)]
-pub enum Came {
+pub enum Arrival {
     Bytes(usize),
     Nothing,
     End,
 }
 
 /// What a read of this answer came to.
-pub fn came_of(read: io::Result<usize>) -> Came {
+pub fn arrival_of(read: io::Result<usize>) -> Arrival {
     match read {
-        Ok(0) => Came::End,
-        Ok(count) => Came::Bytes(count),
+        Ok(0) => Arrival::End,
+        Ok(count) => Arrival::Bytes(count),
         Err(error) => match error.kind() {
-            ErrorKind::WouldBlock => Came::Nothing,
-            ErrorKind::Interrupted => Came::Bytes(0),
-            _ => Came::End,
+            ErrorKind::WouldBlock => Arrival::Nothing,
+            ErrorKind::Interrupted => Arrival::Bytes(0),
+            _ => Arrival::End,
         },
     }
 }

@@ -15,7 +15,7 @@ const FILES: [&str; 3] = ["index.html", "mux.js", "mux.css"];
 
 /// What the arguments ask for.
 #[derive(Clone, Copy)]
-pub struct Asked<'a> {
+pub struct WebOptions<'a> {
     /// The server's socket.
     pub socket: &'a str,
     /// Where browsers come in.
@@ -37,10 +37,10 @@ pub enum Listen<'a> {
     Path(&'a str),
 }
 
-impl<'a> Asked<'a> {
+impl<'a> WebOptions<'a> {
     /// (Arguments that must be there are: without them there are no matches.)
-    pub fn of(matches: &ArgMatches<'a>) -> Asked<'a> {
-        Asked {
+    pub fn of(matches: &ArgMatches<'a>) -> WebOptions<'a> {
+        WebOptions {
             socket: matches.get_str("socket").unwrap_or(""),
             listen: matches.get_str("listen").unwrap_or(""),
             watch: matches.get_str("watch"),
@@ -105,9 +105,9 @@ fn token_in<R: Files<File = File> + AllocGlobal>(rt: &R, path: &str) -> Result<T
 /// The user as whom anybody may watch, if the arguments name one.
 fn watcher_of<R: Files<File = File> + AllocGlobal>(
     rt: &R,
-    asked: Asked<'_>,
+    options: WebOptions<'_>,
 ) -> Result<Option<Watcher>, WebFault> {
-    match (asked.watch, asked.watch_token) {
+    match (options.watch, options.watch_token) {
         (Some(name), Some(path)) => {
             if UserId::of(name.as_bytes()).is_none() {
                 return Err(WebFault::NoName);
@@ -140,10 +140,10 @@ fn before_slash(path: &str) -> &str {
 /// The folder of the page: the one that the arguments name, or the one beside the program.
 fn folder_of<R: Files<File = File> + AllocGlobal>(
     rt: &R,
-    asked: Asked<'_>,
+    options: WebOptions<'_>,
 ) -> Result<String, WebFault> {
     let alloc = rt.alloc();
-    if let Some(folder) = asked.page {
+    if let Some(folder) = options.page {
         return Ok(String::from_str(alloc, folder)?);
     }
     match env::current_exe(rt) {
@@ -170,15 +170,15 @@ fn read_file<R: Files<File = File> + AllocGlobal>(
 /// Reads all that the bridge serves.
 pub fn site_of<R: Files<File = File> + AllocGlobal>(
     rt: &R,
-    asked: Asked<'_>,
+    options: WebOptions<'_>,
     origins: Vec<String>,
 ) -> Result<Site, WebFault> {
     let mut site = Site {
         files: Vec::new(rt.alloc()),
         origins,
-        watcher: watcher_of(rt, asked)?,
+        watcher: watcher_of(rt, options)?,
     };
-    let folder = folder_of(rt, asked)?;
+    let folder = folder_of(rt, options)?;
     for name in FILES {
         read_file(rt, &mut site, folder.as_str(), name)?;
     }
