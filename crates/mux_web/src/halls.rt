@@ -181,8 +181,7 @@ impl Halls {
     fn open<R: Net>(&mut self, rt: &R, around: Around<'_>, size: (u16, u16)) -> Option<usize> {
         let place = self.free_place()?;
         let hall = self.made(rt, around, size, place)?;
-        let slot = self.list.get_mut(place)?;
-        *slot = Some(hall);
+        self.replace(place, Some(hall));
         Some(place)
     }
 
@@ -208,16 +207,22 @@ impl Halls {
         }
     }
 
+    // Replaces what is at this place.
+    fn replace(&mut self, place: usize, hall: Option<Hall>) {
+        if let Some(slot) = self.list.get_mut(place) {
+            *slot = hall;
+        }
+    }
+
     /// Attaches the clients again whose window has closed. They then see the first window that there
     /// is.
     pub fn renew<R: Net>(&mut self, rt: &R, around: Around<'_>) {
         for place in 0..self.list.len() {
             if let Some(size) = self.stuck(place, around.now) {
-                if let Some(hall) = self.made(rt, around, size, place) {
-                    if let Some(slot) = self.list.get_mut(place) {
-                        *slot = Some(hall);
-                    }
-                }
+                // The old client leaves first: the user may have a bound of clients.
+                self.replace(place, None);
+                let hall = self.made(rt, around, size, place);
+                self.replace(place, hall);
             }
         }
     }
