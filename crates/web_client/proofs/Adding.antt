@@ -142,3 +142,9 @@ pub either : {A E : Type 0} (r : Result A E) (s after : Seat) (message : List �
     → OnOk r (Takes s message after) → OnErr r (Keeps s after) → Asks s after
 either (Ok v) s after message h k = taken s message after h
 either (Err e) s after message h k = kept s after k
+
+pub then_same : (a b c : Seat) → Asks a b → c ≡ b → Asks a c
+then_same a b c h e = subst (λ (s : Seat). Asks a s) (sym e) h
+
+pub then_more : (a b c d : Seat) → Asks a b → c ≡ b → Asks c d → Asks a d
+then_more a b c d h e k = more a c d (then_same a b c h e) k

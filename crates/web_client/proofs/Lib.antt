@@ -3,3 +3,4 @@ pub mod Hearing
 pub mod Tokens
 pub mod Adding
 pub mod Passing
+pub mod Login

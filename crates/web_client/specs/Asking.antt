@@ -2,7 +2,7 @@
 use Rattle.std.specs.Prelude.{◌≡◌, ◌⊎◌, ℕ, ◌+◌, ◌-◌, ◌*◌, ◌%◌, max, min, List, [], ◌∷◌, ◌++◌}
 use Rattle.std.specs.Prelude.{length, take, drop, slice_index, None, IsUtf8}
 use Rattle.std.specs.List.{flat_map, AllByRecursion}
-use Rattle.acl_words.specs.Names.{named_by}
+use Rattle.acl.specs.Names.{named_by}
 use Rattle.attach_proto.specs.declared.message.Message.{Message}
 use Rattle.attach_proto.specs.declared.message.Message.TheVariants.{Attach, Keys, Resize, Detach}
 use Rattle.attach_proto.specs.Spelling.{spelling}
