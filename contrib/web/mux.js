@@ -254,7 +254,7 @@
     });
   };
   // A wall comes back by itself: it tries again after 1, 2, 4 and at last each 60 seconds.  It also sends its size now
-  // and then, since a browser learns of a network that went away only when it sends, and comes anew after its window.
+  // and then, since a browser learns of a network that went away only when it sends.
   let wait = 1;
   const watch = () => {
     attach("", "");
@@ -292,8 +292,7 @@
     watch();
     setInterval(() => {
       size = "";
-      if (socket && page.textContent.trim() === "--") socket.close();
-      else resize();
+      resize();
     }, 15000);
   } else if (!isSecureContext) said.textContent = "This page takes no token over plain http: open it by https.";
 })();

@@ -3,13 +3,14 @@
 use crate::around::{Around, DOOR, browser_token, server_token};
 use crate::guest::Guest;
 use crate::halls::Halls;
+use crate::log::Log;
 use crate::streams::{Browser, Door};
 use mio::{Events, Poll, Registry, Token};
 use std::alloc::Global;
 use std::io;
 use std::io::{ErrorKind, Write};
 use std::net::Net;
-use std::sync::Wait;
+use std::sync::{Arc, Wait};
 use std::time::{Clock, Duration};
 use web_client::{Seat, Site, refusal};
 
@@ -33,7 +34,8 @@ pub struct Bridge<'a> {
     socket: &'a str,
     /// How many pages may be open.
     most: usize,
-    tells: bool,
+    /// None if it logs nothing.
+    log: Option<Arc<Log>>,
     guests: Vec<Option<Guest>>,
     halls: Halls,
     buffer: Vec<u8>,
@@ -48,14 +50,14 @@ impl<'a> Bridge<'a> {
         site: Site,
         socket: &'a str,
         most: usize,
-        tells: bool,
+        log: Option<Arc<Log>>,
     ) -> io::Result<Bridge<'a>> {
         Ok(Bridge {
             alloc,
             site,
             socket,
             most,
-            tells,
+            log,
             guests: Vec::new(alloc),
             halls: Halls::new(alloc),
             buffer: vec![in alloc; 0; CHUNK]?,
@@ -116,11 +118,7 @@ impl<'a> Bridge<'a> {
         match (number % 4, self.guests.get_mut(place)) {
             (1, Some(Some(guest))) => guest.browser_ready = true,
             (2, Some(Some(guest))) => guest.server_ready = true,
-            (3, _) => {
-                if let Some(hall) = self.halls.get_mut(place) {
-                    hall.is_ready = true;
-                }
-            }
+            (3, _) => self.halls.mark(place),
             _ => {}
         }
     }
@@ -147,26 +145,30 @@ impl<'a> Bridge<'a> {
     }
 }
 
-// Tells who begins: a name, and no token.
-fn tell<R: Eprint>(rt: &R, place: usize, guest: &Guest) {
-    match &guest.visitor.seat {
+// Logs who begins: a name, and no token.
+fn tell<R: Wait>(rt: &R, log: &Option<Arc<Log>>, place: usize, seat: &Seat) {
+    let Some(log) = log else {
+        return;
+    };
+    match seat {
         Seat::Own(client) => {
-            let name = client.name();
-            let _ = eprintln!(rt; "mux-web: {place} begins as {name}");
+            let name = client.display.name();
+            log.put(rt, &format_args!("{place} begins as {name}"));
         }
         Seat::Watching(rows, columns) => {
-            let _ = eprintln!(rt; "mux-web: {place} watches {rows} by {columns}");
+            log.put(rt, &format_args!("{place} watches {rows} by {columns}"));
         }
         _ => {}
     }
 }
 
 // Seats a watcher in the hall of its size.
-fn enter_hall<R: Net + Eprint>(
+fn enter_hall<R: Net + Wait>(
     rt: &R,
-    (guest, place, tells): (&mut Guest, usize, bool),
+    (guest, place): (&mut Guest, usize),
     halls: &mut Halls,
     around: Around<'_>,
+    log: &Option<Arc<Log>>,
 ) {
     let Seat::Watching(rows, columns) = guest.visitor.seat else {
         return;
@@ -176,8 +178,8 @@ fn enter_hall<R: Net + Eprint>(
         guest.visitor.lose("no server: is muxd running?");
     }
     if found != guest.hall {
-        if guest.hall.is_none() && tells {
-            tell(rt, place, guest);
+        if guest.hall.is_none() {
+            tell(rt, log, place, &guest.visitor.seat);
         }
         guest.visitor.change_page();
         guest.hall = found;
@@ -193,7 +195,7 @@ fn show(guest: &mut Guest, halls: &mut Halls) {
         return guest.visitor.lose("the session's connection ended");
     };
     hall.audience = hall.audience.saturating_add(1);
-    if guest.visitor.show_shared(&mut hall.client).is_err() {
+    if guest.visitor.show_shared(&mut hall.client.display).is_err() {
         guest.is_over = true;
     }
     if hall.is_lost {
@@ -223,7 +225,7 @@ impl Bridge<'_> {
     }
 
     // One turn of a guest. Returns whether something is left to do at once.
-    fn turn_of<R: Net + Eprint>(
+    fn turn_of<R: Net + Wait>(
         &mut self,
         rt: &R,
         registry: &Registry,
@@ -240,12 +242,10 @@ impl Bridge<'_> {
             now,
         };
         if guest.begins() {
-            if self.tells {
-                tell(rt, place, guest);
-            }
+            tell(rt, &self.log, place, &guest.visitor.seat);
             guest.connect(rt, around, server_token(place));
         }
-        enter_hall(rt, (guest, place, self.tells), &mut self.halls, around);
+        enter_hall(rt, (guest, place), &mut self.halls, around, &self.log);
         guest.read_server(self.buffer.as_mut_slice());
         guest.write_all();
         show(guest, &mut self.halls);
@@ -255,7 +255,7 @@ impl Bridge<'_> {
     }
 
     // Lets a guest go that is over.
-    fn let_go<R: Eprint>(&mut self, rt: &R, place: usize) {
+    fn let_go<R: Wait>(&mut self, rt: &R, place: usize) {
         let Some(slot) = self.guests.get_mut(place) else {
             return;
         };
@@ -264,17 +264,24 @@ impl Bridge<'_> {
             None => (false, false),
         };
         if is_over {
-            if self.tells && has_begun {
-                let _ = eprintln!(rt; "mux-web: {place} ends");
-            }
             *slot = None;
+            if let (true, Some(log)) = (has_begun, &self.log) {
+                log.put(rt, &format_args!("{place} ends"));
+            }
         }
     }
 
     // One turn of all. Returns whether something is left to do at once.
-    fn turn<R: Net + Eprint>(&mut self, rt: &R, registry: &Registry, now: Duration) -> bool {
+    fn turn<R: Net + Wait>(&mut self, rt: &R, registry: &Registry, now: Duration) -> bool {
         let mut is_busy = false;
         self.halls.turn(self.buffer.as_mut_slice());
+        let around = Around {
+            registry,
+            site: &self.site,
+            socket: self.socket,
+            now,
+        };
+        self.halls.renew(rt, around);
         for place in 0..self.guests.len() {
             self.read(registry, place, now);
             is_busy |= self.turn_of(rt, registry, place, now);
@@ -286,7 +293,7 @@ impl Bridge<'_> {
 }
 
 /// Serves until the system refuses to wait.
-pub fn serve<R: Net + Clock + Wait + Eprint + AllocGlobal>(
+pub fn serve<R: Net + Clock + Wait + AllocGlobal>(
     rt: &R,
     bridge: Bridge<'_>,
     door: Door,

@@ -1,7 +1,8 @@
 //! A browser, and the connection to the server of its own client.
 
 use crate::around::Around;
-use crate::streams::{Browser, Came, came_of, write_some};
+use crate::halls::HallNumber;
+use crate::streams::{Arrival, Browser, arrival_of, write_some};
 use mio::Token;
 use mio::net::UnixStream;
 use std::alloc::Global;
@@ -35,7 +36,7 @@ pub struct Guest {
     browser: Browser,
     server: Server,
     /// The hall whose page it watches.
-    pub hall: Option<usize>,
+    pub hall: Option<HallNumber>,
     pub browser_ready: bool,
     pub server_ready: bool,
     has_begun: bool,
@@ -70,23 +71,23 @@ impl Guest {
             if !self.browser_ready || !self.visitor.can_read() {
                 break;
             }
-            match came_of(self.browser.read(buffer)) {
-                Came::Nothing => self.browser_ready = false,
-                Came::End => {
+            match arrival_of(self.visitor.receive(&mut self.browser, buffer)) {
+                Arrival::Nothing => self.browser_ready = false,
+                Arrival::End => {
                     self.is_over = true;
                     self.browser_ready = false;
                 }
-                Came::Bytes(count) => self.take(around, &buffer[..count.min(buffer.len())]),
+                Arrival::Bytes(_) => self.take(around),
             }
         }
         !was_open && self.visitor.is_open()
     }
 
-    // Takes bytes of the browser.
-    fn take(&mut self, around: Around<'_>, bytes: &[u8]) {
+    // Takes what came of the browser.
+    fn take(&mut self, around: Around<'_>) {
         self.heard = around.now;
         self.has_asked = false;
-        if self.visitor.take(around.site, bytes).is_err() {
+        if self.visitor.take(around.site).is_err() {
             self.is_over = true;
         }
     }
@@ -117,7 +118,7 @@ impl Guest {
     // Its own client's connection ended. If the server said why, the page is still to be told that.
     fn lose_server(&mut self) {
         let is_told = match &self.visitor.seat {
-            Seat::Own(client) => client.gone().is_some(),
+            Seat::Own(client) => client.display.gone().is_some(),
             _ => false,
         };
         if !is_told {
@@ -136,10 +137,10 @@ impl Guest {
             let Server::Connected(server) = &mut self.server else {
                 return;
             };
-            match came_of(server.read(buffer)) {
-                Came::Nothing => self.server_ready = false,
-                Came::End => self.lose_server(),
-                Came::Bytes(count) => self.hear(&buffer[..count.min(buffer.len())]),
+            match arrival_of(server.read(buffer)) {
+                Arrival::Nothing => self.server_ready = false,
+                Arrival::End => self.lose_server(),
+                Arrival::Bytes(count) => self.hear(&buffer[..count.min(buffer.len())]),
             }
         }
     }
@@ -147,7 +148,7 @@ impl Guest {
     // Its own client takes bytes of the server.
     fn hear(&mut self, bytes: &[u8]) {
         let is_lost = match &mut self.visitor.seat {
-            Seat::Own(client) => client.hear_all(bytes).is_err(),
+            Seat::Own(client) => client.display.hear_all(bytes).is_err(),
             _ => false,
         };
         if is_lost {

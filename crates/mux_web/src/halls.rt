@@ -1,11 +1,12 @@
 //! Pages that several watchers share: one client of the server for each size.
 
 use crate::around::{Around, hall_token};
-use crate::streams::{Came, came_of};
+use crate::streams::{Arrival, arrival_of};
 use mio::net::UnixStream;
 use std::alloc::Global;
 use std::io::Read;
 use std::net::Net;
+use std::time::Duration;
 use web_client::Client;
 
 /// How many pages are shared at most.
@@ -14,9 +15,20 @@ const MOST: usize = 8;
 /// How often a connection is read in one turn.
 const READS: usize = 16;
 
+/// A client that sees no window attaches again after this number of seconds.
+const PAUSE: u64 = 10;
+
+/// The number of a hall. A place may have one hall after another.
+#[derive(Clone, Copy, PartialEq, Eq)]
+pub struct HallNumber {
+    place: usize,
+    serial: u64,
+}
+
 /// A page that watchers share.
 #[derive(Drop)]
 pub struct Hall {
+    serial: u64,
     size: (u16, u16),
     pub client: Client,
     stream: UnixStream,
@@ -25,6 +37,7 @@ pub struct Hall {
     pub audience: usize,
     /// Whether its connection ended.
     pub is_lost: bool,
+    opened: Duration,
 }
 
 impl Hall {
@@ -34,12 +47,12 @@ impl Hall {
             if !self.is_ready || self.is_lost {
                 break;
             }
-            match came_of(self.stream.read(buffer)) {
-                Came::Nothing => self.is_ready = false,
-                Came::End => self.is_lost = true,
-                Came::Bytes(count) => {
+            match arrival_of(self.stream.read(buffer)) {
+                Arrival::Nothing => self.is_ready = false,
+                Arrival::End => self.is_lost = true,
+                Arrival::Bytes(count) => {
                     let count = count.min(buffer.len());
-                    if self.client.hear_all(&buffer[..count]).is_err() {
+                    if self.client.display.hear_all(&buffer[..count]).is_err() {
                         self.is_lost = true;
                     }
                 }
@@ -51,7 +64,13 @@ impl Hall {
     }
 
     fn is_over(&self) -> bool {
-        self.is_lost || self.client.gone().is_some() || self.audience == 0
+        self.is_lost || self.client.display.gone().is_some() || self.audience == 0
+    }
+
+    /// Whether its client is to attach again: it sees no window.
+    fn is_stuck(&self, now: Duration) -> bool {
+        now.saturating_sub(self.opened) >= Duration::from_secs(PAUSE)
+            && self.client.display.is_vacant()
     }
 }
 
@@ -60,6 +79,8 @@ impl Hall {
 pub struct Halls {
     alloc: Global,
     list: Vec<Option<Hall>>,
+    /// The serial of the next hall.
+    next: u64,
 }
 
 impl Halls {
@@ -68,19 +89,38 @@ impl Halls {
         Halls {
             alloc,
             list: Vec::new(alloc),
+            next: 0,
         }
     }
 
     /// The hall of this number.
-    pub fn get_mut(&mut self, number: usize) -> Option<&mut Hall> {
-        match self.list.get_mut(number) {
-            Some(Some(hall)) => Some(hall),
+    pub fn get_mut(&mut self, number: HallNumber) -> Option<&mut Hall> {
+        match self.list.get_mut(number.place) {
+            Some(Some(hall)) if hall.serial == number.serial => Some(hall),
             _ => None,
         }
     }
 
-    // The number of the hall of this size. If all places are taken by others, the number of one whose
-    // page isn't larger, or else of any.
+    /// Notes that the connection of the hall at this place has something to read, or has room.
+    pub fn mark(&mut self, place: usize) {
+        if let Some(Some(hall)) = self.list.get_mut(place) {
+            hall.is_ready = true;
+        }
+    }
+
+    // The number of the hall at this place.
+    fn number(&self, place: usize) -> Option<HallNumber> {
+        match self.list.get(place) {
+            Some(Some(hall)) => {
+                let serial = hall.serial;
+                Some(HallNumber { place, serial })
+            }
+            _ => None,
+        }
+    }
+
+    // The place of the hall of this size. If all places are taken by others, that of one whose page isn't
+    // larger, or else of any.
     fn find(&self, (rows, columns): (u16, u16)) -> Option<usize> {
         let mut best = None;
         let mut place = 0;
@@ -111,31 +151,79 @@ impl Halls {
         }
     }
 
-    // Opens a hall of this size.
-    fn open<R: Net>(&mut self, rt: &R, around: Around<'_>, size: (u16, u16)) -> Option<usize> {
+    // A new hall of this size for this place.
+    fn made<R: Net>(
+        &mut self,
+        rt: &R,
+        around: Around<'_>,
+        (rows, columns): (u16, u16),
+        place: usize,
+    ) -> Option<Hall> {
         let watcher = around.site.watcher.as_ref()?;
-        let (rows, columns) = size;
         let token = watcher.token.copied();
         let client = Client::attach(self.alloc, rows, columns, token, watcher.name.as_str()).ok()?;
-        let place = self.free_place()?;
         let stream = around.connect(rt, hall_token(place)).ok()?;
-        let slot = self.list.get_mut(place)?;
-        *slot = Some(Hall {
-            size,
+        let serial = self.next;
+        self.next = serial.saturating_add(1);
+        Some(Hall {
+            serial,
+            size: (rows, columns),
             client,
             stream,
             is_ready: false,
             audience: 0,
             is_lost: false,
-        });
+            opened: around.now,
+        })
+    }
+
+    // Opens a hall of this size.
+    fn open<R: Net>(&mut self, rt: &R, around: Around<'_>, size: (u16, u16)) -> Option<usize> {
+        let place = self.free_place()?;
+        let hall = self.made(rt, around, size, place)?;
+        self.replace(place, Some(hall));
         Some(place)
     }
 
     /// The number of a hall for a page of this size, which is opened if there is none.
-    pub fn enter<R: Net>(&mut self, rt: &R, around: Around<'_>, size: (u16, u16)) -> Option<usize> {
-        match self.find(size) {
-            Some(place) => Some(place),
-            None => self.open(rt, around, size),
+    pub fn enter<R: Net>(
+        &mut self,
+        rt: &R,
+        around: Around<'_>,
+        size: (u16, u16),
+    ) -> Option<HallNumber> {
+        let place = match self.find(size) {
+            Some(place) => place,
+            None => self.open(rt, around, size)?,
+        };
+        self.number(place)
+    }
+
+    // The size of the hall at this place, if its client is to attach again.
+    fn stuck(&self, place: usize, now: Duration) -> Option<(u16, u16)> {
+        match self.list.get(place) {
+            Some(Some(hall)) if hall.is_stuck(now) => Some(hall.size),
+            _ => None,
+        }
+    }
+
+    // Replaces what is at this place.
+    fn replace(&mut self, place: usize, hall: Option<Hall>) {
+        if let Some(slot) = self.list.get_mut(place) {
+            *slot = hall;
+        }
+    }
+
+    /// Attaches the clients again whose window has closed. They then see the first window that there
+    /// is.
+    pub fn renew<R: Net>(&mut self, rt: &R, around: Around<'_>) {
+        for place in 0..self.list.len() {
+            if let Some(size) = self.stuck(place, around.now) {
+                // The old client leaves first: the user may have a bound of clients.
+                self.replace(place, None);
+                let hall = self.made(rt, around, size, place);
+                self.replace(place, hall);
+            }
         }
     }
 

@@ -4,11 +4,12 @@
 #![tactic(auto)]
 
 mod around;
-mod asked;
 mod bridge;
 mod fault;
 mod guest;
 mod halls;
+mod log;
+mod options;
 mod serving;
 mod streams;
 

@@ -6,6 +6,7 @@ use mio::{Interest, Registry, Token};
 use std::io;
 use std::io::{ErrorKind, Read, Write};
 use std::net::{Net, SocketAddr};
+use web_client::drop_front;
 
 /// Where browsers come in.
 #[derive(Drop)]
@@ -86,21 +87,21 @@ impl Write for Browser {
 
 /// What a read came to.
 #[derive(Clone, Copy)]
-pub enum Came {
+pub enum Arrival {
     Bytes(usize),
     Nothing,
     End,
 }
 
 /// What a read of this answer came to.
-pub fn came_of(read: io::Result<usize>) -> Came {
+pub fn arrival_of(read: io::Result<usize>) -> Arrival {
     match read {
-        Ok(0) => Came::End,
-        Ok(count) => Came::Bytes(count),
+        Ok(0) => Arrival::End,
+        Ok(count) => Arrival::Bytes(count),
         Err(error) => match error.kind() {
-            ErrorKind::WouldBlock => Came::Nothing,
-            ErrorKind::Interrupted => Came::Bytes(0),
-            _ => Came::End,
+            ErrorKind::WouldBlock => Arrival::Nothing,
+            ErrorKind::Interrupted => Arrival::Bytes(0),
+            _ => Arrival::End,
         },
     }
 }
@@ -114,7 +115,8 @@ pub fn write_some<W: Write>(bytes: &mut Vec<u8>, writer: &mut W) -> bool {
         match writer.write(bytes.as_slice()) {
             Ok(0) => return false,
             Ok(count) => {
-                bytes.drain(..count.min(bytes.len()));
+                let count = count.min(bytes.len());
+                drop_front(bytes, count);
             }
             Err(error) => match error.kind() {
                 ErrorKind::WouldBlock => return true,

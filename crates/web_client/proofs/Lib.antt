@@ -1,2 +1,6 @@
 pub mod Writing
 pub mod Hearing
+pub mod Tokens
+pub mod Adding
+pub mod Passing
+pub mod Login

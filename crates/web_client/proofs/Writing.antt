@@ -1,8 +1,9 @@
--- After a write, what was written and what waits are still all that was put.
-use Rattle.std.proofs.Common.{◌≡◌, ℕ, List, take, drop, Option, Some, None, append_assoc}
+-- After a write, what was written and what waits are still all that was put. After a read, what waits and
+-- what is left are still all that was sent.
+use Rattle.std.proofs.Common.{◌≡◌, ℕ, List, ◌++◌, take, drop, Option, Some, None, append_assoc, ap, sym, ◌∙◌}
 use Rattle.std.proofs.lemmas.List.{take-append-drop}
-use Rattle.std.specs.Io.KnownBytes.{Keeps, Appends}
-use Rattle.web_client.specs.Sending.{IsSent}
+use Rattle.std.specs.Io.KnownBytes.{Keeps, Appends, Consumes}
+use Rattle.web_client.specs.Sending.{IsSent, IsReceived}
 
 pub kept : (old new : Option (List ℕ)) → Keeps old new → (put waiting : List ℕ) → IsSent put old waiting
     → IsSent put new waiting
@@ -15,3 +16,11 @@ pub moved : (old new : Option (List ℕ)) (n : ℕ) (before after : List ℕ) �
 moved None new n before after a e put w = absurd w
 moved (Some xs) None n before after a e put w = absurd a
 moved (Some xs) (Some ys) n before after a e put w = rw (a, e, append_assoc, take-append-drop) w
+
+pub came : (old new : Option (List ℕ)) (bytes before after : List ℕ) → Consumes old new bytes
+    → after ≡ before ++ bytes → (sent : List ℕ) → IsReceived sent old before → IsReceived sent new after
+came None new bytes before after c e sent w = absurd w
+came (Some xs) None bytes before after c e sent w = absurd c
+came (Some xs) (Some ys) bytes before after c e sent w =
+    w ∙ ap (λ (l : List ℕ). before ++ l) c ∙ sym (append_assoc before bytes ys)
+    ∙ ap (λ (l : List ℕ). l ++ ys) (sym e)

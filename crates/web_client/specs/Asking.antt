@@ -1,44 +1,135 @@
 -- What a browser asks of the server.
-use Rattle.std.specs.Prelude.{◌≡◌, ◌⊎◌, ℕ, List, ◌++◌}
+use Rattle.std.specs.Prelude.{◌≡◌, ◌⊎◌, ℕ, ◌+◌, ◌-◌, ◌*◌, ◌%◌, max, min, List, [], ◌∷◌, ◌++◌}
+use Rattle.std.specs.Prelude.{length, take, drop, slice_index, None, IsUtf8}
+use Rattle.std.specs.List.{flat_map, AllByRecursion}
+use Rattle.acl.specs.Names.{named_by}
 use Rattle.attach_proto.specs.declared.message.Message.{Message}
 use Rattle.attach_proto.specs.declared.message.Message.TheVariants.{Attach, Keys, Resize, Detach}
 use Rattle.attach_proto.specs.Spelling.{spelling}
+use Rattle.web_client.specs.declared.client.Client.{Client}
 use Rattle.web_client.specs.declared.seat.Seat.{Seat}
 use Rattle.web_client.specs.declared.seat.Seat.TheVariants.{Nobody, Own, Watching, Unknown, Left}
-use Rattle.web_client.specs.Hearing.{Client}
+use Rattle.web_client.specs.Hearing.{Display, IsBlank, IsResized}
 
--- a frame that a browser's client may send: no window, no output, no command
-abbrev pub IsAsked : Message → Type 0
-IsAsked (Attach rows columns token name) = Unit {0}
-IsAsked (Keys keys) = Unit {0}
-IsAsked (Resize rows columns) = Unit {0}
-IsAsked Detach = Unit {0}
-IsAsked _ = ⊥
+-- ---- messages
 
--- behind what waited, nothing more waits, or one such frame
-abbrev pub AddsFrame : List ℕ → List ℕ → Type 0
-AddsFrame before after =
-    (after ≡ before) ⊎ ((m : Message) × IsAsked m × (after ≡ before ++ spelling m))
+-- the size that a payload begins with, within the limits of a page
+abbrev pub lines_in : List ℕ → ℕ
+lines_in bytes = max 4 (min (256 * slice_index bytes 0 + slice_index bytes 1) 200)
 
--- a fact of a seat's own client, if it has one
-abbrev pub IfOwn : Seat → (Client → Type 0) → Type 0
-IfOwn (Own c) P = P c
-IfOwn _ P = Unit {0}
+abbrev pub columns_in : List ℕ → ℕ
+columns_in bytes = max 20 (min (256 * slice_index bytes 2 + slice_index bytes 3) 300)
+
+-- the frame that a message of an attached browser asks for: no window, no output, no command
+abbrev pub IsAskedBy : List ℕ → Message → Type 0
+IsAskedBy message (Keys keys) = message ≡ 0x4B ∷ keys
+IsAskedBy message (Resize rows columns) =
+    (size : List ℕ) × (message ≡ 0x52 ∷ size) × (length size ≡ 4)
+    × (rows ≡ lines_in size) × (columns ≡ columns_in size)
+IsAskedBy message Detach = message ≡ 0x44 ∷ []
+IsAskedBy message _ = ⊥
+
+-- only a new size changes what the client shows
+abbrev pub Redraws : Message → Display → Display → Type 0
+Redraws (Resize rows columns) old new = IsResized rows columns old new
+Redraws _ old new = new ≡ old
+
+-- the client passes on what a message asks for, after all that waited
+pub record Passes (message : List ℕ) (before after : Client) : Type 0 where
+  pub frame : Message
+  pub asked : IsAskedBy message frame
+  pub added : after.outgoing ≡ before.outgoing ++ spelling frame
+  pub shown : Redraws frame before.display after.display
+
+-- ---- seats
 
 -- a seat that has a client of its own, of which this holds
 abbrev pub IsOwn : Seat → (Client → Type 0) → Type 0
 IsOwn (Own c) P = P c
 IsOwn _ P = ⊥
 
--- the first frame of a new client, and no other
-abbrev pub Begins : Seat → Type 0
-Begins seat = IfOwn seat (λ c. (m : Message) × IsAsked m × (c.waiting ≡ spelling m))
+-- a fact of a seat's own client, if it has one
+abbrev pub IfOwn : Seat → (Client → Type 0) → Type 0
+IfOwn (Own c) P = P c
+IfOwn _ P = Unit {0}
 
--- What a message of a browser does: to its own client it adds a frame at most. One that watches has no
--- client, and gets none.
+-- the client of a browser that gave a size, a token and a name: of the token it has the frame
+pub record IsLogin (payload : List ℕ) (c : Client) : Type 0 where
+  pub asked : c.outgoing
+      ≡ spelling (Attach (lines_in payload) (columns_in payload) (take 64 (drop 4 payload)) (drop 68 payload))
+  pub shown : IsBlank (lines_in payload) (columns_in payload) (drop 68 payload) c.display
+
+-- no user can have this name
+abbrev pub IsNoName : List ℕ → Type 0
+IsNoName name = (named_by name ≡ None) ⊎ (¬ (IsUtf8 name))
+
+abbrev pub IsAttached : List ℕ → Seat → Type 0
+IsAttached payload (Own c) = IsLogin payload c
+IsAttached payload Unknown = IsNoName (drop 68 payload)
+IsAttached payload _ = ⊥
+
+-- a place before a shared page, whose size is a multiple of 6 by 20
+abbrev pub IsShared : List ℕ → Seat → Type 0
+IsShared payload (Watching rows columns) =
+    (length payload ≡ 4) × (rows ≡ max (lines_in payload - lines_in payload % 6) 4)
+    × (columns ≡ max (columns_in payload - columns_in payload % 20) 20)
+IsShared payload _ = ⊥
+
+-- the first message
+abbrev pub Begins : List ℕ → Seat → Type 0
+Begins message after =
+    (payload : List ℕ)
+    × (((message ≡ 0x41 ∷ payload) × IsAttached payload after)
+    ⊎ ((message ≡ 0x56 ∷ payload) × IsShared payload after))
+
+-- a message of a browser that watches: another size, or the end
+abbrev pub Watches : List ℕ → Seat → Type 0
+Watches message after =
+    ((payload : List ℕ) × (message ≡ 0x52 ∷ payload) × IsShared payload after)
+    ⊎ ((message ≡ 0x44 ∷ []) × (after ≡ Left))
+
+-- what a message that is taken does
+abbrev pub Takes : Seat → List ℕ → Seat → Type 0
+Takes Nobody message after = Begins message after
+Takes (Own before) message after = IsOwn after (Passes message before)
+Takes (Watching rows columns) message after = Watches message after
+Takes Unknown message after = ⊥
+Takes Left message after = ⊥
+
+-- a message that isn't taken adds nothing
+abbrev pub Keeps : Seat → Seat → Type 0
+Keeps Nobody after = after ≡ Nobody
+Keeps (Own before) after = IsOwn after (λ c. c.outgoing ≡ before.outgoing)
+Keeps (Watching rows columns) after = after ≡ Watching rows columns
+Keeps Unknown after = after ≡ Unknown
+Keeps Left after = after ≡ Left
+
+-- ---- any number of messages
+
+-- a frame that a browser's client may send
+abbrev pub IsAskable : Message → Type 0
+IsAskable (Attach rows columns token name) = Unit {0}
+IsAskable (Keys keys) = Unit {0}
+IsAskable (Resize rows columns) = Unit {0}
+IsAskable Detach = Unit {0}
+IsAskable _ = ⊥
+
+abbrev pub AddsFrames : List ℕ → List ℕ → Type 0
+AddsFrames before after =
+    (ms : List Message) × AllByRecursion IsAskable ms × (after ≡ before ++ flat_map spelling ms)
+
+-- a seat that never has a client
+abbrev pub IsApart : Seat → Type 0
+IsApart Nobody = ⊥
+IsApart (Own c) = ⊥
+IsApart (Watching rows columns) = Unit {0}
+IsApart Unknown = Unit {0}
+IsApart Left = Unit {0}
+
+-- Frames were added for the browser's own client, and nothing else. One that watches never has a client.
 abbrev pub Asks : Seat → Seat → Type 0
-Asks Nobody after = Begins after
-Asks (Own before) after = IsOwn after (λ c. AddsFrame before.waiting c.waiting)
-Asks (Watching rows columns) after = IfOwn after (λ _. ⊥)
-Asks Unknown after = IfOwn after (λ _. ⊥)
-Asks Left after = IfOwn after (λ _. ⊥)
+Asks Nobody after = IfOwn after (λ c. AddsFrames [] c.outgoing)
+Asks (Own before) after = IsOwn after (λ c. AddsFrames before.outgoing c.outgoing)
+Asks (Watching rows columns) after = IsApart after
+Asks Unknown after = IsApart after
+Asks Left after = IsApart after

@@ -1,3 +1,3 @@
 pub mod Sending
-pub mod Asking
 pub mod Hearing
+pub mod Asking

@@ -1,4 +1,4 @@
--- Bytes on their way to a writer.
+-- Bytes on their way to a writer, and from a reader.
 use Rattle.std.specs.Prelude.{◌≡◌, ℕ, List, ◌++◌, Option, Some, None}
 
 -- of the bytes that were put, a writer holds those that were written, and the rest waits; what the
@@ -6,3 +6,9 @@ use Rattle.std.specs.Prelude.{◌≡◌, ℕ, List, ◌++◌, Option, Some, None
 abbrev pub IsSent : List ℕ → Option (List ℕ) → List ℕ → Type 0
 IsSent put None waiting = ⊥
 IsSent put (Some written) waiting = put ≡ written ++ waiting
+
+-- of the bytes that were sent, those that were received wait, and a reader has the rest left; what it has
+-- left is known
+abbrev pub IsReceived : List ℕ → Option (List ℕ) → List ℕ → Type 0
+IsReceived sent None waiting = ⊥
+IsReceived sent (Some left) waiting = sent ≡ waiting ++ left

@@ -3,6 +3,10 @@
 #![tactic(auto)]
 
 mod client;
+mod display;
+mod fault;
+mod front;
+mod laws;
 mod outgoing;
 mod requests;
 mod seat;
@@ -10,7 +14,11 @@ mod site;
 mod visitor;
 mod wire;
 
-pub use client::{Client, ClientFault};
+pub use client::Client;
+pub use display::Display;
+pub use fault::ClientFault;
+pub use front::drop_front;
+pub use laws::tokens_change_no_display;
 pub use requests::refusal;
 pub use seat::{Seat, fitted};
 pub use site::{Site, SiteFile, Watcher};

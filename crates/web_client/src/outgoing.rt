@@ -4,6 +4,7 @@ ghost use Rattle.std.specs.Prelude.{◌≡◌, ◌++◌, ◌≤◌, ℕ, List, [
 ghost use Rattle.std.specs.Io.KnownBytes.{WriteAppends};
 ghost use Rattle.web_client.specs.Sending.{IsSent};
 
+use crate::front::drop_front;
 use std::alloc::{AllocError, Global};
 use std::io;
 use std::io::{ErrorKind, Write};
@@ -57,7 +58,7 @@ impl Outgoing {
             → IsSent put (W.contents writer.new) self.new }
     {
         let taken = writer.write(&self.bytes)?;
-        self.bytes.drain(..taken);
+        drop_front(&mut self.bytes, taken);
         Ok(taken)
     }
 

@@ -1,9 +1,11 @@
 //! What a browser's page asks for: one message is a frame of the server without its length.
 
-ghost use Rattle.std.specs.Prelude.{◌≡◌, IfOk};
-ghost use Rattle.web_client.specs.Asking.{AddsFrame, IfOwn, Begins, Asks};
+ghost use Rattle.std.specs.Prelude.{◌≡◌, ◌+◌, ◌-◌, ◌*◌, ◌%◌, ◌<◌, max, length, None, IfOk, IfSome, OnOk, OnErr};
+ghost use Rattle.web_client.specs.Asking.{lines_in, columns_in, IsNoName, IsAttached, IsShared};
+ghost use Rattle.web_client.specs.Asking.{Begins, Watches, Passes, Takes, Keeps, Asks};
 
-use crate::client::{Client, ClientFault};
+use crate::client::Client;
+use crate::fault::ClientFault;
 use crate::site::Site;
 use acl::UserId;
 use attach_proto::Token;
@@ -63,43 +65,56 @@ impl From<ClientFault> for SeatFault {
     }
 }
 
-fn number(high: u8, low: u8) -> u16 {
-    u16::from_be_bytes([high, low])
+/// The number of two bytes, the high one first.
+fn number(high: u8, low: u8) -> u16
+    ensures { result ≡ 256 * high + low }
+{
+    256 * u16::from(high) + u16::from(low)
 }
 
-/// The size that a message names, within the least and the most.
-fn size_of(bytes: &[u8]) -> Option<(u16, u16)> {
-    match bytes {
-        [a, b, c, d, ..] => {
-            Some((
-                number(*a, *b).clamp(LEAST.0, MOST.0),
-                number(*c, *d).clamp(LEAST.1, MOST.1),
-            ))
-        }
-        _ => None,
+/// The size that a payload begins with, within the least and the most.
+fn size_of(bytes: &[u8]) -> Option<(u16, u16)>
+    ensures some { IfSome result (λ size. (size.0 ≡ lines_in bytes.now)
+        × (size.1 ≡ columns_in bytes.now)) }
+    ensures none { result ≡ None → length bytes.now < 4 }
+{
+    if bytes.len() < 4 {
+        return None;
     }
+    let rows = number(bytes[0], bytes[1]).clamp(LEAST.0, MOST.0);
+    let columns = number(bytes[2], bytes[3]).clamp(LEAST.1, MOST.1);
+    Some((rows, columns))
 }
 
 /// The size of the shared page for a watcher that has room for this many lines and columns.
-pub fn fitted((rows, columns): (u16, u16)) -> (u16, u16) {
-    let rows = rows - rows % STEP.0;
-    let columns = columns - columns % STEP.1;
+pub fn fitted(size: (u16, u16)) -> (u16, u16)
+    ensures rows { result.0 ≡ max (size.0 - size.0 % 6) 4 }
+    ensures columns { result.1 ≡ max (size.1 - size.1 % 20) 20 }
+{
+    let rows = size.0 - size.0 % STEP.0;
+    let columns = size.1 - size.1 % STEP.1;
     (rows.max(LEAST.0), columns.max(LEAST.1))
 }
 
 /// The name of a user, as its bytes.
-fn name_of(bytes: &[u8]) -> Option<&str> {
-    match UserId::of(bytes) {
-        Some(_) => str::from_utf8(bytes).ok(),
-        None => None,
+fn name_of(bytes: &[u8]) -> Option<&str>
+    ensures some { IfSome result (λ name. name.now ≡ bytes.now) }
+    ensures none { result ≡ None → IsNoName bytes.now }
+{
+    if UserId::of(bytes).is_none() {
+        return None;
+    }
+    match str::from_utf8(bytes) {
+        Ok(name) => Some(name),
+        Err(_) => None,
     }
 }
 
 /// The seat of a browser that says who it is.
 fn attached(alloc: Global, payload: &[u8]) -> Result<Seat, SeatFault>
-    ensures { IfOk result Begins }
+    ensures { IfOk result (IsAttached payload.now) }
 {
-    let Some(size) = size_of(payload) else {
+    let Some((rows, columns)) = size_of(payload) else {
         return Err(SeatFault::Wrong);
     };
     if payload.len() < BEFORE_NAME {
@@ -110,8 +125,8 @@ fn attached(alloc: Global, payload: &[u8]) -> Result<Seat, SeatFault>
     };
     match name_of(&payload[BEFORE_NAME..]) {
         Some(name) => {
-            let (rows, columns) = size;
-            Ok(Seat::Own(Client::attach(alloc, rows, columns, token, name)?))
+            let client = Client::attach(alloc, rows, columns, token, name)?;
+            Ok(Seat::Own(client))
         }
         None => Ok(Seat::Unknown),
     }
@@ -119,69 +134,85 @@ fn attached(alloc: Global, payload: &[u8]) -> Result<Seat, SeatFault>
 
 /// The seat of a browser that only watches, if this is allowed.
 fn watching(site: &Site, payload: &[u8]) -> Result<Seat, SeatFault>
-    ensures { IfOk result (λ seat. IfOwn seat (λ _. ⊥)) }
+    ensures { IfOk result (IsShared payload.now) }
 {
-    match (&site.watcher, size_of(payload)) {
-        (Some(_), Some(size)) if payload.len() == 4 => {
+    if site.watcher.is_none() || payload.len() != 4 {
+        return Err(SeatFault::Wrong);
+    }
+    match size_of(payload) {
+        Some(size) => {
             let (rows, columns) = fitted(size);
             Ok(Seat::Watching(rows, columns))
         }
-        _ => Err(SeatFault::Wrong),
+        None => Err(SeatFault::Wrong),
     }
 }
 
 impl Seat {
     // Takes the first message.
     fn begin(&mut self, alloc: Global, site: &Site, message: &[u8]) -> Result<(), SeatFault>
-        requires { self.old ≡ Seat.Nobody }
-        ensures { Begins self.new }
+        ensures ok { OnOk result (Begins message.now self.new) }
+        ensures err { OnErr result (self.new ≡ self.old) }
     {
         match message {
-            [ATTACH, payload @ ..] => *self = attached(alloc, payload)?,
-            [WATCH, payload @ ..] => *self = watching(site, payload)?,
-            _ => return Err(SeatFault::Wrong),
+            [ATTACH, payload @ ..] => {
+                *self = attached(alloc, payload)?;
+                Ok(())
+            }
+            [WATCH, payload @ ..] => {
+                *self = watching(site, payload)?;
+                Ok(())
+            }
+            _ => Err(SeatFault::Wrong),
         }
-        Ok(())
     }
 
     // Takes a message of a browser that watches.
     fn watch(&mut self, site: &Site, message: &[u8]) -> Result<(), SeatFault>
-        requires { IfOwn self.old (λ _. ⊥) }
-        ensures { IfOwn self.new (λ _. ⊥) }
+        ensures ok { OnOk result (Watches message.now self.new) }
+        ensures err { OnErr result (self.new ≡ self.old) }
     {
         match message {
-            [RESIZE, payload @ ..] => *self = watching(site, payload)?,
-            [DETACH] => *self = Seat::Left,
-            _ => return Err(SeatFault::Wrong),
+            [RESIZE, payload @ ..] => {
+                *self = watching(site, payload)?;
+                Ok(())
+            }
+            [DETACH] => {
+                *self = Seat::Left;
+                Ok(())
+            }
+            _ => Err(SeatFault::Wrong),
         }
-        Ok(())
     }
 
-    /// Takes one message of the browser.
+    /// Takes one message of the browser. One that isn't taken adds nothing for its client.
     pub fn take(&mut self, alloc: Global, site: &Site, message: &[u8]) -> Result<(), SeatFault>
-        ensures { Asks self.old self.new }
+        ensures ok { OnOk result (Takes self.old message.now self.new) }
+        ensures err { OnErr result (Keeps self.old self.new) }
+        ensures asks { Asks self.old self.new }
     {
         match self {
             Seat::Nobody => self.begin(alloc, site, message),
             Seat::Own(client) => ask(client, message),
             Seat::Watching(_, _) => self.watch(site, message),
-            Seat::Unknown | Seat::Left => Err(SeatFault::Wrong),
+            Seat::Unknown => Err(SeatFault::Wrong),
+            Seat::Left => Err(SeatFault::Wrong),
         }
     }
 }
 
 /// Passes a message on to the browser's client.
 fn ask(client: &mut Client, message: &[u8]) -> Result<(), SeatFault>
-    ensures { AddsFrame client.old.waiting client.new.waiting }
+    ensures ok { OnOk result (Passes message.now client.old client.new) }
+    ensures err { OnErr result (client.new.outgoing ≡ client.old.outgoing) }
 {
     match message {
-        [KEYS, keys @ ..] => client.press(keys)?,
+        [KEYS, keys @ ..] => Ok(client.press(keys)?),
         [RESIZE, payload @ ..] if payload.len() == 4 => match size_of(payload) {
-            Some((rows, columns)) => client.resize(rows, columns)?,
-            None => return Err(SeatFault::Wrong),
+            Some((rows, columns)) => Ok(client.resize(rows, columns)?),
+            None => Err(SeatFault::Wrong),
         },
-        [DETACH] => client.detach()?,
-        _ => return Err(SeatFault::Wrong),
+        [DETACH] => Ok(client.detach()?),
+        _ => Err(SeatFault::Wrong),
     }
-    Ok(())
 }

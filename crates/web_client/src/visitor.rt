@@ -1,12 +1,19 @@
 //! A browser's connection: its request, its messages, and who it is.
 
-use crate::client::Client;
+ghost use Rattle.std.specs.Prelude.{◌≡◌, ℕ, List, OnOk};
+ghost use Rattle.web_client.specs.Asking.{Asks, Keeps};
+ghost use Rattle.web_client.specs.Sending.{IsReceived};
+
+use crate::display::Display;
+use crate::front::drop_front;
 use crate::requests::{Answer, Opening, answered, refusal};
 use crate::seat::{Seat, SeatFault};
 use crate::site::Site;
 use crate::wire::{End, Stage, View, Wire};
 use attach_proto::Why;
 use std::alloc::Global;
+use std::io;
+use std::io::Read;
 use websocket::protocol::{CloseCode, FrameStatus, Message, NoMask};
 
 /// While more bytes wait for the server, the browser isn't read.
@@ -79,7 +86,9 @@ impl Visitor {
     }
 
     // Reads one frame of the page.
-    fn read_frame(&mut self) -> Result<Frame, End> {
+    fn read_frame(&mut self) -> Result<Frame, End>
+        ensures { self.new.seat ≡ self.old.seat }
+    {
         let wire = &mut self.wire;
         let status = wire
             .context
@@ -104,12 +113,15 @@ impl Visitor {
                 _ => {}
             }
         }
-        self.input.drain(..step.consumed);
+        let consumed = step.consumed.min(self.input.len());
+        drop_front(&mut self.input, consumed);
         Ok(frame)
     }
 
     // Takes one message of the page.
-    fn take_message(&mut self, site: &Site, message: &[u8]) -> Result<(), End> {
+    fn take_message(&mut self, site: &Site, message: &[u8]) -> Result<(), End>
+        ensures { Asks self.old.seat self.new.seat }
+    {
         match self.seat.take(self.wire.alloc, site, message) {
             Ok(()) => {}
             Err(SeatFault::Wrong) => {
@@ -128,8 +140,11 @@ impl Visitor {
         }
     }
 
-    fn read_frames(&mut self, site: &Site) -> Result<(), End> {
-        for _ in 0..u64::MAX {
+    // Takes the frames that are whole.
+    fn read_frames(&mut self, site: &Site) -> Result<(), End>
+        ensures { Asks self.old.seat self.new.seat }
+    {
+        'frames: for _ in 0..u64::MAX {
             if !self.is_open() {
                 break;
             }
@@ -143,7 +158,9 @@ impl Visitor {
     }
 
     // Takes the answer to a request.
-    fn take_answer(&mut self, answer: Answer) -> Result<(), End> {
+    fn take_answer(&mut self, answer: Answer) -> Result<(), End>
+        ensures { self.new.seat ≡ self.old.seat }
+    {
         match answer {
             Answer::Part => {}
             Answer::Page(bytes) => {
@@ -157,7 +174,8 @@ impl Visitor {
                     address,
                 } = opening;
                 self.wire.output.extend_from_slice(&answer)?;
-                self.input.drain(..request.min(self.input.len()));
+                let request = request.min(self.input.len());
+                drop_front(&mut self.input, request);
                 self.address = address;
                 self.wire.stage = Stage::Socket;
             }
@@ -165,9 +183,22 @@ impl Visitor {
         Ok(())
     }
 
-    /// Takes bytes of the browser.
-    pub fn take(&mut self, site: &Site, bytes: &[u8]) -> Result<(), End> {
-        self.input.extend_from_slice(bytes)?;
+    /// Reads the browser once. What came waits to be taken.
+    pub fn receive<B: Read>(&mut self, browser: &mut B, buffer: &mut [u8]) -> io::Result<usize>
+        ensures received { (sent : List ℕ) → IsReceived sent (B.remaining browser.old) self.old.input.items
+            → OnOk result (IsReceived sent (B.remaining browser.new) self.new.input.items) }
+        ensures seat { self.new.seat ≡ self.old.seat }
+    {
+        let count = browser.read(buffer)?;
+        self.input.extend_from_slice(&buffer[..count])?;
+        Ok(count)
+    }
+
+    /// Takes what came of the browser. For its own client it adds frames that the browser may ask for,
+    /// and nothing else.
+    pub fn take(&mut self, site: &Site) -> Result<(), End>
+        ensures { Asks self.old.seat self.new.seat }
+    {
         if self.wire.stage == Stage::Request {
             let answer = answered(self.wire.alloc, site, &self.input)?;
             self.take_answer(answer)?;
@@ -185,7 +216,9 @@ impl Visitor {
     }
 
     /// The server's connection ended, or there is none.
-    pub fn lose(&mut self, reason: &str) {
+    pub fn lose(&mut self, reason: &str)
+        ensures { self.new.seat ≡ self.old.seat }
+    {
         if self.is_open() {
             let _ = self.wire.say(reason);
             self.wire.close(CloseCode::Away, reason);
@@ -193,7 +226,9 @@ impl Visitor {
     }
 
     /// Ends the connection for this reason.
-    pub fn dismiss(&mut self, reason: &str) {
+    pub fn dismiss(&mut self, reason: &str)
+        ensures { self.new.seat ≡ self.old.seat }
+    {
         if self.is_open() {
             self.wire.close(CloseCode::Policy, reason);
         }
@@ -201,32 +236,40 @@ impl Visitor {
     }
 
     /// Asks the browser whether it is there.
-    pub fn ping(&mut self) {
+    pub fn ping(&mut self)
+        ensures { self.new.seat ≡ self.old.seat }
+    {
         if self.is_open() {
             self.wire.ping();
         }
     }
 
     /// Another page is shown from now on, of which nothing was sent.
-    pub fn change_page(&mut self) {
+    pub fn change_page(&mut self)
+        ensures { self.new.seat ≡ self.old.seat }
+    {
         self.view = View::NOTHING;
     }
 
     /// Shows a page that others watch too.
-    pub fn show_shared(&mut self, client: &mut Client) -> Result<(), End> {
+    pub fn show_shared(&mut self, display: &mut Display) -> Result<(), End>
+        ensures { self.new.seat ≡ self.old.seat }
+    {
         if !self.is_open() {
             return Ok(());
         }
-        self.wire.show(&mut self.view, client)
+        self.wire.show(&mut self.view, display)
     }
 
-    /// Shows the page of its own client.
-    pub fn show_own(&mut self) -> Result<(), End> {
+    /// Shows the page of its own client: what the browser is sent is made from the display alone.
+    pub fn show_own(&mut self) -> Result<(), End>
+        ensures { Keeps self.old.seat self.new.seat }
+    {
         if !self.is_open() {
             return Ok(());
         }
         match &mut self.seat {
-            Seat::Own(client) => self.wire.show(&mut self.view, client),
+            Seat::Own(client) => self.wire.show(&mut self.view, &mut client.display),
             _ => Ok(()),
         }
     }

@@ -1,6 +1,6 @@
 //! What a browser is sent over its connection.
 
-use crate::client::Client;
+use crate::display::Display;
 use attach_proto::Why;
 use std::alloc::{AllocError, AllocFailed, Global};
 use web_page::{SheetFault, put_text};
@@ -140,32 +140,32 @@ impl Wire {
         Ok(())
     }
 
-    // Sends what is new of a client's page.
-    fn send_rows(&mut self, view: &mut View, client: &mut Client) -> Result<(), End> {
-        if let Some(text) = client.update(view.since)? {
+    // Sends what is new of a page.
+    fn send_rows(&mut self, view: &mut View, display: &mut Display) -> Result<(), End> {
+        if let Some(text) = display.update(view.since)? {
             self.send_text(text.as_str())?;
-            view.since = client.moment();
+            view.since = display.moment();
         }
         Ok(())
     }
 
-    /// Sends what is new of a client. Rows wait until the last ones were taken: what is sent then is
+    /// Sends what is new of a display. Rows wait until the last ones were taken: what is sent then is
     /// what the page shows then.
-    pub fn show(&mut self, view: &mut View, client: &mut Client) -> Result<(), End> {
+    pub fn show(&mut self, view: &mut View, display: &mut Display) -> Result<(), End> {
         if self.output.len() > TOO_MUCH {
             return Err(End::TooFarBehind);
         }
         let is_idle = self.output.is_empty();
-        if client.is_welcome() && !view.is_welcomed {
+        if display.is_welcome() && !view.is_welcomed {
             view.is_welcomed = true;
             self.send_text("{\"welcome\":1}")?;
         }
-        if client.is_welcome() && (is_idle || client.gone().is_some()) {
-            self.send_rows(view, client)?;
+        if display.is_welcome() && (is_idle || display.gone().is_some()) {
+            self.send_rows(view, display)?;
         }
-        match client.gone() {
+        match display.gone() {
             Some(why) => {
-                if let Some(text) = client.refusal() {
+                if let Some(text) = display.refusal() {
                     self.say(text)?;
                 }
                 self.tell_gone(why)

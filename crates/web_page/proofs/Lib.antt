@@ -3,3 +3,4 @@ pub mod Laying
 pub mod Looking
 pub mod Updating
 pub mod Harmless
+pub mod Blank

@@ -4,3 +4,4 @@ pub mod Runs
 pub mod Updates
 pub mod Laying
 pub mod Showing
+pub mod Vacant

@@ -3,7 +3,9 @@ use Rattle.std.specs.Prelude.{◌≡◌, ◌⊎◌, ℕ, ◌<◌, ◌≤◌, suc
 use Rattle.std.specs.Prelude.{slice_index_or, Bool, true, false}
 use Rattle.cells.specs.declared.cell.Cell.{Cell}
 use Rattle.cells.specs.Page.{line_at}
-use Rattle.emulator.specs.Standing.{Parts}
+use Rattle.terminal_model.specs.Screen.{starting}
+use Rattle.terminal_model.specs.Reading.{ready}
+use Rattle.emulator.specs.Standing.{Parts, StandsFor}
 use Rattle.web_page.specs.declared.head.Head.{Head}
 use Rattle.web_page.specs.Runs.{Run, runs}
 use Rattle.web_page.specs.Updates.{head_of}
@@ -20,6 +22,13 @@ pub record Sheet : Type 0 where
   pub head : Head
   pub rows : List Kept
   pub moment : ℕ
+
+-- the sheet of a terminal of this size that has read nothing, and that nobody has looked at
+pub record IsBlank (rows columns : ℕ) (s : Sheet) : Type 0 where
+  pub terminal : StandsFor s.terminal (ready (starting rows columns 0))
+  pub head : s.head ≡ head_of s.terminal.screen
+  pub unseen : s.rows ≡ []
+  pub first : s.moment ≡ 1
 
 abbrev pub kept_at : List Kept → ℕ → Kept
 kept_at rows n = slice_index_or rows n (record { cells = []; stamp = 0 })

@@ -8,7 +8,8 @@ mod line;
 mod row;
 mod sheet;
 mod style;
+mod vacant;
 
 pub use character::put_text;
-pub use laws::texts_hold_no_markup;
+pub use laws::{blank_sheets_are_equal, texts_hold_no_markup};
 pub use sheet::{Sheet, SheetFault};

@@ -1,20 +1,21 @@
 //! The page of a terminal, for browsers that were sent more or less of it.
 
 ghost use Rattle.std.specs.Prelude.{◌≡◌, ◌⊎◌, ◌≤◌, ◌<◌, ℕ, List, [], Some, None, OnOk, OnErr};
-ghost use Rattle.std.specs.Prelude.{IfOk, IfErr, IfSome, MatchOption, length, take, false};
+ghost use Rattle.std.specs.Prelude.{◌↔◌, IsTrue, IfOk, IfErr, IfSome, MatchOption, length, take, false};
 ghost use Rattle.std.specs.String.{string_bytes};
 ghost use Rattle.cells.specs.Page.{IsGridSize};
-ghost use Rattle.terminal_model.specs.Screen.{starting};
-ghost use Rattle.terminal_model.specs.Reading.{Terminal, ready, reads};
+ghost use Rattle.terminal_model.specs.Reading.{Terminal, reads};
 ghost use Rattle.terminal_model.specs.Writing.{Size};
 ghost use Rattle.emulator.specs.Standing.{StandsFor, TakesWriting};
 ghost use Rattle.web_page.specs.Updates.{Update, spelled};
 ghost use Rattle.web_page.specs.Laying.{Shown, laid, page_of};
-ghost use Rattle.web_page.specs.Showing.{IsShown, IsLooked, HasLooked, Looks, newer};
+ghost use Rattle.web_page.specs.Vacant.{IsVacant};
+ghost use Rattle.web_page.specs.Showing.{IsBlank, IsShown, IsLooked, HasLooked, Looks, newer};
 
 use crate::head::Head;
 use crate::line::{put_number, put_numbers};
 use crate::row::{Row, look_at, put_rows};
+use crate::vacant::is_vacant;
 use cells::GridFault;
 use emulator::{Emulator, Stopped};
 use std::alloc::{AllocError, Global};
@@ -116,7 +117,7 @@ fn count_of(is_new: bool, head: Head, old: Head) -> u64
 impl Sheet {
     /// A terminal of this size that has read nothing.
     pub fn new(alloc: Global, rows: u16, columns: u16) -> Result<Sheet, GridFault>
-        ensures { IfOk result (λ s. StandsFor s.terminal (ready (starting rows columns 0))) }
+        ensures { IfOk result (IsBlank rows columns) }
     {
         let emulator = Emulator::new(alloc, usize::from(rows), usize::from(columns), 0)?;
         let head = Head::of(&emulator);
@@ -161,6 +162,13 @@ impl Sheet {
         ensures { result ≡ self.now.moment }
     {
         self.moment
+    }
+
+    /// Whether its page is that of a client that sees no window.
+    pub fn is_vacant(&self) -> bool
+        ensures { IsTrue result ↔ IsVacant self.now.terminal.screen.page }
+    {
+        is_vacant(&self.emulator)
     }
 
     // Looks at what changed since the last look.

@@ -2,13 +2,12 @@ use Rattle.std.proofs.Common.{◌≡◌, drop}
 use Rattle.terminal_model.specs.Reading.{Terminal}
 use Rattle.emulator.specs.Standing.{StandsFor}
 use Rattle.web_client.specs.Hearing.{all_drawn}
-use Rattle.web_client.proofs.client.Client.hear_each.Given as goal
+use Rattle.web_client.proofs.display.Display.hear_each.Given as goal
 
 abbrev pub invariant-loop-message : goal.invariant-loop-message
 invariant-loop-message l = record {
   sheet : (t s : Terminal) → StandsFor l.fn.self.sheet.terminal t
       → s ≡ all_drawn t l.messages → (u : Terminal) × StandsFor l.self.sheet.terminal u
       × (s ≡ all_drawn u (drop l.message-index l.messages));
-  waiting : l.self.waiting ≡ l.fn.self.waiting;
   reading : l.self.reading ≡ l.fn.self.reading;
 }

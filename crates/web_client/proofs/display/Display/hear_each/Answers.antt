@@ -4,7 +4,7 @@ use Rattle.terminal_model.specs.Reading.{Terminal}
 use Rattle.emulator.specs.Standing.{StandsFor}
 use Rattle.web_client.specs.Hearing.{drawn, all_drawn}
 use Rattle.web_client.proofs.Hearing.{one_more, none_more}
-use Rattle.web_client.proofs.client.Client.hear_each.Goals as goal
+use Rattle.web_client.proofs.display.Display.hear_each.Goals as goal
 
 pub loop-message-preserved : goal.loop-message-preserved
 loop-message-preserved c = record {
@@ -16,7 +16,6 @@ loop-message-preserved c = record {
             ∙ ap (λ (m : Message). all_drawn (drawn k.0 m) (drop (c.loop-message.message-index + 1) c.args.messages.now))
             (sym c.message-item.is)),
       );
-  waiting = c.hear.ensures.waiting ∙ c.loop-message.invariant.waiting;
   reading = c.hear.ensures.reading ∙ c.loop-message.invariant.reading;
 }
 

@@ -4,10 +4,10 @@ use crate::fault::WebFault;
 use acl::UserId;
 use attach_proto::Token;
 use clap::ArgMatches;
-use std::alloc::Global;
-use std::fs;
+use std::alloc::{AllocError, Global};
 use std::fs::{File, Files};
 use std::net::SocketAddr;
+use std::{env, fs};
 use web_client::{Site, Watcher};
 
 /// The files of the page.
@@ -15,7 +15,7 @@ const FILES: [&str; 3] = ["index.html", "mux.js", "mux.css"];
 
 /// What the arguments ask for.
 #[derive(Clone, Copy)]
-pub struct Asked<'a> {
+pub struct WebOptions<'a> {
     /// The server's socket.
     pub socket: &'a str,
     /// Where browsers come in.
@@ -24,7 +24,8 @@ pub struct Asked<'a> {
     watch_token: Option<&'a str>,
     /// How many pages may be open.
     pub most: usize,
-    page: &'a str,
+    // The folder of the page, if one is named.
+    page: Option<&'a str>,
     /// Whether it logs who comes and goes.
     pub tells: bool,
 }
@@ -36,16 +37,16 @@ pub enum Listen<'a> {
     Path(&'a str),
 }
 
-impl<'a> Asked<'a> {
+impl<'a> WebOptions<'a> {
     /// (Arguments that must be there are: without them there are no matches.)
-    pub fn of(matches: &ArgMatches<'a>) -> Asked<'a> {
-        Asked {
+    pub fn of(matches: &ArgMatches<'a>) -> WebOptions<'a> {
+        WebOptions {
             socket: matches.get_str("socket").unwrap_or(""),
             listen: matches.get_str("listen").unwrap_or(""),
             watch: matches.get_str("watch"),
             watch_token: matches.get_str("watch-token"),
             most: usize::from(matches.get_one::<u16>("most").unwrap_or(1)),
-            page: matches.get_str("page").unwrap_or(""),
+            page: matches.get_str("page"),
             tells: matches.get_flag("log"),
         }
     }
@@ -104,9 +105,9 @@ fn token_in<R: Files<File = File> + AllocGlobal>(rt: &R, path: &str) -> Result<T
 /// The user as whom anybody may watch, if the arguments name one.
 fn watcher_of<R: Files<File = File> + AllocGlobal>(
     rt: &R,
-    asked: Asked<'_>,
+    options: WebOptions<'_>,
 ) -> Result<Option<Watcher>, WebFault> {
-    match (asked.watch, asked.watch_token) {
+    match (options.watch, options.watch_token) {
         (Some(name), Some(path)) => {
             if UserId::of(name.as_bytes()).is_none() {
                 return Err(WebFault::NoName);
@@ -117,6 +118,37 @@ fn watcher_of<R: Files<File = File> + AllocGlobal>(
         }
         (None, None) => Ok(None),
         _ => Err(WebFault::Alone),
+    }
+}
+
+/// The folder of the page beside that of the program at this path: PREFIX/share/mux/web beside
+/// PREFIX/bin/mux-web.
+fn folder_beside(alloc: Global, program: &str) -> Result<String, AllocError> {
+    let folder = before_slash(program);
+    let prefix = before_slash(folder);
+    format!(in alloc; "{prefix}/share/mux/web")
+}
+
+/// The path before its last slash.
+fn before_slash(path: &str) -> &str {
+    match path.rfind('/') {
+        Some(place) => path.get(..place).unwrap_or(""),
+        None => "",
+    }
+}
+
+/// The folder of the page: the one that the arguments name, or the one beside the program.
+fn folder_of<R: Files<File = File> + AllocGlobal>(
+    rt: &R,
+    options: WebOptions<'_>,
+) -> Result<String, WebFault> {
+    let alloc = rt.alloc();
+    if let Some(folder) = options.page {
+        return Ok(String::from_str(alloc, folder)?);
+    }
+    match env::current_exe(rt) {
+        Ok(program) => Ok(folder_beside(alloc, program.to_str().unwrap_or(""))?),
+        Err(error) => Err(WebFault::NoPage(String::from_str(alloc, "/proc/self/exe")?, error)),
     }
 }
 
@@ -138,16 +170,17 @@ fn read_file<R: Files<File = File> + AllocGlobal>(
 /// Reads all that the bridge serves.
 pub fn site_of<R: Files<File = File> + AllocGlobal>(
     rt: &R,
-    asked: Asked<'_>,
+    options: WebOptions<'_>,
     origins: Vec<String>,
 ) -> Result<Site, WebFault> {
     let mut site = Site {
         files: Vec::new(rt.alloc()),
         origins,
-        watcher: watcher_of(rt, asked)?,
+        watcher: watcher_of(rt, options)?,
     };
+    let folder = folder_of(rt, options)?;
     for name in FILES {
-        read_file(rt, &mut site, asked.page, name)?;
+        read_file(rt, &mut site, folder.as_str(), name)?;
     }
     Ok(site)
 }

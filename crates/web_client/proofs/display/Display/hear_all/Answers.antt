@@ -2,18 +2,18 @@ use Rattle.std.proofs.Common.{◌≡◌, List, ◌++◌, ap, sym, ◌∙◌, sub
 use Rattle.attach_proto.specs.declared.message.Message.{Message}
 use Rattle.attach_proto.specs.Streams.{Reading, HasRead}
 use Rattle.emulator.specs.Standing.{Parts, StandsFor}
-use Rattle.web_client.specs.Hearing.{Client, all_drawn}
-use Rattle.web_client.proofs.client.Client.hear_all.Goals as goal
+use Rattle.web_client.specs.Hearing.{Display, all_drawn}
+use Rattle.web_client.proofs.display.Display.hear_all.Goals as goal
 
-pub returns-in-Ok-clause-hears : goal.returns-in-Ok-clause-hears
-returns-in-Ok-clause-hears c = λ messages stream t r w.
+pub returns-in-Ok : goal.returns-in-Ok
+returns-in-Ok c = λ messages stream t r w.
     let got = c.in-Ok.ensures.reads (λ e. cc) in
     let items : c.deref.result.now ≡ got.0 = c.deref.ensures.value ∙ (got.1
     ∙ ap (λ (l : List Message). l ++ got.0) c.new-messages.ensures.items) in
     let before = subst (λ (x : Reading). HasRead x messages stream)
-    (sym (ap (λ (p : Client). p.reading) c.self.view_is)) r in
+    (sym (ap (λ (p : Display). p.reading) c.self.view_is)) r in
     let stands = subst (λ (p : Parts). StandsFor p t)
-    (sym (ap (λ (p : Client). p.sheet.terminal) c.self.view_is)) w in (
+    (sym (ap (λ (p : Display). p.sheet.terminal) c.self.view_is)) w in (
       got.0,
       subst (λ (x : Reading). HasRead x (messages ++ got.0) (stream ++ c.args.bytes.now))
           (sym c.hear_each.ensures.reading) (got.2 messages stream before),

@@ -1,0 +1,103 @@
+//! Lines on their way to standard error: the loop puts them down, and a thread writes them.
+
+use std::alloc::{AllocError, Global};
+use std::fmt::Display;
+use std::sync::{Arc, Condvar, Mutex, Wait};
+use std::thread::Threads;
+use std::time::Duration;
+use std::{io, thread};
+
+/// The most bytes that wait for the reader of standard error.
+const MOST: usize = 65_536;
+
+/// How many seconds the writer sleeps at most if nothing comes.
+const LOOK: u64 = 3_600;
+
+// Lines that weren't written yet.
+#[derive(Drop)]
+struct UnwrittenLines {
+    text: String,
+    left_out: u64,
+}
+
+/// Lines on their way to standard error. The loop never waits for a slow reader of them.
+#[derive(Drop)]
+pub struct Log {
+    alloc: Global,
+    waiting: Mutex<UnwrittenLines>,
+    news: Condvar,
+}
+
+impl Log {
+    /// No line yet.
+    pub fn new(alloc: Global) -> Log {
+        Log {
+            alloc,
+            waiting: Mutex::new(UnwrittenLines {
+                text: String::new(alloc),
+                left_out: 0,
+            }),
+            news: Condvar::new(),
+        }
+    }
+
+    /// Puts a line down. A line for which there is no room is dropped and counted.
+    pub fn put<T: Display>(&self, rt: &impl Wait, what: &T) {
+        let line = format!(in self.alloc; "mux-web: {what}\n");
+        let mut waiting = self.waiting.lock(rt);
+        let is_put = match line {
+            Ok(line) if waiting.text.len().saturating_add(line.len()) <= MOST => {
+                waiting.text.push_str(line.as_str()).is_ok()
+            }
+            _ => false,
+        };
+        if !is_put {
+            waiting.left_out = waiting.left_out.saturating_add(1);
+        }
+        drop(waiting);
+        self.news.notify_one();
+    }
+
+    // Takes the lines that wait, and the count of dropped ones.
+    fn take(&self, rt: &impl Wait) -> (String, u64) {
+        let mut waiting = self.waiting.lock(rt);
+        let none = String::new(self.alloc);
+        let text = std::mem::replace(&mut waiting.text, none);
+        let left_out = std::mem::replace(&mut waiting.left_out, 0);
+        (text, left_out)
+    }
+
+    // Writes the lines as they come. A line that can't be written is dropped.
+    fn write_all<R: Eprint + Wait>(&self, rt: &R) {
+        for _ in rt.forever() {
+            let seen = self.news.notifications();
+            let (text, left_out) = self.take(rt);
+            let text = text.as_str();
+            let _ = eprint!(rt; "{text}");
+            if left_out > 0 {
+                let _ = eprintln!(rt;
+                    "mux-web: {left_out} lines were left out here: standard error was read too slowly"
+                );
+            }
+            self.news.sleep(rt, seen, Duration::from_secs(LOOK));
+        }
+    }
+}
+
+/// Starts a log, with the thread that writes it.
+pub fn start_log<R>(rt: &R, alloc: Global) -> io::Result<Arc<Log>>
+where
+    R: Eprint + Threads + Wait + Copy + Send + 'static,
+{
+    let log = Arc::new(alloc, Log::new(alloc))?;
+    let theirs = Arc::try_clone(&log)?;
+    let rt_there = *rt;
+    let started = thread::spawn(rt, move || {
+        let rt = rt_there;
+        theirs.write_all(&rt);
+    });
+    match started {
+        Ok(_) => Ok(log),
+        Err(error) => Err(io::Error::from(AllocError::from(error))),
+    }
+}

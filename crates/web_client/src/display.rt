@@ -1,0 +1,222 @@
+//! What the server has told a client: whether it is in, its page, and why it ended. A browser is shown
+//! this alone, and no token is in it.
+
+ghost use Rattle.std.specs.Prelude.{◌≡◌, ◌↔◌, IsTrue, ◌++◌, ◌⊎◌, ℕ, List, IfOk, OnOk, OnErr, MatchOption};
+ghost use Rattle.std.specs.String.{string_bytes};
+ghost use Rattle.terminal_model.specs.Reading.{Terminal, reads};
+ghost use Rattle.emulator.specs.Standing.{StandsFor};
+ghost use Rattle.web_page.specs.Updates.{Update, spelled};
+ghost use Rattle.web_page.specs.Laying.{Shown, laid, page_of};
+ghost use Rattle.web_page.specs.Showing.{IsShown};
+ghost use Rattle.web_page.specs.Vacant.{IsVacant};
+ghost use Rattle.web_client.specs.Hearing.{IsBlank, IsResized, drawn, all_drawn, Hears};
+
+use crate::fault::ClientFault;
+use attach_proto::{Message, Reader, Side, Text, Why};
+use std::alloc::Global;
+use std::marker::Model;
+use web_page::{Sheet, SheetFault};
+
+/// What the server has told a client.
+pub struct Display {
+    alloc: Global,
+    name: Text,
+    reader: Reader,
+    sheet: Sheet,
+    is_welcome: bool,
+    // Why the server didn't let it in.
+    refusal: Option<Text>,
+    // Why the server let it go.
+    gone: Option<Why>,
+}
+
+impl Drop for Display {
+    fn drop(self) {
+        let Display {
+            alloc: _,
+            name: _,
+            reader: _,
+            sheet: _,
+            is_welcome: _,
+            refusal: _,
+            gone: _,
+        } = self;
+    }
+}
+
+impl Model for Display {
+    ghost use Rattle.web_client.specs.Hearing.{Display as Heard};
+
+    ghost Value = { Heard };
+
+    ghost view = { λ d. record {
+      name = d.name;
+      reading = d.reader;
+      sheet = d.sheet;
+      is_welcome = d.is_welcome;
+      refusal = d.refusal;
+      gone = d.gone;
+    } };
+}
+
+impl Display {
+    /// The display of a client that has heard nothing.
+    pub fn new(alloc: Global, rows: u16, columns: u16, name: &str) -> Result<Display, ClientFault>
+        ensures { IfOk result (IsBlank rows columns name.now) }
+    {
+        let Ok(sheet) = Sheet::new(alloc, rows, columns) else {
+            return Err(ClientFault::NoMemory);
+        };
+        let name = Text::of(alloc, name)?;
+        Ok(Display {
+            alloc,
+            name,
+            reader: Reader::new(alloc, Side::Peer),
+            sheet,
+            is_welcome: false,
+            refusal: None,
+            gone: None,
+        })
+    }
+
+    /// The name that the client gave.
+    pub fn name(&self) -> &str
+        ensures { result.now ≡ self.now.name }
+    {
+        self.name.as_str()
+    }
+
+    /// Whether the server let it in.
+    pub fn is_welcome(&self) -> bool
+        ensures { result ≡ self.now.is_welcome }
+    {
+        self.is_welcome
+    }
+
+    /// Why the server let it go, if it did.
+    pub fn gone(&self) -> Option<Why>
+        ensures { result ≡ self.now.gone }
+    {
+        self.gone
+    }
+
+    /// Why the server didn't let it in, if it said so.
+    pub fn refusal(&self) -> Option<&str> {
+        match &self.refusal {
+            Some(text) => Some(text.as_str()),
+            None => None,
+        }
+    }
+
+    /// The update of its page for a browser that was sent all changes before the moment `since`, or
+    /// nothing if that is 0; None if it needs none.
+    pub fn update(&mut self, since: u64) -> Result<Option<String>, SheetFault>
+        // Laid over what the browser shows, it is the page of a terminal that has read all draws.
+        ensures shows { (t : Terminal) (b : Shown) → StandsFor self.old.sheet.terminal t
+            → (since ≡ 0) ⊎ IsShown since self.old.sheet b
+            → IfOk result (λ made. MatchOption made (b ≡ page_of t.screen)
+            (λ text. (u : Update) × (string_bytes text ≡ spelled u)
+            × (laid u b ≡ page_of t.screen))) }
+        ensures then { (t : Terminal) → StandsFor self.old.sheet.terminal t
+            → OnOk result (StandsFor self.new.sheet.terminal t
+            × IsShown self.new.sheet.moment self.new.sheet (page_of t.screen)) }
+        ensures browsers { (other : ℕ) (b : Shown) → IsShown other self.old.sheet b
+            → OnOk result (IsShown other self.new.sheet b) }
+        ensures reading { self.new.reading ≡ self.old.reading }
+    {
+        self.sheet.update(since)
+    }
+
+    /// The moment of its page's next change.
+    pub fn moment(&self) -> u64
+        ensures { result ≡ self.now.sheet.moment }
+    {
+        self.sheet.moment()
+    }
+
+    /// Whether its page shows no window.
+    pub fn is_vacant(&self) -> bool
+        ensures { IsTrue result ↔ IsVacant self.now.sheet.terminal.screen.page }
+    {
+        self.sheet.is_vacant()
+    }
+
+    /// Changes the size of its page.
+    pub fn resize(&mut self, rows: u16, columns: u16) -> Result<(), ClientFault>
+        ensures { OnOk result (IsResized rows columns self.old self.new) }
+    {
+        match self.sheet.resize(rows, columns) {
+            Ok(()) => Ok(()),
+            Err(_) => Err(ClientFault::NoMemory),
+        }
+    }
+
+    // Reads the bytes of a draw.
+    fn draw(&mut self, bytes: &[u8]) -> Result<(), ClientFault>
+        ensures sheet { OnOk result ((t : Terminal) → StandsFor self.old.sheet.terminal t
+            → StandsFor self.new.sheet.terminal (reads t bytes.now).terminal) }
+        ensures reading { self.new.reading ≡ self.old.reading }
+    {
+        match self.sheet.read(bytes) {
+            Ok(()) => Ok(()),
+            Err(_) => Err(ClientFault::NoMemory),
+        }
+    }
+
+    // Notes why the server lets nobody in. What it says later stands in the page's last row.
+    fn note(&mut self, text: &str) -> Result<(), ClientFault>
+        ensures sheet { self.new.sheet ≡ self.old.sheet }
+        ensures reading { self.new.reading ≡ self.old.reading }
+    {
+        if !self.is_welcome {
+            self.refusal = Some(Text::of(self.alloc, text)?);
+        }
+        Ok(())
+    }
+
+    // Takes one message of the server.
+    fn hear(&mut self, message: &Message) -> Result<(), ClientFault>
+        ensures sheet { OnOk result ((t : Terminal) → StandsFor self.old.sheet.terminal t
+            → StandsFor self.new.sheet.terminal (drawn t message.now)) }
+        ensures reading { self.new.reading ≡ self.old.reading }
+    {
+        match message {
+            Message::Welcome(_) => {
+                self.is_welcome = true;
+                Ok(())
+            }
+            Message::Draw(draw) => self.draw(draw.as_slice()),
+            Message::Say(text) => self.note(text.as_str()),
+            Message::Gone(why) => {
+                self.gone = Some(*why);
+                Ok(())
+            }
+            _ => Ok(()),
+        }
+    }
+
+    // Takes messages of the server.
+    fn hear_each(&mut self, messages: &[Message]) -> Result<(), ClientFault>
+        ensures sheet { OnOk result ((t : Terminal) → StandsFor self.old.sheet.terminal t
+            → StandsFor self.new.sheet.terminal (all_drawn t messages.now)) }
+        ensures reading { self.new.reading ≡ self.old.reading }
+    {
+        for message in messages {
+            self.hear(message)?;
+        }
+        Ok(())
+    }
+
+    /// Takes bytes of the server.
+    pub fn hear_all(&mut self, bytes: &[u8]) -> Result<(), ClientFault>
+        ensures { OnOk result (Hears self.old bytes.now self.new) }
+    {
+        let mut messages = Vec::new(self.alloc);
+        let fed = self.reader.feed(bytes, &mut messages);
+        self.hear_each(&messages)?;
+        match fed {
+            Ok(()) => Ok(()),
+            Err(_) => Err(ClientFault::BadFrame),
+        }
+    }
+}

@@ -1,0 +1,152 @@
+"""A headless Firefox, driven by its Marionette protocol with the standard library.  Nothing here judges."""
+import base64
+import json
+import os
+import shutil
+import signal
+import socket
+import subprocess
+import tempfile
+import time
+
+from cdp import ALT, CTRL, SHIFT
+
+# The characters of keys that are none, of the WebDriver standard.
+CODES = {"Enter": "\ue007", "Escape": "\ue00c", "Tab": "\ue004", "Backspace": "\ue003", "Insert": "\ue016",
+         "Delete": "\ue017", "PageUp": "\ue00e", "PageDown": "\ue00f", "Home": "\ue011", "End": "\ue010",
+         "ArrowLeft": "\ue012", "ArrowUp": "\ue013", "ArrowRight": "\ue014", "ArrowDown": "\ue015",
+         **{f"F{n}": chr(0xe030 + n) for n in range(1, 13)}}
+HELD = {ALT: "\ue00a", CTRL: "\ue009", SHIFT: "\ue008"}
+# No other connections than those of the page, and a port that the system chooses.
+SETTINGS = {"marionette.port": 0, "app.update.enabled": False, "browser.shell.checkDefaultBrowser": False,
+            "datareporting.policy.dataSubmissionEnabled": False, "toolkit.telemetry.enabled": False,
+            "browser.safebrowsing.downloads.enabled": False, "network.captive-portal-service.enabled": False,
+            "network.connectivity-service.enabled": False, "extensions.update.enabled": False,
+            "browser.startup.page": 0, "dom.disable_beforeunload": True}
+
+
+class Tab:
+    """A Firefox with files in a folder of its own, and its one tab: with the calls of cdp.Tab that both can have."""
+
+    def __init__(self, url, program="firefox-esr", width=900, height=640):
+        self.folder = tempfile.mkdtemp(prefix="mux-firefox.")
+        with open(f"{self.folder}/user.js", "w", encoding="ascii") as out:
+            for name, value in SETTINGS.items():
+                out.write(f"user_pref({json.dumps(name)}, {json.dumps(value)});\n")
+        command = [program, "--headless", "--marionette", "--no-remote", "--remote-allow-system-access",
+                   "--profile", self.folder, "--width", str(width), "--height", str(height)]
+        self.program = subprocess.Popen(command, stdin=subprocess.DEVNULL, stdout=subprocess.DEVNULL,
+                                        stderr=subprocess.DEVNULL, start_new_session=True,
+                                        env={**os.environ, "HOME": self.folder})
+        self.count, self.link = 0, None
+        try:
+            self.link = self.connected()
+            self.next()
+            self("WebDriver:NewSession", capabilities={})
+            self("WebDriver:Navigate", url=url)
+        except BaseException:
+            self.close()
+            raise
+
+    def connected(self):
+        until = time.monotonic() + 60
+        while True:
+            try:
+                with open(f"{self.folder}/MarionetteActivePort", encoding="ascii") as it:
+                    return socket.create_connection(("127.0.0.1", int(it.read())), timeout=60)
+            except (OSError, ValueError):
+                assert time.monotonic() < until and self.program.poll() is None, "firefox doesn't start"
+                time.sleep(0.1)
+
+    def next(self):
+        """The next message: its length, a colon and JSON."""
+        digits = b""
+        while not digits.endswith(b":"):
+            digits += self.bytes(1)
+        return json.loads(self.bytes(int(digits[:-1])))
+
+    def bytes(self, count):
+        found = b""
+        while len(found) < count:
+            got = self.link.recv(count - len(found))
+            if not got:
+                raise OSError("firefox closed its connection")
+            found += got
+        return found
+
+    def __call__(self, method, **words):
+        if method == "Page.bringToFront":
+            return None
+        if method == "Input.insertText":
+            return self.value(f"document.execCommand('insertText', false, {json.dumps(words['text'])})")
+        self.count += 1
+        message = json.dumps([0, self.count, method, words]).encode()
+        self.link.sendall(b"%d:%s" % (len(message), message))
+        _, _, error, result = self.next()
+        if error:
+            raise RuntimeError(f"{method}: {error['message']}")
+        return result
+
+    def value(self, text):
+        """The value of an expression."""
+        return self("WebDriver:ExecuteScript", script=f"return (\n{text}\n)", args=[])["value"]
+
+    def wait(self, text, seconds=20):
+        """Waits until an expression is true."""
+        until = time.monotonic() + seconds
+        while not self.value(text):
+            if time.monotonic() > until:
+                raise AssertionError(f"after {seconds} s this doesn't hold: {text}\n" + "\n".join(self.rows()))
+            time.sleep(0.03)
+
+    def rows(self):
+        """The rows of the document, without blanks at their ends."""
+        return self.value("[...document.getElementById('page').children].map((it) => it.textContent.trimEnd())")
+
+    def shows(self, text, seconds=20):
+        self.wait(f"document.getElementById('page').textContent.includes({json.dumps(text)})", seconds)
+
+    def said(self):
+        return self.value("document.getElementById('said').textContent")
+
+    def key(self, key, modifiers=0):
+        """Presses and lets go a key: one of CODES, or a character."""
+        held = [code for bit, code in HELD.items() if modifiers & bit]
+        key = CODES.get(key, key)
+        acts = [{"type": "keyDown", "value": it} for it in (*held, key)]
+        acts += [{"type": "keyUp", "value": it} for it in (key, *reversed(held))]
+        self("WebDriver:PerformActions", actions=[{"type": "key", "id": "keys", "actions": acts}])
+
+    def type(self, text):
+        for it in text:
+            self.key("Enter" if it == "\r" else it)
+
+    def size(self, width, height):
+        """Changes the window's size, of which the browser's bars are a part."""
+        self("WebDriver:SetWindowRect", width=width, height=height)
+
+    def shot(self, path):
+        with open(path, "wb") as out:
+            out.write(base64.b64decode(self("WebDriver:TakeScreenshot", full=False)["value"]))
+
+    def faults(self):
+        """What the browser complained of: broken policies, and errors of the page's scripts."""
+        self("Marionette:SetContext", value="chrome")
+        try:
+            return self.value("Services.console.getMessageArray().map((it) => String(it.message))"
+                              ".filter((it) => /mux\\.js|Content-Security-Policy/.test(it))")
+        finally:
+            self("Marionette:SetContext", value="content")
+
+    def close(self):
+        if self.link:
+            self.link.close()
+        for how in (signal.SIGTERM, signal.SIGKILL):
+            try:
+                os.killpg(self.program.pid, how)
+                self.program.wait(10)
+            except (ProcessLookupError, subprocess.TimeoutExpired):
+                pass
+        self.program.wait()
+        time.sleep(0.2)
+        shutil.rmtree(self.folder, ignore_errors=True)
