@@ -6,7 +6,7 @@ use crate::latch::{Calls, Latch};
 use crate::outside::Outside;
 use crate::stop::Stop;
 use crate::streams::{Habit, Near};
-use hub_record::{KeptRef, TrailEntry};
+use hub_record::{Kept, TrailEntry};
 use server_loop::{Gate, Loop, SessionSeat};
 use server_session::{
     Accounts, Begun, Limits, LoopBody, LoopsFault, Seat, Seated, SharedSession, Start, Trail, keep,
@@ -128,12 +128,12 @@ fn perform_all<G: Gate + Drop, J: SessionSeat + Drop>(
 
 fn letter(entry: &TrailEntry) -> u8 {
     match entry.event().get() {
-        KeptRef::Attach { .. } => b'A',
-        KeptRef::Detach { .. } => b'D',
-        KeptRef::Keys { .. } => b'K',
-        KeptRef::Command { .. } => b'C',
-        KeptRef::Open { .. } => b'O',
-        KeptRef::Closed { .. } => b'X',
+        Kept::Attach { .. } => b'A',
+        Kept::Detach { .. } => b'D',
+        Kept::Keys { .. } => b'K',
+        Kept::Command { .. } => b'C',
+        Kept::Open { .. } => b'O',
+        Kept::Closed { .. } => b'X',
     }
 }
 
