@@ -127,7 +127,7 @@ fn perform_all<G: Gate + Drop, J: SessionSeat + Drop>(
 }
 
 fn letter(entry: &TrailEntry) -> u8 {
-    match entry.event().get() {
+    match entry.event() {
         Kept::Attach { .. } => b'A',
         Kept::Detach { .. } => b'D',
         Kept::Keys { .. } => b'K',
