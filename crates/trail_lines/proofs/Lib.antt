@@ -1,6 +1,7 @@
 pub mod Printing
 pub mod Reading
 pub mod Replied
+mod Free
 pub mod Told
 pub mod Headed
 pub mod Unbroken

@@ -1,15 +1,22 @@
--- The fields of an event, each ended by one blank.
-use Rattle.std.specs.Prelude.{ℕ, ◌^◌, Bool, if◌then◌else◌, List, [], ◌∷◌, ◌++◌, Option, Some}
+-- The fields of an event, each ended by one blank. The bytes of Keys aren't kept.
+use Rattle.std.specs.Prelude.{ℕ, ◌^◌, Bool, true, false, if◌then◌else◌, List, [], ◌∷◌, ◌++◌, Option, Some}
 use Rattle.std.specs.Prelude.{None, codes, decimal}
 use Rattle.std.specs.Str.{bytes_eq, is_utf8}
 use Rattle.acl.specs.Names.{name_of}
+use Rattle.session_model.specs.Trace.{EventValue}
+use Rattle.session_model.specs.Trace as event
+use Rattle.hub_trail.specs.Filing.{kept_of}
 use Rattle.hub_trail.specs.declared.kept.Kept.{Kept}
 use Rattle.hub_trail.specs.declared.kept.Kept.TheVariants as kept
 use Rattle.line_fields.specs.Cutting.{◌>>=◌, cut}
-use Rattle.line_fields.specs.Numbers.{number_below}
-use Rattle.line_fields.specs.Texts.{escaped, spelled}
+use Rattle.line_fields.specs.Events.{Field, User, Number, Serial, Window, Bytes, Text, Title, Value}
+use Rattle.line_fields.specs.Events.{row_of, word_of, Parts, of_parts, kind_in}
+use Rattle.line_fields.specs.Numbers.{number_below, number_at}
 use Rattle.line_fields.specs.Parts.{blank, field, user_at, nobody}
-use Rattle.line_fields.specs.Numbers.{number_at}
+use Rattle.line_fields.specs.Rows.{fields_in, all_then, read_all_in}
+use Rattle.line_fields.specs.Texts.{escaped, spelled}
+use Rattle.line_fields.specs.declared.events.EventKind.{EventKind}
+use Rattle.line_fields.specs.declared.events.EventKind.TheVariants as kind
 
 -- ---- texts: a dot, and then the bytes; a blank is escaped too
 
@@ -40,80 +47,81 @@ abbrev pub window_in : List ℕ → Option (Option ℕ)
 window_in word =
     if bytes_eq word nobody then Some None else number_below (2 ^ 8) word >>= some_window
 
+-- ---- fields
+
+-- a field, and then more
+abbrev pub field_then : (f : Field) → Value f → List ℕ → List ℕ
+field_then User user rest = field blank (name_of user) rest
+field_then Number number rest = field blank (decimal number) rest
+field_then Serial serial rest = field blank (decimal serial) rest
+field_then Window window rest = field blank (window_text window) rest
+field_then Bytes bytes rest = rest
+field_then Text text rest = field blank (text_field text) rest
+field_then Title title rest = field blank (text_field title) rest
+
+abbrev pub window_at : List ℕ → Option (Option ℕ × List ℕ)
+window_at bytes = do
+  parts ← cut blank bytes
+  window ← window_in parts.0
+  Some (window, parts.1)
+
+abbrev pub text_at : List ℕ → Option (List ℕ × List ℕ)
+text_at bytes = do
+  parts ← cut blank bytes
+  text ← text_in parts.0
+  Some (text, parts.1)
+
+abbrev pub title_at : List ℕ → Option (List ℕ × List ℕ)
+title_at bytes = do
+  parts ← cut blank bytes
+  title ← title_in parts.0
+  Some (title, parts.1)
+
+-- a field, and the bytes after it
+abbrev pub field_at : (f : Field) → List ℕ → Option (Value f × List ℕ)
+field_at User bytes = user_at blank bytes
+field_at Number bytes = number_at (2 ^ 16) blank bytes
+field_at Serial bytes = number_at (2 ^ 32) blank bytes
+field_at Window bytes = window_at bytes
+field_at Bytes bytes = Some ([], bytes)
+field_at Text bytes = text_at bytes
+field_at Title bytes = title_at bytes
+
 -- ---- events
+
+-- an event of which this is kept
+abbrev pub event_of : Kept → EventValue
+event_of (kept.Attach user rows columns) = event.Attach user rows columns
+event_of (kept.Detach client) = event.Detach client
+event_of (kept.Keys client) = event.Keys client []
+event_of (kept.Command user window line) = event.Command user window line
+event_of (kept.Open user rows columns keep title) = event.Open user rows columns keep title
+event_of (kept.Closed window) = event.Closed window
+
+abbrev pub parts_then : List ℕ → (k : EventKind) → Parts k → List ℕ
+parts_then rest k v = field blank (word_of k) (all_then field_then (fields_in (row_of k)) v rest)
 
 -- an event's fields, and the bytes after them
 abbrev pub event_then : Kept → List ℕ → List ℕ
-event_then (kept.Attach user rows columns) rest =
-    field blank (codes "attach") (field blank (name_of user) (field blank (decimal rows)
-    (field blank (decimal columns) rest)))
-event_then (kept.Detach client) rest = field blank (codes "detach") (field blank (decimal client) rest)
-event_then (kept.Keys client) rest = field blank (codes "keys") (field blank (decimal client) rest)
-event_then (kept.Command user window line) rest =
-    field blank (codes "command") (field blank (name_of user) (field blank (window_text window)
-    (field blank (text_field line) rest)))
-event_then (kept.Open user rows columns keep title) rest =
-    field blank (codes "open") (field blank (name_of user) (field blank (decimal rows)
-    (field blank (decimal columns) (field blank (decimal keep)
-    (field blank (text_field title) rest)))))
-event_then (kept.Closed window) rest = field blank (codes "closed") (field blank (decimal window) rest)
+event_then e rest = of_parts (parts_then rest) (event_of e)
 
-abbrev pub half_at : List ℕ → Option (ℕ × List ℕ)
-half_at bytes = number_at (2 ^ 16) blank bytes
+-- the kinds of events of which something is kept
+abbrev pub is_kept : EventKind → Bool
+is_kept kind.Resize = false
+is_kept kind.Output = false
+is_kept kind.Draw = false
+is_kept k = true
 
-abbrev pub serial_at : List ℕ → Option (ℕ × List ℕ)
-serial_at bytes = number_at (2 ^ 32) blank bytes
+-- what is kept of an event, and the bytes after it
+abbrev pub kept_with : EventValue × List ℕ → Option (Kept × List ℕ)
+kept_with read = kept_of read.0 >>= λ e. Some (e, read.1)
 
-abbrev pub attach_at : List ℕ → Option (Kept × List ℕ)
-attach_at bytes = do
-  user ← user_at blank bytes
-  rows ← half_at user.1
-  columns ← half_at rows.1
-  Some (kept.Attach user.0 rows.0 columns.0, columns.1)
-
-abbrev pub detach_at : List ℕ → Option (Kept × List ℕ)
-detach_at bytes = serial_at bytes >>= λ client. Some (kept.Detach client.0, client.1)
-
-abbrev pub keys_at : List ℕ → Option (Kept × List ℕ)
-keys_at bytes = serial_at bytes >>= λ client. Some (kept.Keys client.0, client.1)
-
-abbrev pub command_at : List ℕ → Option (Kept × List ℕ)
-command_at bytes = do
-  user ← user_at blank bytes
-  number ← cut blank user.1
-  window ← window_in number.0
-  text ← cut blank number.1
-  line ← text_in text.0
-  Some (kept.Command user.0 window line, text.1)
-
--- lines, columns, and how many lines the scrollback keeps
-abbrev pub shape_at : List ℕ → Option ((ℕ × ℕ × ℕ) × List ℕ)
-shape_at bytes = do
-  rows ← half_at bytes
-  columns ← half_at rows.1
-  keep ← half_at columns.1
-  Some ((rows.0, columns.0, keep.0), keep.1)
-
-abbrev pub open_at : List ℕ → Option (Kept × List ℕ)
-open_at bytes = do
-  user ← user_at blank bytes
-  shape ← shape_at user.1
-  text ← cut blank shape.1
-  title ← title_in text.0
-  Some (kept.Open user.0 shape.0.0 shape.0.1 shape.0.2 title, text.1)
-
-abbrev pub closed_at : List ℕ → Option (Kept × List ℕ)
-closed_at bytes = serial_at bytes >>= λ window. Some (kept.Closed window.0, window.1)
-
-abbrev pub event_by : List ℕ → List ℕ → Option (Kept × List ℕ)
-event_by word rest =
-    if bytes_eq word (codes "keys") then keys_at rest
-    else if bytes_eq word (codes "command") then command_at rest
-    else if bytes_eq word (codes "attach") then attach_at rest
-    else if bytes_eq word (codes "detach") then detach_at rest
-    else if bytes_eq word (codes "open") then open_at rest
-    else if bytes_eq word (codes "closed") then closed_at rest
-    else None
+-- the event of a kind whose fields follow its word
+abbrev pub event_in : EventKind → List ℕ → Option (Kept × List ℕ)
+event_in k bytes = if is_kept k then read_all_in field_at (row_of k) bytes >>= kept_with else None
 
 unfoldable pub event_at : List ℕ → Option (Kept × List ℕ)
-event_at bytes = cut blank bytes >>= λ parts. event_by parts.0 parts.1
+event_at bytes = do
+  parts ← cut blank bytes
+  kind ← kind_in parts.0
+  event_in kind parts.1

@@ -10,9 +10,13 @@ use Rattle.session_model.specs.declared.refusal.Denied.TheVariants as denied
 use Rattle.session_model.specs.declared.refusal.Refusal.{Refusal}
 use Rattle.session_model.specs.declared.refusal.Refusal.TheVariants as refusal
 use Rattle.hub_trail.specs.declared.kept.Kept.{Kept}
-use Rattle.hub_trail.specs.declared.kept.Kept.TheVariants as kept
 use Rattle.hub_trail.specs.Trails.{Ending, Entry}
+use Rattle.line_fields.specs.Events.{Field, User, Number, Serial, Window, Bytes, Text, Title, Value}
+use Rattle.line_fields.specs.Events.{row_of, Parts, of_parts}
+use Rattle.line_fields.specs.Rows.{fields_in, Each}
 use Rattle.line_fields.specs.Sayable.{IsNamed, IsSerial, IsAct, IsVerdict}
+use Rattle.line_fields.specs.declared.events.EventKind.{EventKind}
+use Rattle.trail_lines.specs.Events.{event_of}
 use Rattle.trail_lines.specs.Entries.{Said, line_of, read_line}
 
 -- at most eight leaders, each once
@@ -43,15 +47,21 @@ abbrev pub IsNumberIfAny : Option ℕ → Type 0
 IsNumberIfAny None = Unit {0}
 IsNumberIfAny (Some number) = number < 2 ^ 8
 
+-- a field that can be said; no bytes are
+abbrev pub IsField : (f : Field) → Value f → Type 0
+IsField User user = IsNamed user
+IsField Number number = number < 2 ^ 16
+IsField Serial serial = IsSerial serial
+IsField Window window = IsNumberIfAny window
+IsField Bytes bytes = bytes ≡ []
+IsField Text text = AreBytes text
+IsField Title title = AreBytes title × (is_utf8 title ≡ true)
+
+abbrev pub AreFields : (k : EventKind) → Parts k → Type 0
+AreFields k v = Each IsField (fields_in (row_of k)) v
+
 abbrev pub IsEvent : Kept → Type 0
-IsEvent (kept.Attach user rows columns) = IsNamed user × (rows < 2 ^ 16) × (columns < 2 ^ 16)
-IsEvent (kept.Detach client) = IsSerial client
-IsEvent (kept.Keys client) = IsSerial client
-IsEvent (kept.Command user window line) = IsNamed user × IsNumberIfAny window × AreBytes line
-IsEvent (kept.Open user rows columns keep title) =
-    IsNamed user × (rows < 2 ^ 16) × (columns < 2 ^ 16) × (keep < 2 ^ 16) × AreBytes title
-    × (is_utf8 title ≡ true)
-IsEvent (kept.Closed window) = IsSerial window
+IsEvent e = of_parts AreFields (event_of e)
 
 pub record IsEntry (e : Entry) : Type 0 where
   pub event : IsEvent e.event
