@@ -1,6 +1,7 @@
 -- Words, texts and fields don't have a byte below 0x21: a blank, which ends words, or a line feed.
 use Rattle.std.proofs.Common.{◌≡◌, ℕ, ◌<◌, ◌≤◌, ◌^◌, ◌/◌, ◌%◌, List, [], ◌∷◌, ◌++◌, refl, arith}
-use Rattle.std.specs.Prelude.{Bool, true, false, cond, not, ◌&&◌, Ok, Err, codes, decimal, map}
+use Rattle.std.specs.Prelude.{Bool, true, false, cond, not, ◌&&◌, Option, Some, None, Ok, Err, codes, decimal}
+use Rattle.std.specs.Prelude.{map}
 use Rattle.std.specs.List.{flat_map, list_all}
 use Rattle.std.specs.Fmt.{digit_glyph}
 use Rattle.std.proofs.lemmas.Bool.Decides.{nat_tests}
@@ -93,7 +94,7 @@ module _ (out : ℕ) (low : IsLow out) where
       (others_free users all.1))
 
   leaders_free : (users : List UserId) → named_all users → IsFree out (leaders_text users)
-  leaders_free [] all = record { free = refl }
+  leaders_free [] all = free_part (leaders_text []) (record { bytes = refl })
   leaders_free (u ∷ users) all = free_append out (name_of u) (behind (codes ",") (map name_of users))
       (name_free u all.0) (others_free users all.1)
 
