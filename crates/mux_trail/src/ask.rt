@@ -3,7 +3,7 @@
 use crate::fault::Fault;
 use crate::reading::{Reading, reading_of};
 use crate::tell::{ILLEGAL, LEGAL, UNCONFINED, tell_finish};
-use crate::words::{Asked, users_named};
+use crate::words::{TrailArgs, users_named};
 use acl::{Object, UserId};
 use std::alloc::{AllocError, Global};
 use std::io::{self, BufRead, Write};
@@ -102,7 +102,7 @@ fn write_titled<W: Write>(
 }
 
 /// Writes the answer, and gives the status to exit with.
-fn answer<W: Write>(asked: Asked<'_>, reading: &Reading, output: &mut W) -> Result<u8, Fault> {
+fn answer<W: Write>(asked: TrailArgs<'_>, reading: &Reading, output: &mut W) -> Result<u8, Fault> {
     if let Some(titled) = asked.titled {
         let question = reading.question_of(titled);
         return Ok(write_titled(reading, question, output)?);
@@ -123,7 +123,7 @@ fn answer<W: Write>(asked: Asked<'_>, reading: &Reading, output: &mut W) -> Resu
 /// something is wrong with the file, writes that instead.
 pub fn ask<R: BufRead, W: Write>(
     alloc: Global,
-    asked: Asked<'_>,
+    asked: TrailArgs<'_>,
     reader: &mut R,
     output: &mut W,
 ) -> Result<u8, Fault> {

@@ -2,7 +2,9 @@
 
 use std::alloc::{AllocError, Global};
 use std::io::{self, BufRead};
-use trail_lines::{Audit, Came, Ended, Halt, Unread, Wrong, next_line, read_end, read_entries};
+use trail_lines::{
+    Audit, Ended, Halt, NextLine, UnreadLine, Wrong, next_line, read_end, read_entries,
+};
 
 /// How a file ends.
 #[derive(Clone, Copy)]
@@ -35,8 +37,8 @@ impl Finish {
 fn end_in(alloc: Global, count: u64, line: &[u8]) -> Result<Option<Ended>, AllocError> {
     match read_end(alloc, line) {
         Ok(ended) if ended.entries == count => Ok(Some(ended)),
-        Ok(_) | Err(Unread::Malformed) => Ok(None),
-        Err(Unread::NoMemory) => Err(AllocError),
+        Ok(_) | Err(UnreadLine::Malformed) => Ok(None),
+        Err(UnreadLine::NoMemory) => Err(AllocError),
     }
 }
 
@@ -66,8 +68,8 @@ fn finish_in<R: BufRead>(
         return Ok(finish);
     }
     match next_line(reader, line)? {
-        Came::Nothing => Ok(finish),
-        Came::Whole | Came::Torn => Ok(Finish::Continued { line: number }),
+        NextLine::Nothing => Ok(finish),
+        NextLine::Whole | NextLine::Torn => Ok(Finish::Continued { line: number }),
     }
 }
 

@@ -5,14 +5,14 @@ use crate::check::{Finish, finish_at, finish_of};
 use crate::fault::Fault;
 use crate::heading::heading_of;
 use crate::tell::{LEGAL, tell_finish};
-use crate::words::{Asked, Window};
+use crate::words::{TrailArgs, WindowWord};
 use acl::{Edition, UserId};
 use line_fields::push_day;
 use session_model::Bytes;
 use std::alloc::{AllocError, Global};
 use std::io::{self, BufRead, Write};
 use trail_lines::{Halt, Wrong, next_entry};
-use trail_log::{Choice, Log, Wanted, push_end};
+use trail_log::{Choice, LogWriter, Wanted, push_end};
 
 /// A day, in milliseconds.
 const DAY: u64 = 86_400_000;
@@ -21,7 +21,7 @@ const DAY: u64 = 86_400_000;
 #[derive(Drop)]
 struct Diary {
     alloc: Global,
-    log: Log,
+    log: LogWriter,
     /// Which entries are asked for.
     choice: Choice,
     /// Whether more is waited for at the file's end: then each line is written at once.
@@ -39,10 +39,10 @@ fn write_day<W: Write>(alloc: Global, ms: u64, output: &mut W) -> io::Result<()>
 }
 
 /// The entries that the words ask for.
-fn choice_of(alloc: Global, asked: Asked<'_>) -> Result<Choice, AllocError> {
+fn choice_of(alloc: Global, asked: TrailArgs<'_>) -> Result<Choice, AllocError> {
     let window = match asked.window {
-        Some(Window::Serial(serial)) => Some(Wanted::Serial(serial)),
-        Some(Window::Title(title)) => Some(Wanted::Title(Bytes::of(alloc, title.as_bytes())?)),
+        Some(WindowWord::Serial(serial)) => Some(Wanted::Serial(serial)),
+        Some(WindowWord::Title(title)) => Some(Wanted::Title(Bytes::of(alloc, title.as_bytes())?)),
         None => None,
     };
     Ok(Choice {
@@ -168,10 +168,15 @@ fn write_diary<R: BufRead, W: Write>(
 }
 
 /// A log that has read nothing.
-fn diary_of(alloc: Global, asked: Asked<'_>, edition: Edition, owner: UserId) -> io::Result<Diary> {
+fn diary_of(
+    alloc: Global,
+    asked: TrailArgs<'_>,
+    edition: Edition,
+    owner: UserId,
+) -> io::Result<Diary> {
     Ok(Diary {
         alloc,
-        log: Log::new(alloc, edition, owner)?,
+        log: LogWriter::new(alloc, edition, owner)?,
         choice: choice_of(alloc, asked)?,
         follows: asked.follows,
         day: None,
@@ -181,7 +186,7 @@ fn diary_of(alloc: Global, asked: Asked<'_>, edition: Edition, owner: UserId) ->
 /// Writes the log of what a reader has.
 pub fn tell_log<R: BufRead, W: Write>(
     alloc: Global,
-    asked: Asked<'_>,
+    asked: TrailArgs<'_>,
     reader: &mut R,
     output: &mut W,
 ) -> Result<u8, Fault> {

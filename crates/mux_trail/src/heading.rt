@@ -4,7 +4,7 @@ use crate::fault::Fault;
 use acl::{Edition, UserId};
 use std::alloc::{AllocError, Global};
 use std::io::{self, BufRead};
-use trail_lines::{Came, Unread, next_line, read_header};
+use trail_lines::{NextLine, UnreadLine, next_line, read_header};
 
 /// What the first line of a file says of its trail.
 #[derive(Clone, Copy)]
@@ -23,8 +23,8 @@ fn heading_in(alloc: Global, line: &[u8]) -> Result<Heading, Fault> {
             owner: header.owner,
             ms: header.ms,
         }),
-        Err(Unread::Malformed) => Err(Fault::NoHeader(1)),
-        Err(Unread::NoMemory) => Err(Fault::Io(io::Error::from(AllocError))),
+        Err(UnreadLine::Malformed) => Err(Fault::NoHeader(1)),
+        Err(UnreadLine::NoMemory) => Err(Fault::Io(io::Error::from(AllocError))),
     }
 }
 
@@ -32,7 +32,7 @@ fn heading_in(alloc: Global, line: &[u8]) -> Result<Heading, Fault> {
 pub fn heading_of<R: BufRead>(alloc: Global, reader: &mut R) -> Result<Heading, Fault> {
     let mut line = Vec::new(alloc);
     match next_line(reader, &mut line)? {
-        Came::Whole => heading_in(alloc, line.as_slice()),
-        Came::Torn | Came::Nothing => Err(Fault::NoHeader(1)),
+        NextLine::Whole => heading_in(alloc, line.as_slice()),
+        NextLine::Torn | NextLine::Nothing => Err(Fault::NoHeader(1)),
     }
 }

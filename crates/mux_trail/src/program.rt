@@ -8,7 +8,7 @@ use crate::following::Following;
 use crate::heading::{Heading, heading_of};
 use crate::outlet::Outlet;
 use crate::tell::{ILLEGAL, LEGAL, TROUBLE, tell_back, tell_finish, tell_heading};
-use crate::words::{Asked, Given, Mistake, Way, asked_of, given_in};
+use crate::words::{Given, Mistake, TrailArgs, Verb, asked_of, given_in};
 use acl::{Edition, UserId};
 use clap::Error;
 use client_words::put_visible;
@@ -86,23 +86,23 @@ fn show<R: BufRead, W: Write>(
 /// Judges, shows or logs a file, or answers by it.
 fn read_file<F: Read + Drop, W: Write>(
     alloc: Global,
-    asked: Asked<'_>,
+    asked: TrailArgs<'_>,
     file: F,
     output: &mut W,
 ) -> Result<u8, Fault> {
     let mut reader = BufReader::new(alloc, file)?;
     match asked.way {
-        Way::Check => check(alloc, asked.owner, &mut reader, output),
-        Way::Log => tell_log(alloc, asked, &mut reader, output),
-        Way::Show => show(alloc, asked.form, &mut reader, output),
-        Way::Ask => ask(alloc, asked, &mut reader, output),
+        Verb::Check => check(alloc, asked.owner, &mut reader, output),
+        Verb::Log => tell_log(alloc, asked, &mut reader, output),
+        Verb::Show => show(alloc, asked.form, &mut reader, output),
+        Verb::Ask => ask(alloc, asked, &mut reader, output),
     }
 }
 
 /// Does what the words ask.
 fn run<R: Clock + Files + AllocGlobal, W: Write>(
     rt: &R,
-    asked: Asked<'_>,
+    asked: TrailArgs<'_>,
     output: &mut W,
 ) -> Result<u8, Fault> {
     let file = fs::open(rt, asked.path).map_err(Fault::NotOpened)?;
@@ -139,7 +139,7 @@ fn understand<'a, E: Write>(
     alloc: Global,
     given: Given<'a>,
     errors: &mut E,
-) -> Result<Asked<'a>, u8> {
+) -> Result<TrailArgs<'a>, u8> {
     match asked_of(given) {
         Ok(asked) => Ok(asked),
         Err(mistake) => {
@@ -155,7 +155,7 @@ fn asked_by<'a, W: Write, E: Write>(
     words: &'a [String],
     output: &mut W,
     errors: &mut E,
-) -> Result<Asked<'a>, u8> {
+) -> Result<TrailArgs<'a>, u8> {
     match given_in(alloc, words) {
         Ok(Some(given)) => understand(alloc, given, errors),
         Ok(None) => Err(TROUBLE),

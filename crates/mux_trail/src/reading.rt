@@ -3,7 +3,7 @@
 use crate::check::{Finish, finish_of};
 use crate::fault::Fault;
 use crate::heading::heading_of;
-use crate::words::{Asked, TitledBit};
+use crate::words::{TitledBit, TrailArgs};
 use acl::{Object, UserId};
 use std::alloc::Global;
 use std::io::{self, BufRead};
@@ -38,7 +38,7 @@ impl Reading {
 /// Reads the entries that are asked about, and says how the file ends.
 pub fn reading_of<R: BufRead>(
     alloc: Global,
-    asked: Asked<'_>,
+    asked: TrailArgs<'_>,
     reader: &mut R,
 ) -> Result<(Reading, Finish), Fault> {
     let heading = heading_of(alloc, reader)?;

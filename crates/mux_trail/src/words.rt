@@ -11,7 +11,7 @@ use trail_rights::Form;
 
 /// What the program does with a file.
 #[derive(Clone, Copy)]
-pub enum Way {
+pub enum Verb {
     /// Judges it.
     Check,
     /// Prints its lines.
@@ -24,7 +24,7 @@ pub enum Way {
 
 /// A window, by its serial or its title.
 #[derive(Clone, Copy)]
-pub enum Window<'a> {
+pub enum WindowWord<'a> {
     Serial(u32),
     Title(&'a str),
 }
@@ -39,8 +39,8 @@ pub struct TitledBit<'a> {
 
 /// What the words ask of a file.
 #[derive(Clone, Copy)]
-pub struct Asked<'a> {
-    pub way: Way,
+pub struct TrailArgs<'a> {
+    pub way: Verb,
     pub path: &'a str,
     pub owner: Option<UserId>,
     /// The last entry that counts.
@@ -57,7 +57,7 @@ pub struct Asked<'a> {
     /// The user whose entries are asked for.
     pub user: Option<UserId>,
     /// The window whose entries are asked for.
-    pub window: Option<Window<'a>>,
+    pub window: Option<WindowWord<'a>>,
     /// The time from which on entries are asked for, in milliseconds since 1970.
     pub since: u64,
 }
@@ -218,11 +218,11 @@ fn user_of<'a>(given: Given<'a>) -> Result<Option<UserId>, Mistake<'a>> {
 }
 
 /// A window's serial or title.
-fn window_of(word: Option<&str>) -> Option<Window<'_>> {
+fn window_of(word: Option<&str>) -> Option<WindowWord<'_>> {
     let word = word?;
     match read_u32(word.as_bytes()) {
-        Some(serial) => Some(Window::Serial(serial)),
-        None => Some(Window::Title(word)),
+        Some(serial) => Some(WindowWord::Serial(serial)),
+        None => Some(WindowWord::Title(word)),
     }
 }
 
@@ -246,12 +246,12 @@ fn since_of(word: Option<&str>) -> Result<u64, Mistake<'_>> {
     }
 }
 
-fn way_of(name: &str) -> Way {
+fn way_of(name: &str) -> Verb {
     match name {
-        "check" => Way::Check,
-        "who" | "why" => Way::Ask,
-        "log" => Way::Log,
-        _ => Way::Show,
+        "check" => Verb::Check,
+        "who" | "why" => Verb::Ask,
+        "log" => Verb::Log,
+        _ => Verb::Show,
     }
 }
 
@@ -260,14 +260,14 @@ fn form_of(is_json: bool) -> Form {
 }
 
 /// What the words of a way ask, or the word that isn't understood.
-pub fn asked_of<'a>(given: Given<'a>) -> Result<Asked<'a>, Mistake<'a>> {
+pub fn asked_of<'a>(given: Given<'a>) -> Result<TrailArgs<'a>, Mistake<'a>> {
     let owner = user_in(given.owner, "--owner names no user")?;
     let place = place_of(given.place)?;
     let titled = titled_of(given)?;
     let user = user_of(given)?;
     let since = since_of(given.since)?;
     let confined = names_in(given.confined)?;
-    Ok(Asked {
+    Ok(TrailArgs {
         way: way_of(given.way),
         path: given.path,
         owner,

@@ -3,7 +3,7 @@
 ghost use Rattle.std.specs.Prelude.{◌≡◌};
 
 use crate::recorded::recorded;
-use session::{Asked, SetupUnread, path_of, setup_of, simulate, simulate_behind};
+use session::{SetupUnread, SimulatorArgs, path_of, setup_of, simulate, simulate_behind};
 use std::alloc::{AllocError, Global};
 use std::fs::{File, Files, OpenOptions};
 use std::io::{self, Read, Write};
@@ -89,7 +89,7 @@ impl Recording<'_> {
         let mut reader = reader;
         let mut script = Vec::new(alloc);
         reader.read_to_end(&mut script)?;
-        let asked = Asked {
+        let asked = SimulatorArgs {
             words,
             setup: setup.as_slice(),
         };

@@ -1,6 +1,6 @@
 //! The trail of a script's session, as a file has it.
 
-use crate::recorder::Recorder;
+use crate::recorder::ScriptRecorder;
 use program_words::read_setup;
 use session::{Beginning, Event, beginning_of, read_event};
 use std::alloc::{AllocError, Global};
@@ -13,7 +13,7 @@ fn trail_of(
     beginning: &Beginning,
     script: &[u8],
 ) -> Result<Option<Vec<u8>>, AllocError> {
-    let mut recorder = Recorder::new(alloc, beginning.edition, beginning.owner)?;
+    let mut recorder = ScriptRecorder::new(alloc, beginning.edition, beginning.owner)?;
     for line in beginning.setup {
         let event = Event::Command {
             user: beginning.owner,

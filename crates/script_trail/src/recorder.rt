@@ -14,7 +14,7 @@ const NO_TIME: u64 = 0;
 
 /// A session, and the lines of its trail up to now.
 #[derive(Drop)]
-pub struct Recorder {
+pub struct ScriptRecorder {
     alloc: Global,
     session: Session,
     entries: u64,
@@ -30,8 +30,12 @@ fn session_of(alloc: Global, edition: Edition, owner: UserId) -> Result<Session,
     made.map_err(|_refusal| AllocError)
 }
 
-impl Recorder {
-    pub fn new(alloc: Global, edition: Edition, owner: UserId) -> Result<Recorder, AllocError> {
+impl ScriptRecorder {
+    pub fn new(
+        alloc: Global,
+        edition: Edition,
+        owner: UserId,
+    ) -> Result<ScriptRecorder, AllocError> {
         let header = Header {
             edition,
             owner,
@@ -41,7 +45,7 @@ impl Recorder {
         let mut text = Vec::new(alloc);
         print_header(&header, &mut text)?;
         text.push(b'\n')?;
-        Ok(Recorder {
+        Ok(ScriptRecorder {
             alloc,
             session: session_of(alloc, edition, owner)?,
             entries: 0,
@@ -91,7 +95,7 @@ impl Recorder {
 
     /// The lines of the file, with its last line.
     pub fn end(self) -> Result<Vec<u8>, AllocError> {
-        let Recorder {
+        let ScriptRecorder {
             mut text,
             entries,
             ..

@@ -9,7 +9,7 @@ use hub_record::{EntryList, TrailEntry};
 use line_fields::u64_at;
 use std::alloc::{AllocError, Global};
 use std::io::{self, BufRead};
-use trail_lines::{Came, Header, Unread, next_line, print_header, print_line, read_end};
+use trail_lines::{Header, NextLine, UnreadLine, next_line, print_header, print_line, read_end};
 
 // Reads the next line into `line`, without its line feed. The answer is whether there was a whole line.
 fn has_line<R: BufRead>(reader: &mut R, line: &mut Vec<u8>) -> io::Result<bool>
@@ -17,8 +17,8 @@ fn has_line<R: BufRead>(reader: &mut R, line: &mut Vec<u8>) -> io::Result<bool>
         → Cuts (R.remaining reader.old) line.new.items (R.remaining reader.new)) }
 {
     match next_line(reader, line)? {
-        Came::Whole => Ok(true),
-        Came::Torn | Came::Nothing => Ok(false),
+        NextLine::Whole => Ok(true),
+        NextLine::Torn | NextLine::Nothing => Ok(false),
     }
 }
 
@@ -27,8 +27,8 @@ fn is_over<R: BufRead>(reader: &mut R, line: &mut Vec<u8>) -> io::Result<bool>
     ensures { IfOk result (λ is. is ≡ true → Reads (R.remaining reader.old) (λ bytes. bytes ≡ [])) }
 {
     match next_line(reader, line)? {
-        Came::Nothing => Ok(true),
-        Came::Whole | Came::Torn => Ok(false),
+        NextLine::Nothing => Ok(true),
+        NextLine::Whole | NextLine::Torn => Ok(false),
     }
 }
 
@@ -68,8 +68,8 @@ fn is_last(alloc: Global, line: &[u8], count: u64) -> Result<bool, AllocError>
 {
     match read_end(alloc, line) {
         Ok(ended) => Ok(ended.entries == count),
-        Err(Unread::Malformed) => Ok(false),
-        Err(Unread::NoMemory) => Err(AllocError),
+        Err(UnreadLine::Malformed) => Ok(false),
+        Err(UnreadLine::NoMemory) => Err(AllocError),
     }
 }
 

@@ -21,5 +21,5 @@ pub use session_model::{
 };
 pub use setup::{SetupUnread, setup_of};
 pub use setup_file::Beginning;
-pub use simulator::{Asked, simulate, simulate_behind};
+pub use simulator::{SimulatorArgs, simulate, simulate_behind};
 pub use words::{beginning_of, path_of};

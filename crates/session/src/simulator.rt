@@ -22,7 +22,7 @@ use std::str;
 
 /// What the simulator is asked for.
 #[derive(Clone, Copy, Debug)]
-pub struct Asked<'a> {
+pub struct SimulatorArgs<'a> {
     /// The program's name and its arguments.
     pub words: &'a [String],
     /// The contents of the file that they name after `--setup`. Empty if they name none.
@@ -55,7 +55,7 @@ where
 {
     match setup_of(rt, words) {
         Ok(setup) => {
-            let asked = Asked {
+            let asked = SimulatorArgs {
                 words,
                 setup: setup.as_slice(),
             };
@@ -68,7 +68,7 @@ where
 /// Plays a script after the commands of a setup that has been read. Returns the exit status.
 pub fn simulate_behind<R: Read + Drop, W: Write, E: Write>(
     alloc: Global,
-    asked: Asked,
+    asked: SimulatorArgs,
     reader: R,
     writer: &mut W,
     errors: &mut E,

@@ -15,7 +15,7 @@ use Rattle.hub_check.specs.declared.replay.Replay.{Replay}
 use Rattle.hub_check.specs.Following.{StandsAfter}
 use Rattle.trail_confined.specs.declared.premises.Premise.{Premise}
 use Rattle.trail_confined.specs.declared.premises.Premise.TheVariants as premise
-use Rattle.trail_rights.specs.declared.settler.Setting.TheVariants as setting
+use Rattle.trail_rights.specs.declared.settler.RightsSetting.TheVariants as setting
 use Rattle.trail_rights.specs.declared.settler.Settler.{Settler}
 use Rattle.trail_rights.specs.Settling.{settler_in}
 

@@ -18,8 +18,8 @@ use Rattle.command_lang.specs.Names.{name_text}
 use Rattle.session_model.specs.Texts.{letter}
 use Rattle.trail_rights.specs.declared.decider.Decider.{Decider}
 use Rattle.trail_rights.specs.declared.mark.Mark.{Mark}
-use Rattle.trail_rights.specs.declared.settler.Setting.{Setting}
-use Rattle.trail_rights.specs.declared.settler.Setting.TheVariants as setting
+use Rattle.trail_rights.specs.declared.settler.RightsSetting.{RightsSetting}
+use Rattle.trail_rights.specs.declared.settler.RightsSetting.TheVariants as setting
 use Rattle.trail_rights.specs.declared.settler.Settler.{Settler}
 use Rattle.trail_rights.specs.declared.sight.Sight.{Sight}
 use Rattle.trail_rights.specs.Deciding.{first_decider, found_in}
@@ -113,7 +113,7 @@ abbrev pub settled_by : Option Settler → Option (Mark × Act)
 settled_by None = None
 settled_by (Some s) = s.found
 
-abbrev pub setting_text : List Settler → UserId → Setting → List ℕ
+abbrev pub setting_text : List Settler → UserId → RightsSetting → List ℕ
 setting_text settlers user s = codes "  " ++ found_text user (settled_by (settler_in settlers s))
 
 -- ---- all of it, after the acts of a history that a sight has seen

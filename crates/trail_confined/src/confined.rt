@@ -15,7 +15,7 @@ use crate::premises::{Premise, may_open, premises_of};
 use acl::{Bit, Object, UserId};
 use hub_check::Replay;
 use std::alloc::{AllocError, Global};
-use trail_rights::{Setting, Settler, Sight, may, settler_in};
+use trail_rights::{RightsSetting, Settler, Sight, may, settler_in};
 
 /// Whether a premise holds. None if it is about a mask that wasn't looked for.
 fn holds(replay: &Replay, settlers: &[Settler], premise: Premise) -> Option<bool>
@@ -32,7 +32,7 @@ fn holds(replay: &Replay, settlers: &[Settler], premise: Premise) -> Option<bool
         Premise::IsKnown { user } => Some(replay.knows(user)),
         Premise::OpensNone { user } => Some(!may_open(replay, user)),
         Premise::Masks { opener, user, bit } => {
-            let setting = Setting::Mask {
+            let setting = RightsSetting::Mask {
                 by: opener,
                 user,
                 bit,

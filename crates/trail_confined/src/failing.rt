@@ -22,7 +22,7 @@ use acl::{Act, Bit, CommandName, Object, UserId};
 use command_lang::name_text;
 use hub_check::Replay;
 use std::alloc::{AllocError, Global};
-use trail_rights::{Decider, Mark, Setting, Settler, Sight, found_in, letter, settler_in};
+use trail_rights::{Decider, Mark, RightsSetting, Settler, Sight, found_in, letter, settler_in};
 
 /// What decides whether a user has x on a command, before the first act.
 fn power_decider(owner: UserId, user: UserId, command: CommandName) -> Decider
@@ -296,7 +296,7 @@ fn settled_by(settler: Option<Settler>) -> Option<(Mark, Act)>
 fn push_setting(
     settlers: &[Settler],
     user: UserId,
-    setting: Setting,
+    setting: RightsSetting,
     out: &mut Vec<u8>,
 ) -> Result<(), AllocError>
     ensures { OnOk result
@@ -323,13 +323,13 @@ fn push_causes(
             push_power(owner, replay, sight, (user, command), out)
         }
         Premise::IsKnown { user } => {
-            push_setting(sight.settlers(), user, Setting::Listed { user }, out)
+            push_setting(sight.settlers(), user, RightsSetting::Listed { user }, out)
         }
         Premise::OpensNone { user } => {
             push_power(owner, replay, sight, (user, CommandName::Screen), out)
         }
         Premise::Masks { opener, user, bit } => {
-            let setting = Setting::Mask {
+            let setting = RightsSetting::Mask {
                 by: opener,
                 user,
                 bit,

@@ -8,7 +8,7 @@ use Rattle.trail_lines.specs.declared.audit.Audit.{Audit}
 use Rattle.trail_lines.specs.declared.fault.Wrong.{Wrong}
 use Rattle.trail_lines.specs.declared.halt.Halt.{Halt}
 use Rattle.trail_lines.specs.declared.halt.Halt.TheVariants as halt
-use Rattle.trail_lines.specs.declared.lines.Came.TheVariants as came
+use Rattle.trail_lines.specs.declared.lines.NextLine.TheVariants as came
 use Rattle.trail_lines.specs.declared.times.Times.{Times}
 use Rattle.trail_lines.specs.Lines.{ComesAs, OfKnown}
 use Rattle.trail_lines.specs.Times.{time_after, times_after}

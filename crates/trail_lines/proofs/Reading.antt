@@ -6,7 +6,7 @@ use Rattle.acl.specs.Names.{named_by}
 use Rattle.line_fields.specs.Cutting.{◌>>=◌, words, words_behind}
 use Rattle.line_fields.specs.Parts.{comma}
 use Rattle.trail_lines.specs.Replies.{leaders_of, with_leader}
-use Rattle.trail_lines.specs.declared.entries.Note.{Note}
+use Rattle.trail_lines.specs.declared.entries.Remark.{Remark}
 use Rattle.trail_lines.specs.Entries.{Noted, note_in, noting, notes_of}
 
 abbrev leaders_with : Option UserId → List (List ℕ) → List UserId → Option (List UserId)
@@ -42,7 +42,7 @@ all_leaders before = refl
 
 -- ---- verdicts and acts
 
-abbrev noted_with : Option Note → List (List ℕ) → Noted → Option Noted
+abbrev noted_with : Option Remark → List (List ℕ) → Noted → Option Noted
 noted_with note ws before = note >>= λ n. notes_of ws (noting before n)
 
 first_note : (ws others : List (List ℕ)) (word : List ℕ) (before : Noted) → ws ≡ word ∷ others
@@ -55,7 +55,7 @@ pub no_note : (ws others : List (List ℕ)) (word : List ℕ) (before : Noted) �
 no_note ws others word before e none = first_note ws others word before e
     ∙ ap (λ n. noted_with n others before) (sym none)
 
-pub one_note : (ws others : List (List ℕ)) (word : List ℕ) (before after : Noted) (note : Note) → ws ≡ word ∷ others
+pub one_note : (ws others : List (List ℕ)) (word : List ℕ) (before after : Noted) (note : Remark) → ws ≡ word ∷ others
     → Some note ≡ note_in word → after ≡ noting before note → notes_of others after ≡ notes_of ws before
 one_note ws others word before after note e some is =
     ap (notes_of others) is ∙ sym (first_note ws others word before e ∙ ap (λ n. noted_with n others before) (sym some))

@@ -8,10 +8,10 @@ use Rattle.acl.specs.declared.act.Act.{Act}
 use Rattle.session_model.specs.declared.verdict.Verdict.{Verdict}
 use Rattle.hub_trail.specs.Trails.{Ending, Entry}
 use Rattle.line_fields.specs.Cutting.{◌>>=◌, words}
-use Rattle.trail_lines.specs.declared.entries.Note.{Note}
-use Rattle.trail_lines.specs.declared.entries.Note.TheVariants as note
-use Rattle.trail_lines.specs.declared.entries.Notes.{Notes}
-use Rattle.trail_lines.specs.declared.entries.Line.{Line}
+use Rattle.trail_lines.specs.declared.entries.Remark.{Remark}
+use Rattle.trail_lines.specs.declared.entries.Remark.TheVariants as note
+use Rattle.trail_lines.specs.declared.entries.Remarks.{Remarks}
+use Rattle.trail_lines.specs.declared.entries.EntryLine.{EntryLine}
 use Rattle.line_fields.specs.Parts.{blank, field}
 use Rattle.line_fields.specs.Numbers.{number_at}
 use Rattle.line_fields.specs.Acts.{act_text, act_in, verdict_text, verdict_in}
@@ -42,7 +42,7 @@ line_of x =
 
 -- ---- reading
 
-abbrev pub note_in : List ℕ → Option Note
+abbrev pub note_in : List ℕ → Option Remark
 note_in [] = None
 note_in (first ∷ rest) =
     if first == 0x3F then option_map note.Checked (verdict_in rest)
@@ -53,7 +53,7 @@ note_in (first ∷ rest) =
 abbrev pub Noted : Type 0
 Noted = List Verdict × List Act
 
-abbrev pub noting : Noted → Note → Noted
+abbrev pub noting : Noted → Remark → Noted
 noting before (note.Checked v) = (before.0 ++ v ∷ [], before.1)
 noting before (note.Done a) = (before.0, before.1 ++ a ∷ [])
 
@@ -100,8 +100,8 @@ read_line line = said_in line >>= if_spelled line
 
 -- ---- as the code has it
 
-abbrev pub noted : Notes → Noted
+abbrev pub noted : Remarks → Noted
 noted n = (n.verdicts.items, n.acts.items)
 
-abbrev pub said : Line → Said
+abbrev pub said : EntryLine → Said
 said l = (l.place, l.ms, l.entry)

@@ -2,8 +2,8 @@
 use Rattle.std.specs.Prelude.{ℕ, ◌≡◌, ◌≢◌, ◌==◌, Bool, true, not, List, [], ◌∷◌, ◌++◌}
 use Rattle.std.specs.Prelude.{Option, Some, None}
 use Rattle.std.specs.List.{list_all}
-use Rattle.trail_lines.specs.declared.lines.Came.{Came}
-use Rattle.trail_lines.specs.declared.lines.Came.TheVariants as came
+use Rattle.trail_lines.specs.declared.lines.NextLine.{NextLine}
+use Rattle.trail_lines.specs.declared.lines.NextLine.TheVariants as came
 
 abbrev pub feed : ℕ
 feed = 0x0A
@@ -14,7 +14,7 @@ is_unbroken bytes = list_all (λ byte. not (byte == feed)) bytes
 
 -- a line was read from these bytes, and the rest is left: with its line feed, or without one up to the
 -- end, or there was no byte
-abbrev pub ComesAs : Came → List ℕ → List ℕ → List ℕ → Type 0
+abbrev pub ComesAs : NextLine → List ℕ → List ℕ → List ℕ → Type 0
 ComesAs came.Whole line bytes rest = (is_unbroken line ≡ true) × (bytes ≡ line ++ feed ∷ rest)
 ComesAs came.Torn line bytes rest =
     (is_unbroken line ≡ true) × (line ≢ []) × (bytes ≡ line) × (rest ≡ [])

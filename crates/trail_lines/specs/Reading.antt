@@ -10,7 +10,7 @@ use Rattle.hub_trail.specs.Trails.{Entry}
 use Rattle.hub_trail.specs.Legal.{AreLegal}
 use Rattle.hub_trail.specs.Judging.{IsBadAt}
 use Rattle.hub_check.specs.Judges.{HasJudged}
-use Rattle.trail_lines.specs.declared.entries.Line.{Line}
+use Rattle.trail_lines.specs.declared.entries.EntryLine.{EntryLine}
 use Rattle.trail_lines.specs.Entries.{Said, read_line, said}
 use Rattle.trail_lines.specs.declared.audit.Audit.{Audit}
 use Rattle.trail_lines.specs.declared.fault.Wrong.{Wrong}
@@ -28,7 +28,7 @@ pub record IsLineOf (line : List ℕ) (place : ℕ) (e : Entry) : Type 0 where
   pub is : read_line line ≡ Some (place, ms, e)
 
 -- the line says the next entry, which is good too
-pub record Takes (l : Line) (new : Audit) (line : List ℕ) (edition : Edition) (owner : UserId)
+pub record Takes (l : EntryLine) (new : Audit) (line : List ℕ) (edition : Edition) (owner : UserId)
     (entries : List Entry) : Type 0 where
   pub is : read_line line ≡ Some (said l)
   pub place_is : l.place ≡ length entries
@@ -56,7 +56,7 @@ IsWrong wrong.Illegal line edition owner entries = IsIllegal line edition owner 
 IsWrong wrong.NoMemory line edition owner entries = Unit {0}
 
 -- what is told of the next line
-abbrev pub Tells : Result Line Wrong → Audit → List ℕ → Edition → UserId → List Entry → Type 0
+abbrev pub Tells : Result EntryLine Wrong → Audit → List ℕ → Edition → UserId → List Entry → Type 0
 Tells (Ok l) new line edition owner entries = Takes l new line edition owner entries
 Tells (Err w) new line edition owner entries = IsWrong w line edition owner entries
 

@@ -9,10 +9,10 @@ ghost use Rattle.hub_check.specs.Following.{StandsAfter};
 ghost use Rattle.trail_lines.specs.Reading.{HasRead, Tells};
 ghost use Rattle.trail_lines.specs.Times.{no_times, time_after};
 
-use crate::entries::{Line, read_line};
+use crate::entries::{EntryLine, read_line};
 use crate::fault::Wrong;
 use crate::times::Times;
-use crate::unread::Unread;
+use crate::unread::UnreadLine;
 use acl::{Edition, UserId};
 use hub_check::{Judge, Replay};
 use std::alloc::{AllocError, Global};
@@ -68,7 +68,7 @@ impl Audit {
 
     /// Takes the line of the next entry, without its line feed, and returns what it says. After an
     /// `Err` the audit must not be used again.
-    pub fn take(&mut self, line: &[u8]) -> Result<Line, Wrong>
+    pub fn take(&mut self, line: &[u8]) -> Result<EntryLine, Wrong>
         ensures tells { (edition : Edition) (owner : UserId) (entries : List Entry) →
             HasRead self.old edition owner entries →
             Tells result self.new line.now edition owner entries }
@@ -76,8 +76,8 @@ impl Audit {
     {
         let said = match read_line(self.alloc, line) {
             Ok(said) => said,
-            Err(Unread::Malformed) => return Err(Wrong::NoEntry),
-            Err(Unread::NoMemory) => return Err(Wrong::NoMemory),
+            Err(UnreadLine::Malformed) => return Err(Wrong::NoEntry),
+            Err(UnreadLine::NoMemory) => return Err(Wrong::NoMemory),
         };
         if said.place != self.next {
             return Err(Wrong::OtherPlace);

@@ -4,7 +4,7 @@ ghost use Rattle.std.specs.Prelude.{◌≡◌, ◌++◌, OnOk};
 ghost use Rattle.trail_lines.specs.Unreadable.{Gives};
 ghost use Rattle.trail_lines.specs.Heading.{cause_text, cause_in, end_text, end_fields, read_end};
 
-use crate::unread::Unread;
+use crate::unread::UnreadLine;
 use line_fields::{cut, u64_at};
 use session_model::push_decimal;
 use std::alloc::{AllocError, Global};
@@ -94,14 +94,14 @@ fn end_fields(line: &[u8]) -> Option<Ended>
 
 /// What a last line says, given without its line feed. `Malformed` if no last line is printed so.
 #[tactic(auto, unfolding(crate::specs::Heading::read_end))]
-pub fn read_end(alloc: Global, line: &[u8]) -> Result<Ended, Unread>
+pub fn read_end(alloc: Global, line: &[u8]) -> Result<Ended, UnreadLine>
     ensures { Gives (λ ended. ended) result (read_end line.now) }
 {
-    let ended = end_fields(line).ok_or(Unread::Malformed)?;
+    let ended = end_fields(line).ok_or(UnreadLine::Malformed)?;
     let mut printed = Vec::new(alloc);
     print_end(&ended, &mut printed)?;
     if printed.as_slice() != line {
-        return Err(Unread::Malformed);
+        return Err(UnreadLine::Malformed);
     }
     Ok(ended)
 }

@@ -10,7 +10,7 @@ ghost use Rattle.trail_lines.specs.Unreadable.{Gives};
 
 use crate::events::{event_at, push_count, push_event};
 use crate::replies::{push_reply, read_reply};
-use crate::unread::Unread;
+use crate::unread::UnreadLine;
 use acl::Act;
 use hub_record::{KeptReply, TrailEntry};
 use hub_trail::Ending;
@@ -22,7 +22,7 @@ use std::alloc::{AllocError, Global};
 
 /// An entry, its place in the trail and its time, in milliseconds since 1970.
 #[derive(Drop)]
-pub struct Line {
+pub struct EntryLine {
     pub place: u64,
     pub ms: u64,
     pub entry: TrailEntry,
@@ -30,14 +30,14 @@ pub struct Line {
 
 /// What follows a reply: a check, or an act.
 #[derive(Clone, Copy)]
-pub enum Note {
+pub enum Remark {
     Checked(Verdict),
     Done(Act),
 }
 
 /// The verdicts and the acts of an entry.
 #[derive(Drop)]
-pub struct Notes {
+pub struct Remarks {
     verdicts: Vec<Verdict>,
     acts: Vec<Act>,
 }
@@ -100,48 +100,48 @@ pub fn print_line(
 }
 
 /// The verdict or the act that a word says.
-fn read_note(word: &[u8]) -> Option<Note>
+fn read_note(word: &[u8]) -> Option<Remark>
     ensures { result ≡ note_in word.now }
 {
     match word {
-        [b'?', rest @ ..] => Some(Note::Checked(read_verdict(rest)?)),
-        [b'!', rest @ ..] => Some(Note::Done(read_act(rest)?)),
+        [b'?', rest @ ..] => Some(Remark::Checked(read_verdict(rest)?)),
+        [b'!', rest @ ..] => Some(Remark::Done(read_act(rest)?)),
         _ => None,
     }
 }
 
-impl Notes {
+impl Remarks {
     /// No verdict and no act.
-    fn new(alloc: Global) -> Notes
+    fn new(alloc: Global) -> Remarks
         ensures { noted result ≡ ([], []) }
     {
-        Notes {
+        Remarks {
             verdicts: Vec::new(alloc),
             acts: Vec::new(alloc),
         }
     }
 
     /// Adds a verdict or an act.
-    fn add(&mut self, note: Note) -> Result<(), AllocError>
+    fn add(&mut self, note: Remark) -> Result<(), AllocError>
         ensures { OnOk result (noted self.new ≡ noting (noted self.old) note) }
     {
         match note {
-            Note::Checked(verdict) => self.verdicts.push(verdict)?,
-            Note::Done(act) => self.acts.push(act)?,
+            Remark::Checked(verdict) => self.verdicts.push(verdict)?,
+            Remark::Done(act) => self.acts.push(act)?,
         }
         Ok(())
     }
 
     /// The verdicts and acts that the words after a reply say.
-    fn read(alloc: Global, words: Option<&[u8]>) -> Result<Notes, Unread>
+    fn read(alloc: Global, words: Option<&[u8]>) -> Result<Remarks, UnreadLine>
         ensures { Gives noted result (notes_of (words_behind blank (option_copied words.entry)) ([], [])) }
     {
-        let mut notes = Notes::new(alloc);
+        let mut notes = Remarks::new(alloc);
         let mut rest = words;
         'notes: while let Some(bytes) = rest {
             let (word, behind) = next_word(bytes, b' ');
             let Some(note) = read_note(word) else {
-                return Err(Unread::Malformed);
+                return Err(UnreadLine::Malformed);
             };
             notes.add(note)?;
             rest = behind;
@@ -168,40 +168,40 @@ fn keep(alloc: Global, ending: Ending) -> Result<KeptReply, AllocError>
 }
 
 /// A reply, and the verdicts and acts after it.
-fn read_tail(alloc: Global, bytes: &[u8]) -> Result<(Ending, Notes), Unread>
+fn read_tail(alloc: Global, bytes: &[u8]) -> Result<(Ending, Remarks), UnreadLine>
     ensures { Gives (λ p. (p.0, noted p.1)) result (tail_in bytes.now) }
 {
     let (word, rest) = next_word(bytes, b' ');
-    let reply = read_reply(word).ok_or(Unread::Malformed)?;
-    let notes = Notes::read(alloc, rest)?;
+    let reply = read_reply(word).ok_or(UnreadLine::Malformed)?;
+    let notes = Remarks::read(alloc, rest)?;
     Ok((reply, notes))
 }
 
 /// What a line says, even if it is printed otherwise.
 #[tactic(auto, unfolding(crate::specs::Entries::said_in))]
-fn said_in(alloc: Global, line: &[u8]) -> Result<Line, Unread>
+fn said_in(alloc: Global, line: &[u8]) -> Result<EntryLine, UnreadLine>
     ensures { Gives said result (said_in line.now) }
 {
-    let (place, rest) = u64_at(line, b' ').ok_or(Unread::Malformed)?;
-    let (ms, rest) = u64_at(rest, b' ').ok_or(Unread::Malformed)?;
+    let (place, rest) = u64_at(line, b' ').ok_or(UnreadLine::Malformed)?;
+    let (ms, rest) = u64_at(rest, b' ').ok_or(UnreadLine::Malformed)?;
     let (event, rest) = event_at(alloc, rest)?;
     let (reply, notes) = read_tail(alloc, rest)?;
     let reply = keep(alloc, reply)?;
-    let Notes { verdicts, acts } = notes;
+    let Remarks { verdicts, acts } = notes;
     let entry = TrailEntry::new(event, verdicts, acts, reply);
-    Ok(Line { place, ms, entry })
+    Ok(EntryLine { place, ms, entry })
 }
 
 /// What a line without its line feed says. Malformed if no entry is printed so.
 #[tactic(auto, unfolding(crate::specs::Entries::read_line))]
-pub fn read_line(alloc: Global, line: &[u8]) -> Result<Line, Unread>
+pub fn read_line(alloc: Global, line: &[u8]) -> Result<EntryLine, UnreadLine>
     ensures { Gives said result (read_line line.now) }
 {
     let read = said_in(alloc, line)?;
     let mut printed = Vec::new(alloc);
     push_line(read.place, read.ms, &read.entry, &mut printed)?;
     if printed.as_slice() != line {
-        return Err(Unread::Malformed);
+        return Err(UnreadLine::Malformed);
     }
     Ok(read)
 }

@@ -8,7 +8,7 @@ ghost use Rattle.trail_lines.specs.Events.{text_field, text_in, text_at, title_i
 ghost use Rattle.trail_lines.specs.Events.{window_text, window_in, window_at, event_then, event_in, event_at};
 ghost use Rattle.trail_lines.specs.Unreadable.{Gives};
 
-use crate::unread::Unread;
+use crate::unread::UnreadLine;
 use acl::UserId;
 use hub_trail::Kept;
 use line_fields::parts::{push_name, user_at};
@@ -118,24 +118,24 @@ pub fn push_event(event: &Kept, out: &mut Vec<u8>) -> Result<(), AllocError>
 }
 
 /// The bytes of a text.
-fn read_text(alloc: Global, word: &[u8]) -> Result<Bytes, Unread>
+fn read_text(alloc: Global, word: &[u8]) -> Result<Bytes, UnreadLine>
     ensures { Gives (λ text. text) result (text_in word.now) }
 {
     let [_, escaped @ ..] = word else {
-        return Err(Unread::Malformed);
+        return Err(UnreadLine::Malformed);
     };
     let mut text = Vec::new(alloc);
     if !unescape(escaped, &mut text)? {
-        return Err(Unread::Malformed);
+        return Err(UnreadLine::Malformed);
     }
     Ok(Bytes::from_vec(text))
 }
 
 /// A text that a blank ends, and the bytes after the blank.
-fn text_at(alloc: Global, bytes: &[u8]) -> Result<(Bytes, &[u8]), Unread>
+fn text_at(alloc: Global, bytes: &[u8]) -> Result<(Bytes, &[u8]), UnreadLine>
     ensures { Gives (λ p. (p.0, p.1.now)) result (text_at bytes.now) }
 {
-    let (word, rest) = cut(bytes, b' ').ok_or(Unread::Malformed)?;
+    let (word, rest) = cut(bytes, b' ').ok_or(UnreadLine::Malformed)?;
     Ok((read_text(alloc, word)?, rest))
 }
 
@@ -147,19 +147,19 @@ fn title_of(bytes: &[u8]) -> Option<&str>
 }
 
 /// The bytes of a title.
-fn read_title(alloc: Global, word: &[u8]) -> Result<Bytes, Unread>
+fn read_title(alloc: Global, word: &[u8]) -> Result<Bytes, UnreadLine>
     ensures { Gives (λ title. title) result (title_in word.now) }
 {
     let text = read_text(alloc, word)?;
-    let title = title_of(text.as_slice()).ok_or(Unread::Malformed)?;
+    let title = title_of(text.as_slice()).ok_or(UnreadLine::Malformed)?;
     Ok(Bytes::of(alloc, title.as_bytes())?)
 }
 
 /// A title that a blank ends, and the bytes after the blank.
-fn title_at(alloc: Global, bytes: &[u8]) -> Result<(Bytes, &[u8]), Unread>
+fn title_at(alloc: Global, bytes: &[u8]) -> Result<(Bytes, &[u8]), UnreadLine>
     ensures { Gives (λ p. (p.0, p.1.now)) result (title_at bytes.now) }
 {
-    let (word, rest) = cut(bytes, b' ').ok_or(Unread::Malformed)?;
+    let (word, rest) = cut(bytes, b' ').ok_or(UnreadLine::Malformed)?;
     Ok((read_title(alloc, word)?, rest))
 }
 
@@ -213,23 +213,23 @@ fn keys_at(bytes: &[u8]) -> Option<(Kept, &[u8])>
 }
 
 /// `USER WINDOW TEXT`
-fn command_at(alloc: Global, bytes: &[u8]) -> Result<(Kept, &[u8]), Unread>
+fn command_at(alloc: Global, bytes: &[u8]) -> Result<(Kept, &[u8]), UnreadLine>
     ensures { Gives (λ p. (p.0, p.1.now)) result (event_in EventKind.Command bytes.now) }
 {
-    let (user, rest) = user_at(bytes, b' ').ok_or(Unread::Malformed)?;
-    let (window, rest) = window_at(rest).ok_or(Unread::Malformed)?;
+    let (user, rest) = user_at(bytes, b' ').ok_or(UnreadLine::Malformed)?;
+    let (window, rest) = window_at(rest).ok_or(UnreadLine::Malformed)?;
     let (line, rest) = text_at(alloc, rest)?;
     Ok((Kept::Command { user, window, line }, rest))
 }
 
 /// `USER ROWS COLS KEEP TEXT`
-fn open_at(alloc: Global, bytes: &[u8]) -> Result<(Kept, &[u8]), Unread>
+fn open_at(alloc: Global, bytes: &[u8]) -> Result<(Kept, &[u8]), UnreadLine>
     ensures { Gives (λ p. (p.0, p.1.now)) result (event_in EventKind.Open bytes.now) }
 {
-    let (user, rest) = user_at(bytes, b' ').ok_or(Unread::Malformed)?;
-    let (rows, rest) = u16_at(rest, b' ').ok_or(Unread::Malformed)?;
-    let (columns, rest) = u16_at(rest, b' ').ok_or(Unread::Malformed)?;
-    let (keep, rest) = u16_at(rest, b' ').ok_or(Unread::Malformed)?;
+    let (user, rest) = user_at(bytes, b' ').ok_or(UnreadLine::Malformed)?;
+    let (rows, rest) = u16_at(rest, b' ').ok_or(UnreadLine::Malformed)?;
+    let (columns, rest) = u16_at(rest, b' ').ok_or(UnreadLine::Malformed)?;
+    let (keep, rest) = u16_at(rest, b' ').ok_or(UnreadLine::Malformed)?;
     let (title, rest) = title_at(alloc, rest)?;
     let event = Kept::Open {
         user,
@@ -250,26 +250,26 @@ fn closed_at(bytes: &[u8]) -> Option<(Kept, &[u8])>
 }
 
 /// What is kept of the event of a kind whose fields follow its word, and the bytes after them.
-fn event_by(alloc: Global, kind: EventKind, rest: &[u8]) -> Result<(Kept, &[u8]), Unread>
+fn event_by(alloc: Global, kind: EventKind, rest: &[u8]) -> Result<(Kept, &[u8]), UnreadLine>
     ensures { Gives (λ p. (p.0, p.1.now)) result (event_in kind rest.now) }
 {
     match kind {
-        EventKind::Attach => attach_at(rest).ok_or(Unread::Malformed),
-        EventKind::Detach => detach_at(rest).ok_or(Unread::Malformed),
-        EventKind::Keys => keys_at(rest).ok_or(Unread::Malformed),
+        EventKind::Attach => attach_at(rest).ok_or(UnreadLine::Malformed),
+        EventKind::Detach => detach_at(rest).ok_or(UnreadLine::Malformed),
+        EventKind::Keys => keys_at(rest).ok_or(UnreadLine::Malformed),
         EventKind::Command => command_at(alloc, rest),
         EventKind::Open => open_at(alloc, rest),
-        EventKind::Closed => closed_at(rest).ok_or(Unread::Malformed),
-        EventKind::Resize | EventKind::Output | EventKind::Draw => Err(Unread::Malformed),
+        EventKind::Closed => closed_at(rest).ok_or(UnreadLine::Malformed),
+        EventKind::Resize | EventKind::Output | EventKind::Draw => Err(UnreadLine::Malformed),
     }
 }
 
 /// What is kept of an event, and the bytes after its fields.
 #[tactic(auto, unfolding(crate::specs::Events::event_at))]
-pub fn event_at(alloc: Global, bytes: &[u8]) -> Result<(Kept, &[u8]), Unread>
+pub fn event_at(alloc: Global, bytes: &[u8]) -> Result<(Kept, &[u8]), UnreadLine>
     ensures { Gives (λ p. (p.0, p.1.now)) result (event_at bytes.now) }
 {
-    let (word, rest) = cut(bytes, b' ').ok_or(Unread::Malformed)?;
-    let kind = EventKind::named(word).ok_or(Unread::Malformed)?;
+    let (word, rest) = cut(bytes, b' ').ok_or(UnreadLine::Malformed)?;
+    let kind = EventKind::named(word).ok_or(UnreadLine::Malformed)?;
     event_by(alloc, kind, rest)
 }

@@ -9,7 +9,7 @@ ghost use Rattle.trail_lines.specs.Lines.{OfKnown};
 
 use crate::audit::Audit;
 use crate::fault::Wrong;
-use crate::lines::{Came, next_line};
+use crate::lines::{NextLine, next_line};
 use std::alloc::AllocError;
 use std::io::{self, BufRead};
 
@@ -38,10 +38,10 @@ pub fn next_entry<R: BufRead>(
         (NextIs halt number line.new.items)) }
 {
     let halt = match next_line(reader, line)? {
-        Came::Nothing => Halt::Nothing,
-        Came::Torn => Halt::Torn,
-        Came::Whole if line.starts_with(b"end ") => Halt::Last { line: number },
-        Came::Whole => return Ok(None),
+        NextLine::Nothing => Halt::Nothing,
+        NextLine::Torn => Halt::Torn,
+        NextLine::Whole if line.starts_with(b"end ") => Halt::Last { line: number },
+        NextLine::Whole => return Ok(None),
     };
     Ok(Some(halt))
 }

@@ -4,7 +4,7 @@ ghost use Rattle.std.specs.Prelude.{◌≡◌, ◌++◌, OnOk};
 ghost use Rattle.trail_lines.specs.Unreadable.{Gives};
 ghost use Rattle.trail_lines.specs.Heading.{edition_in, form_text, header_text, header_fields, read_header};
 
-use crate::unread::Unread;
+use crate::unread::UnreadLine;
 use acl::{Edition, UserId};
 use line_fields::parts::user_at;
 use line_fields::{cut, read_u64};
@@ -69,16 +69,16 @@ pub fn print_header(header: &Header, out: &mut Vec<u8>) -> Result<(), AllocError
 
 /// The fields of a first line, in any spelling.
 #[tactic(auto, unfolding(crate::specs::Heading::header_fields))]
-fn header_fields(alloc: Global, line: &[u8]) -> Result<Header, Unread>
+fn header_fields(alloc: Global, line: &[u8]) -> Result<Header, UnreadLine>
     ensures { Gives (λ header. header) result (header_fields line.now) }
 {
-    let (_, rest) = cut(line, b' ').ok_or(Unread::Malformed)?;
-    let (_, rest) = cut(rest, b' ').ok_or(Unread::Malformed)?;
-    let (edition, rest) = cut(rest, b' ').ok_or(Unread::Malformed)?;
-    let edition = edition_in(edition).ok_or(Unread::Malformed)?;
-    let (owner, rest) = user_at(rest, b' ').ok_or(Unread::Malformed)?;
-    let (version, ms) = cut(rest, b' ').ok_or(Unread::Malformed)?;
-    let ms = read_u64(ms).ok_or(Unread::Malformed)?;
+    let (_, rest) = cut(line, b' ').ok_or(UnreadLine::Malformed)?;
+    let (_, rest) = cut(rest, b' ').ok_or(UnreadLine::Malformed)?;
+    let (edition, rest) = cut(rest, b' ').ok_or(UnreadLine::Malformed)?;
+    let edition = edition_in(edition).ok_or(UnreadLine::Malformed)?;
+    let (owner, rest) = user_at(rest, b' ').ok_or(UnreadLine::Malformed)?;
+    let (version, ms) = cut(rest, b' ').ok_or(UnreadLine::Malformed)?;
+    let ms = read_u64(ms).ok_or(UnreadLine::Malformed)?;
     let version = Bytes::of(alloc, version)?;
     Ok(Header {
         edition,
@@ -90,14 +90,14 @@ fn header_fields(alloc: Global, line: &[u8]) -> Result<Header, Unread>
 
 /// What a first line says, given without its line feed. `Malformed` if no first line is printed so.
 #[tactic(auto, unfolding(crate::specs::Heading::read_header))]
-pub fn read_header(alloc: Global, line: &[u8]) -> Result<Header, Unread>
+pub fn read_header(alloc: Global, line: &[u8]) -> Result<Header, UnreadLine>
     ensures { Gives (λ header. header) result (read_header line.now) }
 {
     let header = header_fields(alloc, line)?;
     let mut printed = Vec::new(alloc);
     print_header(&header, &mut printed)?;
     if printed.as_slice() != line {
-        return Err(Unread::Malformed);
+        return Err(UnreadLine::Malformed);
     }
     Ok(header)
 }

@@ -7,7 +7,7 @@ use std::io::{self, BufRead};
 
 /// How a line was read.
 #[derive(Clone, Copy)]
-pub enum Came {
+pub enum NextLine {
     /// With its line feed.
     Whole,
     /// Without its line feed: the file ends in the line.
@@ -17,18 +17,18 @@ pub enum Came {
 }
 
 /// Reads a line into `line`, without its line feed, in place of what `line` had.
-pub fn next_line<R: BufRead>(reader: &mut R, line: &mut Vec<u8>) -> io::Result<Came>
+pub fn next_line<R: BufRead>(reader: &mut R, line: &mut Vec<u8>) -> io::Result<NextLine>
     ensures { IfOk result (λ came. OfKnown (R.remaining reader.old) (R.remaining reader.new)
         (ComesAs came line.new.items)) }
 {
     line.clear();
     reader.read_until(b'\n', line)?;
     match line.pop() {
-        Some(b'\n') => Ok(Came::Whole),
+        Some(b'\n') => Ok(NextLine::Whole),
         Some(byte) => {
             line.push(byte)?;
-            Ok(Came::Torn)
+            Ok(NextLine::Torn)
         }
-        None => Ok(Came::Nothing),
+        None => Ok(NextLine::Nothing),
     }
 }

@@ -11,7 +11,7 @@ use crate::titles::{Titled, title_in};
 use acl::{Act, Object, UserId};
 use hub_record::{Kept, TrailEntry};
 use session_model::{Bytes, Verdict};
-use trail_lines::Line;
+use trail_lines::EntryLine;
 
 /// A window by its serial, or windows by their title.
 #[derive(Drop)]
@@ -163,7 +163,7 @@ fn is_of_wanted(titles: &[Titled], entry: &TrailEntry, asked: &Option<Wanted>) -
 
 impl Choice {
     /// Whether an entry is asked for, before which clients and windows had these names.
-    pub fn is_chosen(&self, names: &Names, line: &Line) -> bool
+    pub fn is_chosen(&self, names: &Names, line: &EntryLine) -> bool
         ensures { result ≡ is_chosen self.now names.now (said line.now) }
     {
         if line.ms < self.since {

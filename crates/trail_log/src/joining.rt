@@ -10,7 +10,7 @@ use crate::log_line::{LogLine, line_of, push_line};
 use crate::names::Names;
 use std::alloc::{AllocError, Global};
 use std::mem;
-use trail_lines::Line;
+use trail_lines::EntryLine;
 
 /// Typed bytes are joined if they come less than this many milliseconds after those before.
 const GAP: u64 = 10_000;
@@ -99,7 +99,7 @@ pub fn chosen_line(
     alloc: Global,
     choice: &Choice,
     names: &Names,
-    line: &Line,
+    line: &EntryLine,
 ) -> Result<Option<LogLine>, AllocError>
     ensures { IfOk result (λ next. next ≡ chosen_line choice.now names.now (said line.now)) }
 {

@@ -15,6 +15,6 @@ mod titles;
 
 pub use choice::{Choice, Wanted};
 pub use lines::push_end;
-pub use logging::Log;
+pub use logging::LogWriter;
 pub use names::Names;
 pub use titles::{Titled, title_in};

@@ -17,7 +17,7 @@ use hub_trail::{Ending, from_command};
 use line_fields::push_clock;
 use session_model::{Bytes, Verdict};
 use std::alloc::{AllocError, Global};
-use trail_lines::Line;
+use trail_lines::EntryLine;
 
 /// A line of the log. If it is about typed bytes, their number is between the head and the tail.
 #[derive(Drop)]
@@ -65,7 +65,7 @@ fn push_typed_head(
 fn typed_line(
     alloc: Global,
     names: &Names,
-    line: &Line,
+    line: &EntryLine,
     client: u32,
     taken: usize,
 ) -> Result<LogLine, AllocError>
@@ -91,7 +91,7 @@ fn typed_line(
 }
 
 /// The line of an entry that isn't about typed bytes alone.
-fn deed_line(alloc: Global, names: &Names, line: &Line) -> Result<LogLine, AllocError>
+fn deed_line(alloc: Global, names: &Names, line: &EntryLine) -> Result<LogLine, AllocError>
     ensures { IfOk result (λ l. l ≡ deed_line names.now (said line.now)) }
 {
     let entry = &line.entry;
@@ -108,7 +108,7 @@ fn deed_line(alloc: Global, names: &Names, line: &Line) -> Result<LogLine, Alloc
 }
 
 /// The line of an entry, before which clients and windows had these names.
-pub fn line_of(alloc: Global, names: &Names, line: &Line) -> Result<LogLine, AllocError>
+pub fn line_of(alloc: Global, names: &Names, line: &EntryLine) -> Result<LogLine, AllocError>
     ensures { IfOk result (λ l. l ≡ line_of names.now (said line.now)) }
 {
     let entry = &line.entry;

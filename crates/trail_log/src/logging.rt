@@ -18,20 +18,20 @@ use trail_lines::{Audit, Wrong};
 /// Reads the lines of entries, judges the entries, and prints them for people. The last line is held
 /// until the next one comes, since typed bytes are joined.
 #[derive(Drop)]
-pub struct Log {
+pub struct LogWriter {
     audit: Audit,
     names: Names,
     held: Option<LogLine>,
 }
 
-impl Log {
+impl LogWriter {
     /// Before the first line.
-    pub fn new(alloc: Global, edition: Edition, owner: UserId) -> Result<Log, AllocError>
+    pub fn new(alloc: Global, edition: Edition, owner: UserId) -> Result<LogWriter, AllocError>
         ensures logged { IfOk result (λ log. HasLogged log edition owner []) }
         ensures held { IfOk result (λ log. log.held ≡ None) }
     {
         let audit = Audit::new(alloc, edition, owner)?;
-        Ok(Log {
+        Ok(LogWriter {
             audit,
             names: Names::new(alloc),
             held: None,

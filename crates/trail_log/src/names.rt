@@ -16,7 +16,7 @@ use hub_trail::{Ending, from_command};
 use session_model::{Bytes, Verdict};
 use std::alloc::{AllocError, Global};
 use std::marker::Model;
-use trail_lines::Line;
+use trail_lines::EntryLine;
 
 /// The users of clients, and the titles of open windows.
 pub struct Names {
@@ -201,7 +201,7 @@ impl Names {
     }
 
     /// Follows the acts of the next entry, and the title that it gives.
-    pub fn take(&mut self, line: &Line) -> Result<(), AllocError>
+    pub fn take(&mut self, line: &EntryLine) -> Result<(), AllocError>
         ensures { OnOk result (self.new ≡ names_with self.old (said line.now)) }
     {
         let entry = &line.entry;

@@ -11,8 +11,8 @@ use Rattle.acl.specs.declared.bits.Bit.TheVariants.{Read, Write, Execute}
 use Rattle.acl.specs.Same.{same_user, same_bit, same_preset}
 use Rattle.acl.proofs.StandsForLemmas.{same_user-true}
 use Rattle.trail_rights.specs.declared.mark.Mark.{Mark}
-use Rattle.trail_rights.specs.declared.settler.Setting.{Setting}
-use Rattle.trail_rights.specs.declared.settler.Setting.TheVariants as setting
+use Rattle.trail_rights.specs.declared.settler.RightsSetting.{RightsSetting}
+use Rattle.trail_rights.specs.declared.settler.RightsSetting.TheVariants as setting
 use Rattle.trail_rights.specs.declared.settler.Settler.{Settler}
 use Rattle.trail_rights.specs.Marks.{Marked, acts_in}
 use Rattle.trail_rights.specs.Settling.{settles, value_of, settling, IsSet, SettlingIsLatest, same_setting}
@@ -38,7 +38,7 @@ unsettled_one s m a None e is = ap
     (λ o. record s { value = unwrap_or o s.value; found = cond (is_some o) (Some (m, a)) s.found }) e
 unsettled_one s m a (Some v) e is = cc
 
-pub unsettled : (m : Mark) (a : Act) → ((s : Setting) → settles s a ≡ None) → (settlers : List Settler)
+pub unsettled : (m : Mark) (a : Act) → ((s : RightsSetting) → settles s a ≡ None) → (settlers : List Settler)
     → settlers ≡ map (settler_after m a) settlers
 unsettled m a none [] = refl
 unsettled m a none (s ∷ settlers) = ap (λ t. t ∷ settlers)
@@ -64,7 +64,7 @@ same_preset-true preset.Commands preset.Commands e = refl
 same_preset-true preset.Windows preset.Commands e = absurd (false≢true e)
 same_preset-true preset.Commands preset.Windows e = absurd (false≢true e)
 
-same_setting-true : (s q : Setting) → same_setting s q ≡ true → s ≡ q
+same_setting-true : (s q : RightsSetting) → same_setting s q ≡ true → s ≡ q
 same_setting-true (setting.Listed u) (setting.Listed v) e = ap setting.Listed (same_user-true u v e)
 same_setting-true (setting.Mask by u b) (setting.Mask other v c) e =
     let last = and_parts (same_user by other && same_user u v) (same_bit b c) e in
@@ -77,10 +77,10 @@ same_setting-true (setting.Preset j b) (setting.Preset k c) e =
     ap (λ x. setting.Preset x b) (same_preset-true j k both.0) ∙ ap (setting.Preset k) (same_bit-true b c both.1)
 same_setting-true s q e = absurd (false≢true e)
 
-abbrev pub IsSettled : Marked → Setting → Settler → Type 0
+abbrev pub IsSettled : Marked → RightsSetting → Settler → Type 0
 IsSettled marked q t = (t.value ≡ value_of q (acts_in marked)) × (t.found ≡ settling marked q)
 
-found_if : (marked : Marked) (t : Settler) (q : Setting) (b : Bool) (rest : Option Settler)
+found_if : (marked : Marked) (t : Settler) (q : RightsSetting) (b : Bool) (rest : Option Settler)
     → same_setting t.setting q ≡ b → HasSettled marked t → IfSome rest (IsSettled marked q)
     → IfSome (cond b (Some t) rest) (IsSettled marked q)
 found_if marked t q true rest e is later =
@@ -88,7 +88,8 @@ found_if marked t q true rest e is later =
     (is.value ∙ ap (λ s. value_of s (acts_in marked)) same, is.found ∙ ap (settling marked) same)
 found_if marked t q false rest e is later = later
 
-pub settled_in : (marked : Marked) (settlers : List Settler) (q : Setting) → AllByRecursion (HasSettled marked) settlers
+pub settled_in : (marked : Marked) (settlers : List Settler) (q : RightsSetting)
+    → AllByRecursion (HasSettled marked) settlers
     → IfSome (settler_in settlers q) (IsSettled marked q)
 settled_in marked [] q all = tt
 settled_in marked (t ∷ settlers) q all = found_if marked t q (same_setting t.setting q) (settler_in settlers q) refl
@@ -96,7 +97,7 @@ settled_in marked (t ∷ settlers) q all = found_if marked t q (same_setting t.s
 
 -- ---- what was found is the latest that gives the value
 
-module _ (s : Setting) where
+module _ (s : RightsSetting) where
   behind : (p : Mark × Act) (marked : Marked) (found : Option (Mark × Act)) → settles s p.1 ≡ None
       → IsSet marked s found → IsSet (p ∷ marked) s found
   behind p marked None e is = record

@@ -9,8 +9,8 @@ use Rattle.acl.specs.declared.bits.Bit.{Bit}
 use Rattle.acl.specs.declared.bits.Bit.TheVariants.{Read, Write, Execute}
 use Rattle.acl.specs.declared.user_id.UserId.{UserId}
 use Rattle.session_model.specs.Texts.{letter}
-use Rattle.trail_rights.specs.declared.settler.Setting.{Setting}
-use Rattle.trail_rights.specs.declared.settler.Setting.TheVariants as setting
+use Rattle.trail_rights.specs.declared.settler.RightsSetting.{RightsSetting}
+use Rattle.trail_rights.specs.declared.settler.RightsSetting.TheVariants as setting
 use Rattle.trail_rights.specs.declared.settler.Settler.{Settler}
 use Rattle.trail_rights.specs.Settling.{settler_in}
 
@@ -19,7 +19,7 @@ abbrev pub given_text : Option Settler → Bit → List ℕ
 given_text None bit = codes "?"
 given_text (Some s) bit = if s.value then letter bit else codes "-"
 
-abbrev pub setting_text : List Settler → Setting → Bit → List ℕ
+abbrev pub setting_text : List Settler → RightsSetting → Bit → List ℕ
 setting_text settlers s bit = given_text (settler_in settlers s) bit
 
 abbrev pub mask_letter : List Settler → UserId → UserId → Bit → List ℕ

@@ -4,7 +4,7 @@ use Rattle.std.specs.List.{AllByRecursion}
 use Rattle.acl.specs.declared.act.Object.{Object}
 use Rattle.acl.specs.declared.bits.Bit.{Bit}
 use Rattle.acl.specs.declared.user_id.UserId.{UserId}
-use Rattle.trail_rights.specs.declared.settler.Setting.{Setting}
+use Rattle.trail_rights.specs.declared.settler.RightsSetting.{RightsSetting}
 use Rattle.trail_rights.specs.declared.sight.Sight.{Sight}
 use Rattle.trail_rights.specs.Marks.{Marked, acts_in}
 use Rattle.trail_rights.specs.Deciding.{HasDecided, sought_by}
@@ -23,5 +23,5 @@ Sees old new more =
     (owner : UserId) (marked : Marked) → HasSeen old owner marked → HasSeen new owner (more marked)
 
 -- what a sight looks for: each user's bit on an object, and each setting, in the order in which they were given
-abbrev pub sought : Sight → List (UserId × Bit × Object) × List Setting
+abbrev pub sought : Sight → List (UserId × Bit × Object) × List RightsSetting
 sought s = (map sought_by s.deciders.items, map setting_by s.settlers.items)

@@ -6,38 +6,38 @@ use Rattle.acl.specs.declared.act.Act.{Act}
 use Rattle.acl.specs.History.{History, latest, decides_known, decides_mask, decides_preset}
 use Rattle.acl.specs.Same.{same_user, same_bit, same_preset}
 use Rattle.trail_rights.specs.declared.mark.Mark.{Mark}
-use Rattle.trail_rights.specs.declared.settler.Setting.{Setting}
-use Rattle.trail_rights.specs.declared.settler.Setting.TheVariants as setting
+use Rattle.trail_rights.specs.declared.settler.RightsSetting.{RightsSetting}
+use Rattle.trail_rights.specs.declared.settler.RightsSetting.TheVariants as setting
 use Rattle.trail_rights.specs.declared.settler.Settler.{Settler}
 use Rattle.trail_rights.specs.Marks.{Marked, acts_in}
 
 -- the value that an act gives, if it does
-abbrev pub settles : Setting → Act → Option Bool
+abbrev pub settles : RightsSetting → Act → Option Bool
 settles (setting.Listed user) a = decides_known user a
 settles (setting.Mask by user bit) a = decides_mask by user bit a
 settles (setting.Preset kind bit) a = decides_preset kind bit a
 
 -- the value before the first act that gives one
-abbrev pub first_value : Setting → Bool
+abbrev pub first_value : RightsSetting → Bool
 first_value (setting.Listed user) = false
 first_value (setting.Mask by user bit) = true
 first_value (setting.Preset kind bit) = true
 
-abbrev pub value_of : Setting → History → Bool
+abbrev pub value_of : RightsSetting → History → Bool
 value_of s h = latest (settles s) (first_value s) h
 
 -- the latest act that gives a value, with its mark
-abbrev pub settling : Marked → Setting → Option (Mark × Act)
+abbrev pub settling : Marked → RightsSetting → Option (Mark × Act)
 settling [] s = None
 settling (p ∷ marked) s = if is_some (settles s p.1) then Some p else settling marked s
 
 -- ---- laws
 
-abbrev pub NoneSettles : Setting → Marked → Type 0
+abbrev pub NoneSettles : RightsSetting → Marked → Type 0
 NoneSettles s marked = AllByRecursion (λ (p : Mark × Act). settles s p.1 ≡ None) marked
 
 -- an act gives the setting its value, and no later act does
-pub record SetsLast (marked : Marked) (s : Setting) (p : Mark × Act) : Type 0 where
+pub record SetsLast (marked : Marked) (s : RightsSetting) (p : Mark × Act) : Type 0 where
   pub later : Marked
   pub before : Marked
   pub all : marked ≡ later ++ p ∷ before
@@ -45,20 +45,20 @@ pub record SetsLast (marked : Marked) (s : Setting) (p : Mark × Act) : Type 0 w
   pub last : NoneSettles s later
 
 -- if no act gives it a value, it has its first one
-pub record IsUnset (marked : Marked) (s : Setting) : Type 0 where
+pub record IsUnset (marked : Marked) (s : RightsSetting) : Type 0 where
   pub none : NoneSettles s marked
   pub value : value_of s (acts_in marked) ≡ first_value s
 
-abbrev pub IsSet : Marked → Setting → Option (Mark × Act) → Type 0
+abbrev pub IsSet : Marked → RightsSetting → Option (Mark × Act) → Type 0
 IsSet marked s None = IsUnset marked s
 IsSet marked s (Some p) = SetsLast marked s p
 
 abbrev pub SettlingIsLatest : Type 0
-SettlingIsLatest = (marked : Marked) (s : Setting) → IsSet marked s (settling marked s)
+SettlingIsLatest = (marked : Marked) (s : RightsSetting) → IsSet marked s (settling marked s)
 
 -- ---- as the code has it
 
-abbrev pub same_setting : Setting → Setting → Bool
+abbrev pub same_setting : RightsSetting → RightsSetting → Bool
 same_setting (setting.Listed u) (setting.Listed v) = same_user u v
 same_setting (setting.Mask by u bit) (setting.Mask other v c) =
     same_user by other && same_user u v && same_bit bit c
@@ -78,10 +78,10 @@ pub record HasSettled (marked : Marked) (s : Settler) : Type 0 where
   pub found : s.found ≡ settling marked s.setting
 
 -- the setting that a settler looks for
-abbrev pub setting_by : Settler → Setting
+abbrev pub setting_by : Settler → RightsSetting
 setting_by s = s.setting
 
 -- the first settler that looks for a setting
-abbrev pub settler_in : List Settler → Setting → Option Settler
+abbrev pub settler_in : List Settler → RightsSetting → Option Settler
 settler_in [] s = None
 settler_in (t ∷ settlers) s = if same_setting t.setting s then Some t else settler_in settlers s

@@ -7,7 +7,7 @@ use Rattle.std.specs.Borrow.{Bor}
 use Rattle.std.specs.declared.alloc.AllocError.{AllocError}
 use Rattle.acl.specs.declared.edition.Edition.{Edition}
 use Rattle.acl.specs.declared.user_id.UserId.{UserId}
-use Rattle.trail_lines.specs.declared.entries.Line.{Line}
+use Rattle.trail_lines.specs.declared.entries.EntryLine.{EntryLine}
 use Rattle.trail_lines.specs.Entries.{Said, read_line, said}
 use Rattle.trail_lines.specs.declared.fault.Wrong.{Wrong}
 use Rattle.trail_lines.specs.declared.halt.Halt.{Halt}
@@ -26,13 +26,13 @@ pub record HasWatched (w : Watch) (edition : Edition) (owner : UserId) (said : L
   pub kept : HasKept w.acts (marked_after [] said)
 
 -- the line says the next entry, which was read too
-pub record TakesNext (l : Line) (new : Watch) (line : List ℕ) (edition : Edition) (owner : UserId)
+pub record TakesNext (l : EntryLine) (new : Watch) (line : List ℕ) (edition : Edition) (owner : UserId)
     (before : List Said) : Type 0 where
   pub is : read_line line ≡ Some (said l)
   pub place_is : l.place ≡ length (entries_in before)
   pub watched : HasWatched new edition owner (before ++ said l ∷ [])
 
-abbrev pub TellsNext : Result Line Wrong → Watch → List ℕ → Edition → UserId → List Said → Type 0
+abbrev pub TellsNext : Result EntryLine Wrong → Watch → List ℕ → Edition → UserId → List Said → Type 0
 TellsNext (Ok l) new line edition owner said = TakesNext l new line edition owner said
 TellsNext (Err w) new line edition owner said = IsWrong w line edition owner (entries_in said)
 
@@ -50,11 +50,12 @@ IsWatchedTo h last said line bytes rest =
     ⊎ ((length said ≤ last) × IsReadTo h said line bytes rest)
 
 -- a callback is called with the line of an entry, and takes it
-abbrev pub Follows : {F : Type 0} → Mut F (Bor Line × Unit {0}) (Result (Unit {0}) AllocError) → F → Said → F → Type 0
-Follows g f x more = (l : Line) × (said l ≡ x) × CalledAt g f l (Ok tt) more
+abbrev pub Follows : {F : Type 0} → Mut F (Bor EntryLine × Unit {0}) (Result (Unit {0}) AllocError) → F → Said → F
+    → Type 0
+Follows g f x more = (l : EntryLine) × (said l ≡ x) × CalledAt g f l (Ok tt) more
 
 -- it is called with the lines of these entries, one after another
-abbrev pub AreFollowed : {F : Type 0} → Mut F (Bor Line × Unit {0}) (Result (Unit {0}) AllocError) → F → List Said
+abbrev pub AreFollowed : {F : Type 0} → Mut F (Bor EntryLine × Unit {0}) (Result (Unit {0}) AllocError) → F → List Said
     → Type 0
 AreFollowed {F} g f said = (last : F) × FoldsTo (Follows g) f said last
 

@@ -9,21 +9,21 @@ use crate::mark::{Mark, mark_among};
 use acl::{Act, UserId};
 use hub_check::follow_clients;
 use std::alloc::{AllocError, Global};
-use trail_lines::Line;
+use trail_lines::EntryLine;
 
 /// The acts of entries in their order, with their marks, and the clients after them.
 #[derive(Drop)]
-pub struct Acts {
+pub struct MarkedActs {
     clients: Vec<(u32, UserId)>,
     marked: Vec<(Mark, Act)>,
 }
 
-impl Acts {
+impl MarkedActs {
     /// Before the first act.
-    pub fn new(alloc: Global) -> Acts
+    pub fn new(alloc: Global) -> MarkedActs
         ensures { HasKept result [] }
     {
-        Acts {
+        MarkedActs {
             clients: Vec::new(alloc),
             marked: Vec::new(alloc),
         }
@@ -49,7 +49,7 @@ impl Acts {
     }
 
     /// Keeps the acts of the next entry.
-    pub fn take(&mut self, line: &Line) -> Result<(), AllocError>
+    pub fn take(&mut self, line: &EntryLine) -> Result<(), AllocError>
         ensures { OnOk result (Keeps self.old self.new (λ marked. marked_with marked (said line.now))) }
     {
         let mark = mark_among(&self.clients, line);

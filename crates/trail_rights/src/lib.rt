@@ -22,7 +22,7 @@ pub use lines::{Form, show_lines};
 pub use mark::Mark;
 pub use masks::{letter, push_mask_lines, settings_of};
 pub use rights::{holder, may, users_of};
-pub use settler::{Setting, Settler, settler_in};
+pub use settler::{RightsSetting, Settler, settler_in};
 pub use sight::Sight;
 pub use texts::{text_of, write_when};
 pub use watch::{Watch, watch_entries};

@@ -7,7 +7,7 @@ use hub_record::Kept;
 use line_fields::{push_escaped, push_means};
 use std::alloc::{AllocError, Global};
 use std::io::{self, BufRead, Write};
-use trail_lines::{Came, Ended, Line, Unread, next_line, read_end, read_line};
+use trail_lines::{Ended, EntryLine, NextLine, UnreadLine, next_line, read_end, read_line};
 
 /// What an entry's line says, as it is shown.
 #[derive(Drop)]
@@ -47,7 +47,7 @@ fn line_of(event: &Kept) -> &[u8] {
 }
 
 /// What the number of an entry's refusal means, in bytes of 20 to 7E. Empty if it has none.
-fn means_of(alloc: Global, line: &Line) -> Result<Vec<u8>, AllocError> {
+fn means_of(alloc: Global, line: &EntryLine) -> Result<Vec<u8>, AllocError> {
     let mut means = Vec::new(alloc);
     if let Err(refusal) = line.entry.ending() {
         push_means(&refusal, line_of(line.entry.event()), &mut means)?;
@@ -58,7 +58,7 @@ fn means_of(alloc: Global, line: &Line) -> Result<Vec<u8>, AllocError> {
 }
 
 /// What an entry's line says.
-fn read_said(alloc: Global, text: &[u8]) -> Result<Said, Unread> {
+fn read_said(alloc: Global, text: &[u8]) -> Result<Said, UnreadLine> {
     let line = read_line(alloc, text)?;
     Ok(Said {
         place: line.place,
@@ -72,13 +72,13 @@ fn read_said(alloc: Global, text: &[u8]) -> Result<Said, Unread> {
 fn read_told(alloc: Global, text: &[u8]) -> Result<Shown, AllocError> {
     match read_said(alloc, text) {
         Ok(said) => return Ok(Shown::Entry(said)),
-        Err(Unread::NoMemory) => return Err(AllocError),
-        Err(Unread::Malformed) => {}
+        Err(UnreadLine::NoMemory) => return Err(AllocError),
+        Err(UnreadLine::Malformed) => {}
     }
     match read_end(alloc, text) {
         Ok(ended) => Ok(Shown::End(ended)),
-        Err(Unread::NoMemory) => Err(AllocError),
-        Err(Unread::Malformed) => Ok(Shown::Nothing),
+        Err(UnreadLine::NoMemory) => Err(AllocError),
+        Err(UnreadLine::Malformed) => Ok(Shown::Nothing),
     }
 }
 
@@ -165,7 +165,7 @@ pub fn show_lines<R: BufRead, W: Write>(
 ) -> io::Result<Option<u64>> {
     let mut text = Vec::new(alloc);
     for number in 2..u64::MAX {
-        let Came::Whole = next_line(reader, &mut text)? else {
+        let NextLine::Whole = next_line(reader, &mut text)? else {
             break;
         };
         match show_text(alloc, form, text.as_slice(), output)? {

@@ -7,7 +7,7 @@ ghost use Rattle.trail_rights.specs.Marks.{giver_among, mark_among};
 use acl::UserId;
 use hub_check::user_of_client;
 use hub_record::Kept;
-use trail_lines::Line;
+use trail_lines::EntryLine;
 
 /// The place of an entry, its time in milliseconds since 1970, and the user who gave its event: nobody
 /// if a window's program ended.
@@ -33,7 +33,7 @@ fn giver_among(clients: &[(u32, UserId)], event: &Kept) -> Option<UserId>
 }
 
 /// The mark of an entry's acts, when these clients are attached.
-pub fn mark_among(clients: &[(u32, UserId)], line: &Line) -> Mark
+pub fn mark_among(clients: &[(u32, UserId)], line: &EntryLine) -> Mark
     ensures { result ≡ mark_among clients.now (said line.now) }
 {
     Mark {

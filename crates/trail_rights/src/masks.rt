@@ -6,7 +6,7 @@ ghost use Rattle.session_model.specs.Texts.{letter};
 ghost use Rattle.trail_rights.specs.Masking.{given_text, mask_letter, mask_text, masks_text};
 ghost use Rattle.trail_rights.specs.Masking.{newcomer_text, other_text, preset_letter, preset_text, setting_text};
 
-use crate::settler::{Setting, Settler, settler_in};
+use crate::settler::{RightsSetting, Settler, settler_in};
 use acl::{Bit, PresetKind, UserId};
 use std::alloc::{AllocError, Global};
 
@@ -16,7 +16,7 @@ const BITS: [Bit; 3] = [Bit::Read, Bit::Write, Bit::Execute];
 /// Looks for what an opener masks for a user.
 fn push_masks(opener: UserId, user: UserId, settlers: &mut Vec<Settler>) -> Result<(), AllocError> {
     for bit in &BITS {
-        settlers.push(Settler::new(Setting::Mask {
+        settlers.push(Settler::new(RightsSetting::Mask {
             by: opener,
             user,
             bit: *bit,
@@ -40,7 +40,7 @@ fn push_all_masks(
 /// Looks for the presets of a kind.
 fn push_presets(kind: PresetKind, settlers: &mut Vec<Settler>) -> Result<(), AllocError> {
     for bit in &BITS {
-        settlers.push(Settler::new(Setting::Preset { kind, bit: *bit }))?;
+        settlers.push(Settler::new(RightsSetting::Preset { kind, bit: *bit }))?;
     }
     Ok(())
 }
@@ -49,7 +49,7 @@ fn push_presets(kind: PresetKind, settlers: &mut Vec<Settler>) -> Result<(), All
 pub fn settings_of(alloc: Global, users: &[UserId]) -> Result<Vec<Settler>, AllocError> {
     let mut settlers = Vec::new(alloc);
     for user in users {
-        settlers.push(Settler::new(Setting::Listed { user: *user }))?;
+        settlers.push(Settler::new(RightsSetting::Listed { user: *user }))?;
     }
     for user in users {
         push_all_masks(*user, users, &mut settlers)?;
@@ -85,7 +85,7 @@ fn given_text(settler: Option<Settler>, bit: Bit) -> &'static [u8]
 /// Appends the letter of a bit if the setting gives it, else a hyphen or a question mark.
 fn push_setting(
     settlers: &[Settler],
-    setting: Setting,
+    setting: RightsSetting,
     bit: Bit,
     out: &mut Vec<u8>,
 ) -> Result<(), AllocError>
@@ -104,7 +104,7 @@ fn push_mask_bit(
 ) -> Result<(), AllocError>
     ensures { OnOk result (out.new.items ≡ out.old.items ++ mask_letter settlers.now by user bit) }
 {
-    push_setting(settlers, Setting::Mask { by, user, bit }, bit, out)
+    push_setting(settlers, RightsSetting::Mask { by, user, bit }, bit, out)
 }
 
 /// Appends which bits a user gets on windows that an opener opens later.
@@ -178,7 +178,7 @@ fn push_preset_bit(
 ) -> Result<(), AllocError>
     ensures { OnOk result (out.new.items ≡ out.old.items ++ preset_letter settlers.now kind bit) }
 {
-    push_setting(settlers, Setting::Preset { kind, bit }, bit, out)
+    push_setting(settlers, RightsSetting::Preset { kind, bit }, bit, out)
 }
 
 /// Appends the bits of a preset.

@@ -11,7 +11,7 @@ use acl::{Act, Bit, PresetKind, UserId};
 
 /// What acts set. Its value is the one that the latest act gives.
 #[derive(Clone, Copy)]
-pub enum Setting {
+pub enum RightsSetting {
     /// Whether an act made the user known. The owner is known without an act.
     Listed { user: UserId },
     /// Whether the user gets the bit on windows that `by` opens later.
@@ -23,7 +23,7 @@ pub enum Setting {
 /// Looks for the latest act that gives a setting its value.
 #[derive(Clone, Copy)]
 pub struct Settler {
-    setting: Setting,
+    setting: RightsSetting,
     value: bool,
     found: Option<(Mark, Act)>,
 }
@@ -79,33 +79,33 @@ fn decides_preset(kind: PresetKind, bit: Bit, act: &Act) -> Option<bool>
 }
 
 /// What the act says of a setting.
-fn settles(setting: Setting, act: &Act) -> Option<bool>
+fn settles(setting: RightsSetting, act: &Act) -> Option<bool>
     ensures { result ≡ settles setting act.now }
 {
     match setting {
-        Setting::Listed { user } => decides_known(user, act),
-        Setting::Mask { by, user, bit } => decides_mask(by, user, bit, act),
-        Setting::Preset { kind, bit } => decides_preset(kind, bit, act),
+        RightsSetting::Listed { user } => decides_known(user, act),
+        RightsSetting::Mask { by, user, bit } => decides_mask(by, user, bit, act),
+        RightsSetting::Preset { kind, bit } => decides_preset(kind, bit, act),
     }
 }
 
 /// Whether the settings are the same.
-fn is_same(setting: Setting, other: Setting) -> bool
+fn is_same(setting: RightsSetting, other: RightsSetting) -> bool
     ensures { result ≡ same_setting setting other }
 {
     match (setting, other) {
-        (Setting::Listed { user }, Setting::Listed { user: named }) => user == named,
+        (RightsSetting::Listed { user }, RightsSetting::Listed { user: named }) => user == named,
         (
-            Setting::Mask { by, user, bit },
-            Setting::Mask {
+            RightsSetting::Mask { by, user, bit },
+            RightsSetting::Mask {
                 by: giver,
                 user: named,
                 bit: given,
             },
         ) => by == giver && user == named && bit == given,
         (
-            Setting::Preset { kind, bit },
-            Setting::Preset {
+            RightsSetting::Preset { kind, bit },
+            RightsSetting::Preset {
                 kind: named,
                 bit: given,
             },
@@ -116,19 +116,19 @@ fn is_same(setting: Setting, other: Setting) -> bool
 
 impl Settler {
     /// Before the first act.
-    pub fn new(setting: Setting) -> Settler
+    pub fn new(setting: RightsSetting) -> Settler
         ensures settled { HasSettled [] result }
         ensures setting { result.setting ≡ setting }
     {
         Settler {
             setting,
-            value: !matches!(setting, Setting::Listed { .. }),
+            value: !matches!(setting, RightsSetting::Listed { .. }),
             found: None,
         }
     }
 
     /// The setting that it looks for.
-    pub fn setting(&self) -> Setting
+    pub fn setting(&self) -> RightsSetting
         ensures { result ≡ self.now.setting }
     {
         self.setting
@@ -164,7 +164,7 @@ impl Settler {
 }
 
 /// The first settler that looks for a setting.
-pub fn settler_in(settlers: &[Settler], setting: Setting) -> Option<Settler>
+pub fn settler_in(settlers: &[Settler], setting: RightsSetting) -> Option<Settler>
     ensures { result ≡ settler_in settlers.now setting }
 {
     for settler in settlers {
@@ -177,7 +177,7 @@ pub fn settler_in(settlers: &[Settler], setting: Setting) -> Option<Settler>
 
 /// Whether an act may give a setting a value.
 fn may_settle(act: &Act) -> bool
-    ensures { result ≡ false → (s : Setting) → settles s act.now ≡ None }
+    ensures { result ≡ false → (s : RightsSetting) → settles s act.now ≡ None }
 {
     matches!(
         *act,

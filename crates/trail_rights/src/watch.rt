@@ -12,7 +12,7 @@ ghost use Rattle.trail_rights.specs.Settling.{HasSettled, setting_by};
 ghost use Rattle.trail_rights.specs.Seeing.{HasSeen, sought};
 ghost use Rattle.trail_rights.specs.Watching.{AreFollowed, HasWatched, IsWatched, TellsNext};
 
-use crate::acts::Acts;
+use crate::acts::MarkedActs;
 use crate::decider::Decider;
 use crate::settler::Settler;
 use crate::sight::Sight;
@@ -20,13 +20,13 @@ use acl::{Edition, UserId};
 use hub_check::Replay;
 use std::alloc::{AllocError, Global};
 use std::io::{self, BufRead};
-use trail_lines::{Audit, Halt, Line, Wrong, next_entry};
+use trail_lines::{Audit, EntryLine, Halt, Wrong, next_entry};
 
 /// Reads the lines of entries, judges the entries, and keeps their acts.
 #[derive(Drop)]
 pub struct Watch {
     audit: Audit,
-    acts: Acts,
+    acts: MarkedActs,
 }
 
 impl Watch {
@@ -36,7 +36,7 @@ impl Watch {
     {
         Ok(Watch {
             audit: Audit::new(alloc, edition, owner)?,
-            acts: Acts::new(alloc),
+            acts: MarkedActs::new(alloc),
         })
     }
 
@@ -71,7 +71,7 @@ impl Watch {
 
     /// Takes the line of the next entry, without its line feed, and returns what it says. After an `Err`
     /// the watch must not be used again.
-    pub fn take(&mut self, line: &[u8]) -> Result<Line, Wrong>
+    pub fn take(&mut self, line: &[u8]) -> Result<EntryLine, Wrong>
         ensures { (edition : Edition) (owner : UserId) (said : List Said) →
             HasWatched self.old edition owner said →
             TellsNext result self.new line.now edition owner said }
@@ -84,7 +84,7 @@ impl Watch {
 
 /// Reads the entries of a reader, from the file's line 2 on, up to the entry of the place `last`, and calls
 /// `follow` with each. The line that halts the reading is left in `line`.
-pub fn watch_entries<R: BufRead, F: FnMut(&Line) -> Result<(), AllocError>>(
+pub fn watch_entries<R: BufRead, F: FnMut(&EntryLine) -> Result<(), AllocError>>(
     watch: &mut Watch,
     reader: &mut R,
     line: &mut Vec<u8>,

@@ -1,7 +1,7 @@
 use Rattle.std.proofs.Common.{◌≡◌, ◌++◌, ◌∷◌, [], ℕ, List, ◌∙◌, ap, sym, subst, arith, rules}
 use Rattle.std.specs.Prelude.{false, ◌==◌}
 use Rattle.std.proofs.lemmas.Bool.Decides.{nat_tests}
-use Rattle.trail_lines.specs.declared.lines.Came.TheVariants as came
+use Rattle.trail_lines.specs.declared.lines.NextLine.TheVariants as came
 use Rattle.trail_lines.specs.Lines.{ComesAs, OfKnown}
 use Rattle.trail_lines.proofs.Coming.{came_whole, came_torn}
 use Rattle.trail_lines.proofs.lines.next_line.Goals as goal

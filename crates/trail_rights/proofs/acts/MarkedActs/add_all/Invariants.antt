@@ -1,7 +1,7 @@
 use Rattle.std.proofs.Common.{◌≡◌, drop}
 use Rattle.trail_rights.specs.Marks.{Marked, marked_by}
 use Rattle.trail_rights.specs.Keeping.{HasKept}
-use Rattle.trail_rights.proofs.acts.Acts.add_all.Given as goal
+use Rattle.trail_rights.proofs.acts.MarkedActs.add_all.Given as goal
 
 -- the acts that are kept, and those that are left
 abbrev pub invariant-loop-act : goal.invariant-loop-act

@@ -3,7 +3,7 @@ use Rattle.std.specs.Prelude.{option_copied}
 use Rattle.line_fields.specs.Cutting.{words_behind}
 use Rattle.line_fields.specs.Parts.{blank}
 use Rattle.trail_lines.specs.Entries.{notes_of, noted}
-use Rattle.trail_lines.proofs.entries.Notes.read.Given as goal
+use Rattle.trail_lines.proofs.entries.Remarks.read.Given as goal
 
 abbrev pub invariant-notes : goal.invariant-notes
 invariant-notes l = notes_of (words_behind blank (option_copied l.rest)) (noted l.notes) ≡ notes_of

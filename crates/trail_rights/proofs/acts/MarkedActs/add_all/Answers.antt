@@ -3,7 +3,7 @@ use Rattle.acl.specs.declared.act.Act.TheVariants.{Known}
 use Rattle.acl.proofs.InPlace.{drop-next, drop-past}
 use Rattle.trail_rights.specs.Marks.{marked_by}
 use Rattle.trail_rights.specs.Keeping.{HasKept}
-use Rattle.trail_rights.proofs.acts.Acts.add_all.Goals as goal
+use Rattle.trail_rights.proofs.acts.MarkedActs.add_all.Goals as goal
 
 pub loop-act-init : goal.loop-act-init
 loop-act-init c = λ marked s. (marked, s, refl)

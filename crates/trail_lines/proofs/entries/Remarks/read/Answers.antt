@@ -4,8 +4,8 @@ use Rattle.line_fields.specs.Cutting.{words_behind}
 use Rattle.line_fields.specs.Parts.{blank}
 use Rattle.trail_lines.specs.Entries.{notes_of, noted}
 use Rattle.trail_lines.proofs.Reading.{no_note, one_note, all_notes}
-use Rattle.trail_lines.proofs.entries.Notes.read.Goals as goal
-use Rattle.trail_lines.proofs.entries.Notes.read.Goals.{After-next_word}
+use Rattle.trail_lines.proofs.entries.Remarks.read.Goals as goal
+use Rattle.trail_lines.proofs.entries.Remarks.read.Goals.{After-next_word}
 
 -- the first of the words that are left
 first : (c : After-next_word)

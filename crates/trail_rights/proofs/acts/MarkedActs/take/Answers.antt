@@ -3,7 +3,7 @@ use Rattle.writelock.specs.Holding.{clients_of}
 use Rattle.trail_lines.specs.Entries.{said}
 use Rattle.trail_rights.specs.Marks.{marked_by, mark_among, acts_in}
 use Rattle.trail_rights.specs.Keeping.{HasKept}
-use Rattle.trail_rights.proofs.acts.Acts.take.Goals as goal
+use Rattle.trail_rights.proofs.acts.MarkedActs.take.Goals as goal
 
 pub returns : goal.returns
 returns c = λ marked s.

@@ -5,7 +5,7 @@ use Rattle.trail_log.specs.Joining.{chosen_line, held_with, ms_before, text_befo
 use Rattle.trail_log.specs.Logging.{entries_in}
 use Rattle.trail_log.specs.Naming.{names_with, nobody}
 use Rattle.trail_log.proofs.Logged.{entries_more, names_more}
-use Rattle.trail_log.proofs.logging.Log.take.Goals as goal
+use Rattle.trail_log.proofs.logging.LogWriter.take.Goals as goal
 
 pub returns-clause-tells : goal.returns-clause-tells
 returns-clause-tells c = λ edition owner xs w.

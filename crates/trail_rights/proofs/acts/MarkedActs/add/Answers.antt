@@ -2,7 +2,7 @@ use Rattle.std.proofs.Common.{◌∙◌, ◌∷◌, [], ap}
 use Rattle.writelock.specs.Holding.{clients_after}
 use Rattle.trail_rights.specs.Marks.{marked_on}
 use Rattle.trail_rights.proofs.Seen.{marked_one_more}
-use Rattle.trail_rights.proofs.acts.Acts.add.Goals as goal
+use Rattle.trail_rights.proofs.acts.MarkedActs.add.Goals as goal
 
 pub returns : goal.returns
 returns c = λ marked k. record {
