@@ -9,5 +9,5 @@ pub returns-in-Command : goal.returns-in-Command
 returns-in-Command c = IfOk-weaker c.fits_text.result _ _
     (λ (b : Bool) f edition h s. subst
     (λ (x : Kept). (b ≡ true) ↔ FitsLine c.args.owner h x c.args.entry.now) (sym c.in-Command.is)
-    (f edition h c.in-Command.window.now s))
+    (f edition h c.in-Command.window s))
     c.fits_text.ensures

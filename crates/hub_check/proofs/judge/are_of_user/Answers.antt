@@ -10,17 +10,17 @@ pub returns-in-Keys : goal.returns-in-Keys
 returns-in-Keys c = λ edition owner h s.
     subst (λ (x : Kept). (c.are_of_client.result ≡ true) ↔ AreOfUser h x c.args.verdicts.now)
     (sym c.in-Keys.is)
-    (all_tells (λ (v : Verdict). is_client_of h c.in-Keys.client.now (user_of v)) c.args.verdicts.now
+    (all_tells (λ (v : Verdict). is_client_of h c.in-Keys.client (user_of v)) c.args.verdicts.now
     c.are_of_client.result (c.are_of_client.ensures edition owner h s))
 
 pub returns-in-Command : goal.returns-in-Command
 returns-in-Command c = λ edition owner h s.
     subst (λ (x : Kept). (c.are_of.result ≡ true) ↔ AreOfUser h x c.args.verdicts.now)
     (sym c.in-Command.is)
-    (all_tells (is_of_user c.in-Command.user.now) c.args.verdicts.now c.are_of.result c.are_of.ensures)
+    (all_tells (is_of_user c.in-Command.user) c.args.verdicts.now c.are_of.result c.are_of.ensures)
 
 pub returns-in-Open : goal.returns-in-Open
 returns-in-Open c = λ edition owner h s.
     subst (λ (x : Kept). (c.are_of-in-Open.result ≡ true) ↔ AreOfUser h x c.args.verdicts.now)
     (sym c.in-Open.is)
-    (all_tells (is_of_user c.in-Open.user.now) c.args.verdicts.now c.are_of-in-Open.result c.are_of-in-Open.ensures)
+    (all_tells (is_of_user c.in-Open.user) c.args.verdicts.now c.are_of-in-Open.result c.are_of-in-Open.ensures)
