@@ -3,9 +3,8 @@
 ghost use Rattle.std.specs.Prelude.{◌≡◌, ◌∷◌, IfOk};
 ghost use Rattle.session_view.specs.Status.{SaysStatus, SaysMessage};
 
-use session_commands::{clients_text, windows_text};
 use session_model::{Bytes, StatusMessage};
-use session_state::{Client, State};
+use session_state::{Client, State, clients_text, windows_text};
 use std::alloc::{AllocError, Global};
 
 /// The text of a prompt: `:` and its line.
