@@ -1,5 +1,7 @@
 -- The client of a browser that says who it is.
-use Rattle.std.proofs.Common.{◌≡◌, ℕ, Bool, true, false, if◌then◌else◌, List, take, drop, Some, None, ap, ◌∙◌, subst}
+use Rattle.std.proofs.Common.{◌≡◌, ℕ, ◌-◌, Bool, true, false, if◌then◌else◌, List, length, take, drop, Some, None}
+use Rattle.std.proofs.Common.{arith, length-drop, ap, ◌∙◌, subst}
+use Rattle.std.proofs.lemmas.List.{take_all}
 use Rattle.attach_proto.specs.declared.message.Message.TheVariants.{Attach}
 use Rattle.attach_proto.specs.Spelling.{spelling}
 use Rattle.attach_proto.specs.Texts.{token_of, is_token}
@@ -10,6 +12,10 @@ use Rattle.web_client.specs.Asking.{lines_in, columns_in, IsLogin}
 chosen : (is : Bool) (bytes token : List ℕ) → Some token ≡ (if is then Some bytes else None) → token ≡ bytes
 chosen true bytes token e = cc
 chosen false bytes token e = cc
+
+-- all bytes from a place on
+pub rest_is : (n : ℕ) (l : List ℕ) → take (length l - n) (drop n l) ≡ drop n l
+rest_is n l = take_all (length l - n) (drop n l) (omega (arith, length-drop n l))
 
 -- a token that was read is its digits
 pub read_token : (bytes token : List ℕ) → Some token ≡ token_of bytes → token ≡ bytes

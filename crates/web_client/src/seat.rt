@@ -148,23 +148,25 @@ fn watching(site: &Site, payload: &[u8]) -> Result<Seat, SeatFault>
     }
 }
 
+/// The seat of a browser by its first message.
+fn seated(alloc: Global, site: &Site, message: &[u8]) -> Result<Seat, SeatFault>
+    ensures { IfOk result (Begins message.now) }
+{
+    match message {
+        [ATTACH, payload @ ..] => Ok(attached(alloc, payload)?),
+        [WATCH, payload @ ..] => Ok(watching(site, payload)?),
+        _ => Err(SeatFault::Wrong),
+    }
+}
+
 impl Seat {
     // Takes the first message.
     fn begin(&mut self, alloc: Global, site: &Site, message: &[u8]) -> Result<(), SeatFault>
         ensures ok { OnOk result (Begins message.now self.new) }
         ensures err { OnErr result (self.new ≡ self.old) }
     {
-        match message {
-            [ATTACH, payload @ ..] => {
-                *self = attached(alloc, payload)?;
-                Ok(())
-            }
-            [WATCH, payload @ ..] => {
-                *self = watching(site, payload)?;
-                Ok(())
-            }
-            _ => Err(SeatFault::Wrong),
-        }
+        *self = seated(alloc, site, message)?;
+        Ok(())
     }
 
     // Takes a message of a browser that watches.

@@ -12,11 +12,11 @@ returns-in_err-take_message-in-Message c =
 pub frames-preserved : goal.frames-preserved
 frames-preserved c =
     elim c.match-branch-2.branch [
-      in-Other w ↦ then_same c.args.self.now.seat c.frames.self.seat c.match-branch-2.self.seat c.frames.invariant
+      | in-Other w ↦ then_same c.args.self.now.seat c.frames.self.seat c.match-branch-2.self.seat c.frames.invariant
           (ap (λ (v : Visitor). v.seat) w.self-is ∙ c.read_frame.ensures)
       | in-Message+in_ok-take_message-in-Message w ↦
           then_same c.args.self.now.seat w.take_message.new.self.seat c.match-branch-2.self.seat
           (then_more c.args.self.now.seat c.frames.self.seat c.read_frame.new.self.seat
-              w.take_message.new.self.seat c.frames.invariant c.read_frame.ensures w.take_message.ensures)
+          w.take_message.new.self.seat c.frames.invariant c.read_frame.ensures w.take_message.ensures)
           (ap (λ (v : Visitor). v.seat) w.self-is)
     ]
