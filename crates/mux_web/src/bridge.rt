@@ -146,11 +146,11 @@ impl<'a> Bridge<'a> {
 }
 
 // Logs who begins: a name, and no token.
-fn tell<R: Wait>(rt: &R, log: &Option<Arc<Log>>, place: usize, seat: &Seat) {
+fn tell<R: Wait>(rt: &R, log: &Option<Arc<Log>>, place: usize, guest: &Guest) {
     let Some(log) = log else {
         return;
     };
-    match seat {
+    match &guest.visitor.seat {
         Seat::Own(client) => {
             let name = client.display.name();
             log.put(rt, &format_args!("{place} begins as {name}"));
@@ -179,7 +179,7 @@ fn enter_hall<R: Net + Wait>(
     }
     if found != guest.hall {
         if guest.hall.is_none() {
-            tell(rt, log, place, &guest.visitor.seat);
+            tell(rt, log, place, guest);
         }
         guest.visitor.change_page();
         guest.hall = found;
@@ -242,7 +242,7 @@ impl Bridge<'_> {
             now,
         };
         if guest.begins() {
-            tell(rt, &self.log, place, &guest.visitor.seat);
+            tell(rt, &self.log, place, guest);
             guest.connect(rt, around, server_token(place));
         }
         enter_hall(rt, (guest, place), &mut self.halls, around, &self.log);

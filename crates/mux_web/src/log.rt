@@ -1,7 +1,7 @@
 //! Lines on their way to standard error: the loop puts them down, and a thread writes them.
 
 use std::alloc::{AllocError, Global};
-use std::fmt::Display;
+use std::fmt::{Display, Write};
 use std::sync::{Arc, Condvar, Mutex, Wait};
 use std::thread::Threads;
 use std::time::Duration;
@@ -43,15 +43,11 @@ impl Log {
 
     /// Puts a line down. A line for which there is no room is dropped and counted.
     pub fn put<T: Display>(&self, rt: &impl Wait, what: &T) {
-        let line = format!(in self.alloc; "mux-web: {what}\n");
+        let mut line = String::new(self.alloc);
+        let is_made = writeln!(line, "mux-web: {what}").is_ok();
         let mut waiting = self.waiting.lock(rt);
-        let is_put = match line {
-            Ok(line) if waiting.text.len().saturating_add(line.len()) <= MOST => {
-                waiting.text.push_str(line.as_str()).is_ok()
-            }
-            _ => false,
-        };
-        if !is_put {
+        let has_room = waiting.text.len().saturating_add(line.len()) <= MOST;
+        if !is_made || !has_room || waiting.text.push_str(line.as_str()).is_err() {
             waiting.left_out = waiting.left_out.saturating_add(1);
         }
         drop(waiting);
