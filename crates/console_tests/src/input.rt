@@ -1,6 +1,6 @@
 //! Invalid scripts, setups and arguments, and readers and writers that fail.
 
-use session::{Asked, simulate, simulate_behind};
+use session::{SimulatorArgs, simulate, simulate_behind};
 use std::alloc::{AllocError, Global};
 use std::fs::Files;
 use std::io::{Read, Write};
@@ -49,7 +49,7 @@ fn is_so<H: Files + AllocGlobal>(rt: &H, run: &Run<'_>) -> bool {
     let status = if run.setup.is_empty() {
         simulate(rt, &words, run.script, &mut output, &mut errors)
     } else {
-        let asked = Asked {
+        let asked = SimulatorArgs {
             words: &words,
             setup: run.setup,
         };
