@@ -1,10 +1,13 @@
 pub mod Settling
 pub mod Cutting
 pub mod Splicing
+pub mod OverBlanks
 pub mod Moves
 pub mod Pages
 pub mod Erasing
 pub mod Putting
+pub mod PuttingWhole
+pub mod Resizing
 pub mod Grids
 pub mod Runs
 pub mod Used

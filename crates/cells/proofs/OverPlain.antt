@@ -14,7 +14,8 @@ use Rattle.cells.proofs.Settling.{settled_at, cell_at_past, cell_at-cells_from, 
 use Rattle.cells.proofs.Used.{IsBlankFrom-cells_from, spliced_behind}
 use Rattle.cells.proofs.Splicing.{IsPaired-blanks}
 use Rattle.cells.proofs.Runs.{with_run, run_inside, run_outside}
-use Rattle.cells.proofs.Putting.{IsPutSoFar, put_next, put_none, narrow_at, length-narrow_cells, run_is}
+use Rattle.cells.proofs.Putting.{IsPutSoFar, put_next, narrow_at, length-narrow_cells, run_is}
+use Rattle.cells.proofs.PuttingWhole.{put_none}
 
 -- the first `count` characters are written
 abbrev pub AreWritten : ℕ → List ℕ → List Cell → ℕ → List Cell → Type 0

@@ -1,111 +1,20 @@
 -- New cells put over as many old ones.
-use Rattle.std.proofs.Common.{◌≡◌, ℕ, zero, suc, ◌+◌, ◌-◌, ◌<◌, ◌≤◌, min, Bool, true, false, ◌&&◌, cond, List, [], ◌∷◌}
-use Rattle.std.proofs.Common.{◌++◌, length, take, drop, set, replicate, refl, sym, ap, ◌∙◌, ◌⊎◌, inl, inr, subst, arith}
-use Rattle.std.proofs.Common.{⊎_elim, eq-eqb, length-take, get_or}
-use Rattle.std.proofs.lemmas.List.FromFn.{length-map-range_with_len, get_or-map-range_with_len}
-use Rattle.std.proofs.lemmas.List.{ext_get_or, get_or-take, get_or-replicate, length-set, get_or-set_same}
-use Rattle.std.proofs.lemmas.List.{get_or-set_other, length-replicate, take_at, length-map, get_or-map}
+use Rattle.std.proofs.Common.{◌≡◌, ℕ, zero, suc, ◌+◌, ◌-◌, ◌<◌, ◌≤◌, min, Bool, false, ◌&&◌, List, length, set}
+use Rattle.std.proofs.Common.{replicate, refl, sym, ap, ◌∙◌, ◌⊎◌, inl, inr, subst, arith, ⊎_elim, get_or}
+use Rattle.std.proofs.lemmas.List.{length-set, get_or-set_same, get_or-set_other, length-replicate, length-map}
+use Rattle.std.proofs.lemmas.List.{get_or-map}
 use Rattle.std.proofs.lemmas.Bool.{cases_lt, cases_eq}
 use Rattle.cells.specs.declared.cell.Cell.{Cell}
 use Rattle.cells.specs.declared.cell.Rendition.{Rendition}
-use Rattle.cells.specs.declared.cell.Shape.{Shape}
-use Rattle.cells.specs.declared.cell.Shape.TheVariants.{Narrow, Left, Right}
+use Rattle.cells.specs.declared.cell.Shape.TheVariants.{Narrow}
 use Rattle.cells.specs.Line.{blank, cell_at, is_left, is_right, IsPaired, Source, Fresh, Old, taken, are_halves, kept}
 use Rattle.cells.specs.Line.{settled, source_before, source_after, cells_from, cut_of, spliced, fresh_at, right_follows}
 use Rattle.cells.specs.Line.{narrow_cell, narrow_cells}
 use Rattle.cells.specs.Put.{IsPut, AreNarrow}
-use Rattle.cells.specs.Resizing.{line_resized}
-use Rattle.cells.proofs.Settling.{cell_at_past, true≢false, settled_at, cells_from-is, after_inside, after_last}
-use Rattle.cells.proofs.Settling.{length-cut_of, length-cells_from, cell_at-cells_from, IsPaired-cells_from, and_false}
-use Rattle.cells.proofs.Pages.{cells_from-old}
-use Rattle.cells.proofs.Erasing.{cells_from-same}
-use Rattle.cells.proofs.Splicing.{plain_spliced, plain_from, cell_at-plain_from, length-plain_from, at_front, at_fresh}
-use Rattle.cells.proofs.Splicing.{at_rest, cells_from-spliced, cut_thrice, length-cut_thrice, IsPaired-blanks}
-use Rattle.cells.proofs.Splicing.{narrow_pairs, wide_pairs}
-
--- if nothing is torn, the other cells stay
-pub put_plain : (at : ℕ) (fresh cells line : List Cell) → at + length fresh ≤ length cells → IsPaired cells
-    → IsPaired fresh → is_right (cell_at cells at).shape ≡ false
-    → is_right (cell_at cells (at + length fresh)).shape ≡ false → length line ≡ length cells
-    → ((k : ℕ) → k < at → cell_at line k ≡ cell_at cells k)
-    → ((k : ℕ) → at ≤ k → k < at + length fresh → cell_at line k ≡ cell_at fresh (k - at))
-    → ((k : ℕ) → at + length fresh ≤ k → k < length cells → cell_at line k ≡ cell_at cells k)
-    → line ≡ cells_from (spliced at fresh (at + length fresh) (length cells)) cells
-put_plain at fresh cells line room paired pairs whole_at whole_rest same front new back =
-    let rest : ℕ = at + length fresh in
-    let end : rest + min (length cells - rest) (length cells - rest) ≡ length cells = omega arith in
-    let whole_end : is_right (cell_at cells (rest + min (length cells - rest) (length cells - rest))).shape ≡ false =
-    rw end (ap (λ (x : Cell). is_right x.shape) (cell_at_past cells (length cells) (omega arith))) in
-    let source : ℕ → Source = spliced at fresh rest (length cells) in
-    ext_get_or blank line (plain_from source cells) (same ∙ sym (length-plain_from source cells)) (λ k h.
-    let within : k < length cells = rw same at h in
-    ⊎_elim
-    (λ (before : k < at). front k before
-    ∙ sym
-    (cell_at-plain_from source cells k within ∙ ap (taken cells) (at_front at fresh rest (length cells) k before)))
-    (λ (past : at ≤ k). ⊎_elim
-    (λ (inside : k < at + length fresh). new k past inside
-    ∙ sym
-    (cell_at-plain_from source cells k within
-    ∙ ap (taken cells) (at_fresh at fresh rest (length cells) k past inside)))
-    (λ (behind : at + length fresh ≤ k). let e : k + rest - (at + length fresh) ≡ k = omega arith in
-    back k behind within
-    ∙ sym
-    (cell_at-plain_from source cells k within
-    ∙ ap (taken cells) (at_rest at fresh rest (length cells) k behind (omega arith)) ∙ ap (cell_at cells) e))
-    (cases_lt k (at + length fresh)))
-    (cases_lt k at))
-    ∙ plain_spliced at fresh rest cells (omega arith) (omega arith) room paired pairs whole_at whole_rest whole_end
-
--- a cell of width 1 over another one
-pub put_narrow_plain : (at : ℕ) (cell : Cell) (cells : List Cell) → at + 1 ≤ length cells → IsPaired cells
-    → cell.shape ≡ Narrow → (cell_at cells at).shape ≡ Narrow
-    → set cells at cell ≡ cells_from (spliced at (cell ∷ []) (at + 1) (length cells)) cells
-put_narrow_plain at cell cells room paired new old =
-    put_plain at (cell ∷ []) cells (set cells at cell) room paired (narrow_pairs cell new) (ap is_right old)
-    (let e : at + 1 ≡ suc at = omega arith in rw e (sym (paired.next at) ∙ ap is_left old))
-    (length-set cells at cell)
-    (λ k h. get_or-set_other cells at k cell blank (omega arith))
-    (λ k h g. let e : k ≡ at = omega arith in let z : k - at ≡ 0 = omega arith in
-    ap (cell_at (set cells at cell)) e ∙ get_or-set_same cells at cell blank (omega arith)
-    ∙ sym (ap (cell_at (cell ∷ [])) z))
-    (λ k h g. get_or-set_other cells at k cell blank (omega arith))
-
--- both halves over cells, if none is torn
-pub put_wide_plain : (at : ℕ) (l r : Cell) (cells : List Cell) → at + 2 ≤ length cells → IsPaired cells → l.shape ≡ Left
-    → r.shape ≡ Right
-    → is_right (cell_at cells at).shape ≡ false → is_left (cell_at cells (at + 1)).shape ≡ false
-    → set (set cells at l) (at + 1) r ≡ cells_from (spliced at (l ∷ r ∷ []) (at + 2) (length cells)) cells
-put_wide_plain at l r cells room paired hl hr before after =
-    let n : length (set cells at l) ≡ length cells = length-set cells at l in
-    put_plain at (l ∷ r ∷ []) cells (set (set cells at l) (at + 1) r) room paired (wide_pairs l r hl hr) before
-    (let e : at + 2 ≡ suc (at + 1) = omega arith in rw e (sym (paired.next (at + 1)) ∙ after))
-    (length-set (set cells at l) (at + 1) r ∙ n)
-    (λ k h. get_or-set_other (set cells at l) (at + 1) k r blank (omega arith)
-    ∙ get_or-set_other cells at k l blank (omega arith))
-    (λ k h g. ⊎_elim
-    (λ (e : k ≡ at). let z : k - at ≡ 0 = omega arith in
-    ap (cell_at (set (set cells at l) (at + 1) r)) e
-    ∙ get_or-set_other (set cells at l) (at + 1) at r blank (omega arith)
-    ∙ get_or-set_same cells at l blank (omega arith)
-    ∙ sym (ap (cell_at (l ∷ r ∷ [])) z))
-    (λ (ne : k ≡ at → ⊥). let e : k ≡ at + 1 = omega arith in let z : k - at ≡ 1 = omega arith in
-    ap (cell_at (set (set cells at l) (at + 1) r)) e ∙ get_or-set_same (set cells at l) (at + 1) r blank (omega arith)
-    ∙ sym (ap (cell_at (l ∷ r ∷ [])) z))
-    (cases_eq k at))
-    (λ k h g. get_or-set_other (set cells at l) (at + 1) k r blank (omega arith)
-    ∙ get_or-set_other cells at k l blank (omega arith))
-
--- without new cells nothing changes
-pub put_none : (at : ℕ) (fresh cells : List Cell) → length fresh ≡ 0 → IsPaired cells
-    → cells ≡ cells_from (spliced at fresh (at + length fresh) (length cells)) cells
-put_none at fresh cells none paired = sym
-    (cells_from-same (spliced at fresh (at + length fresh) (length cells)) Old cells (λ k within. ⊎_elim
-    (λ (front : k < at). at_front at fresh (at + length fresh) (length cells) k front)
-    (λ (past : at ≤ k). let e : k + (at + length fresh) - (at + length fresh) ≡ k = omega arith in
-    at_rest at fresh (at + length fresh) (length cells) k (omega arith) (omega arith) ∙ ap Old e)
-    (cases_lt k at))
-    ∙ cells_from-old cells paired)
+use Rattle.cells.proofs.Settling.{cell_at_past, settled_at, cells_from-is, after_inside, after_last, length-cut_of}
+use Rattle.cells.proofs.Settling.{cell_at-cells_from, and_false}
+use Rattle.cells.proofs.Splicing.{cell_at-plain_from, at_front, at_fresh, at_rest, cells_from-spliced, cut_thrice}
+use Rattle.cells.proofs.Splicing.{length-cut_thrice, IsPaired-blanks}
 
 pub IsPaired-shapes : (a b : List Cell) → ((column : ℕ) → (cell_at a column).shape ≡ (cell_at b column).shape)
     → IsPaired a → IsPaired b
@@ -113,14 +22,6 @@ IsPaired-shapes a b same paired = record {
   first = sym (ap is_right (same 0)) ∙ paired.first;
   next = λ column. sym (ap is_left (same column)) ∙ paired.next column ∙ ap is_right (same (suc column));
 }
-
--- the cells of a line, after an edit of all of them
-pub IsPaired-stored : (source : ℕ → Source) (new old items : List Cell) (len : ℕ) → length new ≡ len
-    → new ≡ cells_from source old → old ≡ items → IsPaired items
-    → IsPaired (take len (new ++ drop (length new) items))
-IsPaired-stored source new old items len n is same paired =
-    rw (take_at new (drop (length new) items) len n)
-    (subst IsPaired (sym is) (IsPaired-cells_from source old (subst IsPaired (sym same) paired)))
 
 -- new cells of any kind: each of their columns
 module _ (at : ℕ) (fresh cells : List Cell) (room : at + length fresh ≤ length cells) where
@@ -353,102 +254,6 @@ IsPaired-set cells column cell same paired = IsPaired-shapes cells (set cells co
     (cases_lt column (length cells)))
     (λ (ne : k ≡ column → ⊥). sym (ap (λ (x : Cell). x.shape) (get_or-set_other cells column k cell blank ne)))
     (cases_eq k column)) paired
-
-pub length-line_resized : (width : ℕ) (cells : List Cell) → length (line_resized width cells) ≡ width
-length-line_resized width cells = length-map-range_with_len _ 0 width
-
-pub cell_at-line_resized : (width : ℕ) (cells : List Cell) (k : ℕ) → k < width
-    → cell_at (line_resized width cells) k ≡ settled cells (source_before Old k) (Old k) (source_after Old width k)
-cell_at-line_resized width cells k h = get_or-map-range_with_len _ 0 width k k blank h (omega arith)
-
--- which cell is kept depends only on the other half of a half
-kept_same : (s : Shape) (cell : Cell) (p q p' q' : Bool) → (is_left s ≡ true → p ≡ p') → (is_right s ≡ true → q ≡ q')
-    → kept s cell p q ≡ kept s cell p' q'
-kept_same Narrow cell p q p' q' l r = refl
-kept_same Left cell p q p' q' l r = ap (λ b. cond b cell blank) (l refl)
-kept_same Right cell p q p' q' l r = ap (λ b. cond b cell blank) (r refl)
-
-settled_blank : (source : ℕ → Source) (line : List Cell) (k : ℕ) → source k ≡ Old k → cell_at line k ≡ blank
-    → settled_at source line k ≡ blank
-unfolding settled_at
-settled_blank source line k here b =
-    ap (λ s. settled line (source_before source k) s (source_after source (length line) k)) here
-    ∙ ap (λ (x : Cell). kept x.shape x (are_halves (Old k) (source_after source (length line) k))
-    (are_halves (source_before source k) (Old k))) b
-
-resized_blank : (width : ℕ) (cells : List Cell) (k : ℕ) → cell_at cells k ≡ blank
-    → settled cells (source_before Old k) (Old k) (source_after Old width k) ≡ blank
-resized_blank width cells k b = ap
-    (λ (x : Cell). kept x.shape x (are_halves (Old k) (source_after Old width k))
-    (are_halves (source_before Old k) (Old k))) b
-
-module _ (width : ℕ) (cells fresh : List Cell) (paired : IsPaired cells)
-    (first : fresh ≡ take (min width (length cells)) cells) where
-  n_fresh : length fresh ≡ min width (length cells)
-  n_fresh = ap length first ∙ simp length-take (omega arith)
-
-  same_cell : (k : ℕ) → k < length fresh → cell_at fresh k ≡ cell_at cells k
-  same_cell k h = let n = n_fresh in ap (λ x. cell_at x k) first
-      ∙ get_or-take (min width (length cells)) cells k blank (omega arith)
-
-  left_stays : (k : ℕ) → k < length fresh → is_left (cell_at cells k).shape ≡ true
-      → is_left (cell_at fresh k).shape && is_right (cell_at fresh (suc k)).shape ≡ are_halves (Old k)
-      (source_after Old width k)
-  left_stays k h left = let n = n_fresh in ⊎_elim
-      (λ (inside : suc k < width).
-      let next : suc k < length cells = ⊎_elim (λ x. x)
-      (λ past. absurd
-      (true≢false _ (sym (paired.next k) ∙ left)
-      (ap (λ (x : Cell). is_right x.shape) (cell_at_past cells (suc k) past)))) (cases_lt (suc k) (length cells)) in
-      rw (
-        same_cell k h,
-        same_cell (suc k) (omega arith),
-        ← (paired.next k),
-        left,
-        after_inside Old width k inside,
-        eq-eqb (suc k) (suc k) refl,
-      ) refl)
-      (λ outside. let e : suc k ≡ width = omega arith in
-      ap (λ (x : Cell). is_left (cell_at fresh k).shape && is_right x.shape) (cell_at_past fresh (suc k) (omega arith))
-      ∙ and_false _ ∙ sym (ap (are_halves (Old k)) (after_last Old width k e)))
-      (cases_lt (suc k) width)
-
-  right_stays : (k : ℕ) → k < length fresh → is_right (cell_at cells k).shape ≡ true
-      → right_follows fresh k ≡ are_halves (source_before Old k) (Old k)
-  right_stays zero h right = absurd (true≢false _ right paired.first)
-  right_stays (suc k) h right =
-      rw (same_cell k (omega arith), same_cell (suc k) h, paired.next k, right, eq-eqb (suc k) (suc k) refl) refl
-
-  fresh_is : (k : ℕ) → k < length fresh → fresh_at fresh k ≡ cell_at (line_resized width cells) k
-  fresh_is k h = let n = n_fresh in
-      ap (λ (x : Cell). kept x.shape x (is_left (cell_at fresh k).shape && is_right (cell_at fresh (suc k)).shape)
-      (right_follows fresh k)) (same_cell k h)
-      ∙ kept_same (cell_at cells k).shape (cell_at cells k) _ _ _ _ (left_stays k h) (right_stays k h)
-      ∙ sym (cell_at-line_resized width cells k (omega arith))
-
-  pub resized_is : (line : List Cell) → line ≡ replicate width blank
-      → cells_from (spliced 0 fresh (0 + length fresh) (length line)) line ≡ line_resized width cells
-  resized_is line blank_line =
-      let n = n_fresh in
-      let w : length line ≡ width = ap length blank_line ∙ length-replicate width blank in
-      let room : 0 + length fresh ≤ length line = omega arith in
-      let source : ℕ → Source = spliced 0 fresh (0 + length fresh) (length line) in
-      let a : length (cells_from source line) ≡ length line = length-cells_from source line in
-      ext_get_or blank (cells_from source line) (line_resized width cells)
-      (a ∙ w ∙ sym (length-line_resized width cells)) (λ k h.
-      let within : k < length line = rw a at h in
-      cell_at-cells_from source line k within ∙ ⊎_elim
-      (λ (new : k < length fresh). let e : 0 + k ≡ k = omega arith in
-      ap (settled_at source line) (sym e) ∙ settled_new 0 fresh line room k new ∙ fresh_is k new)
-      (λ (past : length fresh ≤ k). let e : k + (0 + length fresh) - (0 + length fresh) ≡ k = omega arith in
-      let here : source k ≡ Old k = at_rest 0 fresh (0 + length fresh) (length line) k (omega arith) (omega arith)
-      ∙ ap Old e in
-      settled_blank source line k here
-      (ap (λ x. cell_at x k) blank_line ∙ get_or-replicate width k blank blank (omega arith))
-      ∙ sym
-      (cell_at-line_resized width cells k (omega arith)
-      ∙ resized_blank width cells k (cell_at_past cells k (omega arith))))
-      (cases_lt k (length fresh)))
 
 -- a run of characters of width 1
 module _ (codes : List ℕ) (rendition : Rendition) (is_protected : Bool) where

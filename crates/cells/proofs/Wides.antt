@@ -6,7 +6,8 @@ use Rattle.cells.specs.declared.cell.Cell.{Cell}
 use Rattle.cells.specs.declared.cell.Rendition.{Rendition}
 use Rattle.cells.specs.Line.{IsPaired, cells_from, cut_of, spliced, fresh_at, left_cell, right_cell}
 use Rattle.cells.specs.Wide.{wide_cells}
-use Rattle.cells.proofs.Putting.{IsPutSoFar, put_next, put_is, put_none}
+use Rattle.cells.proofs.Putting.{IsPutSoFar, put_next, put_is}
+use Rattle.cells.proofs.PuttingWhole.{put_none}
 
 module _ (rendition : Rendition) (is_protected : Bool) where
   abbrev pub wides : List ℕ → List Cell

@@ -11,7 +11,7 @@ use Rattle.cells.specs.Page.{line_at, IsPage, From, are_own_halves, origin_befor
 use Rattle.cells.specs.Resizing.{line_resized, page_resized}
 use Rattle.cells.proofs.Settling.{IsPaired-cells_from}
 use Rattle.cells.proofs.Splicing.{IsPaired-blanks}
-use Rattle.cells.proofs.Putting.{resized_is, length-line_resized}
+use Rattle.cells.proofs.Resizing.{resized_is, length-line_resized}
 
 pub IsPaired-nil : IsPaired []
 IsPaired-nil = record { first = refl; next = λ column. refl }

@@ -13,7 +13,7 @@ use Rattle.cells.specs.Moves.{scrolled_up, scrolled_down, erased_lines, filled}
 use Rattle.cells.specs.Resizing.{line_resized}
 use Rattle.cells.proofs.Pages.{IsPage-page_from}
 use Rattle.cells.proofs.Splicing.{IsPaired-blanks}
-use Rattle.cells.proofs.Putting.{length-line_resized}
+use Rattle.cells.proofs.Resizing.{length-line_resized}
 use Rattle.control_parser.specs.declared.func.Func.{Func}
 use Rattle.charsets.specs.Shifts.{mapped, spent}
 use Rattle.terminal_model.specs.declared.action.Action.{Action}

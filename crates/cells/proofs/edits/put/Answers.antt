@@ -4,7 +4,8 @@ use Rattle.cells.specs.Line.{IsPaired, cut_of}
 use Rattle.cells.specs.Put.{IsPut}
 use Rattle.cells.proofs.Cutting.{IsPaired-cut_of}
 use Rattle.cells.proofs.Settling.{length-cut_of}
-use Rattle.cells.proofs.Putting.{put_none, put_is, put_next, put_narrow_is, IsPutSoFar}
+use Rattle.cells.proofs.PuttingWhole.{put_none}
+use Rattle.cells.proofs.Putting.{put_is, put_next, put_narrow_is, IsPutSoFar}
 use Rattle.cells.proofs.edits.put.Goals as goal
 
 pub returns-then-is_empty : goal.returns-then-is_empty

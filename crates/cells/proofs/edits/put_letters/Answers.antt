@@ -5,7 +5,8 @@ use Rattle.cells.specs.declared.cell.Cell.{Cell}
 use Rattle.cells.specs.Line.{IsPaired, cells_from, cut_of, spliced, narrow_cell, narrow_cells}
 use Rattle.cells.proofs.Cutting.{IsPaired-cut_of}
 use Rattle.cells.proofs.Settling.{length-cut_of}
-use Rattle.cells.proofs.Putting.{put_none, put_next, run_is, narrow_at, length-narrow_cells, IsPutSoFar}
+use Rattle.cells.proofs.PuttingWhole.{put_none}
+use Rattle.cells.proofs.Putting.{put_next, run_is, narrow_at, length-narrow_cells, IsPutSoFar}
 use Rattle.cells.proofs.edits.put_letters.Goals as goal
 
 pub returns-then-is_empty : goal.returns-then-is_empty

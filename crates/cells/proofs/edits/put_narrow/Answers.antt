@@ -2,8 +2,8 @@ use Rattle.std.proofs.Common.{[], ◌∷◌, length, set, sym, ap, ◌∙◌, ar
 use Rattle.std.proofs.lemmas.List.{get_or_default}
 use Rattle.cells.specs.declared.cell.Cell.{Cell}
 use Rattle.cells.specs.Line.{blank, cells_from, spliced}
-use Rattle.cells.proofs.Splicing.{put_one}
-use Rattle.cells.proofs.Putting.{put_narrow_plain}
+use Rattle.cells.proofs.OverBlanks.{put_one}
+use Rattle.cells.proofs.PuttingWhole.{put_narrow_plain}
 use Rattle.cells.proofs.edits.put_narrow.Goals as goal
 
 pub returns-then-is_narrow : goal.returns-then-is_narrow

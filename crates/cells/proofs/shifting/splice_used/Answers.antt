@@ -4,7 +4,7 @@ use Rattle.std.proofs.lemmas.List.{length-replicate}
 use Rattle.std.proofs.lemmas.Bool.{cases_lt}
 use Rattle.cells.specs.declared.cell.Cell.{Cell}
 use Rattle.cells.specs.Line.{blank, cells_from, spliced}
-use Rattle.cells.proofs.Putting.{put_none}
+use Rattle.cells.proofs.PuttingWhole.{put_none}
 use Rattle.cells.proofs.UsedSplices.{blanks_at, front_paired, front_spliced, splices_are_one}
 use Rattle.cells.proofs.shifting.splice_used.Goals as goal
 

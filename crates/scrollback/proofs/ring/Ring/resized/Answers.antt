@@ -3,7 +3,7 @@ use Rattle.std.proofs.lemmas.List.{length-map, get_or-map}
 use Rattle.circular_buffer.specs.Buffer.{Buffer, buffer, keep_last}
 use Rattle.cells.specs.declared.cell.Cell.{Cell}
 use Rattle.cells.specs.Resizing.{line_resized}
-use Rattle.cells.proofs.Putting.{length-line_resized}
+use Rattle.cells.proofs.Resizing.{length-line_resized}
 use Rattle.scrollback.specs.Kept.{Kept, resized_lines}
 use Rattle.scrollback.proofs.Ringing.{keep_last-map, continues_resized}
 use Rattle.scrollback.proofs.ring.Ring.resized.Goals as goal
