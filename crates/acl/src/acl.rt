@@ -7,10 +7,8 @@ use crate::carry::{Plan, conclude};
 use crate::follower::Follower;
 use crate::lists::Lists;
 use crate::plan::{change_fault, plan_addition, plan_change, plan_group, plan_masks, plan_removal};
-use crate::rights_change::RightsChange;
-use acl_words::{
-    AclFault, Act, Bit, Edition, EntryDenial, Leaders, MaskEntry, NewLeader, Object, UserId,
-};
+use crate::requests::{LeaderChange, MaskChange, NewUsers, RightsChange};
+use acl_words::{AclFault, Act, Bit, Edition, EntryDenial, Leaders, Object, UserId};
 use std::alloc::{AllocError, Global};
 use std::marker::Model;
 
@@ -171,23 +169,23 @@ impl Acl {
     /// which are there. Errors: the first fault of `change_fault`, or `NoMemory`.
     pub fn add<F: Follower>(
         &mut self,
-        names: &[Option<UserId>],
-        objects: &[Object],
+        users: NewUsers,
         acts: &mut Vec<Act>,
         room: usize,
         follower: &mut F,
     ) -> Result<(), AclFault>
         ensures answer { Refuses self.old
-            (λ _ owner h. change_fault owner (users_of owner h) names.now) result }
-        ensures done { OnOk result (DoesOn objects.now self.old self.new
+            (λ _ owner h. change_fault owner (users_of owner h) users.entry.names.now) result }
+        ensures done { OnOk result (DoesOn users.entry.objects.now self.old self.new
             acts.old.items acts.new.items (F.follows follower.old) (F.follows follower.new)
-            (λ owner h. add_acts (users_of owner h) names.now objects.now)) }
+            (λ owner h. add_acts (users_of owner h) users.entry.names.now
+            users.entry.objects.now)) }
         ensures room { OnOk result (vec_len acts.new + room ≤ vec_capacity acts.new) }
         ensures err { OnErr result ((self.new ≡ self.old) × (acts.new.items ≡ acts.old.items)
             × (follower.new ≡ follower.old)) }
     {
         let start = acts.len();
-        let planned = plan_addition(&self.lists, names, objects, acts);
+        let planned = plan_addition(&self.lists, users.names, users.objects, acts);
         let plan = Plan {
             planned,
             start,
@@ -230,23 +228,22 @@ impl Acl {
     /// user, the user would have more than eight leaders, or memory is refused.
     pub fn group<F: Follower>(
         &mut self,
-        name: Option<UserId>,
-        leader: NewLeader,
+        change: LeaderChange,
         acts: &mut Vec<Act>,
         room: usize,
         follower: &mut F,
     ) -> Result<(), AclFault>
         ensures answer { Refuses self.old (λ edition owner h. group_fault edition owner
-            (users_of owner h) (leaders_of edition h) name leader) result }
+            (users_of owner h) (leaders_of edition h) change.name change.leader) result }
         ensures done { OnOk result (Does self.old self.new acts.old.items acts.new.items
             (F.follows follower.old) (F.follows follower.new)
-            (λ owner h. group_acts name leader)) }
+            (λ owner h. group_acts change.name change.leader)) }
         ensures room { OnOk result (vec_len acts.new + room ≤ vec_capacity acts.new) }
         ensures err { OnErr result ((self.new ≡ self.old) × (acts.new.items ≡ acts.old.items)
             × (follower.new ≡ follower.old)) }
     {
         let start = acts.len();
-        let planned = plan_group(&self.lists, name, leader, acts);
+        let planned = plan_group(&self.lists, change.name, change.leader, acts);
         let plan = Plan {
             planned,
             start,
@@ -255,27 +252,26 @@ impl Acl {
         conclude(&mut self.lists, plan, acts, follower)
     }
 
-    /// `aclumask`: sets what users get on windows that `by` opens later, and the presets. Errors:
-    /// the first fault of a name from the left, or `NoMemory`.
+    /// `aclumask`: sets what users get on windows that `by` of the change opens later,
+    /// and the presets. Errors: the first fault of a name from the left, or `NoMemory`.
     pub fn mask<F: Follower>(
         &mut self,
-        by: UserId,
-        entries: &[MaskEntry],
+        change: MaskChange,
         acts: &mut Vec<Act>,
         room: usize,
         follower: &mut F,
     ) -> Result<(), AclFault>
         ensures answer { Refuses self.old
-            (λ _ owner h. mask_fault owner (users_of owner h) entries.now) result }
+            (λ _ owner h. mask_fault owner (users_of owner h) change.entry.entries.now) result }
         ensures done { OnOk result (Does self.old self.new acts.old.items acts.new.items
             (F.follows follower.old) (F.follows follower.new)
-            (λ owner h. mask_acts by entries.now)) }
+            (λ owner h. mask_acts change.entry.by change.entry.entries.now)) }
         ensures room { OnOk result (vec_len acts.new + room ≤ vec_capacity acts.new) }
         ensures err { OnErr result ((self.new ≡ self.old) × (acts.new.items ≡ acts.old.items)
             × (follower.new ≡ follower.old)) }
     {
         let start = acts.len();
-        let planned = plan_masks(&self.lists, by, entries, acts);
+        let planned = plan_masks(&self.lists, change.by, change.entries, acts);
         let plan = Plan {
             planned,
             start,

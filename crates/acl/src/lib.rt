@@ -7,7 +7,7 @@ mod follower;
 mod laws;
 mod lists;
 mod plan;
-mod rights_change;
+mod requests;
 mod rows;
 mod sets;
 
@@ -27,5 +27,5 @@ pub use faults::AclFault;
 pub use follower::Follower;
 pub use laws::{acts_aside, acts_in_order, users_listed, windows_stay};
 pub use lists::Lists;
-pub use rights_change::RightsChange;
+pub use requests::{LeaderChange, MaskChange, NewUsers, RightsChange};
 pub use user_id::UserId;

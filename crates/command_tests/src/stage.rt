@@ -1,8 +1,8 @@
 //! A session's access lists and locks, which calls change.
 
 use acl::{
-    Acl, AclFault, Act, Bit, BitChange, CommandName, Edition, LockMode, MaskEntry, MaskScope,
-    NewLeader, Object, PresetKind, RightsChange, UserId,
+    Acl, AclFault, Act, Bit, BitChange, CommandName, Edition, LeaderChange, LockMode, MaskChange,
+    MaskEntry, MaskScope, NewLeader, NewUsers, Object, PresetKind, RightsChange, UserId,
 };
 use std::alloc::Global;
 use writelock::Locks;
@@ -119,15 +119,19 @@ impl Stage {
     fn call(&mut self, call: Call) -> Result<(), AclFault> {
         match call {
             Call::Add(name, window) => self.acl.add(
-                &[user(name)],
-                &[Object::Window(window)],
+                NewUsers {
+                    names: &[user(name)],
+                    objects: &[Object::Window(window)],
+                },
                 &mut self.acts,
                 0,
                 &mut self.locks,
             ),
             Call::AddAll(first, second, third) => self.acl.add(
-                &[user(first), user(second), user(third)],
-                &[Object::Command(CommandName::Kill)],
+                NewUsers {
+                    names: &[user(first), user(second), user(third)],
+                    objects: &[Object::Command(CommandName::Kill)],
+                },
                 &mut self.acts,
                 0,
                 &mut self.locks,
@@ -185,15 +189,20 @@ impl Stage {
             Some(leader) => NewLeader::Named(user(leader)),
             None => NewLeader::Nobody,
         };
-        self.acl
-            .group(user(name), leader, &mut self.acts, 0, &mut self.locks)
+        let change = LeaderChange {
+            name: user(name),
+            leader,
+        };
+        self.acl.group(change, &mut self.acts, 0, &mut self.locks)
     }
 
     fn mask(&mut self, scope: MaskScope, bit: Bit, value: bool) -> Result<(), AclFault> {
         let owner = self.acl.owner();
         self.acl.mask(
-            owner,
-            &[MaskEntry { scope, bit, value }],
+            MaskChange {
+                by: owner,
+                entries: &[MaskEntry { scope, bit, value }],
+            },
             &mut self.acts,
             0,
             &mut self.locks,

@@ -101,22 +101,28 @@ fn is_refused(entry: &TrailEntry) -> bool
     }
 }
 
-/// Whether an entry of this user's line fits the command of the line. A line that is no command must
-/// have been refused.
+/// A line that a user gave as a command.
+#[derive(Clone, Copy)]
+struct GivenLine<'a> {
+    user: UserId,
+    line: &'a [u8],
+}
+
+/// Whether an entry of a line fits the command of the line. A line that is no command must have been
+/// refused.
 fn fits_text(
     alloc: Global,
     owner: UserId,
     replay: &Replay,
-    user: UserId,
-    line: &[u8],
+    given: GivenLine,
     entry: &TrailEntry,
 ) -> Result<bool, AllocError>
     ensures { IfOk result (λ fits. (edition : Edition) (h : History) (window : Option ℕ) →
-        StandsAfter replay.now edition owner h →
-        (fits ≡ true) ↔ FitsLine owner h (kept.Command user window line.now) entry.now) }
+        StandsAfter replay.now edition owner h → (fits ≡ true)
+        ↔ FitsLine owner h (kept.Command given.entry.user window given.entry.line.now) entry.now) }
 {
-    match command_of(alloc, line)? {
-        Some(command) => Ok(fits_command(owner, replay, user, &command, entry)),
+    match command_of(alloc, given.line)? {
+        Some(command) => Ok(fits_command(owner, replay, given.user, &command, entry)),
         None => Ok(is_refused(entry)),
     }
 }
@@ -135,14 +141,13 @@ pub fn fits_line(
 {
     let ending = entry.ending();
     match event {
-        Kept::Command { user, line, .. } => fits_text(
-            alloc,
-            owner,
-            replay,
-            *user,
-            line.as_slice(),
-            entry,
-        ),
+        Kept::Command { user, line, .. } => {
+            let given = GivenLine {
+                user: *user,
+                line: line.as_slice(),
+            };
+            fits_text(alloc, owner, replay, given, entry)
+        }
         Kept::Attach { user, .. } => Ok(has_come(&ending, entry.acts(), *user)),
         Kept::Detach { client } => Ok(has_gone(&ending, entry.acts(), *client)),
         Kept::Keys { .. } => Ok(true),

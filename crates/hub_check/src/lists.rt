@@ -10,8 +10,8 @@ ghost use Rattle.hub_trail.specs.Judging.{leader_in};
 
 use crate::replay::Replay;
 use acl::{
-    AclFault, Bit, BitChange, MaskEntry, MaskScope, NewLeader, Object, PresetKind, RightsChange,
-    UserId,
+    AclFault, Bit, BitChange, LeaderChange, MaskChange, MaskEntry, MaskScope, NewLeader, Object,
+    PresetKind, RightsChange, UserId,
 };
 use std::alloc::AllocError;
 
@@ -119,8 +119,10 @@ pub fn group(replay: &mut Replay, user: UserId, leader: Option<UserId>) -> Resul
     replay.scratch.clear();
     redone(
         replay.acl.group(
-            Some(user),
-            leader_in(leader),
+            LeaderChange {
+                name: Some(user),
+                leader: leader_in(leader),
+            },
             &mut replay.scratch,
             0,
             &mut replay.locks,
@@ -141,12 +143,14 @@ pub fn mask(
     replay.scratch.clear();
     redone(
         replay.acl.mask(
-            by,
-            &[MaskEntry {
-                scope: MaskScope::User(Some(user)),
-                bit,
-                value,
-            }],
+            MaskChange {
+                by,
+                entries: &[MaskEntry {
+                    scope: MaskScope::User(Some(user)),
+                    bit,
+                    value,
+                }],
+            },
             &mut replay.scratch,
             0,
             &mut replay.locks,
@@ -167,12 +171,14 @@ pub fn preset(
     replay.scratch.clear();
     redone(
         replay.acl.mask(
-            by,
-            &[MaskEntry {
-                scope: MaskScope::Preset(kind),
-                bit,
-                value,
-            }],
+            MaskChange {
+                by,
+                entries: &[MaskEntry {
+                    scope: MaskScope::Preset(kind),
+                    bit,
+                    value,
+                }],
+            },
             &mut replay.scratch,
             0,
             &mut replay.locks,

@@ -12,7 +12,7 @@ ghost use Rattle.redraw.specs.Steps.{PutsPiece, PutsLine, PutsPage, PutsView};
 ghost use Rattle.redraw.specs.Steps.{SetsModes, PutsCursor};
 
 use crate::command::Command;
-use crate::pen::{Pen, columns_of};
+use crate::pen::{Pen, PenPosition, columns_of};
 use cells::{Cell, next_unlike};
 use std::alloc::AllocError;
 use view::{Cursor, KeyModes, View};
@@ -63,9 +63,13 @@ fn draw_piece(
         PutsPiece line after.now run.0 next pen.old pen.new out.old out.new) }
 {
     let (column, end) = run;
+    let at = PenPosition {
+        line,
+        column: column as u16,
+    };
     let blanks = blank_run(after, column);
     if blanks >= FEWEST_ERASED && column + blanks == after.len() {
-        pen.erase_to_end(line, column as u16, out)?;
+        pen.erase_to_end(at, out)?;
         return Ok(after.len());
     }
     let erased = blanks.min(end - column);
@@ -75,11 +79,11 @@ fn draw_piece(
         FEWEST_ERASED_WITHIN
     };
     if erased >= fewest {
-        pen.erase_cells(line, column as u16, erased as u16, out)?;
+        pen.erase_cells(at, erased as u16, out)?;
         return Ok(column + erased);
     }
     let cell = after[column];
-    pen.put_cell(line, column as u16, after.len() as u16, cell, out)?;
+    pen.put_cell(at, after.len() as u16, cell, out)?;
     Ok(column + columns_of(cell) as usize)
 }
 

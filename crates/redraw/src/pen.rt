@@ -8,6 +8,13 @@ use crate::command::Command;
 use cells::{Cell, Marks, Rendition, Shape};
 use std::alloc::AllocError;
 
+/// A place of a page to which the pen is moved. Lines and columns count from 0.
+#[derive(Clone, Copy)]
+pub struct PenPosition {
+    pub line: u16,
+    pub column: u16,
+}
+
 /// Where the next character goes, and how it looks.
 #[derive(Clone, Copy, Debug, PartialEq, Eq)]
 pub struct Pen {
@@ -80,16 +87,15 @@ impl Pen {
     /// Puts the pen at a place, with a rendition.
     fn aim(
         &mut self,
-        line: u16,
-        column: u16,
+        at: PenPosition,
         rendition: Rendition,
         out: &mut Vec<u8>,
     ) -> Result<(), AllocError>
-        requires { (line < 9999) × (column < 9999) }
-        ensures place { OnOk result (self.new ≡ aimed_at line column rendition) }
-        ensures takes { OnOk result (MovesTo line column self.old self.new out.old out.new) }
+        requires { (at.line < 9999) × (at.column < 9999) }
+        ensures place { OnOk result (self.new ≡ aimed_at at.line at.column rendition) }
+        ensures takes { OnOk result (MovesTo at.line at.column self.old self.new out.old out.new) }
     {
-        self.move_to(line, column, out)?;
+        self.move_to(at.line, at.column, out)?;
         self.render(rendition, out)?;
         Ok(())
     }
@@ -98,19 +104,18 @@ impl Pen {
     /// fills the last column, the cursor's place is no longer known.
     pub fn put_cell(
         &mut self,
-        line: u16,
-        column: u16,
+        at: PenPosition,
         columns: u16,
         cell: Cell,
         out: &mut Vec<u8>,
     ) -> Result<(), AllocError>
-        requires { (line < 9999) × (column < 9999) }
+        requires { (at.line < 9999) × (at.column < 9999) }
         ensures takes { OnOk result
-            (PutsCell line column columns cell self.old self.new out.old out.new) }
+            (PutsCell at.line at.column columns cell self.old self.new out.old out.new) }
     {
-        self.aim(line, column, cell.rendition, out)?;
+        self.aim(at, cell.rendition, out)?;
         put_glyphs(cell, out)?;
-        let next = column + columns_of(cell);
+        let next = at.column + columns_of(cell);
         self.column = (next < columns).then_some(next);
         Ok(())
     }
@@ -118,30 +123,26 @@ impl Pen {
     /// Erases cells from a place on. The cursor stays at that place.
     pub fn erase_cells(
         &mut self,
-        line: u16,
-        column: u16,
+        at: PenPosition,
         count: u16,
         out: &mut Vec<u8>,
     ) -> Result<(), AllocError>
-        requires { (line < 9999) × (column < 9999) }
-        ensures takes { OnOk result (Erases line column count self.old self.new out.old out.new) }
+        requires { (at.line < 9999) × (at.column < 9999) }
+        ensures takes { OnOk result
+            (Erases at.line at.column count self.old self.new out.old out.new) }
     {
-        self.move_to(line, column, out)?;
+        self.move_to(at.line, at.column, out)?;
         Command::EraseCells(count).put(out)?;
         Ok(())
     }
 
     /// Erases the cells from a place to the end of its line. The cursor stays at that place.
-    pub fn erase_to_end(
-        &mut self,
-        line: u16,
-        column: u16,
-        out: &mut Vec<u8>,
-    ) -> Result<(), AllocError>
-        requires { (line < 9999) × (column < 9999) }
-        ensures takes { OnOk result (ErasesToEnd line column self.old self.new out.old out.new) }
+    pub fn erase_to_end(&mut self, at: PenPosition, out: &mut Vec<u8>) -> Result<(), AllocError>
+        requires { (at.line < 9999) × (at.column < 9999) }
+        ensures takes { OnOk result
+            (ErasesToEnd at.line at.column self.old self.new out.old out.new) }
     {
-        self.move_to(line, column, out)?;
+        self.move_to(at.line, at.column, out)?;
         Command::EraseToEnd.put(out)?;
         Ok(())
     }

@@ -14,7 +14,7 @@ mod words;
 
 pub use printing::{print_effect, print_reply};
 pub use script::{read_event, reads_printed};
-pub use session_core::{Notes, Session};
+pub use session_core::{NewSession, Notes, Session};
 pub use session_model::{
     Bytes, Denied, Done, Effect, EntryDenied, Event, LockDenied, Ran, Reason, Refusal, Reply,
     Verdict, WindowsFault,

@@ -13,7 +13,7 @@ use crate::going::{Going, gone_clients, note_parted};
 use crate::masks::entries_of;
 use crate::names::{named, names_of, new_leader};
 use crate::objects::{every_object, objects_of};
-use acl::{AclFault, RightsChange, UserId};
+use acl::{AclFault, LeaderChange, MaskChange, NewUsers, RightsChange, UserId};
 use command_lang::{BitList, Leader, Masks, Text, Texts, Users};
 use session_model::{Bytes, Reason, Refusal};
 use session_state::{Caller, State, StepOutput, leaders_text};
@@ -54,8 +54,12 @@ pub fn acladd(
 {
     let names = names_of(state.alloc, &state.acl, users)?;
     let objects = every_object(state.alloc, &state.windows)?;
+    let users = NewUsers {
+        names: &names,
+        objects: &objects,
+    };
     let (acts, locks) = (&mut made.acts, &mut state.locks);
-    answered(state.acl.add(&names, &objects, acts, ROOM, locks))
+    answered(state.acl.add(users, acts, ROOM, locks))
 }
 
 /// `acldel`: removes a user's clients, and then the user.
@@ -127,12 +131,12 @@ pub fn aclgrp(
         state.old result state.new made.old made.new }
     ensures silent { IsSilent result state.old state.new made.old made.new }
 {
+    let change = LeaderChange {
+        name: named(name),
+        leader: new_leader(leader),
+    };
     let (acts, locks) = (&mut made.acts, &mut state.locks);
-    answered(
-        state
-            .acl
-            .group(named(name), new_leader(leader), acts, ROOM, locks),
-    )
+    answered(state.acl.group(change, acts, ROOM, locks))
 }
 
 /// The known user, other than the owner, that a word names, or why a command on the lists is refused.
@@ -174,6 +178,10 @@ pub fn aclumask(
     ensures silent { IsSilent result state.old state.new made.old made.new }
 {
     let entries = entries_of(state.alloc, &state.acl, masks.as_slice())?;
+    let change = MaskChange {
+        by: caller.user,
+        entries: &entries,
+    };
     let (acts, locks) = (&mut made.acts, &mut state.locks);
-    answered(state.acl.mask(caller.user, &entries, acts, ROOM, locks))
+    answered(state.acl.mask(change, acts, ROOM, locks))
 }

@@ -12,7 +12,7 @@ mod sharing;
 mod taking;
 
 pub use guest_runs::{calls_are_guarded, sessions_hide_output};
-pub use session::Session;
+pub use session::{NewSession, Session};
 pub use session_model::{
     Bytes, Denied, Done, Effect, EntryDenied, Event, LockDenied, Ran, Reason, Refusal, Reply,
     Verdict, WindowsFault,

@@ -48,6 +48,13 @@ impl Drop for Session {
     }
 }
 
+/// Who owns a new session, and how many groups its users may be in.
+#[derive(Clone, Copy)]
+pub struct NewSession {
+    pub owner: UserId,
+    pub edition: Edition,
+}
+
 /// How much of an event was taken.
 enum Taken {
     /// All of it, with the reply of its last step.
@@ -162,22 +169,21 @@ impl Session {
     /// A new session that has taken these events, as far as memory lasts, with what they made.
     pub fn after(
         alloc: Global,
-        owner: UserId,
-        edition: Edition,
+        start: NewSession,
         events: &[Event],
         effects: &mut Vec<Effect>,
         replies: &mut Vec<Reply>,
     ) -> Result<(Session, Ran), Refusal>
         // The run of a new session, each of whose steps keeps the promise.
-        ensures promise { IfOk result (λ after. IsRunOf edition owner (run_call events.now
-            effects.old.items effects.new.items replies.old.items replies.new.items after.1)
-            after.0) }
+        ensures promise { IfOk result (λ after. IsRunOf start.edition start.owner (run_call
+            events.now effects.old.items effects.new.items replies.old.items replies.new.items
+            after.1) after.0) }
         ensures came { IfOk result (λ after. HasCome after.1 (map happening events.now)) }
         ensures whole { IfOk result (λ after. after.1.stopped ≡ false
             → after.1.taken ≡ length events.now) }
         ensures err { IfErr result (λ r. r ≡ NoMemory) }
     {
-        let mut session = Session::of(alloc, owner, edition)?;
+        let mut session = Session::of(alloc, start.owner, start.edition)?;
         let ran = session.run(events, effects, replies);
         Ok((session, ran))
     }

@@ -14,7 +14,7 @@ ghost use Rattle.session_events.specs.Events.{IsOpenIn, Attaches, Resizes};
 use crate::serials::serial_from;
 use acl::{Act, Bit, Object, UserId};
 use session_model::Refusal;
-use session_state::{State, StepOutput, is_client_size};
+use session_state::{NewClient, State, StepOutput, is_client_size};
 
 /// The window with the lowest number.
 fn first_window(state: &State) -> Option<u32>
@@ -65,9 +65,14 @@ pub fn attach(
         return Err(Refusal::TooManyClients);
     };
     let window = first_window(state);
-    state
-        .clients
-        .attach(state.alloc, client, user, rows, columns, window)?;
+    let attaching = NewClient {
+        serial: client,
+        user,
+        rows,
+        columns,
+        window,
+    };
+    state.clients.attach(state.alloc, attaching)?;
     state.next_client += 1;
     made.acts.push(Act::Attached { client, user }).unwrap();
     enter(state, user, window, made);

@@ -1,10 +1,12 @@
-//! Laws of every step and of every run of a session, which follow from the definitions alone. Each
-//! function does nothing; its contract says what holds.
+//! Laws of every step and of every run of a session, which follow from the definitions alone, and
+//! worked rows, which show that the definitions aren't empty. Each function does nothing; its
+//! contract says what holds.
 #![tactic(auto)]
 
 mod confined;
 mod guests;
 mod unseen;
+pub mod worked;
 
 ghost use Rattle.session_laws.specs.Entries.{ClientsAreRemembered};
 ghost use Rattle.session_laws.specs.Fit.{FreshIsFit, TablesStayFit, RunsAreFit};

@@ -12,6 +12,17 @@ use std::alloc::{AllocError, Global};
 use std::mem;
 use windows_model::Serial;
 
+/// A client that attaches: its serial, its user, the size of its terminal, and the window that its one
+/// region shows.
+#[derive(Clone, Copy)]
+pub struct NewClient {
+    pub serial: u32,
+    pub user: UserId,
+    pub rows: u16,
+    pub columns: u16,
+    pub window: Option<u32>,
+}
+
 /// A user's terminal.
 #[derive(Drop)]
 pub struct Client {
@@ -43,18 +54,19 @@ impl Client {
     ghost use Rattle.session_state.specs.Moves.{seen, without, fitted};
     ghost use Rattle.session_state.specs.Clients.{ClientStands};
 
-    /// A new client, whose one region shows this window.
-    pub(crate) fn new(
-        alloc: Global,
-        serial: u32,
-        user: UserId,
-        rows: u16,
-        columns: u16,
-        window: Option<u32>,
-    ) -> Result<Client, AllocError>
-        requires { is_client_size rows columns ≡ true }
-        ensures { IfOk result (ClientStands (attached serial user rows columns window)) }
+    /// The client that attaches.
+    pub(crate) fn new(alloc: Global, client: NewClient) -> Result<Client, AllocError>
+        requires { is_client_size client.rows client.columns ≡ true }
+        ensures { IfOk result (ClientStands (attached client.serial client.user client.rows
+            client.columns client.window)) }
     {
+        let NewClient {
+            serial,
+            user,
+            rows,
+            columns,
+            window,
+        } = client;
         let layout = Layout::new(alloc, Shown { window, back: 0 })?;
         Ok(Client {
             serial,

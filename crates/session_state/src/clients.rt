@@ -17,7 +17,7 @@ ghost use Rattle.session_model.specs.Answering.{reading};
 ghost use Rattle.view.specs.View.{HasSize};
 ghost use Rattle.view.specs.Drawable.{IsDrawable};
 
-use crate::client::Client;
+use crate::client::{Client, NewClient};
 use acl::UserId;
 use keys::KeyReader;
 use redraw::{Frame, Shadow, SharedView};
@@ -98,23 +98,15 @@ impl Clients {
         self.rows.get(serial)
     }
 
-    /// Attaches a client whose one region shows this window.
-    pub fn attach(
-        &mut self,
-        alloc: Global,
-        serial: u32,
-        user: UserId,
-        rows: u16,
-        columns: u16,
-        window: Option<u32>,
-    ) -> Result<(), AllocError>
-        requires { is_client_size rows columns ≡ true }
-        ensures ok { OnOk result
-            (Attaches (attached serial user rows columns window) self.old self.new) }
+    /// Attaches a client.
+    pub fn attach(&mut self, alloc: Global, client: NewClient) -> Result<(), AllocError>
+        requires { is_client_size client.rows client.columns ≡ true }
+        ensures ok { OnOk result (Attaches (attached client.serial client.user client.rows
+            client.columns client.window) self.old self.new) }
         ensures err { OnErr result (self.new ≡ self.old) }
     {
-        let client = Client::new(alloc, serial, user, rows, columns, window)?;
-        self.rows.push(client)
+        let made = Client::new(alloc, client)?;
+        self.rows.push(made)
     }
 
     /// Removes the client with this serial.

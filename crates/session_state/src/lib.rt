@@ -16,7 +16,7 @@ mod step_output;
 mod texts;
 
 pub use caller::Caller;
-pub use client::Client;
+pub use client::{Client, NewClient};
 pub use clients::{Clients, messages_of};
 pub use leaders::leaders_text;
 pub use notes::Notes;

@@ -11,7 +11,7 @@ ghost use Rattle.view.specs.Composing.{HasScalarCaption, TakesFocus, IsCursorOf}
 ghost use Rattle.view.specs.Composing.{LaysRow, LaysBoxRow, LaysBox, LaysSeparator, LaysStatus};
 
 use crate::pane::{Contents, Pane};
-use crate::region_rows::{REVERSE, box_row, first_shown, line_shown_whole};
+use crate::region_rows::{BoxRow, REVERSE, box_row, first_shown, line_shown_whole};
 use crate::text::text_row;
 use crate::view::{Cursor, KeyModes, View};
 use cells::{Cell, Rendition};
@@ -128,7 +128,12 @@ impl View {
     {
         let mut cells = Vec::with_capacity(alloc, rect.columns as usize)?;
         for row in 0..rect.rows {
-            self.put_box_row(rect, pane, is_focused, row, &mut cells)?;
+            let place = BoxRow {
+                rect,
+                row,
+                is_focused,
+            };
+            self.put_box_row(place, pane, &mut cells)?;
         }
         Ok(())
     }
@@ -137,24 +142,22 @@ impl View {
     /// shown unchanged.
     fn put_box_row(
         &mut self,
-        rect: Rect,
+        place: BoxRow,
         pane: &Pane,
-        is_focused: bool,
-        row: u16,
         cells: &mut Vec<Cell>,
     ) -> Result<(), AllocError>
-        requires { row < rect.rows }
+        requires { place.row < place.rect.rows }
         ensures size { KeepsSize self.old self.new }
-        ensures lays { OnOk result
-            (LaysBoxRow rect is_focused (part_of pane.now) row self.old self.new) }
+        ensures lays { OnOk result (LaysBoxRow place.rect place.is_focused (part_of pane.now)
+            place.row self.old self.new) }
         ensures characters { OnOk result
-            (row + 1 ≡ rect.rows → HasScalarCaption (part_of pane.now)) }
+            (place.row + 1 ≡ place.rect.rows → HasScalarCaption (part_of pane.now)) }
     {
-        match line_shown_whole(rect, pane, row) {
-            Some(line) => self.put_row(rect, row, line),
+        match line_shown_whole(place.rect, pane, place.row) {
+            Some(line) => self.put_row(place.rect, place.row, line),
             None => {
-                box_row(rect, pane, is_focused, row, cells)?;
-                self.put_row(rect, row, cells);
+                box_row(place, pane, cells)?;
+                self.put_row(place.rect, place.row, cells);
             }
         }
         Ok(())

@@ -21,6 +21,14 @@ pub(crate) const REVERSE: Rendition = Rendition {
     ..Rendition::PLAIN
 };
 
+/// A row of a region's box, and whether the region has the focus.
+#[derive(Clone, Copy)]
+pub(crate) struct BoxRow {
+    pub rect: Rect,
+    pub row: u16,
+    pub is_focused: bool,
+}
+
 /// A window's cell as a view shows it: without protection, and reversed if the screen is.
 fn shown_cell(cell: Cell, is_inverted: bool) -> Cell
     ensures { result ≡ shown_cell_of is_inverted cell }
@@ -236,17 +244,18 @@ fn caption_row(
 /// The cells of a row of a region's box: a line of its window, or its caption. They are made in the
 /// memory of the given cells, so that rows that are made one after another don't allocate each
 /// time.
-pub(crate) fn box_row(
-    rect: Rect,
-    pane: &Pane,
-    is_focused: bool,
-    row: u16,
-    cells: &mut Vec<Cell>,
-) -> Result<(), AllocError>
-    requires { row < rect.rows }
-    ensures row { OnOk result (IsBoxRow rect is_focused (part_of pane.now) row cells.new.items) }
-    ensures characters { OnOk result (row + 1 ≡ rect.rows → HasScalarCaption (part_of pane.now)) }
+pub(crate) fn box_row(place: BoxRow, pane: &Pane, cells: &mut Vec<Cell>) -> Result<(), AllocError>
+    requires { place.row < place.rect.rows }
+    ensures row { OnOk result
+        (IsBoxRow place.rect place.is_focused (part_of pane.now) place.row cells.new.items) }
+    ensures characters { OnOk result
+        (place.row + 1 ≡ place.rect.rows → HasScalarCaption (part_of pane.now)) }
 {
+    let BoxRow {
+        rect,
+        row,
+        is_focused,
+    } = place;
     let columns = rect.columns as usize;
     if row + 1 == rect.rows {
         let alloc = *cells.allocator();

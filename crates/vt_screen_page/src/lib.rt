@@ -4,4 +4,4 @@
 mod page;
 mod store;
 
-pub use page::Page;
+pub use page::{CellPosition, Page};

@@ -17,6 +17,13 @@ use scrollback::Ring;
 use std::alloc::{AllocError, Global};
 use std::marker::Model;
 
+/// Where a cell stands on a page. Lines and columns count from 0.
+#[derive(Clone, Copy)]
+pub struct CellPosition {
+    pub line: usize,
+    pub column: usize,
+}
+
 /// A page of 2 to 200 lines of 2 to 300 cells, in which the halves of wide characters are paired.
 /// Lines and columns count from 0. A scroll moves no cells. Only `new` and changes of size need
 /// memory.
@@ -134,84 +141,81 @@ impl Page {
         self.stored[place as usize].put_narrow(at, cell, rest);
     }
 
-    /// Puts both halves of a wide character into a line at `at`; its old cells from `rest` on
-    /// follow them.
-    pub fn put_wide(&mut self, line: usize, at: usize, left: Cell, right: Cell, rest: usize)
-        requires line_inside { line < length self.old.lines }
-        requires order { at ≤ rest }
-        requires inside { rest ≤ length (line_at self.old.lines line) }
-        requires room { at + 2 ≤ length (line_at self.old.lines line) }
+    /// Puts both halves of a wide character at a place. The line's old cells from `rest` on follow
+    /// them.
+    pub fn put_wide(&mut self, at: CellPosition, left: Cell, right: Cell, rest: usize)
+        requires line_inside { at.line < length self.old.lines }
+        requires order { at.column ≤ rest }
+        requires inside { rest ≤ length (line_at self.old.lines at.line) }
+        requires room { at.column + 2 ≤ length (line_at self.old.lines at.line) }
         requires left { left.shape ≡ Shape.Left }
         requires right { right.shape ≡ Shape.Right }
         ensures lines { self.new.lines
-            ≡ page_spliced line at (left ∷ right ∷ []) rest self.old.lines }
+            ≡ page_spliced at.line at.column (left ∷ right ∷ []) rest self.old.lines }
         ensures places { self.new.places ≡ self.old.places }
     {
-        let place = self.places[line];
-        self.stored[place as usize].put_wide(at, left, right, rest);
+        let place = self.places[at.line];
+        self.stored[place as usize].put_wide(at.column, left, right, rest);
     }
 
-    /// Puts characters of width 1 over as many old cells of a line. `codes` has their code points.
+    /// Puts characters of width 1 over as many old cells, from `at` on. `codes` has their code points.
     /// An old half that loses its other half becomes blank.
     pub fn put_run(
         &mut self,
-        line: usize,
-        at: usize,
+        at: CellPosition,
         codes: &[u8],
         rendition: Rendition,
         is_protected: bool,
     )
-        requires line_inside { line < length self.old.lines }
-        requires room { at + length codes.now ≤ length (line_at self.old.lines line) }
+        requires line_inside { at.line < length self.old.lines }
+        requires room { at.column + length codes.now ≤ length (line_at self.old.lines at.line) }
         ensures lines { self.new.lines
-            ≡ page_spliced line at (narrow_cells codes.now rendition is_protected)
-            (at + length codes.now) self.old.lines }
+            ≡ page_spliced at.line at.column (narrow_cells codes.now rendition is_protected)
+            (at.column + length codes.now) self.old.lines }
         ensures places { self.new.places ≡ self.old.places }
     {
-        let place = self.places[line];
-        self.stored[place as usize].put_run(at, codes, rendition, is_protected);
+        let place = self.places[at.line];
+        self.stored[place as usize].put_run(at.column, codes, rendition, is_protected);
     }
 
-    /// Puts characters of width 1, from all of Unicode, over as many old cells of a line. An old
+    /// Puts characters of width 1, from all of Unicode, over as many old cells, from `at` on. An old
     /// half that loses its other half becomes blank.
     pub fn put_letters(
         &mut self,
-        line: usize,
-        at: usize,
+        at: CellPosition,
         letters: &[char],
         rendition: Rendition,
         is_protected: bool,
     )
-        requires line_inside { line < length self.old.lines }
-        requires room { at + length letters.now ≤ length (line_at self.old.lines line) }
+        requires line_inside { at.line < length self.old.lines }
+        requires room { at.column + length letters.now ≤ length (line_at self.old.lines at.line) }
         ensures lines { self.new.lines
-            ≡ page_spliced line at (narrow_cells letters.now rendition is_protected)
-            (at + length letters.now) self.old.lines }
+            ≡ page_spliced at.line at.column (narrow_cells letters.now rendition is_protected)
+            (at.column + length letters.now) self.old.lines }
         ensures places { self.new.places ≡ self.old.places }
     {
-        let place = self.places[line];
-        self.stored[place as usize].put_letters(at, letters, rendition, is_protected);
+        let place = self.places[at.line];
+        self.stored[place as usize].put_letters(at.column, letters, rendition, is_protected);
     }
 
-    /// Puts characters of width 2 over twice as many old cells of a line. An old half that loses
+    /// Puts characters of width 2 over twice as many old cells, from `at` on. An old half that loses
     /// its other half becomes blank.
     pub fn put_wide_run(
         &mut self,
-        line: usize,
-        at: usize,
+        at: CellPosition,
         characters: &[char],
         rendition: Rendition,
         is_protected: bool,
     )
-        requires line_inside { line < length self.old.lines }
-        requires room { at + 2 * length characters.now ≤ length (line_at self.old.lines line) }
+        requires line_inside { at.line < length self.old.lines }
+        requires room { at.column + 2 * length characters.now ≤ length (line_at self.old.lines at.line) }
         ensures lines { self.new.lines
-            ≡ page_spliced line at (wide_cells characters.now rendition is_protected)
-            (at + 2 * length characters.now) self.old.lines }
+            ≡ page_spliced at.line at.column (wide_cells characters.now rendition is_protected)
+            (at.column + 2 * length characters.now) self.old.lines }
         ensures places { self.new.places ≡ self.old.places }
     {
-        let place = self.places[line];
-        self.stored[place as usize].put_wide_run(at, characters, rendition, is_protected);
+        let place = self.places[at.line];
+        self.stored[place as usize].put_wide_run(at.column, characters, rendition, is_protected);
     }
 
     /// Erases the unprotected cells of a line from `from` up to but not including `end`.

@@ -17,6 +17,7 @@ use crate::display::Display;
 use cells::{Cell, Shape, drawn_as, glyph_columns};
 use charsets::Unit;
 use unicode_width::UnicodeWidthChar;
+use vt_screen_page::CellPosition;
 use vt_screen_state::{advance, following, lacks_room, needs_line, separate};
 
 /// A character of width 0 among the letters.
@@ -201,8 +202,11 @@ impl Display {
             ..left
         };
         let rest = following(state, 2);
-        self.page
-            .put_wide(self.state.line, self.state.column, left, right, rest);
+        let at = CellPosition {
+            line: state.line,
+            column: state.column,
+        };
+        self.page.put_wide(at, left, right, rest);
         advance(&mut self.state, 2);
     }
 }

@@ -15,6 +15,7 @@ use crate::printing::{is_letter, is_mark};
 use charsets::{CharacterSet, Place, Shifts};
 use terminal_model::State;
 use unicode_width::UnicodeWidthChar;
+use vt_screen_page::CellPosition;
 use vt_screen_state::advance;
 
 impl Display {
@@ -153,8 +154,10 @@ impl Display {
         ensures lines { KeepsLines self.old self.new }
     {
         self.page.put_wide_run(
-            self.state.line,
-            self.state.column,
+            CellPosition {
+                line: self.state.line,
+                column: self.state.column,
+            },
             characters,
             self.state.rendition,
             self.state.is_protecting,
@@ -192,8 +195,10 @@ impl Display {
         ensures lines { KeepsLines self.old self.new }
     {
         self.page.put_letters(
-            self.state.line,
-            self.state.column,
+            CellPosition {
+                line: self.state.line,
+                column: self.state.column,
+            },
             letters,
             self.state.rendition,
             self.state.is_protecting,
@@ -212,8 +217,10 @@ impl Display {
         ensures lines { KeepsLines self.old self.new }
     {
         self.page.put_run(
-            self.state.line,
-            self.state.column,
+            CellPosition {
+                line: self.state.line,
+                column: self.state.column,
+            },
             codes,
             self.state.rendition,
             self.state.is_protecting,

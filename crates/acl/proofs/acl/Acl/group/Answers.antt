@@ -17,6 +17,7 @@ returns-clause-done g c =
     is_done _ _ c.len-start.result c.args.acts.now.items _ _ _ (g.F.Follower.follows c.args.follower.now)
     (g.F.Follower.follows c.conclude.new.follower)
     (search rules) given same stands follower edition owner h t
-    (allowed-group_acts edition owner h (users_of owner h) c.args.name c.args.leader (known-among _ edition owner h t)
-    ((λ i. group_fault (sym t.edition_is i) (sym t.owned i) (sym t.users i) (λ u. sym (t.led u) i) c.args.name
-    c.args.leader) ∙ none)))
+    (allowed-group_acts edition owner h (users_of owner h) c.args.change.name c.args.change.leader
+    (known-among _ edition owner h t)
+    ((λ i. group_fault (sym t.edition_is i) (sym t.owned i) (sym t.users i) (λ u. sym (t.led u) i)
+    c.args.change.name c.args.change.leader) ∙ none)))

@@ -14,4 +14,4 @@ returns-clause-done g c =
     is_done _ _ c.len-start.result c.args.acts.now.items _ _ _ (g.F.Follower.follows c.args.follower.now)
     (g.F.Follower.follows c.conclude.new.follower)
     (search rules) given same stands follower edition owner h t
-    (allowed-mask_acts edition owner h c.args.by c.args.entries.now))
+    (allowed-mask_acts edition owner h c.args.change.by c.args.change.entries.now))

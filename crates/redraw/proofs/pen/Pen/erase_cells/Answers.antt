@@ -14,22 +14,23 @@ use Rattle.redraw.proofs.pen.Pen.erase_cells.Goals as goal
 pub returns : goal.returns
 returns c = record {
   takes = λ old new rows columns lh rh some room cl.
-      let pen : Pen = at_place c.args.line c.args.column c.args.self.now.rendition in
-      let inside : c.args.column < columns = omega arith in
+      let pen : Pen = at_place c.args.at.line c.args.at.column c.args.self.now.rendition in
+      let inside : c.args.at.column < columns = omega arith in
       let aimed = c.in_ok-move_to.ensures.takes old new rows columns lh rh inside cl in
       let erased : Takes old new (Drawing rows columns pen)
-      (Writes rows columns pen c.args.line c.args.column c.args.count (λ k. blank)) c.move_to.new.out.items
+      (Writes rows columns pen c.args.at.line c.args.at.column c.args.count (λ k. blank)) c.move_to.new.out.items
       c.put.new.out.items
       = takes_bytes old new (Drawing rows columns pen)
-      (Writes rows columns pen c.args.line c.args.column c.args.count (λ k. blank)) c.move_to.new.out.items
+      (Writes rows columns pen c.args.at.line c.args.at.column c.args.count (λ k. blank)) c.move_to.new.out.items
       c.put.new.out.items
       (spelling (func_of (EraseCells c.args.count))) c.in_ok-put.ensures
-      (λ x d. erase_leads rows columns old new c.args.line c.args.column c.args.self.now.rendition x d lh inside
+      (λ x d. erase_leads rows columns old new c.args.at.line c.args.at.column c.args.self.now.rendition x d lh inside
       c.args.count some (omega arith) room) in
       let erased' = subst
       (λ (p : Pen). Takes old new (Drawing rows columns p)
-      (Writes rows columns p c.args.line c.args.column c.args.count (λ k. blank)) c.move_to.new.out.items
+      (Writes rows columns p c.args.at.line c.args.at.column c.args.count (λ k. blank)) c.move_to.new.out.items
       c.put.new.out.items) (sym c.in_ok-move_to.ensures.place) erased in
-      aimed_writes old new rows columns c.args.self.now c.move_to.new.self c.move_to.new.self c.args.line c.args.column
+      aimed_writes old new rows columns c.args.self.now c.move_to.new.self c.move_to.new.self c.args.at.line
+      c.args.at.column
       c.args.count (λ k. blank) c.args.out.now.items c.move_to.new.out.items c.put.new.out.items aimed erased';
 }

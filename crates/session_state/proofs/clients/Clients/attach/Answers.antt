@@ -10,14 +10,14 @@ use Rattle.session_state.proofs.clients.Clients.attach.Goals as goal
 pub returns-clause-ok : goal.returns-clause-ok
 returns-clause-ok c =
     let m : model.Client =
-    attached c.args.serial c.args.user c.args.rows c.args.columns c.args.window in
-    let made : Client = c.in_ok-client.client in
+    attached c.args.client.serial c.args.client.user c.args.client.rows c.args.client.columns c.args.client.window in
+    let made : Client = c.in_ok-made.made in
     on_ok c.push.result (λ is.
     let now = is ∙ ap (λ (cs : List Client). cs ++ made ∷ []) c.self.view_is in record {
       made = made;
-      stands = c.in_ok-client.ensures;
+      stands = c.in_ok-made.ensures;
       new_is = now;
       attached = λ rows st.
           subst (λ (cs : List Client). AreClients (rows ++ m ∷ []) cs) (sym now)
-          (push_match ClientStands rows m c.args.self.now made st c.in_ok-client.ensures);
+          (push_match ClientStands rows m c.args.self.now made st c.in_ok-made.ensures);
     }) c.push.ensures.ok

@@ -8,28 +8,31 @@ use Rattle.vt_screen_page.proofs.page.Page.put_letters.Goals as goal
 
 pub invariant_of-self : goal.invariant_of-self
 invariant_of-self c =
-    let inside : c.args.line < length (lines_in_order c.self.inside.stored.items c.self.inside.places.items) = rw
+    let inside : c.args.at.line < length (lines_in_order c.self.inside.stored.items c.self.inside.places.items) = rw
     (ap (λ (v : Placed). v.lines) c.self.view_is) c.requires.line_inside in
-    edited_store c.self.inside.stored.items c.self.inside.places.items c.self.invariant c.args.line
+    edited_store c.self.inside.stored.items c.self.inside.places.items c.self.invariant c.args.at.line
     c.index-place.result.now inside c.index-place.ensures
-    (λ (line : List Cell). spliced c.args.at (narrow_cells c.args.letters.now c.args.rendition c.args.is_protected)
-    (c.args.at + length c.args.letters.now) (length line)) c.index_mut.result.now c.put_letters.new.self
+    (λ (line : List Cell). spliced c.args.at.column
+    (narrow_cells c.args.letters.now c.args.rendition c.args.is_protected)
+    (c.args.at.column + length c.args.letters.now) (length line)) c.index_mut.result.now c.put_letters.new.self
     c.index_mut.ensures.value c.put_letters.ensures
 
 pub returns-clause-lines : goal.returns-clause-lines
 returns-clause-lines c =
-    let inside : c.args.line < length (lines_in_order c.self.inside.stored.items c.self.inside.places.items) = rw
+    let inside : c.args.at.line < length (lines_in_order c.self.inside.stored.items c.self.inside.places.items) = rw
     (ap (λ (v : Placed). v.lines) c.self.view_is) c.requires.line_inside in
-    edited_page c.self.inside.stored.items c.self.inside.places.items c.self.invariant c.args.line
+    edited_page c.self.inside.stored.items c.self.inside.places.items c.self.invariant c.args.at.line
     c.index-place.result.now inside c.index-place.ensures
-    (λ (line : List Cell). spliced c.args.at (narrow_cells c.args.letters.now c.args.rendition c.args.is_protected)
-    (c.args.at + length c.args.letters.now) (length line)) c.index_mut.result.now c.put_letters.new.self
+    (λ (line : List Cell). spliced c.args.at.column
+    (narrow_cells c.args.letters.now c.args.rendition c.args.is_protected)
+    (c.args.at.column + length c.args.letters.now) (length line)) c.index_mut.result.now c.put_letters.new.self
     c.index_mut.ensures.value c.put_letters.ensures
     ∙ ap (λ (g : List (List Cell)).
     (page_from
-    (edited c.args.line
-    ((λ (line : List Cell). spliced c.args.at (narrow_cells c.args.letters.now c.args.rendition c.args.is_protected)
-    (c.args.at + length c.args.letters.now) (length line)) (line_at g c.args.line))) g))
+    (edited c.args.at.line
+    ((λ (line : List Cell). spliced c.args.at.column
+    (narrow_cells c.args.letters.now c.args.rendition c.args.is_protected)
+    (c.args.at.column + length c.args.letters.now) (length line)) (line_at g c.args.at.line))) g))
     (ap (λ (v : Placed). v.lines) c.self.view_is)
 
 pub returns-clause-places : goal.returns-clause-places

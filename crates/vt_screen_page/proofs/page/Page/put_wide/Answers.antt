@@ -8,26 +8,26 @@ use Rattle.vt_screen_page.proofs.page.Page.put_wide.Goals as goal
 
 pub invariant_of-self : goal.invariant_of-self
 invariant_of-self c =
-    let inside : c.args.line < length (lines_in_order c.self.inside.stored.items c.self.inside.places.items) = rw
+    let inside : c.args.at.line < length (lines_in_order c.self.inside.stored.items c.self.inside.places.items) = rw
     (ap (λ (v : Placed). v.lines) c.self.view_is) c.requires.line_inside in
-    edited_store c.self.inside.stored.items c.self.inside.places.items c.self.invariant c.args.line
+    edited_store c.self.inside.stored.items c.self.inside.places.items c.self.invariant c.args.at.line
     c.index-place.result.now inside c.index-place.ensures
-    (λ (line : List Cell). spliced c.args.at (c.args.left ∷ c.args.right ∷ []) c.args.rest (length line))
+    (λ (line : List Cell). spliced c.args.at.column (c.args.left ∷ c.args.right ∷ []) c.args.rest (length line))
     c.index_mut.result.now c.put_wide.new.self c.index_mut.ensures.value c.put_wide.ensures
 
 pub returns-clause-lines : goal.returns-clause-lines
 returns-clause-lines c =
-    let inside : c.args.line < length (lines_in_order c.self.inside.stored.items c.self.inside.places.items) = rw
+    let inside : c.args.at.line < length (lines_in_order c.self.inside.stored.items c.self.inside.places.items) = rw
     (ap (λ (v : Placed). v.lines) c.self.view_is) c.requires.line_inside in
-    edited_page c.self.inside.stored.items c.self.inside.places.items c.self.invariant c.args.line
+    edited_page c.self.inside.stored.items c.self.inside.places.items c.self.invariant c.args.at.line
     c.index-place.result.now inside c.index-place.ensures
-    (λ (line : List Cell). spliced c.args.at (c.args.left ∷ c.args.right ∷ []) c.args.rest (length line))
+    (λ (line : List Cell). spliced c.args.at.column (c.args.left ∷ c.args.right ∷ []) c.args.rest (length line))
     c.index_mut.result.now c.put_wide.new.self c.index_mut.ensures.value c.put_wide.ensures
     ∙ ap (λ (g : List (List Cell)).
     (page_from
-    (edited c.args.line
-    ((λ (line : List Cell). spliced c.args.at (c.args.left ∷ c.args.right ∷ []) c.args.rest (length line))
-    (line_at g c.args.line))) g)) (ap (λ (v : Placed). v.lines) c.self.view_is)
+    (edited c.args.at.line
+    ((λ (line : List Cell). spliced c.args.at.column (c.args.left ∷ c.args.right ∷ []) c.args.rest (length line))
+    (line_at g c.args.at.line))) g)) (ap (λ (v : Placed). v.lines) c.self.view_is)
 
 pub returns-clause-places : goal.returns-clause-places
 returns-clause-places c = ap (λ (v : Placed). v.places) c.self.view_is

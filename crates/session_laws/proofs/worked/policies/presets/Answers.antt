@@ -1,0 +1,5 @@
+use Rattle.session_laws.proofs.worked.policies.presets.Goals as goal
+use Rattle.session_laws.proofs.TrapsComputed as computed
+
+pub returns : goal.returns
+returns c = computed.presets

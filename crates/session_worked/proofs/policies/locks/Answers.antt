@@ -1,8 +1,0 @@
-use Rattle.session_worked.proofs.policies.locks.Goals as goal
-use Rattle.session_worked.proofs.TrapsComputed as computed
-
-pub returns-clause-parked : goal.returns-clause-parked
-returns-clause-parked c = computed.parked
-
-pub returns-clause-defaults : goal.returns-clause-defaults
-returns-clause-defaults c = computed.locked

@@ -1,8 +1,0 @@
-use Rattle.session_worked.proofs.policies.removed_users.Goals as goal
-use Rattle.session_worked.proofs.TrapsComputed as computed
-
-pub returns-clause-windows : goal.returns-clause-windows
-returns-clause-windows c = computed.removed
-
-pub returns-clause-masks : goal.returns-clause-masks
-returns-clause-masks c = computed.back
