@@ -1,40 +1,22 @@
 //! Keys and the commands and bytes that they complete, from the keys' table.
 
 use crate::lines::is_command;
-use Binding::{
-    Detach, Displays, Focus, Kill, Next, Only, Other, Prev, Remove, Select, Split, SplitVertically,
-    Windows,
-};
-use KeyItem::{Bound, Edit, Line, Typed};
-use keys::{Binding, KeyItem, KeyReader};
+use KeyItem::{Command, Edit, Line, Typed};
+use keys::{KeyItem, KeyReader, bound_to, is_bound};
 use std::alloc::{AllocError, Global};
 
 /// Keys, the items that they complete, and the lines of the prompt that they end.
 type Row = (&'static [u8], &'static [KeyItem], &'static [u8]);
 
-/// Rows of the keys of the table and of the prompt.
-static ROWS: [Row; 8] = [
-    (b"a\x01nb", &[Typed(b'a'), Bound(Next), Typed(b'b')], b""),
+/// Rows of keys after the command key, and of the prompt.
+static ROWS: [Row; 7] = [
+    (b"a\x01nb", &[Typed(b'a'), Command(b'n'), Typed(b'b')], b""),
     (
-        b"\x01 \x01p\x01d\x01k\x01S\x01|\x01\t\x01X\x01Q\x01w\x01*\x01\x01",
-        &[
-            Bound(Next),
-            Bound(Prev),
-            Bound(Detach),
-            Bound(Kill),
-            Bound(Split),
-            Bound(SplitVertically),
-            Bound(Focus),
-            Bound(Remove),
-            Bound(Only),
-            Bound(Windows),
-            Bound(Displays),
-            Bound(Other),
-        ],
+        b"\x01\x01\x01 \x019",
+        &[Command(1), Command(b' '), Command(b'9')],
         b"",
     ),
-    (b"\x010\x019", &[Bound(Select(0)), Bound(Select(9))], b""),
-    (b"\x01a\x01zz", &[Typed(1), Typed(b'z')], b""),
+    (b"\x01a\x01zz", &[Typed(1), Command(b'z'), Typed(b'z')], b""),
     (
         b"\x01:wall\r\n",
         &[Edit, Edit, Edit, Edit, Edit, Line, Typed(b'\n')],
@@ -88,37 +70,40 @@ fn keys_complete_their_items(rt: HostRuntime) {
 }
 
 /// Bound keys, and their commands as they are printed, `=`, and the commands' needs.
-static COMMANDS: [(Binding, &str); 13] = [
-    (Next, "next= client"),
-    (Prev, "prev= client"),
-    (Detach, "detach= client"),
-    (Kill, "kill= window"),
-    (Split, "split= client"),
-    (SplitVertically, "split -v= client"),
-    (Focus, "focus= client"),
-    (Remove, "remove= client"),
-    (Only, "only= client"),
-    (Windows, "windows="),
-    (Displays, "displays="),
-    (Select(7), "select 7= client"),
-    (Other, "other= client"),
+static COMMANDS: [(u8, &str); 16] = [
+    (b'n', "next= client"),
+    (b' ', "next= client"),
+    (b'p', "prev= client"),
+    (b'd', "detach= client"),
+    (b'k', "kill= window"),
+    (b'S', "split= client"),
+    (b'|', "split -v= client"),
+    (b'\t', "focus= client"),
+    (b'X', "remove= client"),
+    (b'Q', "only= client"),
+    (b'w', "windows="),
+    (b'*', "displays="),
+    (b'0', "select 0= client"),
+    (b'7', "select 7= client"),
+    (b'9', "select 9= client"),
+    (1, "other= client"),
 ];
 
-fn gives(alloc: Global, binding: Binding, want: &str) -> Result<bool, AllocError> {
-    match binding.command(alloc) {
-        Ok(command) => is_command(alloc, command, want),
-        Err(fault) => Err(fault),
+fn gives(alloc: Global, key: u8, want: &str) -> Result<bool, AllocError> {
+    match bound_to(alloc, key)? {
+        Some(command) => is_command(alloc, command, want),
+        None => Ok(false),
     }
 }
 
 /// Whether each bound key gives its command. Asks again if memory is refused.
 fn give_commands(alloc: Global) -> bool {
-    for (binding, want) in &COMMANDS {
-        let is_so = match gives(alloc, *binding, want) {
+    for (key, want) in &COMMANDS {
+        let is_so = match gives(alloc, *key, want) {
             Ok(is_so) => is_so,
-            Err(_) => gives(alloc, *binding, want) == Ok(true),
+            Err(_) => gives(alloc, *key, want) == Ok(true),
         };
-        if !is_so {
+        if !is_so || !is_bound(*key) {
             return false;
         }
     }
@@ -128,4 +113,23 @@ fn give_commands(alloc: Global) -> bool {
 #[test]
 fn bound_keys_give_commands_though_refused_once(rt: HostRuntime) {
     assert!(rt; give_commands(rt.alloc()));
+}
+
+/// How many keys are bound; `None` if one of them has no command, or another key has one.
+fn count_bound(alloc: Global) -> Option<usize> {
+    let mut count = 0usize;
+    for key in 0..=255u8 {
+        if is_bound(key) == matches!(bound_to(alloc, key), Ok(None)) {
+            return None;
+        }
+        if is_bound(key) {
+            count = count.saturating_add(1);
+        }
+    }
+    Some(count)
+}
+
+#[test]
+fn no_other_key_is_bound(rt: HostRuntime) {
+    assert_eq!(rt; count_bound(rt.alloc()), Some(23));
 }

@@ -4,8 +4,8 @@ use Rattle.keys.specs.declared.reader.Mode.{Mode}
 use Rattle.keys.specs.declared.reader.Mode.TheVariants.{Typing, Command, Prompt}
 use Rattle.keys.specs.declared.reader.KeyItem.{KeyItem}
 use Rattle.keys.specs.declared.reader.KeyItem.TheVariants as given
-use Rattle.keys.specs.Bindings.{command_of}
-use Rattle.keys.specs.Grammar.{Item, typed, bound, line, Rest, nothing, command_key, prompt, items}
+use Rattle.keys.specs.Grammar.{Item, typed, line, bound_items, binding, Rest, nothing, command_key}
+use Rattle.keys.specs.Grammar.{prompt, items}
 
 -- its mode, and the line of the open prompt, or else of the last one
 pub record Keeping : Type 0 where
@@ -23,6 +23,6 @@ StandsFor reader keys = (items keys).1 ≡ rest_of reader
 abbrev pub item_list : Option KeyItem → List ℕ → List Item
 item_list None bytes = []
 item_list (Some (given.Typed b)) bytes = typed b ∷ []
-item_list (Some (given.Bound b)) bytes = bound (command_of b) ∷ []
+item_list (Some (given.Command k)) bytes = bound_items (binding k)
 item_list (Some given.Edit) bytes = []
 item_list (Some given.Line) bytes = line bytes ∷ []

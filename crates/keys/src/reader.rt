@@ -4,7 +4,6 @@ ghost use Rattle.std.specs.Prelude.{◌≡◌, ℕ, List, [], ◌∷◌, ◌++�
 ghost use Rattle.std.specs.Option.{option_map};
 ghost use Rattle.keys.specs.Grammar.{ends_line, closes};
 
-use crate::binding::{Binding, bound_to};
 use crate::line::Line;
 use std::marker::Model;
 
@@ -13,8 +12,8 @@ use std::marker::Model;
 pub enum KeyItem {
     /// A byte for the window's program.
     Typed(u8),
-    /// The command of a key after the command key.
-    Bound(Binding),
+    /// A key after the command key, which may be bound to a command.
+    Command(u8),
     /// The prompt was opened, edited or closed.
     Edit,
     /// The prompt's line is ended; `line` lends it until the next push. It may be empty.
@@ -137,7 +136,7 @@ impl KeyReader {
                 if key == b'a' {
                     Some(KeyItem::Typed(1))
                 } else {
-                    bound_to(key).map(KeyItem::Bound)
+                    Some(KeyItem::Command(key))
                 }
             }
             Mode::Prompt if is_line_end(key) => {

@@ -6,7 +6,7 @@ ghost use Rattle.keys.specs.Kept.{item_list};
 ghost use Rattle.session_input.specs.Given.{given, given_line, is_want};
 
 use command_lang::{Command, FaultKind, ParseFault, parse};
-use keys::KeyItem;
+use keys::{KeyItem, bound_to};
 use std::alloc::{AllocError, Global};
 
 /// Whether a fault is one for want of memory.
@@ -53,7 +53,7 @@ pub fn command_given(
         → item_list item line.now ≡ option_to_list i → order ≡ given i) }
 {
     match item {
-        Some(KeyItem::Bound(binding)) => Ok(Some(Ok(binding.command(alloc)?))),
+        Some(KeyItem::Command(key)) => Ok(bound_to(alloc, key)?.map(Ok)),
         Some(KeyItem::Line) => line_command(alloc, line),
         Some(KeyItem::Typed(_)) | Some(KeyItem::Edit) | None => Ok(None),
     }

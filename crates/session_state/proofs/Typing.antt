@@ -9,8 +9,9 @@ use Rattle.std.proofs.lemmas.List.Folds.{list_any-append}
 use Rattle.std.proofs.lemmas.Grind.{flat_map-append}
 use borrow.Author.Count.{below_more}
 use Rattle.keys.specs.declared.reader.KeyItem.{KeyItem}
-use Rattle.keys.specs.declared.reader.KeyItem.TheVariants.{Typed, Bound, Edit, Line}
-use Rattle.keys.specs.Grammar.{Item, items}
+use Rattle.keys.specs.declared.reader.KeyItem.TheVariants.{Typed, Command, Edit, Line}
+use Rattle.command_lang.specs.declared.command.Command.{Command as Bound}
+use Rattle.keys.specs.Grammar.{Item, items, binding, bound_items}
 use Rattle.keys.specs.Kept.{Keeping, StandsFor, item_list}
 use Rattle.session_model.specs.Keying.{items_behind, is_command, completes, typed_byte, typed_bytes, command_item}
 use Rattle.session_state.specs.Reading.{HasRead}
@@ -83,13 +84,17 @@ find_nothing (x ∷ given) none =
     skip (is_command x) x _ (or_left (is_command x) (list_any is_command given) none)
     ∙ find_nothing given (or_right (is_command x) (list_any is_command given) none)
 
+bound_given : (o : Option Bound) → bound_items o ≡ option_to_list (command_item (bound_items o))
+bound_given None = refl
+bound_given (Some c) = refl
+
 -- the command or the line that a key gives
 pub order_given : (item : Option KeyItem) (bytes : List ℕ)
     → list_any is_command (item_list item bytes) ≡ true
     → item_list item bytes ≡ option_to_list (command_item (item_list item bytes))
 order_given None bytes is = refl
 order_given (Some (Typed b)) bytes is = absurd (cc (is))
-order_given (Some (Bound b)) bytes is = refl
+order_given (Some (Command k)) bytes is = bound_given (binding k)
 order_given (Some Edit) bytes is = refl
 order_given (Some Line) bytes is = refl
 

@@ -6,7 +6,7 @@ ghost use Rattle.keys.specs.Kept.{StandsFor, item_list};
 ghost use Rattle.session_model.specs.Keying.{is_command, typed_bytes};
 ghost use Rattle.session_state.specs.Reading.{HasRead};
 
-use keys::{KeyItem, KeyReader};
+use keys::{KeyItem, KeyReader, is_bound};
 use session_model::Bytes;
 use std::alloc::{AllocError, Global};
 
@@ -35,7 +35,11 @@ fn typed_byte(item: Option<KeyItem>) -> Option<u8>
 fn is_order(item: Option<KeyItem>) -> bool
     ensures { (line : List ℕ) → result ≡ list_any is_command (item_list item line) }
 {
-    matches!(item, Some(KeyItem::Bound(_)) | Some(KeyItem::Line))
+    match item {
+        Some(KeyItem::Command(key)) => is_bound(key),
+        Some(KeyItem::Line) => true,
+        Some(KeyItem::Typed(_)) | Some(KeyItem::Edit) | None => false,
+    }
 }
 
 /// Reads keys up to the first one that completes a command or a line. After an `Err` the reader has
