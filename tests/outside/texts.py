@@ -402,7 +402,7 @@ def readme(play):
     for line in ("mux-share --give cole", "mux-share --take", "mux-join dana@host"):
         text.leave(line, "tests/outside/share plays it, with three accounts")
     for line in ("make try-server", "make build", "make install PREFIX=$HOME/.local", "make uninstall", "make dist",
-                 "make test", "make RT=/path/to/rt", "make demo"):
+                 "make test", "make RT=/path/to/rt"):
         text.leave(line, "it builds; tests/outside/package plays what it gives")
     on.open("ann")
     for line in ("new-token ann",
