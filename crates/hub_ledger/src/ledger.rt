@@ -23,6 +23,7 @@ use crate::filed_session::FiledSession;
 use crate::seat::Seat;
 pub use answer::{Answer, HubFault};
 use hub_record::Receipts;
+use hub_trail::writes_entry;
 use session_core::Session;
 use session_model::{Effect, Event};
 use std::alloc::{AllocError, Global};
@@ -67,16 +68,6 @@ impl<L: Begun> Model for Ledger<L> {
         × (length l.filed.waiting.lists.items ≡ L.parts)
         × (length l.filed.waiting.marks.items ≡ L.parts) × (0 < L.parts)
         × (l.filed.entries.edition ≡ L.edition) × (l.filed.entries.owner ≡ L.owner) };
-}
-
-/// Whether the event writes an entry.
-fn writes_entry(event: Event) -> bool
-    ensures { result ≡ is_some (kept_of (happening event.entry)) }
-{
-    !matches!(
-        event,
-        Event::Resize { .. } | Event::Output { .. } | Event::Draw { .. }
-    )
 }
 
 /// A seat with this number and without receipts.

@@ -1,8 +1,9 @@
 //! What a trail keeps of an event and of its reply.
 
-ghost use Rattle.std.specs.Prelude.{◌≡◌, ◌↔◌, IfOk, false, is_ok, true};
+ghost use Rattle.std.specs.Prelude.{◌≡◌, ◌↔◌, IfOk, false, is_ok, is_some, true};
 ghost use Rattle.session_model.specs.Trace.{happening};
 ghost use Rattle.hub_trail.specs.Filing.{copies, ending_of, finished_by, kept_of};
+ghost use Rattle.hub_trail.specs.declared.kept.Kept.TheVariants as kept;
 
 use crate::same::{is_command, is_open};
 use acl::UserId;
@@ -54,6 +55,54 @@ pub struct Finished {
 /// A reply without its text.
 pub type Ending = Result<Finished, Refusal>;
 
+/// What a trail keeps of a Command.
+fn kept_command(
+    alloc: Global,
+    user: UserId,
+    window: Option<u8>,
+    line: &[u8],
+) -> Result<Kept, AllocError>
+    ensures { IfOk result (λ made. made ≡ kept.Command user window line.now) }
+{
+    let line = Bytes::of(alloc, line)?;
+    Ok(Kept::Command { user, window, line })
+}
+
+/// What a trail keeps of an Open.
+fn kept_open(
+    alloc: Global,
+    user: UserId,
+    size: (u16, u16),
+    keep: u16,
+    title: &[u8],
+) -> Result<Kept, AllocError>
+    ensures { IfOk result (λ made. made ≡ kept.Open user size.0 size.1 keep title.now) }
+{
+    let title = Bytes::of(alloc, title)?;
+    Ok(Kept::Open {
+        user,
+        rows: size.0,
+        columns: size.1,
+        keep,
+        title,
+    })
+}
+
+/// Whether the event writes an entry.
+pub fn writes_entry(event: Event) -> bool
+    ensures { result ≡ is_some (kept_of (happening event.entry)) }
+{
+    matches!(
+        event,
+        Event::Attach { .. }
+            | Event::Detach { .. }
+            | Event::Keys { .. }
+            | Event::Command { .. }
+            | Event::Open { .. }
+            | Event::Closed { .. }
+    )
+}
+
 impl Kept {
     /// What a trail keeps of the event; `Ok(None)` if the event writes no entry. `AllocError` if
     /// memory is refused.
@@ -74,28 +123,16 @@ impl Kept {
             },
             Event::Detach { client } => Kept::Detach { client },
             Event::Keys { client, .. } => Kept::Keys { client },
-            Event::Command { user, window, line } => {
-                let line = Bytes::of(alloc, line)?;
-                Kept::Command { user, window, line }
-            }
+            Event::Command { user, window, line } => kept_command(alloc, user, window, line)?,
             Event::Open {
                 user,
                 rows,
                 columns,
                 keep,
                 title,
-            } => {
-                let title = Bytes::of(alloc, title.as_bytes())?;
-                Kept::Open {
-                    user,
-                    rows,
-                    columns,
-                    keep,
-                    title,
-                }
-            }
+            } => kept_open(alloc, user, (rows, columns), keep, title.as_bytes())?,
             Event::Closed { window } => Kept::Closed { window },
-            Event::Resize { .. } | Event::Output { .. } | Event::Draw { .. } => return Ok(None),
+            _ => return Ok(None),
         };
         Ok(Some(kept))
     }
@@ -104,25 +141,20 @@ impl Kept {
     pub fn copy(&self, alloc: Global) -> Result<Kept, AllocError>
         ensures { IfOk result (λ copy. copy ≡ self.now) }
     {
-        match self {
+        let copy = match self {
             Kept::Attach {
                 user,
                 rows,
                 columns,
-            } => Ok(Kept::Attach {
+            } => Kept::Attach {
                 user: *user,
                 rows: *rows,
                 columns: *columns,
-            }),
-            Kept::Detach { client } => Ok(Kept::Detach { client: *client }),
-            Kept::Keys { client } => Ok(Kept::Keys { client: *client }),
+            },
+            Kept::Detach { client } => Kept::Detach { client: *client },
+            Kept::Keys { client } => Kept::Keys { client: *client },
             Kept::Command { user, window, line } => {
-                let line = Bytes::of(alloc, line.as_slice())?;
-                Ok(Kept::Command {
-                    user: *user,
-                    window: *window,
-                    line,
-                })
+                kept_command(alloc, *user, *window, line.as_slice())?
             }
             Kept::Open {
                 user,
@@ -130,18 +162,10 @@ impl Kept {
                 columns,
                 keep,
                 title,
-            } => {
-                let title = Bytes::of(alloc, title.as_slice())?;
-                Ok(Kept::Open {
-                    user: *user,
-                    rows: *rows,
-                    columns: *columns,
-                    keep: *keep,
-                    title,
-                })
-            }
-            Kept::Closed { window } => Ok(Kept::Closed { window: *window }),
-        }
+            } => kept_open(alloc, *user, (*rows, *columns), *keep, title.as_slice())?,
+            Kept::Closed { window } => Kept::Closed { window: *window },
+        };
+        Ok(copy)
     }
 
     /// Whether both events are equal.

@@ -20,7 +20,7 @@ mod says;
 pub use asked::{asks_for_command, from_command};
 pub use fits::{all_shut, attaches_one, opens_one};
 pub use has::{has_act_of, has_closed, has_come, has_gone, has_opened};
-pub use kept::{Ending, Finished, Kept, ending_of};
+pub use kept::{Ending, Finished, Kept, ending_of, writes_entry};
 pub use laws::{entries_are_judgeable, trails_are_judgeable};
 pub use makes::made_by;
 pub use says::{gives, is_listed, leads, removes};

@@ -30,13 +30,12 @@ PutsFront kind bytes old new =
 abbrev pub PutsMessage : Message → Waiting → Waiting → Type 0
 PutsMessage m old new = new ≡ record old { unsent = old.unsent ++ spelling m }
 
--- what a peer is sent: bytes in frames, anything else in a message
+-- what a peer is sent: bytes in frames, anything else in one message
 abbrev pub Sends : Sending → Waiting → Waiting → Type 0
-Sends (sending.Welcome number) = PutsMessage (message.Welcome number)
+Sends (sending.Message m) = PutsMessage m.now
 Sends (sending.Draw bytes) = PutsFrames kind.Draw bytes.now
 Sends (sending.Input bytes) = PutsFrames kind.Input bytes.now
 Sends (sending.Say text) = PutsMessage (message.Say text.now)
-Sends (sending.Size rows columns) = PutsMessage (message.Size rows columns)
 
 -- what was put if it wasn't put whole: of bytes the frames of the first ones, of a message nothing
 abbrev pub SendsFront : Sending → Waiting → Waiting → Type 0
@@ -44,7 +43,8 @@ SendsFront (sending.Draw bytes) old new = PutsFront kind.Draw bytes.now old new
 SendsFront (sending.Input bytes) old new = PutsFront kind.Input bytes.now old new
 SendsFront other old new = new ≡ old
 
--- no frame can hold it: a text that is too long, or bytes that are no text
+-- no frame can hold it: a message that isn't spellable, a text that is too long, or bytes that are no text
 abbrev pub IsUnspellable : Sending → Type 0
+IsUnspellable (sending.Message m) = ¬ (IsSpellable m.now)
 IsUnspellable (sending.Say text) = ¬ (IsSpellable (message.Say text.now))
 IsUnspellable other = ⊥

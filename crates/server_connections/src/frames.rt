@@ -33,16 +33,14 @@ pub fn why_of(reason: Reason) -> Why {
 /// What a peer is sent before its last frame.
 #[derive(Clone, Copy, Debug)]
 pub enum Sending<'a> {
-    /// The number of a window that began; 0 for others.
-    Welcome(u8),
+    /// A message in one frame.
+    Message(&'a Message),
     /// Bytes for a client's terminal.
     Draw(&'a [u8]),
     /// Bytes for a window's program.
     Input(&'a [u8]),
     /// A text for the user.
     Say(&'a [u8]),
-    /// The lines and columns of a window.
-    Size(u16, u16),
 }
 
 /// Puts a message after what waits.
@@ -82,7 +80,7 @@ fn put_frames(turn: &mut Turn, kind: Kind, bytes: &[u8]) -> Result<(), AllocErro
 }
 
 /// Puts something after what waits for a peer. Bytes that are too long for one frame go into several.
-/// A text that no frame can hold is `Unspellable`. If memory is refused, the first of the bytes may
+/// What no frame can hold is `Unspellable`. If memory is refused, the first of the bytes may
 /// have been put.
 pub fn put(alloc: Global, turn: &mut Turn, sending: Sending) -> Result<(), WriteFault>
     ensures ok { OnOk result (Sends sending.entry turn.old turn.new) }
@@ -90,10 +88,9 @@ pub fn put(alloc: Global, turn: &mut Turn, sending: Sending) -> Result<(), Write
     ensures err { OnErr result (SendsFront sending.entry turn.old turn.new) }
 {
     match sending {
-        Sending::Welcome(number) => put_message(alloc, turn, &Message::Welcome(number)),
+        Sending::Message(message) => put_message(alloc, turn, message),
         Sending::Draw(bytes) => Ok(put_frames(turn, Kind::Draw, bytes)?),
         Sending::Input(bytes) => Ok(put_frames(turn, Kind::Input, bytes)?),
         Sending::Say(text) => put_text(alloc, turn, text),
-        Sending::Size(rows, columns) => put_message(alloc, turn, &Message::Size { rows, columns }),
     }
 }

@@ -283,7 +283,7 @@ impl<S: Read + Write + Drop, G: Gate + Drop, J: SessionSeat + Drop> Loop<S, G, J
             peer.join(role, guest);
         }
         self.tell(News::Came(guest));
-        self.send(rt, key, Sending::Welcome(done.number));
+        self.send(rt, key, Sending::Message(&Message::Welcome(done.number)));
     }
 
     // No effect tells of a `quit` if no window is open and nobody is attached, so its line is read
@@ -317,7 +317,7 @@ impl<S: Read + Write + Drop, G: Gate + Drop, J: SessionSeat + Drop> Loop<S, G, J
         is_quit: bool,
     ) {
         let Newcomer { key, user } = newcomer;
-        self.send(rt, key, Sending::Welcome(0));
+        self.send(rt, key, Sending::Message(&Message::Welcome(0)));
         match &answer.reply {
             Ok(done) => {
                 self.tell(News::Done(user));

@@ -2,7 +2,7 @@
 
 use crate::gate::Gate;
 use crate::own::Loop;
-use attach_proto::Why;
+use attach_proto::{Message, Why};
 use server_connections::{
     End, Role, SeatFault, Sending, SessionSeat, Stage, each_awake, put, why_of,
 };
@@ -70,7 +70,10 @@ impl<S: Read + Write + Drop, G: Gate + Drop, J: SessionSeat + Drop> Loop<S, G, J
                 Effect::Size(window, rows, columns) => self.hand(
                     rt,
                     Role::Window(*window),
-                    Sending::Size(*rows, *columns),
+                    Sending::Message(&Message::Size {
+                        rows: *rows,
+                        columns: *columns,
+                    }),
                 ),
                 Effect::GoneWindow(window, reason) => self.let_go(Role::Window(*window), *reason),
                 Effect::GoneClient(client, reason) => self.let_go(Role::Client(*client), *reason),

@@ -107,10 +107,13 @@ event_then e rest = of_parts (parts_then rest) (event_of e)
 
 -- the kinds of events of which something is kept
 abbrev pub is_kept : EventKind → Bool
-is_kept kind.Resize = false
-is_kept kind.Output = false
-is_kept kind.Draw = false
-is_kept k = true
+is_kept kind.Attach = true
+is_kept kind.Detach = true
+is_kept kind.Keys = true
+is_kept kind.Command = true
+is_kept kind.Open = true
+is_kept kind.Closed = true
+is_kept k = false
 
 -- what is kept of an event, and the bytes after it
 abbrev pub kept_with : EventValue × List ℕ → Option (Kept × List ℕ)

@@ -260,7 +260,7 @@ fn event_by(alloc: Global, kind: EventKind, rest: &[u8]) -> Result<(Kept, &[u8])
         EventKind::Command => command_at(alloc, rest),
         EventKind::Open => open_at(alloc, rest),
         EventKind::Closed => closed_at(rest).ok_or(UnreadLine::Malformed),
-        EventKind::Resize | EventKind::Output | EventKind::Draw => Err(UnreadLine::Malformed),
+        _ => Err(UnreadLine::Malformed),
     }
 }
 
