@@ -2,7 +2,7 @@
 
 ghost use Rattle.std.specs.Prelude.{◌≡◌, ℕ, ◌+◌, ◌*◌, ◌-◌, ◌<◌, ◌≤◌, ◌↔◌, [], ◌∷◌, length, replicate};
 ghost use Rattle.std.specs.Prelude.{IfOk, Err, false, slice_index};
-ghost use Rattle.cells.specs.Line.{blank, unprotected_erased, narrow_cells, plain};
+ghost use Rattle.cells.specs.Line.{blank, unprotected_erased, narrow_cells, narrow_cells_of, plain};
 ghost use Rattle.cells.specs.Wide.{wide_cells};
 ghost use Rattle.cells.specs.Page.{IsGrid, IsGridSize, line_at, page_from, page_marked};
 ghost use Rattle.cells.specs.Page.{page_spliced, edited};
@@ -12,7 +12,7 @@ ghost use Rattle.scrollback.specs.Kept.{with_line, Continues};
 ghost use Rattle.vt_screen_page.specs.Store.{placed_in_order, turned};
 
 use crate::store;
-use cells::{Cell, GridFault, Line, Rendition, Shape, blank_lines, is_grid_size};
+use cells::{Cell, CodeUnit, GridFault, Line, Rendition, Shape, blank_lines, is_grid_size};
 use scrollback::Ring;
 use std::alloc::{AllocError, Global};
 use std::marker::Model;
@@ -151,46 +151,25 @@ impl Page {
         self.stored[place as usize].put_wide(at, left, right, rest);
     }
 
-    /// Puts characters of width 1 over as many old cells of a line. `codes` has their code points.
-    /// An old half that loses its other half becomes blank.
-    pub fn put_run(
+    /// Puts characters of width 1 over as many old cells of a line. An old half that loses its
+    /// other half becomes blank.
+    pub fn put_run<U: CodeUnit>(
         &mut self,
         line: usize,
         at: usize,
-        codes: &[u8],
+        units: &[U],
         rendition: Rendition,
         is_protected: bool,
     )
         requires line_inside { line < length self.old.lines }
-        requires room { at + length codes.now ≤ length (line_at self.old.lines line) }
+        requires room { at + length units.now ≤ length (line_at self.old.lines line) }
         ensures lines { self.new.lines
-            ≡ page_spliced line at (narrow_cells codes.now rendition is_protected)
-            (at + length codes.now) self.old.lines }
+            ≡ page_spliced line at (narrow_cells_of U.code_of units.now rendition is_protected)
+            (at + length units.now) self.old.lines }
         ensures places { self.new.places ≡ self.old.places }
     {
         let place = self.places[line];
-        self.stored[place as usize].put_run(at, codes, rendition, is_protected);
-    }
-
-    /// Puts characters of width 1, from all of Unicode, over as many old cells of a line. An old
-    /// half that loses its other half becomes blank.
-    pub fn put_letters(
-        &mut self,
-        line: usize,
-        at: usize,
-        letters: &[char],
-        rendition: Rendition,
-        is_protected: bool,
-    )
-        requires line_inside { line < length self.old.lines }
-        requires room { at + length letters.now ≤ length (line_at self.old.lines line) }
-        ensures lines { self.new.lines
-            ≡ page_spliced line at (narrow_cells letters.now rendition is_protected)
-            (at + length letters.now) self.old.lines }
-        ensures places { self.new.places ≡ self.old.places }
-    {
-        let place = self.places[line];
-        self.stored[place as usize].put_letters(at, letters, rendition, is_protected);
+        self.stored[place as usize].put_run(at, units, rendition, is_protected);
     }
 
     /// Puts characters of width 2 over twice as many old cells of a line. An old half that loses
