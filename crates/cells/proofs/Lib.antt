@@ -16,3 +16,4 @@ pub mod Looks
 pub mod Wides
 pub mod WideRuns
 pub mod UsedSplices
+pub mod Units

@@ -4,12 +4,13 @@ ghost use Rattle.std.specs.Prelude.{◌≡◌, ◌+◌, ◌*◌, ◌-◌, ◌<�
 ghost use Rattle.std.specs.Prelude.{IsTrue};
 ghost use Rattle.std.specs.List.{copy_within};
 ghost use Rattle.cells.specs.Line.{cells_from, cells_spliced, IsPaired, cut_of, blank};
-ghost use Rattle.cells.specs.Line.{unprotected_erased, fresh_at, narrow_cell, narrow_cells};
+ghost use Rattle.cells.specs.Line.{unprotected_erased, fresh_at, narrow_cell, narrow_cells_of};
 ghost use Rattle.cells.specs.Line.{ArePlainFrom, plain, left_cell, right_cell};
 ghost use Rattle.cells.specs.Put.{AreNarrow, AreNarrowIn, IsPut};
 ghost use Rattle.cells.specs.Wide.{wide_cells};
 
 use crate::cell::{Cell, Rendition, Shape};
+use crate::unit::CodeUnit;
 
 /// Blanks both halves of a wide character that the boundary before column `at` would cut.
 pub fn cut(cells: &mut [Cell], at: usize)
@@ -168,60 +169,35 @@ fn copy_over(cells: &mut [Cell], at: usize, fresh: &[Cell])
     cells[at..at + fresh.len()].copy_from_slice(fresh);
 }
 
-/// Puts characters of width 1 over as many old cells, from `at` on. `codes` has their code points.
-pub fn put_run(
+/// Puts characters of width 1 over as many old cells, from `at` on.
+pub fn put_run<U: CodeUnit>(
     cells: &mut [Cell],
     at: usize,
-    codes: &[u8],
+    units: &[U],
     rendition: Rendition,
     is_protected: bool,
 )
     requires paired { IsPaired cells.old }
-    requires room { at + length codes.now ≤ length cells.old }
+    requires room { at + length units.now ≤ length cells.old }
     ensures { cells.new ≡ cells_spliced at
-        (narrow_cells codes.now rendition is_protected) (at + length codes.now) cells.old }
+        (narrow_cells_of U.code_of units.now rendition is_protected) (at + length units.now)
+        cells.old }
 {
-    if codes.is_empty() {
+    if units.is_empty() {
         return;
     }
-    if codes.len() == 1 {
-        let cell = Cell::narrow(codes[0] as char, rendition, is_protected);
+    if units.len() == 1 {
+        let cell = Cell::narrow(units[0].character(), rendition, is_protected);
         put_narrow(cells, at, cell, at + 1);
         return;
     }
     cut(cells, at);
-    cut(cells, at + codes.len());
+    cut(cells, at + units.len());
     let space = space_cell(rendition, is_protected);
-    for column in 0..codes.len() {
-        let character = codes[column] as char;
+    for column in 0..units.len() {
+        let character = units[column].character();
         let mut cell = space;
         cell.character = character;
-        cells[at + column] = cell;
-    }
-}
-
-/// Puts characters of width 1, from all of Unicode, over as many old cells, from `at` on.
-pub fn put_letters(
-    cells: &mut [Cell],
-    at: usize,
-    letters: &[char],
-    rendition: Rendition,
-    is_protected: bool,
-)
-    requires paired { IsPaired cells.old }
-    requires room { at + length letters.now ≤ length cells.old }
-    ensures { cells.new ≡ cells_spliced at
-        (narrow_cells letters.now rendition is_protected) (at + length letters.now) cells.old }
-{
-    if letters.is_empty() {
-        return;
-    }
-    cut(cells, at);
-    cut(cells, at + letters.len());
-    let pattern = space_cell(rendition, is_protected);
-    for column in 0..letters.len() {
-        let mut cell = pattern;
-        cell.character = letters[column];
         cells[at + column] = cell;
     }
 }
@@ -266,52 +242,27 @@ fn space_halves(rendition: Rendition, is_protected: bool) -> (Cell, Cell)
 }
 
 /// Puts characters of width 1 without rendition or protection over as many cells, from `at` on.
-/// `codes` has their code points. All old cells from `at` on differ from blanks in their characters
-/// only, so only characters are written: eight at a time, which makes the loop itself cheap.
-pub fn put_run_over_plain(cells: &mut [Cell], at: usize, codes: &[u8])
+/// All old cells from `at` on differ from blanks in their characters only, so only characters are
+/// written: eight at a time, which makes the loop itself cheap.
+pub fn put_run_over_plain<U: CodeUnit>(cells: &mut [Cell], at: usize, units: &[U])
     requires paired { IsPaired cells.old }
     requires plain { ArePlainFrom at cells.old }
-    requires room { at + length codes.now ≤ length cells.old }
+    requires room { at + length units.now ≤ length cells.old }
     ensures { cells.new ≡ cells_spliced at
-        (narrow_cells codes.now plain false) (at + length codes.now) cells.old }
+        (narrow_cells_of U.code_of units.now plain false) (at + length units.now) cells.old }
 {
-    if codes.is_empty() {
+    if units.is_empty() {
         return;
     }
-    let eights = codes.len() / 8;
+    let eights = units.len() / 8;
     for eight in 0..eights {
         for place in 0..8 {
             let column = 8 * eight + place;
-            cells[at + column].character = codes[column] as char;
+            cells[at + column].character = units[column].character();
         }
     }
-    for column in 8 * eights..codes.len() {
-        cells[at + column].character = codes[column] as char;
-    }
-}
-
-/// Puts characters of width 1, from all of Unicode, without rendition or protection over as many
-/// cells, from `at` on. All old cells from `at` on differ from blanks in their characters only, so
-/// only characters are written, eight at a time.
-pub fn put_letters_over_plain(cells: &mut [Cell], at: usize, letters: &[char])
-    requires paired { IsPaired cells.old }
-    requires plain { ArePlainFrom at cells.old }
-    requires room { at + length letters.now ≤ length cells.old }
-    ensures { cells.new ≡ cells_spliced at
-        (narrow_cells letters.now plain false) (at + length letters.now) cells.old }
-{
-    if letters.is_empty() {
-        return;
-    }
-    let eights = letters.len() / 8;
-    for eight in 0..eights {
-        for place in 0..8 {
-            let column = 8 * eight + place;
-            cells[at + column].character = letters[column];
-        }
-    }
-    for column in 8 * eights..letters.len() {
-        cells[at + column].character = letters[column];
+    for column in 8 * eights..units.len() {
+        cells[at + column].character = units[column].character();
     }
 }
 

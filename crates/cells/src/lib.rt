@@ -7,10 +7,12 @@ mod glyph;
 mod grid;
 mod line;
 mod shifting;
+mod unit;
 mod unlike;
 
 pub use cell::{Cell, Colour, Marks, Rendition, Shape};
 pub use glyph::{drawn_as, glyph_columns, glyph_width};
 pub use grid::{Grid, GridFault, blank_lines, is_grid_size};
 pub use line::Line;
+pub use unit::CodeUnit;
 pub use unlike::next_unlike;

@@ -5,13 +5,14 @@ ghost use Rattle.std.specs.Prelude.{IsTrue, false};
 ghost use Rattle.std.specs.Prelude.{slice_set};
 ghost use Rattle.cells.specs.Line.{cells_from, cells_spliced, cell_at, marked, IsPaired};
 ghost use Rattle.cells.specs.Line.{IsBlankFrom, blank, unprotected_erased, narrow_cell};
-ghost use Rattle.cells.specs.Line.{narrow_cells, ArePlainFrom, plain};
+ghost use Rattle.cells.specs.Line.{narrow_cells, narrow_cells_of, ArePlainFrom, plain};
 ghost use Rattle.cells.specs.Wide.{wide_cells};
 ghost use Rattle.cells.specs.Resizing.{line_resized};
 
 use crate::cell::{Cell, Rendition, Shape};
 use crate::edits;
 use crate::shifting::splice_used;
+use crate::unit::CodeUnit;
 use std::alloc::{AllocError, Global};
 use std::marker::Model;
 
@@ -74,43 +75,25 @@ fn clear_behind_run(cells: &mut [Cell], used: usize, is_plain: bool, codes: &[u8
 
 /// Puts characters of width 1 over as many cells, from `at` on, each in a copy of a space. The
 /// cells from `plain_from` on differ from blanks in their characters only.
-fn put_run_behind(cells: &mut [Cell], plain_from: usize, at: usize, codes: &[u8], space: Cell)
-    requires paired { IsPaired cells.old }
-    requires plain { ArePlainFrom plain_from cells.old }
-    requires room { at + length codes.now ≤ length cells.old }
-    requires space { space ≡ narrow_cell 0x20 space.rendition space.is_protected }
-    ensures { cells.new ≡ cells_spliced at
-        (narrow_cells codes.now space.rendition space.is_protected)
-        (at + length codes.now) cells.old }
-{
-    if codes.len() > 1 && plain_from <= at && space.is_blank() {
-        edits::put_run_over_plain(cells, at, codes);
-    } else {
-        edits::put_run(cells, at, codes, space.rendition, space.is_protected);
-    }
-}
-
-/// Puts characters of width 1, from all of Unicode, over as many cells, from `at` on, each in a copy
-/// of a space. The cells from `plain_from` on differ from blanks in their characters only.
-fn put_letters_behind(
+fn put_run_behind<U: CodeUnit>(
     cells: &mut [Cell],
     plain_from: usize,
     at: usize,
-    letters: &[char],
+    units: &[U],
     space: Cell,
 )
     requires paired { IsPaired cells.old }
     requires plain { ArePlainFrom plain_from cells.old }
-    requires room { at + length letters.now ≤ length cells.old }
+    requires room { at + length units.now ≤ length cells.old }
     requires space { space ≡ narrow_cell 0x20 space.rendition space.is_protected }
     ensures { cells.new ≡ cells_spliced at
-        (narrow_cells letters.now space.rendition space.is_protected)
-        (at + length letters.now) cells.old }
+        (narrow_cells_of U.code_of units.now space.rendition space.is_protected)
+        (at + length units.now) cells.old }
 {
-    if plain_from <= at && space.is_blank() {
-        edits::put_letters_over_plain(cells, at, letters);
+    if units.len() > 1 && plain_from <= at && space.is_blank() {
+        edits::put_run_over_plain(cells, at, units);
     } else {
-        edits::put_letters(cells, at, letters, space.rendition, space.is_protected);
+        edits::put_run(cells, at, units, space.rendition, space.is_protected);
     }
 }
 
@@ -287,37 +270,24 @@ impl Line {
         if self.is_plain { 0 } else { self.used }
     }
 
-    /// Puts characters of width 1 over as many old cells, from `at` on. `codes` has their code
-    /// points. An old half that loses its other half becomes blank.
-    pub fn put_run(&mut self, at: usize, codes: &[u8], rendition: Rendition, is_protected: bool)
-        requires room { at + length codes.now ≤ length self.old }
-        ensures { self.new ≡ cells_spliced at
-            (narrow_cells codes.now rendition is_protected) (at + length codes.now) self.old }
-    {
-        let space = Cell::narrow(' ', rendition, is_protected);
-        let plain_from = self.plain_from();
-        put_run_behind(self.cells.as_mut_slice(), plain_from, at, codes, space);
-        self.used = self.used.max(at + codes.len());
-        self.is_plain = self.is_plain & space.is_blank();
-    }
-
-    /// Puts characters of width 1, from all of Unicode, over as many old cells, from `at` on. An
-    /// old half that loses its other half becomes blank.
-    pub fn put_letters(
+    /// Puts characters of width 1 over as many old cells, from `at` on. An old half that loses its
+    /// other half becomes blank.
+    pub fn put_run<U: CodeUnit>(
         &mut self,
         at: usize,
-        letters: &[char],
+        units: &[U],
         rendition: Rendition,
         is_protected: bool,
     )
-        requires room { at + length letters.now ≤ length self.old }
+        requires room { at + length units.now ≤ length self.old }
         ensures { self.new ≡ cells_spliced at
-            (narrow_cells letters.now rendition is_protected) (at + length letters.now) self.old }
+            (narrow_cells_of U.code_of units.now rendition is_protected) (at + length units.now)
+            self.old }
     {
         let space = Cell::narrow(' ', rendition, is_protected);
         let plain_from = self.plain_from();
-        put_letters_behind(self.cells.as_mut_slice(), plain_from, at, letters, space);
-        self.used = self.used.max(at + letters.len());
+        put_run_behind(self.cells.as_mut_slice(), plain_from, at, units, space);
+        self.used = self.used.max(at + units.len());
         self.is_plain = self.is_plain & space.is_blank();
     }
 

@@ -1,6 +1,6 @@
 //! Runs of characters.
 
-ghost use Rattle.std.specs.Prelude.{◌≡◌, ◌↔◌, ℕ, ◌+◌, ◌*◌, ◌<◌, ◌≤◌, true, false, length, take};
+ghost use Rattle.std.specs.Prelude.{◌≡◌, ◌↔◌, ℕ, ◌+◌, ◌*◌, ◌<◌, ◌≤◌, true, false, length, map, take};
 ghost use Rattle.std.specs.Prelude.{IsTrue, slice_index};
 ghost use Rattle.std.specs.List.{list_all};
 ghost use Rattle.charsets.specs.Shifts.{set_at};
@@ -12,6 +12,7 @@ ghost use Rattle.vt_screen_rows.specs.Runs.{IsWide, is_letter, wides_placed};
 
 use crate::display::Display;
 use crate::printing::{is_letter, is_mark};
+use cells::CodeUnit;
 use charsets::{CharacterSet, Place, Shifts};
 use terminal_model::State;
 use unicode_width::UnicodeWidthChar;
@@ -182,38 +183,17 @@ impl Display {
         let is_due = self.state.is_wrap_pending;
         self.wrap(is_due);
         let count = letters.len().min(self.state.columns - self.state.column);
-        self.place_letters(&letters[..count]);
+        self.place_run(&letters[..count]);
         count
     }
 
-    /// Puts letters, which have width 1, in the cursor's line, over as many old cells.
-    fn place_letters(&mut self, letters: &[char])
+    /// Puts characters of width 1 in the cursor's line, over as many old cells.
+    pub fn place_run<U: CodeUnit>(&mut self, units: &[U])
         requires fit { IsFit self.old }
-        requires some { 0 < length letters.now }
-        requires room { self.old.state.column + length letters.now ≤ self.old.state.columns }
-        ensures screen { screen_of self.new ≡ run_placed letters.now (screen_of self.old) }
-        ensures lines { KeepsLines self.old self.new }
-    {
-        self.page.put_letters(
-            CellPosition {
-                line: self.state.line,
-                column: self.state.column,
-            },
-            letters,
-            self.state.rendition,
-            self.state.is_protecting,
-        );
-        self.state.column += letters.len() - 1;
-        advance(&mut self.state, 1);
-    }
-
-    /// Puts characters of width 1 in the cursor's line, over as many old cells: `codes` has their
-    /// code points.
-    pub fn place_run(&mut self, codes: &[u8])
-        requires fit { IsFit self.old }
-        requires some { 0 < length codes.now }
-        requires room { self.old.state.column + length codes.now ≤ self.old.state.columns }
-        ensures screen { screen_of self.new ≡ run_placed codes.now (screen_of self.old) }
+        requires some { 0 < length units.now }
+        requires room { self.old.state.column + length units.now ≤ self.old.state.columns }
+        ensures screen { screen_of self.new
+            ≡ run_placed (map U.code_of units.now) (screen_of self.old) }
         ensures lines { KeepsLines self.old self.new }
     {
         self.page.put_run(
@@ -221,11 +201,11 @@ impl Display {
                 line: self.state.line,
                 column: self.state.column,
             },
-            codes,
+            units,
             self.state.rendition,
             self.state.is_protecting,
         );
-        self.state.column += codes.len() - 1;
+        self.state.column += units.len() - 1;
         advance(&mut self.state, 1);
     }
 }

@@ -1,4 +1,5 @@
 use Rattle.std.proofs.Common.{◌≡◌, ◌<◌, true, length, take, ℕ, List, refl, sym, ap, ◌∙◌, subst, arith, length-take, min}
+use Rattle.std.proofs.lemmas.List.{map-id}
 use Rattle.std.specs.List.{list_all}
 use Rattle.vt_screen_rows.specs.Runs.{is_letter}
 use Rattle.terminal_model.specs.Screen.{Screen, IsSound}
@@ -29,6 +30,7 @@ returns-clause-screen c =
     c.args.codes.now in
     let some : 0 < length codes = omega (arith, c.requires.some) in
     c.place_run.ensures.screen
+    ∙ ap (λ (cs : List ℕ). run_placed cs (screen_of c.wrap.new.self)) (map-id codes)
     ∙ ap (run_placed codes) c.wrap.ensures.screen
     ∙ sym
     (run_is codes w (takes-wrapped x x.state.is_wrap_pending takes) (settled-wrapped x x.state.is_wrap_pending refl)

@@ -1,4 +1,5 @@
 use Rattle.std.proofs.Common.{◌≡◌, ◌<◌, true, length, take, ℕ, List, refl, sym, ap, ◌∙◌, subst, arith, length-take, min}
+use Rattle.std.proofs.lemmas.List.{map-id}
 use Rattle.std.specs.List.{list_all}
 use Rattle.vt_screen_rows.specs.Runs.{is_letter}
 use Rattle.terminal_model.specs.Screen.{Screen, IsSound}
@@ -27,7 +28,8 @@ returns-clause-screen c =
     let n : length codes ≡ min c.min-count.result (length c.args.letters.now) = length-take c.min-count.result
     c.args.letters.now in
     let some : 0 < length codes = omega (arith, c.requires.some) in
-    c.place_letters.ensures.screen
+    c.place_run.ensures.screen
+    ∙ ap (λ (cs : List ℕ). run_placed cs (screen_of c.wrap.new.self)) (map-id codes)
     ∙ ap (run_placed codes) c.wrap.ensures.screen
     ∙ sym
     (run_is codes w (takes-wrapped x x.state.is_wrap_pending takes) (settled-wrapped x x.state.is_wrap_pending refl)
@@ -35,9 +37,9 @@ returns-clause-screen c =
     ∙ prints_wrapped x codes takes letters some
 
 pub returns-clause-fit : goal.returns-clause-fit
-returns-clause-fit c = all_acted_fit c.args.self.now c.place_letters.new.self
+returns-clause-fit c = all_acted_fit c.args.self.now c.place_run.new.self
     (prints (take c.min-count.result c.args.letters.now)) c.requires.fit (returns-clause-screen c)
-    (c.place_letters.ensures.lines.width ∙ c.wrap.ensures.lines.width)
+    (c.place_run.ensures.lines.width ∙ c.wrap.ensures.lines.width)
 
 pub returns-clause-places : goal.returns-clause-places
 returns-clause-places c =
@@ -56,5 +58,5 @@ returns-clause-places c =
     let n : length codes ≡ min c.min-count.result (length c.args.letters.now) = length-take c.min-count.result
     c.args.letters.now in
     let some : 0 < length codes = omega (arith, c.requires.some) in
-    c.place_letters.ensures.lines.places ∙ c.wrap.ensures.lines.places
+    c.place_run.ensures.lines.places ∙ c.wrap.ensures.lines.places
     ∙ sym (prints_places x codes c.args.self.now.page.places takes letters some sound (omega arith))
