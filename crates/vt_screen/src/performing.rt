@@ -1,19 +1,22 @@
 //! Performs all the actions of a control function.
 
-ghost use Rattle.std.specs.Prelude.{◌≡◌, ◌≤◌, [], None, false, length, IfSome};
-ghost use Rattle.terminal_model.specs.Functions.{alone, control_action, each, sequence_actions};
+ghost use Rattle.std.specs.Prelude.{◌≡◌, ◌≤◌, [], None, Some, false, length, IfSome, IsTrue};
+ghost use Rattle.terminal_model.specs.Functions.{alone, control_action, each, rendered, sequence_actions};
 ghost use Rattle.terminal_model.specs.Reports.{all_answered};
+ghost use Rattle.terminal_model.specs.Table.{acted};
 ghost use Rattle.vt_screen_state.specs.Acting.{actions_in};
 ghost use Rattle.vt_screen_state.specs.Counted.{AreCounted, IsCounted};
-ghost use Rattle.vt_screen_state.specs.Meanings.{meaning};
+ghost use Rattle.vt_screen_state.specs.Meanings.{is_render, meaning};
 ghost use Rattle.vt_screen_state.specs.Silent.{IsSilent};
-ghost use Rattle.vt_screen_rows.specs.Acting.{ActsByAll, MovesLinesByAll};
+ghost use Rattle.vt_screen_rows.specs.Acting.{ActsByAll, MovesLinesBy, MovesLinesByAll};
 ghost use Rattle.vt_screen_rows.specs.Displays.{IsFit, screen_of};
 ghost use Rattle.vt_screen.specs.Performing.{Performs, PerformsIf};
 
 use terminal_model::{Action, Report};
 use vt_screen_rows::Display;
-use vt_screen_state::{Acts, Setting, control_action, sequence_acts};
+use vt_screen_state::{
+    Acts, Setting, control_action, render_value, rendition_action, sequence_acts,
+};
 
 /// Performs the actions of a control function, in turn, and returns the answer.
 #[inline(always)]
@@ -141,10 +144,42 @@ fn set_each(display: &mut Display, setting: Setting, values: &[u16])
     requires { IsFit display.old }
     ensures { Performs display.old (each (meaning setting) values.now) display.new }
 {
+    if let Setting::Rendition = setting {
+        return render_each(display, values);
+    }
     for value in values {
         if let Some(action) = setting.action(*value) {
             display.apply_row(action);
         }
+    }
+}
+
+/// Performs SGR of each value that is known, in turn.
+#[inline(always)]
+fn render_each(display: &mut Display, values: &[u16])
+    requires { IsFit display.old }
+    ensures { Performs display.old (each rendered values.now) display.new }
+{
+    for value in values {
+        if let Some(action) = rendition_action(*value) {
+            render_known(display, action, *value);
+        }
+    }
+}
+
+/// Performs the action of a known value of SGR. Which value it is can't be foreseen, so that there
+/// is no branch on the attribute.
+#[inline(always)]
+fn render_known(display: &mut Display, action: Action, value: u16)
+    requires fit { IsFit display.old }
+    requires known { rendered value ≡ Some action }
+    requires renders { IsTrue (is_render action) }
+    ensures screen { screen_of display.new ≡ acted (screen_of display.old) action }
+    ensures fit { IsFit display.new }
+    ensures places { MovesLinesBy display.old action display.new }
+{
+    if let Action::Render(_) = action {
+        render_value(&mut display.state, value);
     }
 }
 

@@ -8,6 +8,7 @@ mod erasing;
 mod escapes;
 mod margins;
 mod modes;
+mod rendition;
 mod report;
 mod saved;
 mod sequences;
@@ -26,8 +27,9 @@ pub use modes::{
     designate, protect, render, set_application_keypad, set_coding, set_eight_bit_reports,
     set_mode, shift, soft_reset, starting_state,
 };
+pub use rendition::render_value;
 pub use report::report_of;
 pub use saved::{fit_saved, restore, saved_of};
 pub use sequences::sequence_acts;
 pub use tabs::Tabs;
-pub use values::Setting;
+pub use values::{Setting, rendition_action};

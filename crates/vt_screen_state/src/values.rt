@@ -1,9 +1,9 @@
 //! The functions with several values.
 
-ghost use Rattle.std.specs.Prelude.{◌≡◌, IfSome};
+ghost use Rattle.std.specs.Prelude.{◌≡◌, IfSome, IsTrue};
 ghost use Rattle.terminal_model.specs.Functions.{colour_action, mode_set, private_mode_set};
 ghost use Rattle.terminal_model.specs.Functions.{rendered};
-ghost use Rattle.vt_screen_state.specs.Meanings.{meaning};
+ghost use Rattle.vt_screen_state.specs.Meanings.{is_render, meaning};
 ghost use Rattle.vt_screen_state.specs.Counted.{IsCounted};
 ghost use Rattle.vt_screen_state.specs.Silent.{IsSilent};
 
@@ -37,8 +37,9 @@ impl Setting {
 }
 
 /// The action of a value of SGR (ECMA-48, 8.3.117). None if the value isn't known.
-fn rendition_action(value: u16) -> Option<Action>
+pub fn rendition_action(value: u16) -> Option<Action>
     ensures value { result ≡ rendered value }
+    ensures renders { IfSome result (λ action. IsTrue (is_render action)) }
     ensures counted { IfSome result IsCounted }
     ensures silent { IfSome result IsSilent }
 {
@@ -59,6 +60,7 @@ fn rendition_action(value: u16) -> Option<Action>
 /// The action of a value of SGR that names a colour. None for any other value.
 fn colour_action(value: u16) -> Option<Action>
     ensures value { result ≡ colour_action value }
+    ensures renders { IfSome result (λ action. IsTrue (is_render action)) }
     ensures counted { IfSome result IsCounted }
     ensures silent { IfSome result IsSilent }
 {
