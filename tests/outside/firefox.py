@@ -121,6 +121,12 @@ class Tab:
         for it in text:
             self.key("Enter" if it == "\r" else it)
 
+    def paste(self, text):
+        """Pastes a text from the clipboard: Firefox gives none to a paste that a script makes."""
+        helper = "Cc['@mozilla.org/widget/clipboardhelper;1'].getService(Ci.nsIClipboardHelper)"
+        copy = f"{helper}.copyString({json.dumps(text)})"
+        self.of_browser(f"({copy}, Services.wm.getMostRecentWindow('navigator:browser').goDoCommand('cmd_paste'))")
+
     def size(self, width, height):
         """Changes the window's size, of which the browser's bars are a part."""
         self("WebDriver:SetWindowRect", width=width, height=height)
@@ -130,11 +136,17 @@ class Tab:
             out.write(base64.b64decode(self("WebDriver:TakeScreenshot", full=False)["value"]))
 
     def faults(self):
-        """What the browser complained of: broken policies, and errors of the page's scripts."""
+        """What the browser complained of: broken policies, and errors of the page's scripts.  Firefox asks each site
+        for an icon, and tells that the policy lets it have none."""
+        return self.of_browser("Services.console.getMessageArray().map((it) => String(it.message))"
+                               ".filter((it) => /mux\\.js|Content-Security-Policy/.test(it))"
+                               ".filter((it) => !/favicon\\.ico/.test(it))")
+
+    def of_browser(self, text):
+        """The value of an expression in the browser's own code."""
         self("Marionette:SetContext", value="chrome")
         try:
-            return self.value("Services.console.getMessageArray().map((it) => String(it.message))"
-                              ".filter((it) => /mux\\.js|Content-Security-Policy/.test(it))")
+            return self.value(text)
         finally:
             self("Marionette:SetContext", value="content")
 

@@ -6,11 +6,10 @@ use Rattle.std.specs.List.{flat_map, AllByRecursion}
 use Rattle.attach_proto.specs.declared.message.Message.{Message}
 use Rattle.attach_proto.specs.declared.message.Message.TheVariants.{Attach, Keys, Resize, Detach}
 use Rattle.attach_proto.specs.Spelling.{spelling}
-use Rattle.web_client.specs.declared.client.Client.{Client}
 use Rattle.web_client.specs.declared.seat.Seat.{Seat}
 use Rattle.web_client.specs.declared.seat.Seat.TheVariants.{Nobody, Own, Watching, Unknown, Left}
 use Rattle.web_client.specs.Asking.{lines_in, columns_in, IsAskedBy, IsAskable, AddsFrames}
-use Rattle.web_client.specs.Asking.{IsApart, Asks, Passes, IsLogin, IsAttached, IsShared, Begins, Watches, Takes, Keeps}
+use Rattle.web_client.specs.Asking.{IsApart, Asks, IsAttached, IsShared, Begins, Watches, Takes, Keeps}
 
 all-append : {A : Type 0} (P : A → Type 0) (xs ys : List A) → AllByRecursion P xs → AllByRecursion P ys
     → AllByRecursion P (xs ++ ys)

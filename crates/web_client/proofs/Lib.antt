@@ -4,3 +4,4 @@ pub mod Tokens
 pub mod Adding
 pub mod Passing
 pub mod Login
+pub mod Judging

@@ -4,7 +4,6 @@ use Rattle.std.proofs.lemmas.List.{get_or-take}
 use Rattle.attach_proto.specs.declared.why.Why.{Why}
 use Rattle.attach_proto.specs.Streams.{Reading}
 use Rattle.web_page.specs.Showing.{Sheet}
-use Rattle.web_page.specs.Showing.{IsBlank as IsBlankSheet}
 use Rattle.web_page.proofs.Blank.{same-blank}
 use Rattle.web_client.specs.declared.client.Client.{Client}
 use Rattle.web_client.specs.Hearing.{Display, IsBlank}

@@ -1,7 +1,7 @@
 -- What a client has of the server's stream.
-use Rattle.std.specs.Prelude.{◌≡◌, ℕ, Bool, false, List, [], ◌∷◌, ◌++◌, Option, None}
+use Rattle.std.specs.Prelude.{◌≡◌, ℕ, Bool, true, false, if◌then◌else◌, List, [], ◌∷◌, ◌++◌, Option, Some, None}
 use Rattle.attach_proto.specs.declared.message.Message.{Message}
-use Rattle.attach_proto.specs.declared.message.Message.TheVariants.{Draw}
+use Rattle.attach_proto.specs.declared.message.Message.TheVariants.{Welcome, Draw, Say, Gone}
 use Rattle.attach_proto.specs.declared.side.Side.TheVariants.{Peer}
 use Rattle.attach_proto.specs.declared.why.Why.{Why}
 use Rattle.attach_proto.specs.Streams.{Reading, HasRead}
@@ -30,11 +30,35 @@ pub record IsBlank (rows columns : ℕ) (name : List ℕ) (d : Display) : Type 0
   pub unrefused : d.refusal ≡ None
   pub there : d.gone ≡ None
 
+-- whether and why the server lets the client in or go
+pub record Told : Type 0 where
+  pub is_welcome : Bool
+  pub refusal : Option (List ℕ)
+  pub gone : Option Why
+
+abbrev pub told : Display → Told
+told d = record { is_welcome = d.is_welcome; refusal = d.refusal; gone = d.gone }
+
+-- A text says why the client isn't let in, unless it is. What the server says later is in the page's last row.
+abbrev pub refused : Told → List ℕ → Told
+refused t text = if t.is_welcome then t else (record t { refusal = Some text })
+
+abbrev pub noted : Told → Message → Told
+noted t (Welcome number) = record t { is_welcome = true }
+noted t (Say text) = refused t text
+noted t (Gone why) = record t { gone = Some why }
+noted t _ = t
+
+unfoldable pub all_noted : Told → List Message → Told
+all_noted t [] = t
+all_noted t (m ∷ later) = all_noted (noted t m) later
+
 -- its page has another size, and nothing else of the stream was read
 pub record IsResized (rows columns : ℕ) (old new : Display) : Type 0 where
   pub sheet : TakesWriting old.sheet.terminal (Size rows columns) new.sheet.terminal
   pub name : new.name ≡ old.name
   pub reading : new.reading ≡ old.reading
+  pub told : told new ≡ told old
 
 -- a terminal reads the bytes of a draw
 abbrev pub drawn : Terminal → Message → Terminal
@@ -45,11 +69,11 @@ unfoldable pub all_drawn : Terminal → List Message → Terminal
 all_drawn t [] = t
 all_drawn t (m ∷ later) = all_drawn (drawn t m) later
 
--- The client took bytes of a stream: its reader gave their messages, and its page is that of a terminal
--- that has read their draws, whatever stream and draws came before.
+-- The client took bytes of a stream: its reader gave their messages, its page is that of a terminal that has
+-- read their draws, and it knows what they tell, whatever came before.
 abbrev pub Hears : Display → List ℕ → Display → Type 0
 Hears old bytes new =
     (messages : List Message) (stream : List ℕ) (t : Terminal) → HasRead old.reading messages stream
     → StandsFor old.sheet.terminal t
     → (made : List Message) × HasRead new.reading (messages ++ made) (stream ++ bytes)
-    × StandsFor new.sheet.terminal (all_drawn t made)
+    × StandsFor new.sheet.terminal (all_drawn t made) × (told new ≡ all_noted (told old) made)

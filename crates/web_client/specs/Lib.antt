@@ -1,3 +1,4 @@
 pub mod Sending
 pub mod Hearing
 pub mod Asking
+pub mod Judging

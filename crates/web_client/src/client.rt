@@ -1,14 +1,15 @@
 //! A client of the server: the frames that go to it, and what came from it.
 
-ghost use Rattle.std.specs.Prelude.{◌≡◌, ◌++◌, ℕ, List, length, IfOk, OnOk, OnErr};
-ghost use Rattle.attach_proto.specs.Spelling.{spelling};
+ghost use Rattle.std.specs.Prelude.{◌≡◌, ◌++◌, ◌≤◌, ℕ, List, length, IfOk, OnOk, OnErr, IfErr};
+ghost use Rattle.attach_proto.specs.Spelling.{spelling, IsSpellable};
 ghost use Rattle.web_client.specs.Sending.{IsSent};
 ghost use Rattle.web_client.specs.Hearing.{IsBlank, IsResized};
+ghost use Rattle.web_client.specs.Judging.{IsTyped, FailsFor};
 
 use crate::display::Display;
 use crate::fault::ClientFault;
 use crate::outgoing::Outgoing;
-use attach_proto::{Bytes, Message, Text, Token, write_message};
+use attach_proto::{Bytes, Message, Text, Token, WriteFault, write_message};
 use std::alloc::Global;
 use std::io;
 use std::io::Write;
@@ -29,11 +30,13 @@ impl Client {
         ensures ok { OnOk result (self.new
             ≡ record self.old { outgoing = self.old.outgoing ++ spelling message.now }) }
         ensures err { OnErr result (self.new ≡ self.old) }
+        ensures fault { IfErr result (FailsFor (IsSpellable message.now)) }
     {
         let mut frame = Vec::new(self.alloc);
         match write_message(self.alloc, message, &mut frame) {
             Ok(()) => Ok(self.outgoing.put(&frame)?),
-            Err(_) => Err(ClientFault::Unspellable),
+            Err(WriteFault::Unspellable) => Err(ClientFault::Unspellable),
+            Err(WriteFault::NoMemory) => Err(ClientFault::NoMemory),
         }
     }
 
@@ -48,6 +51,7 @@ impl Client {
         ensures asks { IfOk result (λ c. c.outgoing
             ≡ spelling (Message.Attach rows columns token name.now)) }
         ensures display { IfOk result (λ c. IsBlank rows columns name.now c.display) }
+        ensures fault { IfErr result (FailsFor (length name.now ≤ 8124)) }
     {
         let mut client = Client {
             alloc,
@@ -55,6 +59,8 @@ impl Client {
             display: Display::new(alloc, rows, columns, name)?,
         };
         let name = Text::of(alloc, name)?;
+        let _digits = token.as_slice();
+        let _text = name.as_str();
         client.ask(&Message::Attach {
             rows,
             columns,
@@ -76,6 +82,7 @@ impl Client {
         ensures ok { OnOk result (self.new
             ≡ record self.old { outgoing = self.old.outgoing ++ spelling (Message.Keys keys.now) }) }
         ensures err { OnErr result (self.new ≡ self.old) }
+        ensures fault { IfErr result (FailsFor (IsTyped keys.now)) }
     {
         let keys = Bytes::of(self.alloc, keys)?;
         self.ask(&Message::Keys(keys))
@@ -87,6 +94,7 @@ impl Client {
             ≡ self.old.outgoing ++ spelling (Message.Resize rows columns)) }
         ensures display { OnOk result (IsResized rows columns self.old.display self.new.display) }
         ensures err { OnErr result (self.new.outgoing ≡ self.old.outgoing) }
+        ensures fault { IfErr result (λ e. e ≡ ClientFault.NoMemory) }
     {
         self.display.resize(rows, columns)?;
         self.ask(&Message::Resize { rows, columns })
@@ -97,6 +105,7 @@ impl Client {
         ensures ok { OnOk result (self.new
             ≡ record self.old { outgoing = self.old.outgoing ++ spelling Message.Detach }) }
         ensures err { OnErr result (self.new ≡ self.old) }
+        ensures fault { IfErr result (λ e. e ≡ ClientFault.NoMemory) }
     {
         self.ask(&Message::Detach)
     }

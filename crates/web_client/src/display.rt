@@ -1,7 +1,8 @@
 //! What the server has told a client: whether it is in, its page, and why it ended. A browser is shown
 //! this alone, and no token is in it.
 
-ghost use Rattle.std.specs.Prelude.{◌≡◌, ◌↔◌, IsTrue, ◌++◌, ◌⊎◌, ℕ, List, IfOk, OnOk, OnErr, MatchOption};
+ghost use Rattle.std.specs.Prelude.{◌≡◌, ◌↔◌, IsTrue, Some, None, ◌++◌, ◌⊎◌, ℕ, List};
+ghost use Rattle.std.specs.Prelude.{IfOk, IfErr, OnOk, OnErr, MatchOption};
 ghost use Rattle.std.specs.String.{string_bytes};
 ghost use Rattle.terminal_model.specs.Reading.{Terminal, reads};
 ghost use Rattle.emulator.specs.Standing.{StandsFor};
@@ -10,6 +11,7 @@ ghost use Rattle.web_page.specs.Laying.{Shown, laid, page_of};
 ghost use Rattle.web_page.specs.Showing.{IsShown};
 ghost use Rattle.web_page.specs.Vacant.{IsVacant};
 ghost use Rattle.web_client.specs.Hearing.{IsBlank, IsResized, drawn, all_drawn, Hears};
+ghost use Rattle.web_client.specs.Hearing.{told, refused, noted, all_noted};
 
 use crate::fault::ClientFault;
 use attach_proto::{Message, Reader, Side, Text, Why};
@@ -62,7 +64,8 @@ impl Model for Display {
 impl Display {
     /// The display of a client that has heard nothing.
     pub fn new(alloc: Global, rows: u16, columns: u16, name: &str) -> Result<Display, ClientFault>
-        ensures { IfOk result (IsBlank rows columns name.now) }
+        ensures ok { IfOk result (IsBlank rows columns name.now) }
+        ensures fault { IfErr result (λ e. e ≡ ClientFault.NoMemory) }
     {
         let Ok(sheet) = Sheet::new(alloc, rows, columns) else {
             return Err(ClientFault::NoMemory);
@@ -101,7 +104,9 @@ impl Display {
     }
 
     /// Why the server didn't let it in, if it said so.
-    pub fn refusal(&self) -> Option<&str> {
+    pub fn refusal(&self) -> Option<&str>
+        ensures { MatchOption result (self.now.refusal ≡ None) (λ text. self.now.refusal ≡ Some text.now) }
+    {
         match &self.refusal {
             Some(text) => Some(text.as_str()),
             None => None,
@@ -123,6 +128,7 @@ impl Display {
         ensures browsers { (other : ℕ) (b : Shown) → IsShown other self.old.sheet b
             → OnOk result (IsShown other self.new.sheet b) }
         ensures reading { self.new.reading ≡ self.old.reading }
+        ensures told { told self.new ≡ told self.old }
     {
         self.sheet.update(since)
     }
@@ -143,7 +149,8 @@ impl Display {
 
     /// Changes the size of its page.
     pub fn resize(&mut self, rows: u16, columns: u16) -> Result<(), ClientFault>
-        ensures { OnOk result (IsResized rows columns self.old self.new) }
+        ensures ok { OnOk result (IsResized rows columns self.old self.new) }
+        ensures fault { IfErr result (λ e. e ≡ ClientFault.NoMemory) }
     {
         match self.sheet.resize(rows, columns) {
             Ok(()) => Ok(()),
@@ -156,6 +163,7 @@ impl Display {
         ensures sheet { OnOk result ((t : Terminal) → StandsFor self.old.sheet.terminal t
             → StandsFor self.new.sheet.terminal (reads t bytes.now).terminal) }
         ensures reading { self.new.reading ≡ self.old.reading }
+        ensures told { told self.new ≡ told self.old }
     {
         match self.sheet.read(bytes) {
             Ok(()) => Ok(()),
@@ -167,6 +175,7 @@ impl Display {
     fn note(&mut self, text: &str) -> Result<(), ClientFault>
         ensures sheet { self.new.sheet ≡ self.old.sheet }
         ensures reading { self.new.reading ≡ self.old.reading }
+        ensures told { OnOk result (told self.new ≡ refused (told self.old) text.now) }
     {
         if !self.is_welcome {
             self.refusal = Some(Text::of(self.alloc, text)?);
@@ -179,6 +188,7 @@ impl Display {
         ensures sheet { OnOk result ((t : Terminal) → StandsFor self.old.sheet.terminal t
             → StandsFor self.new.sheet.terminal (drawn t message.now)) }
         ensures reading { self.new.reading ≡ self.old.reading }
+        ensures told { OnOk result (told self.new ≡ noted (told self.old) message.now) }
     {
         match message {
             Message::Welcome(_) => {
@@ -200,6 +210,7 @@ impl Display {
         ensures sheet { OnOk result ((t : Terminal) → StandsFor self.old.sheet.terminal t
             → StandsFor self.new.sheet.terminal (all_drawn t messages.now)) }
         ensures reading { self.new.reading ≡ self.old.reading }
+        ensures told { OnOk result (told self.new ≡ all_noted (told self.old) messages.now) }
     {
         for message in messages {
             self.hear(message)?;

@@ -1,6 +1,7 @@
 //! Why a client ends.
 
 ghost use Rattle.std.specs.Prelude.{◌≡◌};
+ghost use Rattle.web_client.specs.declared.fault.ClientFault.TheVariants as client;
 
 use std::alloc::AllocError;
 
@@ -15,9 +16,9 @@ pub enum ClientFault {
 }
 
 impl From<AllocError> for ClientFault {
-    fn from(_error: AllocError) -> ClientFault
-        ensures { result ≡ ClientFault.NoMemory }
-    {
+    ghost from_gives = { λ _ e. e ≡ client.NoMemory };
+
+    fn from(_error: AllocError) -> ClientFault {
         ClientFault::NoMemory
     }
 }

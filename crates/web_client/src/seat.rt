@@ -1,14 +1,17 @@
 //! What a browser's page asks for: one message is a frame of the server without its length.
 
-ghost use Rattle.std.specs.Prelude.{◌≡◌, ◌+◌, ◌-◌, ◌*◌, ◌%◌, ◌<◌, max, length, None, IfOk, IfSome, OnOk, OnErr};
+ghost use Rattle.std.specs.Prelude.{◌≡◌, ◌+◌, ◌-◌, ◌*◌, ◌%◌, ◌<◌, ◌∷◌, max, length, None};
+ghost use Rattle.std.specs.Prelude.{IfOk, IfSome, OnOk, OnErr};
 ghost use Rattle.web_client.specs.Asking.{lines_in, columns_in, IsNoName, IsAttached, IsShared};
 ghost use Rattle.web_client.specs.Asking.{Begins, Watches, Passes, Takes, Keeps, Asks};
+ghost use Rattle.web_client.specs.Judging.{IsSize, IsAttach, IsTyped, IsPublic, IsFirst, IsAsking, IsWatching};
+ghost use Rattle.web_client.specs.Judging.{IsAllowed, IsJudged, fault_of};
 
 use crate::client::Client;
 use crate::fault::ClientFault;
 use crate::site::Site;
 use acl::UserId;
-use attach_proto::Token;
+use attach_proto::{LONGEST, Token};
 use std::alloc::Global;
 
 /// The lines and columns of a page, at least and at most.
@@ -57,10 +60,13 @@ pub enum SeatFault {
 }
 
 impl From<ClientFault> for SeatFault {
+    ghost from_gives = { λ fault e. e ≡ fault_of fault };
+
     fn from(fault: ClientFault) -> SeatFault {
         match fault {
             ClientFault::NoMemory => SeatFault::NoMemory,
-            _ => SeatFault::Wrong,
+            ClientFault::Unspellable => SeatFault::Wrong,
+            ClientFault::BadFrame => SeatFault::Wrong,
         }
     }
 }
@@ -112,12 +118,13 @@ fn name_of(bytes: &[u8]) -> Option<&str>
 
 /// The seat of a browser that says who it is.
 fn attached(alloc: Global, payload: &[u8]) -> Result<Seat, SeatFault>
-    ensures { IfOk result (IsAttached payload.now) }
+    ensures attaches { IfOk result (IsAttached payload.now) }
+    ensures judged { IsJudged (IsAttach payload.now) result }
 {
     let Some((rows, columns)) = size_of(payload) else {
         return Err(SeatFault::Wrong);
     };
-    if payload.len() < BEFORE_NAME {
+    if payload.len() < BEFORE_NAME || LONGEST < payload.len() {
         return Err(SeatFault::Wrong);
     }
     let Some(token) = Token::read(&payload[4..BEFORE_NAME]) else {
@@ -134,7 +141,8 @@ fn attached(alloc: Global, payload: &[u8]) -> Result<Seat, SeatFault>
 
 /// The seat of a browser that only watches, if this is allowed.
 fn watching(site: &Site, payload: &[u8]) -> Result<Seat, SeatFault>
-    ensures { IfOk result (IsShared payload.now) }
+    ensures watches { IfOk result (IsShared payload.now) }
+    ensures judged { IsJudged (IsPublic site.now.watcher × IsSize payload.now) result }
 {
     if site.watcher.is_none() || payload.len() != 4 {
         return Err(SeatFault::Wrong);
@@ -150,11 +158,15 @@ fn watching(site: &Site, payload: &[u8]) -> Result<Seat, SeatFault>
 
 /// The seat of a browser by its first message.
 fn seated(alloc: Global, site: &Site, message: &[u8]) -> Result<Seat, SeatFault>
-    ensures { IfOk result (Begins message.now) }
+    ensures begins { IfOk result (Begins message.now) }
+    ensures judged { IsJudged (IsFirst site.now.watcher message.now) result }
 {
-    match message {
-        [ATTACH, payload @ ..] => Ok(attached(alloc, payload)?),
-        [WATCH, payload @ ..] => Ok(watching(site, payload)?),
+    let Some((kind, payload)) = message.split_first() else {
+        return Err(SeatFault::Wrong);
+    };
+    match *kind {
+        ATTACH => attached(alloc, payload),
+        WATCH => watching(site, payload),
         _ => Err(SeatFault::Wrong),
     }
 }
@@ -164,6 +176,7 @@ impl Seat {
     fn begin(&mut self, alloc: Global, site: &Site, message: &[u8]) -> Result<(), SeatFault>
         ensures ok { OnOk result (Begins message.now self.new) }
         ensures err { OnErr result (self.new ≡ self.old) }
+        ensures judged { IsJudged (IsFirst site.now.watcher message.now) result }
     {
         *self = seated(alloc, site, message)?;
         Ok(())
@@ -173,13 +186,17 @@ impl Seat {
     fn watch(&mut self, site: &Site, message: &[u8]) -> Result<(), SeatFault>
         ensures ok { OnOk result (Watches message.now self.new) }
         ensures err { OnErr result (self.new ≡ self.old) }
+        ensures judged { IsJudged (IsWatching site.now.watcher message.now) result }
     {
-        match message {
-            [RESIZE, payload @ ..] => {
+        let Some((kind, payload)) = message.split_first() else {
+            return Err(SeatFault::Wrong);
+        };
+        match *kind {
+            RESIZE => {
                 *self = watching(site, payload)?;
                 Ok(())
             }
-            [DETACH] => {
+            DETACH if payload.is_empty() => {
                 *self = Seat::Left;
                 Ok(())
             }
@@ -187,11 +204,12 @@ impl Seat {
         }
     }
 
-    /// Takes one message of the browser. One that isn't taken adds nothing for its client.
+    /// Takes one message of the browser, if it is allowed. One that isn't taken adds nothing for its client.
     pub fn take(&mut self, alloc: Global, site: &Site, message: &[u8]) -> Result<(), SeatFault>
         ensures ok { OnOk result (Takes self.old message.now self.new) }
         ensures err { OnErr result (Keeps self.old self.new) }
         ensures asks { Asks self.old self.new }
+        ensures judged { IsJudged (IsAllowed site.now.watcher self.old message.now) result }
     {
         match self {
             Seat::Nobody => self.begin(alloc, site, message),
@@ -203,18 +221,46 @@ impl Seat {
     }
 }
 
+// Passes on what was typed.
+fn press(client: &mut Client, keys: &[u8]) -> Result<(), SeatFault>
+    ensures ok { OnOk result (Passes (0x4B ∷ keys.now) client.old client.new) }
+    ensures err { OnErr result (client.new.outgoing ≡ client.old.outgoing) }
+    ensures judged { IsJudged (IsTyped keys.now) result }
+{
+    if keys.is_empty() || LONGEST < keys.len() {
+        return Err(SeatFault::Wrong);
+    }
+    Ok(client.press(keys)?)
+}
+
+// Passes on a new size.
+fn resize(client: &mut Client, size: &[u8]) -> Result<(), SeatFault>
+    ensures ok { OnOk result (Passes (0x52 ∷ size.now) client.old client.new) }
+    ensures err { OnErr result (client.new.outgoing ≡ client.old.outgoing) }
+    ensures judged { IsJudged (IsSize size.now) result }
+{
+    if size.len() != 4 {
+        return Err(SeatFault::Wrong);
+    }
+    match size_of(size) {
+        Some((rows, columns)) => Ok(client.resize(rows, columns)?),
+        None => Err(SeatFault::Wrong),
+    }
+}
+
 /// Passes a message on to the browser's client.
 fn ask(client: &mut Client, message: &[u8]) -> Result<(), SeatFault>
     ensures ok { OnOk result (Passes message.now client.old client.new) }
     ensures err { OnErr result (client.new.outgoing ≡ client.old.outgoing) }
+    ensures judged { IsJudged (IsAsking message.now) result }
 {
-    match message {
-        [KEYS, keys @ ..] => Ok(client.press(keys)?),
-        [RESIZE, payload @ ..] if payload.len() == 4 => match size_of(payload) {
-            Some((rows, columns)) => Ok(client.resize(rows, columns)?),
-            None => Err(SeatFault::Wrong),
-        },
-        [DETACH] => Ok(client.detach()?),
+    let Some((kind, payload)) = message.split_first() else {
+        return Err(SeatFault::Wrong);
+    };
+    match *kind {
+        KEYS => press(client, payload),
+        RESIZE => resize(client, payload),
+        DETACH if payload.is_empty() => Ok(client.detach()?),
         _ => Err(SeatFault::Wrong),
     }
 }

@@ -2,7 +2,7 @@ use Rattle.std.proofs.Common.{◌≡◌, List, ◌++◌, ap, sym, ◌∙◌, sub
 use Rattle.attach_proto.specs.declared.message.Message.{Message}
 use Rattle.attach_proto.specs.Streams.{Reading, HasRead}
 use Rattle.emulator.specs.Standing.{Parts, StandsFor}
-use Rattle.web_client.specs.Hearing.{Display, all_drawn}
+use Rattle.web_client.specs.Hearing.{Display, all_drawn, told, all_noted}
 use Rattle.web_client.proofs.display.Display.hear_all.Goals as goal
 
 pub returns-in-Ok : goal.returns-in-Ok
@@ -19,4 +19,6 @@ returns-in-Ok c = λ messages stream t r w.
           (sym c.hear_each.ensures.reading) (got.2 messages stream before),
       subst (λ (l : List Message). StandsFor c.hear_each.new.self.sheet.terminal (all_drawn t l)) items
           (c.in_ok-hear_each.ensures.sheet t stands),
+      subst (λ (l : List Message). told c.hear_each.new.self ≡ all_noted (told c.args.self.now) l) items
+          (c.in_ok-hear_each.ensures.told ∙ ap (λ (p : Display). all_noted (told p) c.deref.result.now) c.self.view_is),
     )

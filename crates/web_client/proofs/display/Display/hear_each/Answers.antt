@@ -2,8 +2,8 @@ use Rattle.std.proofs.Common.{◌+◌, arith, ap, sym, ◌∙◌, refl, subst, d
 use Rattle.attach_proto.specs.declared.message.Message.{Message}
 use Rattle.terminal_model.specs.Reading.{Terminal}
 use Rattle.emulator.specs.Standing.{StandsFor}
-use Rattle.web_client.specs.Hearing.{drawn, all_drawn}
-use Rattle.web_client.proofs.Hearing.{one_more, none_more}
+use Rattle.web_client.specs.Hearing.{drawn, all_drawn, Told, told, noted, all_noted}
+use Rattle.web_client.proofs.Hearing.{one_more, none_more, one_told, none_told}
 use Rattle.web_client.proofs.display.Display.hear_each.Goals as goal
 
 pub loop-message-preserved : goal.loop-message-preserved
@@ -17,6 +17,14 @@ loop-message-preserved c = record {
             (sym c.message-item.is)),
       );
   reading = c.hear.ensures.reading ∙ c.loop-message.invariant.reading;
+  told =
+      c.loop-message.invariant.told
+      ∙ one_told c.args.messages.now c.loop-message.message-index c.message-item.result (told c.loop-message.self)
+      (omega arith)
+      ∙ ap (λ (m : Message). all_noted (noted (told c.loop-message.self) m)
+      (drop (c.loop-message.message-index + 1) c.args.messages.now)) (sym c.message-item.is)
+      ∙ ap (λ (t : Told). all_noted t (drop (c.loop-message.message-index + 1) c.args.messages.now))
+      (sym c.in_ok-hear.ensures.told);
 }
 
 pub returns-clause-sheet : goal.returns-clause-sheet
@@ -24,3 +32,8 @@ returns-clause-sheet c = λ t w.
     let k = c.loop-message.invariant.sheet t (all_drawn t c.args.messages.now) w refl in
     subst (λ (u : Terminal). StandsFor c.loop-message.self.sheet.terminal u)
     (sym (k.2 ∙ none_more c.args.messages.now c.loop-message.message-index k.0 (omega arith))) k.1
+
+pub returns-clause-told : goal.returns-clause-told
+returns-clause-told c =
+    sym (c.loop-message.invariant.told
+    ∙ none_told c.args.messages.now c.loop-message.message-index (told c.loop-message.self) (omega arith))
