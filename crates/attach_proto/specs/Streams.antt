@@ -1,5 +1,5 @@
 -- The messages of a stream, and the bytes after them.
-use Rattle.std.specs.Prelude.{◌≡◌, ◌≢◌, ◌⊎◌, ℕ, ◌+◌, ◌-◌, ◌*◌, ◌<◌, ◌≤◌, List, [], ◌∷◌, ◌++◌, length}
+use Rattle.std.specs.Prelude.{◌≡◌, ◌≢◌, ◌⊎◌, ℕ, ◌+◌, ◌*◌, ◌<◌, ◌≤◌, List, [], ◌∷◌, ◌++◌, length}
 use Rattle.std.specs.Prelude.{drop, Option, Result, Ok, Err, MatchOption}
 use Rattle.std.specs.List.{flat_map, AllByRecursion}
 use Rattle.attach_proto.specs.declared.fault.ProtoFault.{ProtoFault}
@@ -67,13 +67,6 @@ pub record Reading : Type 0 where
   pub side : Side
   pub rest : List ℕ
   pub fault : Option ProtoFault
-
--- how many bytes complete the head or the frame that begins this rest; 0 if nothing does
-abbrev pub lacking : List ℕ → ℕ
-lacking [] = 0
-lacking (k ∷ []) = 2
-lacking (k ∷ h ∷ []) = 1
-lacking (k ∷ h ∷ l ∷ bytes) = 256 * h + l - length bytes
 
 -- What follows the messages of a reader: less than a whole frame, which it keeps, or a fault.
 abbrev pub EndsIn : Reading → List ℕ → Type 0

@@ -3,7 +3,7 @@
 ghost use Rattle.std.specs.Prelude.{◌≡◌, ◌++◌, ◌≤◌, List, [], drop, vec_len, IfOk, IfSome, OnOk};
 ghost use Rattle.std.specs.Prelude.{OnErr, Some, None, Ok, Err};
 ghost use Rattle.attach_proto.specs.declared.message.Message.{Message};
-ghost use Rattle.attach_proto.specs.Streams.{HasRead, IsRun, TakesPiece, Answers, lacking};
+ghost use Rattle.attach_proto.specs.Streams.{HasRead, IsRun, TakesPiece, Answers};
 
 use crate::fault::ProtoFault;
 use crate::message::Message;
@@ -117,8 +117,7 @@ impl Reader {
         }
     }
 
-    // Takes a piece after a part of a frame, which is kept with it.
-    fn take_after(&mut self, piece: &[u8], out: &mut Vec<Message>) -> Result<(), AllocError>
+    fn take(&mut self, piece: &[u8], out: &mut Vec<Message>) -> Result<(), AllocError>
         requires { self.old.fault ≡ None }
         ensures ok { OnOk result ((made : List Message) × (out.new.items ≡ out.old.items ++ made)
             × TakesPiece self.old piece.now made self.new) }
@@ -137,62 +136,6 @@ impl Reader {
             Err(error) => {
                 self.rest.truncate(kept);
                 Err(error)
-            }
-        }
-    }
-
-    // Takes a piece after whole frames. Only what is left behind its own whole frames is copied.
-    fn take_first(&mut self, piece: &[u8], out: &mut Vec<Message>) -> Result<(), AllocError>
-        requires fault { self.old.fault ≡ None }
-        requires rest { self.old.rest ≡ [] }
-        ensures ok { OnOk result ((made : List Message) × (out.new.items ≡ out.old.items ++ made)
-            × TakesPiece self.old piece.now made self.new) }
-        ensures err { OnErr result ((self.new ≡ self.old) × (out.new.items ≡ out.old.items)) }
-        ensures fault { OnOk result (self.new.fault ≡ Some ProtoFault.NoMemory → ⊥) }
-        ensures side { self.new.side ≡ self.old.side }
-    {
-        let mut run = run_of(self.alloc, self.side, piece)?;
-        let (_, left) = piece.split_at(run.taken);
-        self.rest.extend_from_slice(left)?;
-        match out.append(&mut run.messages) {
-            Ok(()) => {
-                self.fault = run.fault;
-                Ok(())
-            }
-            Err(error) => {
-                self.rest.clear();
-                Err(error)
-            }
-        }
-    }
-
-    fn take(&mut self, piece: &[u8], out: &mut Vec<Message>) -> Result<(), AllocError>
-        requires { self.old.fault ≡ None }
-        ensures ok { OnOk result ((made : List Message) × (out.new.items ≡ out.old.items ++ made)
-            × TakesPiece self.old piece.now made self.new) }
-        ensures err { OnErr result ((self.new ≡ self.old) × (out.new.items ≡ out.old.items)) }
-        ensures fault { OnOk result (self.new.fault ≡ Some ProtoFault.NoMemory → ⊥) }
-        ensures side { self.new.side ≡ self.old.side }
-    {
-        if self.rest.is_empty() {
-            self.take_first(piece, out)
-        } else {
-            self.take_after(piece, out)
-        }
-    }
-
-    /// How many bytes complete the head or the frame of which a part is kept; 0 if nothing is.
-    #[tactic(auto, unfolding(crate::specs::Streams::lacking))]
-    pub fn lacks(&self) -> usize
-        ensures { result ≡ lacking self.now.rest }
-    {
-        match self.rest.as_slice() {
-            [] => 0,
-            [_] => 2,
-            [_, _] => 1,
-            [_, high, low, bytes @ ..] => {
-                let len = 256 * *high as usize + *low as usize;
-                len.saturating_sub(bytes.len())
             }
         }
     }
