@@ -68,11 +68,7 @@ impl Display {
             self.print_code(codes[0] as char);
             return 1;
         }
-        let is_due = self.state.is_wrap_pending;
-        self.wrap(is_due);
-        let count = codes.len().min(self.state.columns - self.state.column);
-        self.place_run(&codes[..count]);
-        count
+        self.print_some_letters(codes)
     }
 
     /// Prints characters, one after another.
@@ -169,14 +165,16 @@ impl Display {
 
     /// Prints the first of some letters, or as many as there is room for in the line. Returns how
     /// many, at least 1.
-    fn print_some_letters(&mut self, letters: &[char]) -> usize
+    fn print_some_letters<U: CodeUnit>(&mut self, letters: &[U]) -> usize
         requires fit { IsFit self.old }
         requires takes { TakesRuns self.old.state }
-        requires letters { list_all is_letter letters.now ≡ true }
+        requires letters { list_all is_letter (map U.code_of letters.now) ≡ true }
         requires some { 0 < length letters.now }
-        ensures screen { ActsByAll self.old (prints (take result letters.now)) self.new }
+        ensures screen { ActsByAll self.old
+            (prints (take result (map U.code_of letters.now))) self.new }
         ensures fit { IsFit self.new }
-        ensures places { MovesLinesByAll self.old (prints (take result letters.now)) self.new }
+        ensures places { MovesLinesByAll self.old
+            (prints (take result (map U.code_of letters.now))) self.new }
         ensures some { 0 < result }
         ensures few { result ≤ length letters.now }
     {
