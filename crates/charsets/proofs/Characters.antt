@@ -43,8 +43,8 @@ next_read bytes characters count read character size so_far inside fits reads is
     (drop read bytes) (omega (arith, length-drop read bytes)) in
     let next : units Utf8 (take size (drop read bytes)) ≡ (Code character ∷ [], []) = ap
     (λ (v : List ℕ). units Utf8 (take size v)) (sym rest) ∙ reads in
-    let more : take (count + 1) (set characters count character) ≡ take count characters ++ character ∷ [] = take_more_set characters
-    count character inside in
+    let more : take (count + 1) (set characters count character) ≡ take count characters ++ character ∷ [] =
+    take_more_set characters count character inside in
     record {
       reads =
           ap (units Utf8) (take-add read size bytes)

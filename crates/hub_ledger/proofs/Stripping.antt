@@ -11,7 +11,8 @@ use Rattle.hub_trail.specs.Trails.{Entry}
 use Rattle.hub_record.specs.Receipts.{Receipt}
 use Rattle.hub_ledger.specs.Seats.{Sitting}
 use Rattle.hub_ledger.specs.Closing.{AreOf, IsFirstWrong, IsOf, IsTold, before, receipts_of, times}
-use Rattle.hub_ledger.proofs.Rising.{all_parts, are_of_before, before_append, before_are_of, before_before, times_append}
+use Rattle.hub_ledger.proofs.Rising.{all_parts, are_of_before, before_append, before_are_of, before_before}
+use Rattle.hub_ledger.proofs.Rising.{times_append}
 use Rattle.hub_ledger.proofs.Rising.{times_before}
 
 -- the first wrong place, from a given one on

@@ -13,7 +13,10 @@ use Rattle.server_session.specs.contracts.shared_session.SharedSession as Shared
 use Rattle.server_session.specs.contracts.loop_body.RunningSession as RunningSession
 
 pub session_sync : (L : RattleType) (b : Beginnings L.Denot) (g : Ghosts L.Denot) → IsSync (SharedSession.the_row L b g)
-session_sync L b g = declared_sync (SharedSession.the_type L b g) (hub_sync L b g, (users.the_sync, (search (recorder.the_sync, sendable, crosses) depth 60, tt)))
+session_sync L b g =
+    declared_sync (SharedSession.the_type L b g)
+    (hub_sync L b g, (users.the_sync, (search (recorder.the_sync, sendable, crosses) depth 60, tt)))
 
-pub running_sync : (L : RattleType) (b : Beginnings L.Denot) (g : Ghosts L.Denot) → IsSync (RunningSession.the_row L b g)
+pub running_sync : (L : RattleType) (b : Beginnings L.Denot) (g : Ghosts L.Denot)
+    → IsSync (RunningSession.the_row L b g)
 running_sync L b g = declared_sync (RunningSession.the_type L b g) (session_sync L b g, (seats_sync L g, tt))

@@ -1,11 +1,13 @@
 -- A file's lines, one after another.
-use Rattle.std.proofs.Common.{◌≡◌, ℕ, zero, suc, ◌+◌, ◌<◌, List, [], ◌∷◌, ◌++◌, length, drop, refl, sym, ◌∙◌, ap, subst, ◌⊎◌, inl, inr, ⊎_elim, arith, append_assoc, length-append, length-drop}
+use Rattle.std.proofs.Common.{◌≡◌, ℕ, zero, suc, ◌+◌, ◌<◌, List, [], ◌∷◌, ◌++◌, length, drop, refl, sym, ◌∙◌, ap}
+use Rattle.std.proofs.Common.{subst, ◌⊎◌, inl, inr, ⊎_elim, arith, append_assoc, length-append, length-drop}
 use Rattle.std.specs.List.{Contains}
 use Rattle.std.proofs.lemmas.List.{append-nil, map-append}
 use Rattle.std.proofs.lemmas.Grind.{flat_map-append}
 use Rattle.std.proofs.lemmas.List.Elements.{Contains-push_cases, Contains-append_right, All-append, All-cons, All-nil}
 use Rattle.server_users.specs.declared.user.User.{User}
-use Rattle.server_users.specs.Entries.{Entry, IsUser, AreUsers, HaveOwnNames, names, spelled, text, IsFileOf, EndsLine, IsLine, BreaksAt}
+use Rattle.server_users.specs.Entries.{Entry, IsUser, AreUsers, HaveOwnNames, names, spelled, text, IsFileOf}
+use Rattle.server_users.specs.Entries.{EndsLine, IsLine, BreaksAt}
 use Rattle.server_users.specs.Stands.{entry_of, entries_of}
 use Rattle.server_users.proofs.Spelled.{one_name}
 

@@ -1,5 +1,6 @@
 -- An account that is changed at the place where it is found.
-use Rattle.std.proofs.Common.{◌≡◌, ℕ, zero, suc, ◌<◌, ◌≤◌, Bool, true, false, List, [], ◌∷◌, Some, None, set, get_or, ap, sym, subst, ◌∙◌, arith, Option}
+use Rattle.std.proofs.Common.{◌≡◌, ℕ, zero, suc, ◌<◌, ◌≤◌, Bool, true, false, List, [], ◌∷◌, Some, None, set, get_or}
+use Rattle.std.proofs.Common.{ap, sym, subst, ◌∙◌, arith, Option}
 use Rattle.std.specs.Prelude.{unwrap_or, option_map, IfSome, IsTrue}
 use Rattle.acl.specs.Same.{same_user}
 use Rattle.acl.specs.declared.user_id.UserId.{UserId}

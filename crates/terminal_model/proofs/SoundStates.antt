@@ -108,7 +108,8 @@ home-fits rows columns s r c w m b = record {
   joined = tt;
 }
 
-pub margins-fit : (x : Screen) → IsSound x → (top bottom : ℕ) → (b : Bool) → nat_lt top bottom ≡ b → bottom < x.state.rows
+pub margins-fit : (x : Screen) → IsSound x → (top bottom : ℕ) → (b : Bool) → nat_lt top bottom ≡ b
+    → bottom < x.state.rows
     → Fits x.state.rows x.state.columns (Motion.margins_or_none b top bottom x.state)
 margins-fit x h top bottom true e l =
     let below : top < bottom = grind (arith, nat_tests) in

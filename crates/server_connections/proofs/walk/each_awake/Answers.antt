@@ -3,7 +3,8 @@ use Rattle.server_connections.specs.Marked.{IsMarked}
 use Rattle.server_connections.specs.Walking.{Walks}
 use Rattle.server_connections.specs.declared.connections.Connections.{Connections}
 use Rattle.server_connections.proofs.Walking.{no_key, past_end, visited_by, with_visit, without_visit}
-use Rattle.server_connections.proofs.walk.each_awake.Goals.{in_default-via-in-Some+else-key-end, in_default-via-in_default}
+use Rattle.server_connections.proofs.walk.each_awake.Goals.{in_default-via-in-Some+else-key-end}
+use Rattle.server_connections.proofs.walk.each_awake.Goals.{in_default-via-in_default}
 use Rattle.server_connections.proofs.walk.each_awake.Goals as goal
 
 pub returns-in_default : goal.returns-in_default
@@ -32,6 +33,7 @@ visits-preserved g c = (
       c.visits.holder c.visit.new.arg2 new
       (ap (λ (s : Connections g.row.S.Denot). s.awake) c.connections-in-visits.ensures)
       c.visits-test.true c.if-key-end.true c.in-Some.ensures.some
-      (visited_by (λ h. (g.T.HasConnections.held h).awake) (goal.F-post g c.args.visit) _ _ c.in-Some.key c.visit.ensures)
+      (visited_by (λ h. (g.T.HasConnections.held h).awake) (goal.F-post g c.args.visit) _ _ c.in-Some.key
+      c.visit.ensures)
       rest),
 )

@@ -5,7 +5,8 @@ use Rattle.acl.proofs.StandsForLemmas.{same_user-refl}
 use Rattle.server_users.specs.declared.allowances.Account.{Account}
 use Rattle.server_users.specs.Allowances.{fresh}
 use Rattle.server_users.specs.Accounts.{account_of}
-use Rattle.server_users.proofs.Places.{found, lost, pushed_is, is_of, no_account, some_account, push_own, push_other, other_user, on_err}
+use Rattle.server_users.proofs.Places.{found, lost, pushed_is, is_of, no_account, some_account, push_own, push_other}
+use Rattle.server_users.proofs.Places.{other_user, on_err}
 use Rattle.server_users.proofs.allowances.Allowances.open.Goals as goal
 
 pub returns-in-Some-clause-own : goal.returns-in-Some-clause-own

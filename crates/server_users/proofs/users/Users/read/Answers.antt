@@ -1,11 +1,13 @@
-use Rattle.std.proofs.Common.{◌≡◌, ◌∙◌, ◌⊎◌, ◌<◌, ◌+◌, ◌++◌, ◌∷◌, drop, inl, inr, [], subst, sym, length, vec_len, arith}
+use Rattle.std.proofs.Common.{◌≡◌, ◌∙◌, ◌⊎◌, ◌<◌, ◌+◌, ◌++◌, ◌∷◌, drop, inl, inr, [], subst, sym, length, vec_len}
+use Rattle.std.proofs.Common.{arith}
 use Rattle.std.proofs.lemmas.List.{length-map}
 use Rattle.std.proofs.lemmas.Bool.{eqb-true, eqb-false, false≢true}
 use Rattle.server_users.specs.Entries.{BreaksAt}
 use Rattle.server_users.specs.Stands.{entry_of, entries_of}
 use Rattle.server_users.proofs.Lines.{HaveRead, push, push_entry, stop_twice, no_users, moved_name, some_of}
 use Rattle.server_users.proofs.users.Users.read.Goals as goal
-use Rattle.server_users.proofs.users.Users.read.Goals.{else-is_empty-via-then-is_empty+else-not-is_empty, else-is_empty-via-else-is_empty}
+use Rattle.server_users.proofs.users.Users.read.Goals.{else-is_empty-via-then-is_empty+else-not-is_empty}
+use Rattle.server_users.proofs.users.Users.read.Goals.{else-is_empty-via-else-is_empty}
 
 pub returns-then-has_name-clause-bad : goal.returns-then-has_name-clause-bad
 returns-then-has_name-clause-bad c =
