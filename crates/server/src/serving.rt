@@ -117,13 +117,22 @@ fn shared<R: Host + Threads + Wait>(
     Ok(shared)
 }
 
+// What a server begins with: its users and their file as it was read, the setup, and its socket.
+#[derive(Drop)]
+struct Beginning<'a> {
+    users: Users,
+    seen: Stamp,
+    setup: Setup,
+    place: &'a SocketPath,
+    listener: UnixListener,
+}
+
 // Serves these users on a listener, after the commands of the setup.
 fn begin<R, G, O>(
     rt: &R,
     options: &Options,
     handles: Handles<G>,
-    (users, seen, setup): (Users, Stamp, Setup),
-    (place, listener): (&SocketPath, UnixListener),
+    beginning: Beginning,
     output: &mut O,
 ) -> Result<(), ServeFault>
 where
@@ -134,6 +143,13 @@ where
     let alloc = rt.alloc();
     let files = handles.files;
     let loops = usize::from(options.loops.clamp(1, 8));
+    let Beginning {
+        users,
+        seen,
+        setup,
+        place,
+        listener,
+    } = beginning;
     let (places, loop_handles) = places(rt, loops, listener)?;
     let known = (users.owner(), seen);
     let shared = shared(rt, options, files, known, loop_handles)?;
@@ -181,8 +197,14 @@ where
     let setup = Setup::read(rt, options.setup)?;
     let (place, listener) = SocketPath::listen(rt, alloc, options.socket)?;
     let files = handles.files;
-    let begun = (users, seen, setup);
-    let served = begin(rt, options, handles, begun, (&place, listener), output);
+    let beginning = Beginning {
+        users,
+        seen,
+        setup,
+        place: &place,
+        listener,
+    };
+    let served = begin(rt, options, handles, beginning, output);
     place.leave(rt, &files);
     served
 }

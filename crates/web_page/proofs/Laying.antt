@@ -86,7 +86,8 @@ count : (s : Sheet) (t : Terminal) → StandsFor s.terminal t → IsLooked s.ter
 count s t w k =
     let lines : length (map (λ (r : Kept). r.cells) s.rows) ≡ length t.screen.page = ap length k.same_page
     ∙ ap (λ (x : Screen). length x.page) w.screen in
-    let head : s.head.rows ≡ t.screen.state.rows = ap (λ (h : Head). h.rows) k.same_head ∙ ap (λ (x : Screen). x.state.rows) w.screen in
+    let head : s.head.rows ≡ t.screen.state.rows = ap (λ (h : Head). h.rows) k.same_head
+    ∙ ap (λ (x : Screen). x.state.rows) w.screen in
     head ∙ (sym w.terminal.sound.sized.height ∙ (sym lines ∙ length-map s.rows (λ (r : Kept). r.cells)))
 
 pub shows : (s : Sheet) (t : Terminal) (since : ℕ) (b : Shown) → StandsFor s.terminal t

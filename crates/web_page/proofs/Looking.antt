@@ -1,6 +1,7 @@
 -- Looks at the rows of a page, one after another.
 use Rattle.std.proofs.Common.{◌≡◌, ◌⊎◌, ℕ, suc, ◌+◌, ◌<◌, ◌≤◌, Bool, true, false, ◌||◌, List, [], ◌∷◌, length}
-use Rattle.std.proofs.Common.{take, map, get_or, refl, sym, ap, ◌∙◌, ◌++◌, set, arith, inl, inr, ⊎_elim, below_more, subst}
+use Rattle.std.proofs.Common.{take, map, get_or, refl, sym, ap, ◌∙◌, ◌++◌, set, arith, inl, inr, ⊎_elim}
+use Rattle.std.proofs.Common.{below_more, subst}
 use Rattle.std.proofs.lemmas.List.{get_or-take, take_all, length-take, length_push, get_or_push, get_or_append_left}
 use Rattle.std.proofs.lemmas.List.{length-set, get_or-set_same, get_or-set_other}
 use Rattle.std.proofs.lemmas.Bool.{or_parts, true≢false, cases_lt}
@@ -61,7 +62,8 @@ one_more i page cells stamp old mid new a b inside line h k =
           (⊎_elim (λ s. inl s) (λ p. let m = more p.0 in inr (omega (arith, p.0, m), p.1 ∙ h.rest i (omega arith) p.0))
           k.stamped);
       rest = λ n l m.
-          let before : n < length mid = ⊎_elim (λ p. omega (arith, p.0, p.1)) (λ p. absurd (omega (arith, p.0, p.1))) d in
+          let before : n < length mid = ⊎_elim (λ p. omega (arith, p.0, p.1))
+          (λ p. absurd (omega (arith, p.0, p.1))) d in
           k.others n before (omega arith) ∙ h.rest n (omega arith) before;
       short = ⊎_elim (λ p. omega (arith, p.0, p.1)) (λ p. omega (arith, p.0, p.1)) d;
       more = λ l. ⊎_elim (λ p. let m = more p.1 in omega (arith, p.0, m)) (λ p. absurd (omega (arith, p.0, p.1))) d;

@@ -1,4 +1,5 @@
-use Rattle.std.proofs.Common.{◌≡◌, ◌<◌, true, length, map, take, ℕ, List, refl, sym, ap, ◌∙◌, subst, arith, length-take, min}
+use Rattle.std.proofs.Common.{◌≡◌, ◌<◌, true, length, map, take, ℕ, List, refl, sym, ap, ◌∙◌, subst}
+use Rattle.std.proofs.Common.{arith, length-take, min}
 use Rattle.std.proofs.lemmas.List.{length-map, take-map}
 use Rattle.std.specs.List.{list_all}
 use Rattle.vt_screen_rows.specs.Runs.{is_letter}
@@ -30,7 +31,8 @@ returns-clause-screen g c =
     let n : length codes ≡ min c.min-count.result (length all) = length-take c.min-count.result all in
     let some : 0 < length codes = omega (arith, c.requires.some) in
     c.place_run.ensures.screen
-    ∙ ap (λ (cs : List ℕ). run_placed cs (screen_of c.wrap.new.self)) (sym (take-map code_of c.min-count.result c.args.letters.now))
+    ∙ ap (λ (cs : List ℕ). run_placed cs (screen_of c.wrap.new.self))
+    (sym (take-map code_of c.min-count.result c.args.letters.now))
     ∙ ap (run_placed codes) c.wrap.ensures.screen
     ∙ sym
     (run_is codes w (takes-wrapped x x.state.is_wrap_pending takes) (settled-wrapped x x.state.is_wrap_pending refl)
@@ -39,7 +41,8 @@ returns-clause-screen g c =
 
 pub returns-clause-fit : goal.returns-clause-fit
 returns-clause-fit g c = all_acted_fit c.args.self.now c.place_run.new.self
-    (prints (take c.min-count.result (map g.U.CodeUnit.code_of c.args.letters.now))) c.requires.fit (returns-clause-screen g c)
+    (prints (take c.min-count.result (map g.U.CodeUnit.code_of c.args.letters.now))) c.requires.fit
+    (returns-clause-screen g c)
     (c.place_run.ensures.lines.width ∙ c.wrap.ensures.lines.width)
 
 pub returns-clause-places : goal.returns-clause-places

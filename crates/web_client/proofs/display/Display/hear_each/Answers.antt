@@ -13,7 +13,8 @@ loop-message-preserved c = record {
         drawn k.0 c.message-item.result,
         c.in_ok-hear.ensures.sheet k.0 k.1,
         k.2 ∙ (one_more c.args.messages.now c.loop-message.message-index c.message-item.result k.0 (omega arith)
-            ∙ ap (λ (m : Message). all_drawn (drawn k.0 m) (drop (c.loop-message.message-index + 1) c.args.messages.now))
+            ∙ ap (λ (m : Message). all_drawn (drawn k.0 m)
+            (drop (c.loop-message.message-index + 1) c.args.messages.now))
             (sym c.message-item.is)),
       );
   reading = c.hear.ensures.reading ∙ c.loop-message.invariant.reading;
