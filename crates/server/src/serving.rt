@@ -122,8 +122,8 @@ fn shared<R: Host + Threads + Wait>(
 struct Beginning<'a> {
     users: Users,
     seen: Stamp,
-    setup: Setup,
-    place: &'a SocketPath,
+    setup: Setup<'a>,
+    place: &'a SocketPath<'a>,
     listener: UnixListener,
 }
 
