@@ -287,7 +287,7 @@ impl Bridge<'_> {
             is_busy |= self.turn_of(rt, registry, place, now);
             self.let_go(rt, place);
         }
-        self.halls.close();
+        self.halls.close(now);
         is_busy
     }
 }

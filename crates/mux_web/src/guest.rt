@@ -14,8 +14,8 @@ use web_client::{Seat, Visitor};
 /// A browser has this number of seconds for its request and its first message.
 const PATIENCE: u64 = 20;
 
-/// A page that says nothing for this number of seconds is asked whether it is there, and ends after
-/// twice the time.
+/// A page that says nothing for this number of seconds is asked whether it is there, and ends if it
+/// says nothing for as long again.
 const QUIET: u64 = 30;
 
 /// How often a connection is read in one turn.
@@ -42,7 +42,7 @@ pub struct Guest {
     has_begun: bool,
     began: Duration,
     heard: Duration,
-    has_asked: bool,
+    asked: Option<Duration>,
     pub is_over: bool,
 }
 
@@ -59,7 +59,7 @@ impl Guest {
             has_begun: false,
             began: now,
             heard: now,
-            has_asked: false,
+            asked: None,
             is_over: false,
         }
     }
@@ -86,7 +86,7 @@ impl Guest {
     // Takes what came of the browser.
     fn take(&mut self, around: Around<'_>) {
         self.heard = around.now;
-        self.has_asked = false;
+        self.asked = None;
         if self.visitor.take(around.site).is_err() {
             self.is_over = true;
         }
@@ -196,13 +196,14 @@ impl Guest {
         if self.visitor.is_last() && self.visitor.is_idle() {
             self.is_over = true;
         }
-        let quiet = now.saturating_sub(self.heard);
+        let is_quiet = now.saturating_sub(self.asked.unwrap_or(self.heard))
+            > Duration::from_secs(QUIET);
         let is_nobody = matches!(&self.visitor.seat, Seat::Nobody);
         let is_late = is_nobody && now.saturating_sub(self.began) > Duration::from_secs(PATIENCE);
-        if is_late || quiet > Duration::from_secs(2 * QUIET) {
+        if is_late || (is_quiet && self.asked.is_some()) {
             self.is_over = true;
-        } else if quiet > Duration::from_secs(QUIET) && !self.has_asked {
-            self.has_asked = true;
+        } else if is_quiet {
+            self.asked = Some(now);
             self.visitor.ping();
             self.write_all();
         }

@@ -18,6 +18,10 @@ const READS: usize = 16;
 /// A client that sees no window attaches again after this number of seconds.
 const PAUSE: u64 = 10;
 
+/// A page that nobody watches is closed after this number of seconds: who comes and goes doesn't use up
+/// what its user may still try at the server.
+const STAY: u64 = 30;
+
 /// The number of a hall. A place may have one hall after another.
 #[derive(Clone, Copy, PartialEq, Eq)]
 pub struct HallNumber {
@@ -38,6 +42,7 @@ pub struct Hall {
     /// Whether its connection ended.
     pub is_lost: bool,
     opened: Duration,
+    watched: Duration,
 }
 
 impl Hall {
@@ -63,8 +68,13 @@ impl Hall {
         }
     }
 
-    fn is_over(&self) -> bool {
-        self.is_lost || self.client.display.gone().is_some() || self.audience == 0
+    // Whether it ended, or nobody has watched it for a while.
+    fn is_over(&mut self, now: Duration) -> bool {
+        if self.audience > 0 {
+            self.watched = now;
+        }
+        let alone = now.saturating_sub(self.watched);
+        self.is_lost || self.client.display.gone().is_some() || alone >= Duration::from_secs(STAY)
     }
 
     /// Whether its client is to attach again: it sees no window.
@@ -174,6 +184,7 @@ impl Halls {
             audience: 0,
             is_lost: false,
             opened: around.now,
+            watched: around.now,
         })
     }
 
@@ -199,10 +210,10 @@ impl Halls {
         self.number(place)
     }
 
-    // The size of the hall at this place, if its client is to attach again.
-    fn stuck(&self, place: usize, now: Duration) -> Option<(u16, u16)> {
+    // The size of the hall at this place, and when it was watched last, if its client is to attach again.
+    fn stuck(&self, place: usize, now: Duration) -> Option<((u16, u16), Duration)> {
         match self.list.get(place) {
-            Some(Some(hall)) if hall.is_stuck(now) => Some(hall.size),
+            Some(Some(hall)) if hall.is_stuck(now) => Some((hall.size, hall.watched)),
             _ => None,
         }
     }
@@ -218,10 +229,13 @@ impl Halls {
     /// is.
     pub fn renew<R: Net>(&mut self, rt: &R, around: Around<'_>) {
         for place in 0..self.list.len() {
-            if let Some(size) = self.stuck(place, around.now) {
+            if let Some((size, watched)) = self.stuck(place, around.now) {
                 // The old client leaves first: the user may have a bound of clients.
                 self.replace(place, None);
-                let hall = self.made(rt, around, size, place);
+                let mut hall = self.made(rt, around, size, place);
+                if let Some(hall) = &mut hall {
+                    hall.watched = watched;
+                }
                 self.replace(place, hall);
             }
         }
@@ -237,11 +251,11 @@ impl Halls {
         }
     }
 
-    /// Closes the halls that ended, and those that nobody watches.
-    pub fn close(&mut self) {
+    /// Closes the halls that ended, and those that nobody has watched for a while.
+    pub fn close(&mut self, now: Duration) {
         for slot in self.list.iter_mut() {
             let is_over = match slot {
-                Some(hall) => hall.is_over(),
+                Some(hall) => hall.is_over(now),
                 None => false,
             };
             if is_over {
