@@ -33,7 +33,9 @@ pub enum SocketFault {
     /// What stands at this path, beside the socket.
     #[error("{0} is no plain file: remove it, or set another --socket")]
     NoLock(String),
-    #[error("can't make it: {0} (see the modes of its folder)")]
+    #[error("it has no path: set --socket")]
+    NoPath,
+    #[error("can't make it: {0} (make its folder, see the folder's modes, or set another --socket)")]
     NotMade(SystemError),
     #[error("out of memory")]
     NoMemory,

@@ -92,6 +92,10 @@ fn lock<R: Host>(rt: &R, alloc: Global, path: &str) -> Result<File, SocketFault>
 
 // Takes the lock beside the path, and makes a new socket there. One that nobody listens on is removed.
 fn listen<R: Host>(rt: &R, alloc: Global, path: &str) -> Result<(File, UnixListener), SocketFault> {
+    // Without a path the system would choose an abstract name, which any account can connect to.
+    if path.is_empty() {
+        return Err(SocketFault::NoPath);
+    }
     is_there(rt, path)?;
     let lock = lock(rt, alloc, path)?;
     if is_there(rt, path)? {
