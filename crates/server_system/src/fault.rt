@@ -26,16 +26,16 @@ impl Display for SystemError {
 /// Why a server can't listen on its socket.
 #[derive(Debug, Drop, Error)]
 pub enum SocketFault {
-    #[error("a server listens there: end it with the command quit, or set another --socket")]
+    #[error("a server listens there: end it with the command quit, or choose another path")]
     Taken,
-    #[error("a file that is no socket is there: set another --socket")]
+    #[error("a file that is no socket is there: choose another path")]
     NoSocket,
     /// What stands at this path, beside the socket.
-    #[error("{0} is no plain file: remove it, or set another --socket")]
+    #[error("{0} is no plain file: remove it, or choose another path")]
     NoLock(String),
-    #[error("it has no path: set --socket")]
+    #[error("the path is empty")]
     NoPath,
-    #[error("can't make it: {0} (make its folder, see the folder's modes, or set another --socket)")]
+    #[error("can't make it: {0} (make its folder, see the folder's modes, or choose another path)")]
     NotMade(SystemError),
     #[error("out of memory")]
     NoMemory,
