@@ -1,12 +1,6 @@
 -- What actions do to a display.
 use Rattle.std.specs.Prelude.{◌≡◌, ℕ, List, []}
 use Rattle.terminal_model.specs.declared.action.Action.{Action}
-use Rattle.terminal_model.specs.declared.action.Action.TheVariants.{SetTab, ClearTab, ClearTabs}
-use Rattle.terminal_model.specs.declared.action.Action.TheVariants.{Save, Restore, Reset, SoftReset}
-use Rattle.terminal_model.specs.declared.action.Action.TheVariants.{Align, BlankPage}
-use Rattle.terminal_model.specs.declared.action.Action.TheVariants.{ReportStatus, ReportPlace}
-use Rattle.terminal_model.specs.declared.action.Action.TheVariants.{ReportPrinter, ReportAttributes}
-use Rattle.terminal_model.specs.declared.action.Action.TheVariants.{ReportSecondaryAttributes}
 use Rattle.terminal_model.specs.declared.state.State.{State}
 use Rattle.terminal_model.specs.Reports.{all_answered}
 use Rattle.terminal_model.specs.Table.{all_acted}
@@ -39,21 +33,3 @@ MovesLinesBy old action new = new.page.places ≡ acted_places old.state action 
 abbrev pub MovesLinesByAll : Display → List Action → Display → Type 0
 MovesLinesByAll old actions new =
     new.page.places ≡ all_acted_places (screen_of old) actions old.page.places
-
--- the action is about the tab stops, the saved cursor or the whole screen, or it only reports
-abbrev pub SetsUp : Action → Type 0
-SetsUp SetTab = Unit {0}
-SetsUp ClearTab = Unit {0}
-SetsUp ClearTabs = Unit {0}
-SetsUp Save = Unit {0}
-SetsUp Restore = Unit {0}
-SetsUp Reset = Unit {0}
-SetsUp SoftReset = Unit {0}
-SetsUp Align = Unit {0}
-SetsUp BlankPage = Unit {0}
-SetsUp ReportStatus = Unit {0}
-SetsUp ReportPlace = Unit {0}
-SetsUp ReportPrinter = Unit {0}
-SetsUp ReportAttributes = Unit {0}
-SetsUp ReportSecondaryAttributes = Unit {0}
-SetsUp _ = ⊥

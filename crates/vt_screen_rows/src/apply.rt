@@ -3,7 +3,7 @@
 ghost use Rattle.std.specs.Prelude.{◌≡◌, ◌≤◌, length};
 ghost use Rattle.terminal_model.specs.Table.{acted};
 ghost use Rattle.terminal_model.specs.Reports.{answer};
-ghost use Rattle.vt_screen_rows.specs.Acting.{MovesLines, MovesLinesBy, SetsUp};
+ghost use Rattle.vt_screen_rows.specs.Acting.{MovesLines, MovesLinesBy};
 ghost use Rattle.vt_screen_rows.specs.Displays.{IsFit, screen_of};
 ghost use Rattle.vt_screen_rows.specs.Places.{places_after};
 ghost use Rattle.vt_screen_state.specs.Counted.{IsCounted};
@@ -59,6 +59,15 @@ impl Display {
             Action::Index => self.index(),
             Action::NextLine => self.go_to_next_line(),
             Action::ReverseIndex => self.index_back(),
+            Action::SetTab => self.set_tab(),
+            Action::ClearTab => self.clear_tab(),
+            Action::ClearTabs => self.clear_tabs(),
+            Action::Save => self.save(),
+            Action::Restore => self.restore(),
+            Action::Reset => self.reset(),
+            Action::SoftReset => self.soft_reset(),
+            Action::Align => self.align(),
+            Action::BlankPage => self.blank_page(),
             Action::EraseInPage(part) => self.erase_in_page(part),
             Action::EraseInLine(part) => self.erase_in_line(part),
             Action::EraseCells(count) => self.erase_cells(count),
@@ -84,28 +93,6 @@ impl Display {
             Action::SetEightBitReports(is_set) => set_eight_bit_reports(&mut self.state, is_set),
             Action::SetApplicationKeypad(is_set) => set_application_keypad(&mut self.state, is_set),
             Action::Protect(is_set) => protect(&mut self.state, is_set),
-            _ => self.set_up(action),
-        }
-    }
-
-    /// Performs one action on the tab stops, the saved cursor or the whole screen, or one that only
-    /// reports.
-    fn set_up(&mut self, action: Action)
-        requires fit { IsFit self.old }
-        requires setup { SetsUp action }
-        ensures screen { screen_of self.new ≡ acted (screen_of self.old) action }
-        ensures lines { MovesLines self.old (places_after action) self.new }
-    {
-        match action {
-            Action::SetTab => self.set_tab(),
-            Action::ClearTab => self.clear_tab(),
-            Action::ClearTabs => self.clear_tabs(),
-            Action::Save => self.save(),
-            Action::Restore => self.restore(),
-            Action::Reset => self.reset(),
-            Action::SoftReset => self.soft_reset(),
-            Action::Align => self.align(),
-            Action::BlankPage => self.blank_page(),
             _ => settle(&mut self.state),
         }
     }
