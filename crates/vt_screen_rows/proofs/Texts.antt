@@ -21,9 +21,9 @@ use Rattle.terminal_model.specs.declared.state.State.{State}
 use Rattle.terminal_model.specs.Screen.{Screen, with_page}
 use Rattle.terminal_model.specs.Table.{acted, all_acted}
 use Rattle.vt_screen_rows.specs.declared.display.Display.{Display}
-use Rattle.vt_screen_rows.specs.Acting.{ActsByAll, KeepsLines, MovesLines}
+use Rattle.vt_screen_rows.specs.Acting.{KeepsLines, MovesLines}
 use Rattle.vt_screen_rows.specs.Displays.{IsFit, screen_of}
-use Rattle.vt_screen_rows.specs.Places.{acted_places, all_acted_places, places_after}
+use Rattle.vt_screen_rows.specs.Places.{all_acted_places, places_after}
 use Rattle.vt_screen_rows.specs.Runs.{TakesRuns, prints, run_placed}
 use Rattle.vt_screen_rows.specs.Texts.{PrintsText}
 use Rattle.vt_screen_rows.proofs.RunLemmas.{all_acted-append, all_acted_fit, rest_is, run_is}

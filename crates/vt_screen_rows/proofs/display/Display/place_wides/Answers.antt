@@ -1,4 +1,4 @@
-use Rattle.std.proofs.Common.{◌≡◌, ℕ, ◌*◌, List, take, refl, arith}
+use Rattle.std.proofs.Common.{ℕ, ◌*◌, List, take, refl, arith}
 use Rattle.cells.specs.Wide.{wide_cells}
 use Rattle.terminal_model.specs.declared.state.State.{State}
 use Rattle.vt_screen_rows.proofs.Texts.{wides_printed, none_put}

@@ -1,4 +1,4 @@
-use Rattle.std.proofs.Common.{◌≡◌, ◌+◌, ℕ, List, take, subst, arith}
+use Rattle.std.proofs.Common.{◌≡◌, ◌+◌, ℕ, take, subst, arith}
 use Rattle.vt_screen_rows.specs.Texts.{PrintsText}
 use Rattle.vt_screen_rows.proofs.Texts.{none_printed, rest_printed}
 use Rattle.vt_screen_rows.proofs.display.Display.print_text.Goals as goal
