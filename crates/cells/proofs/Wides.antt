@@ -4,7 +4,7 @@ use Rattle.std.proofs.Common.{sym, ap, ◌∙◌, subst, arith}
 use Rattle.std.proofs.lemmas.List.{length-set}
 use Rattle.cells.specs.declared.cell.Cell.{Cell}
 use Rattle.cells.specs.declared.cell.Rendition.{Rendition}
-use Rattle.cells.specs.Line.{IsPaired, cells_from, cut_of, spliced, fresh_at, left_cell, right_cell}
+use Rattle.cells.specs.Line.{IsPaired, cell_at, cells_from, cut_of, spliced, fresh_at, left_cell, right_cell}
 use Rattle.cells.specs.Wide.{wide_cells}
 use Rattle.cells.proofs.Putting.{IsPutSoFar, put_next, put_is}
 use Rattle.cells.proofs.PuttingWhole.{put_none}
@@ -82,3 +82,12 @@ module _ (rendition : Rendition) (is_protected : Bool) where
       let n : length fresh ≡ 2 * length characters = length-wides characters in
       let z : length fresh ≡ 0 = omega arith in
       put_none at fresh cells z paired ∙ ap (λ m. cells_from (spliced at fresh (at + m) (length cells)) cells) n
+
+  -- no half lacks its other half
+  pub wides_complete : (characters : List ℕ) (k : ℕ) → k < length (wides characters)
+      → fresh_at (wides characters) k ≡ cell_at (wides characters) k
+  wides_complete [] k h = absurd (omega arith)
+  wides_complete (c ∷ characters) zero h = refl
+  wides_complete (c ∷ characters) (suc zero) h = refl
+  wides_complete (c ∷ characters) (suc (suc k)) h = fresh-later c characters k
+      ∙ wides_complete characters k (omega arith)

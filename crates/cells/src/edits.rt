@@ -233,7 +233,7 @@ pub fn put_wide_run(
 
 /// The halves of a wide space. This function isn't inlined, for the reason given at `space_cell`.
 #[inline(never)]
-fn space_halves(rendition: Rendition, is_protected: bool) -> (Cell, Cell)
+pub fn space_halves(rendition: Rendition, is_protected: bool) -> (Cell, Cell)
     ensures left { result.0 ≡ left_cell 0x20 rendition is_protected }
     ensures right { result.1 ≡ right_cell 0x20 rendition is_protected }
 {
@@ -288,7 +288,7 @@ pub fn blank_plain(cells: &mut [Cell], from: usize, end: usize)
 /// A space. This function isn't inlined, so that the cells of a run are copied from one in memory
 /// as a whole and not field by field.
 #[inline(never)]
-fn space_cell(rendition: Rendition, is_protected: bool) -> Cell
+pub fn space_cell(rendition: Rendition, is_protected: bool) -> Cell
     ensures { result ≡ narrow_cell 0x20 rendition is_protected }
 {
     Cell::narrow(' ', rendition, is_protected)

@@ -9,6 +9,7 @@ mod letters;
 mod line;
 mod put;
 mod shifting;
+mod texts;
 mod unit;
 mod unlike;
 

@@ -13,10 +13,10 @@ ghost use Rattle.cells.specs.Wide.{wide_cells};
 ghost use Rattle.cells.specs.Resizing.{line_resized};
 
 use crate::cell::{Cell, Rendition, Shape};
-use crate::edits;
 use crate::put::Put;
 use crate::shifting::splice_used;
 use crate::unit::CodeUnit;
+use crate::{edits, texts};
 use std::alloc::{AllocError, Global};
 use std::marker::Model;
 
@@ -338,8 +338,16 @@ impl Line {
             (narrow_cells (text (take result.read bytes.now)) rendition is_protected)
             (at + result.count) self.old }
     {
-        let _ = &self.cells;
-        Put { count: 0, read: 0 }
+        let put = texts::put_letters(
+            self.cells.as_mut_slice(),
+            at,
+            bytes,
+            rendition,
+            is_protected,
+        );
+        self.used = self.used.max(at + put.count);
+        self.is_plain = false;
+        put
     }
 
     /// Puts the characters of two columns with which some bytes of UTF-8 begin over twice as many
@@ -362,8 +370,16 @@ impl Line {
             (wide_cells (text (take result.read bytes.now)) rendition is_protected)
             (at + 2 * result.count) self.old }
     {
-        let _ = &self.cells;
-        Put { count: 0, read: 0 }
+        let put = texts::put_wides(
+            self.cells.as_mut_slice(),
+            at,
+            bytes,
+            rendition,
+            is_protected,
+        );
+        self.used = self.used.max(at + 2 * put.count);
+        self.is_plain = false;
+        put
     }
 
     /// Erases the unprotected cells from `from` up to but not including `end`.
