@@ -14,7 +14,7 @@ use Rattle.cells.specs.declared.cell.Cell.{Cell}
 use Rattle.cells.specs.declared.cell.Rendition.{Rendition}
 use Rattle.cells.specs.Line.{blank, cell_at, left_cell, narrow_cell, narrow_cells, right_cell}
 use Rattle.cells.specs.Put.{IsPut}
-use Rattle.cells.specs.Wide.{wide_cells}
+use Rattle.cells.proofs.Wides.{wides, wides-append}
 
 -- one more new cell
 IsPut-more : (at : ℕ) (fresh old line : List Cell) (cell : Cell) → IsPut at fresh old line
@@ -105,17 +105,6 @@ module _ (rendition : Rendition) (is_protected : Bool) where
   abbrev pub narrows : List ℕ → List Cell
   narrows characters = narrow_cells characters rendition is_protected
 
-  abbrev pub wides : List ℕ → List Cell
-  wides characters = wide_cells characters rendition is_protected
-
-  wides-append : (characters : List ℕ) (c : ℕ)
-      → wides (characters ++ c ∷ []) ≡ wides characters ++ left_cell c rendition is_protected ∷ right_cell c rendition
-      is_protected ∷ []
-  wides-append [] c = refl
-  wides-append (first ∷ characters) c =
-      ap (λ later. left_cell first rendition is_protected ∷ right_cell first rendition is_protected ∷ later)
-      (wides-append characters c)
-
   pub letter_written : (is : ℕ → Bool) (at : ℕ) (bytes : List ℕ) (old line : List Cell) (column read character size : ℕ)
       → IsWritten is narrows at bytes old line column read → column < length old → size ≤ length bytes - read
       → codes (take size (take (length bytes - read) (drop read bytes))) ≡ (character ∷ [], [])
@@ -132,24 +121,24 @@ module _ (rendition : Rendition) (is_protected : Bool) where
       (IsPut-more at fresh old line cell so_far.put (omega (arith, so_far.columns))))
 
   pub wide_written : (is : ℕ → Bool) (at : ℕ) (bytes : List ℕ) (old line : List Cell) (column read character size : ℕ)
-      → IsWritten is wides at bytes old line column read → column + 1 < length old → size ≤ length bytes - read
+      → IsWritten is (wides rendition is_protected) at bytes old line column read → column + 1 < length old → size ≤ length bytes - read
       → codes (take size (take (length bytes - read) (drop read bytes))) ≡ (character ∷ [], [])
       → is_character character ≡ true → is character ≡ true
-      → IsWritten is wides at bytes old
+      → IsWritten is (wides rendition is_protected) at bytes old
       (set (set line column (left_cell character rendition is_protected)) (column + 1)
       (right_cell character rendition is_protected)) (column + 2) (read + size)
   wide_written is at bytes old line column read character size so_far inside fits reads graphic known =
       let left : Cell = left_cell character rendition is_protected in
       let right : Cell = right_cell character rendition is_protected in
-      let fresh : List Cell = wides (text (take read bytes)) in
+      let fresh : List Cell = wides rendition is_protected (text (take read bytes)) in
       let half : IsPut at (fresh ++ left ∷ []) old (set line column left) =
       subst (λ n. IsPut at (fresh ++ left ∷ []) old (set line n left)) so_far.columns
       (IsPut-more at fresh old line left so_far.put (omega (arith, so_far.columns))) in
       let end : at + length (fresh ++ left ∷ []) ≡ column + 1 = ap (λ n. at + n) (length-append fresh (left ∷ []))
       ∙ omega (arith, so_far.columns) in
-      written_more is wides at bytes old line column read character size so_far fits reads graphic known
+      written_more is (wides rendition is_protected) at bytes old line column read character size so_far fits reads graphic known
       (left ∷ right ∷ []) (set (set line column left) (column + 1) right)
-      (wides-append (text (take read bytes)) character) (omega arith)
+      (wides-append rendition is_protected (text (take read bytes)) character) (omega arith)
       (subst (λ (v : List Cell). IsPut at v old (set (set line column left) (column + 1) right))
       (append_assoc fresh (left ∷ []) (right ∷ []))
       (subst (λ n. IsPut at ((fresh ++ left ∷ []) ++ right ∷ []) old (set (set line column left) n right)) end

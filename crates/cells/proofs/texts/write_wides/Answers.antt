@@ -3,8 +3,8 @@ use Rattle.charsets.specs.Text.{text}
 use Rattle.cells.specs.declared.cell.Cell.{Cell}
 use Rattle.cells.specs.Letters.{is_known_wide}
 use Rattle.cells.specs.Line.{left_cell}
-use Rattle.cells.proofs.Wides.{length-wides}
-use Rattle.cells.proofs.Written.{IsWritten, wides, none_written, wide_written}
+use Rattle.cells.proofs.Wides.{length-wides, wides}
+use Rattle.cells.proofs.Written.{IsWritten, none_written, wide_written}
 use Rattle.cells.proofs.texts.write_wides.Goals as goal
 
 pub loop-column-init : goal.loop-column-init
