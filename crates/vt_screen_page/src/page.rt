@@ -161,8 +161,8 @@ impl Page {
         self.stored[place as usize].put_wide(at.column, left, right, rest);
     }
 
-    /// Puts characters 20 to 7E over as many old cells, from `at` on: `codes` has their code points.
-    /// An old half that loses its other half becomes blank.
+    /// Puts characters of width 1 over as many old cells, from `at` on. `codes` has their code
+    /// points. An old half that loses its other half becomes blank.
     pub fn put_run(
         &mut self,
         at: CellPosition,

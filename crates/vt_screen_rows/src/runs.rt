@@ -69,7 +69,7 @@ impl Display {
         count
     }
 
-    /// Puts characters of width 1 in the cursor's line, over as many old cells: `codes` has their
+    /// Puts characters of width 1 in the cursor's line, over as many old cells. `codes` has their
     /// code points.
     pub fn place_run(&mut self, codes: &[u8])
         requires fit { IsFit self.old }
