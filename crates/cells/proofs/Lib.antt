@@ -16,4 +16,5 @@ pub mod Looks
 pub mod Wides
 pub mod WideRuns
 pub mod UsedSplices
-pub mod Units
+pub mod Written
+pub mod Mending

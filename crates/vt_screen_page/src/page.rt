@@ -1,8 +1,11 @@
 //! The page of a screen.
 
 ghost use Rattle.std.specs.Prelude.{◌≡◌, ℕ, ◌+◌, ◌*◌, ◌-◌, ◌<◌, ◌≤◌, ◌↔◌, [], ◌∷◌, length, replicate};
-ghost use Rattle.std.specs.Prelude.{IfOk, Err, false, slice_index};
-ghost use Rattle.cells.specs.Line.{blank, unprotected_erased, narrow_cells, narrow_cells_of, plain};
+ghost use Rattle.std.specs.Prelude.{IfOk, Err, true, false, slice_index, take};
+ghost use Rattle.std.specs.List.{list_all};
+ghost use Rattle.charsets.specs.Text.{text, IsText};
+ghost use Rattle.cells.specs.Letters.{is_known_wide, is_letter};
+ghost use Rattle.cells.specs.Line.{blank, unprotected_erased, narrow_cells, plain};
 ghost use Rattle.cells.specs.Wide.{wide_cells};
 ghost use Rattle.cells.specs.Page.{IsGrid, IsGridSize, line_at, page_from, page_marked};
 ghost use Rattle.cells.specs.Page.{page_spliced, edited};
@@ -12,7 +15,7 @@ ghost use Rattle.scrollback.specs.Kept.{with_line, Continues};
 ghost use Rattle.vt_screen_page.specs.Store.{placed_in_order, turned};
 
 use crate::store;
-use cells::{Cell, CodeUnit, GridFault, Line, Rendition, Shape, blank_lines, is_grid_size};
+use cells::{Cell, GridFault, Line, Put, Rendition, Shape, blank_lines, is_grid_size};
 use scrollback::Ring;
 use std::alloc::{AllocError, Global};
 use std::marker::Model;
@@ -158,45 +161,75 @@ impl Page {
         self.stored[place as usize].put_wide(at.column, left, right, rest);
     }
 
-    /// Puts characters of width 1 over as many old cells, from `at` on. An old half that loses its
-    /// other half becomes blank.
-    pub fn put_run<U: CodeUnit>(
+    /// Puts characters of width 1 over as many old cells, from `at` on. `codes` has their code
+    /// points. An old half that loses its other half becomes blank.
+    pub fn put_run(
         &mut self,
         at: CellPosition,
-        units: &[U],
+        codes: &[u8],
         rendition: Rendition,
         is_protected: bool,
     )
         requires line_inside { at.line < length self.old.lines }
-        requires room { at.column + length units.now ≤ length (line_at self.old.lines at.line) }
+        requires room { at.column + length codes.now ≤ length (line_at self.old.lines at.line) }
         ensures lines { self.new.lines
-            ≡ page_spliced at.line at.column
-            (narrow_cells_of U.code_of units.now rendition is_protected)
-            (at.column + length units.now) self.old.lines }
+            ≡ page_spliced at.line at.column (narrow_cells codes.now rendition is_protected)
+            (at.column + length codes.now) self.old.lines }
         ensures places { self.new.places ≡ self.old.places }
     {
         let place = self.places[at.line];
-        self.stored[place as usize].put_run(at.column, units, rendition, is_protected);
+        self.stored[place as usize].put_run(at.column, codes, rendition, is_protected);
     }
 
-    /// Puts characters of width 2 over twice as many old cells, from `at` on. An old half that loses
-    /// its other half becomes blank.
-    pub fn put_wide_run(
+    /// Puts the letters of one column with which some bytes of UTF-8 begin over as many old cells,
+    /// from `at` on, as far as there is room. An old half that loses its other half becomes blank.
+    pub fn put_letters(
         &mut self,
         at: CellPosition,
-        characters: &[char],
+        bytes: &[u8],
         rendition: Rendition,
         is_protected: bool,
-    )
+    ) -> Put
         requires line_inside { at.line < length self.old.lines }
-        requires room { at.column + 2 * length characters.now ≤ length (line_at self.old.lines at.line) }
-        ensures lines { self.new.lines
-            ≡ page_spliced at.line at.column (wide_cells characters.now rendition is_protected)
-            (at.column + 2 * length characters.now) self.old.lines }
+        requires inside { at.column ≤ length (line_at self.old.lines at.line) }
+        ensures text { IsText (take result.read bytes.now) }
+        ensures letters { list_all is_letter (text (take result.read bytes.now)) ≡ true }
+        ensures count { length (text (take result.read bytes.now)) ≡ result.count }
+        ensures room { at.column + result.count ≤ length (line_at self.old.lines at.line) }
+        ensures few { result.read ≤ length bytes.now }
+        ensures lines { self.new.lines ≡ page_spliced at.line at.column
+            (narrow_cells (text (take result.read bytes.now)) rendition is_protected)
+            (at.column + result.count) self.old.lines }
         ensures places { self.new.places ≡ self.old.places }
     {
         let place = self.places[at.line];
-        self.stored[place as usize].put_wide_run(at.column, characters, rendition, is_protected);
+        self.stored[place as usize].put_letters(at.column, bytes, rendition, is_protected)
+    }
+
+    /// Puts the characters of two columns with which some bytes of UTF-8 begin over twice as many
+    /// old cells, from `at` on, as far as there is room: those that `is_known_wide` knows. An old
+    /// half that loses its other half becomes blank.
+    pub fn put_wides(
+        &mut self,
+        at: CellPosition,
+        bytes: &[u8],
+        rendition: Rendition,
+        is_protected: bool,
+    ) -> Put
+        requires line_inside { at.line < length self.old.lines }
+        requires inside { at.column ≤ length (line_at self.old.lines at.line) }
+        ensures text { IsText (take result.read bytes.now) }
+        ensures wides { list_all is_known_wide (text (take result.read bytes.now)) ≡ true }
+        ensures count { length (text (take result.read bytes.now)) ≡ result.count }
+        ensures room { at.column + 2 * result.count ≤ length (line_at self.old.lines at.line) }
+        ensures few { result.read ≤ length bytes.now }
+        ensures lines { self.new.lines ≡ page_spliced at.line at.column
+            (wide_cells (text (take result.read bytes.now)) rendition is_protected)
+            (at.column + 2 * result.count) self.old.lines }
+        ensures places { self.new.places ≡ self.old.places }
+    {
+        let place = self.places[at.line];
+        self.stored[place as usize].put_wides(at.column, bytes, rendition, is_protected)
     }
 
     /// Erases the unprotected cells of a line from `from` up to but not including `end`.
