@@ -35,6 +35,12 @@ def long_line(rng):
     return text_line(rng) + b" "
 
 
+def tabs(rng):
+    """Lines of code, indented by tabs."""
+    words = " ".join(rng.choice(WORDS) for _ in range(rng.randint(1, 5)))
+    return b"\t" * rng.randint(1, 4) + words.encode() + b";\r\n"
+
+
 def place(rng):
     return b"\x1b[%d;%dH" % (rng.randint(1, ROWS), rng.randint(1, COLS))
 
@@ -82,6 +88,7 @@ def scroll(rng):
 INPUTS = {
     "ascii": ascii,
     "long line": long_line,
+    "tabs": tabs,
     "dense": dense,
     "edits": edits,
     "latin": latin,
