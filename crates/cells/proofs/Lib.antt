@@ -17,3 +17,4 @@ pub mod Wides
 pub mod WideRuns
 pub mod UsedSplices
 pub mod Units
+pub mod Texts

@@ -7,3 +7,4 @@ pub mod Unlike
 pub mod Look
 pub mod Put
 pub mod Wide
+pub mod Letters

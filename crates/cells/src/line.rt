@@ -1,8 +1,11 @@
 //! A line of cells.
 
 ghost use Rattle.std.specs.Prelude.{◌≡◌, ◌+◌, ◌*◌, ◌-◌, ◌<◌, ◌≤◌, min, [], ◌∷◌, length, replicate, IfOk};
-ghost use Rattle.std.specs.Prelude.{IsTrue, false};
+ghost use Rattle.std.specs.Prelude.{IsTrue, false, true, take};
 ghost use Rattle.std.specs.Prelude.{slice_set};
+ghost use Rattle.std.specs.List.{list_all};
+ghost use Rattle.charsets.specs.Text.{text, IsText};
+ghost use Rattle.cells.specs.Letters.{is_known_wide, is_letter};
 ghost use Rattle.cells.specs.Line.{cells_from, cells_spliced, cell_at, marked, IsPaired};
 ghost use Rattle.cells.specs.Line.{IsBlankFrom, blank, unprotected_erased, narrow_cell};
 ghost use Rattle.cells.specs.Line.{narrow_cells, narrow_cells_of, ArePlainFrom, plain};
@@ -11,6 +14,7 @@ ghost use Rattle.cells.specs.Resizing.{line_resized};
 
 use crate::cell::{Cell, Rendition, Shape};
 use crate::edits;
+use crate::put::Put;
 use crate::shifting::splice_used;
 use crate::unit::CodeUnit;
 use std::alloc::{AllocError, Global};
@@ -313,6 +317,53 @@ impl Line {
         );
         self.used = self.used.max(at + 2 * characters.len());
         self.is_plain = false;
+    }
+
+    /// Puts the letters of one column with which some bytes of UTF-8 begin over as many old cells,
+    /// from `at` on, as far as there is room. An old half that loses its other half becomes blank.
+    pub fn put_letters(
+        &mut self,
+        at: usize,
+        bytes: &[u8],
+        rendition: Rendition,
+        is_protected: bool,
+    ) -> Put
+        requires inside { at ≤ length self.old }
+        ensures text { IsText (take result.read bytes.now) }
+        ensures letters { list_all is_letter (text (take result.read bytes.now)) ≡ true }
+        ensures count { length (text (take result.read bytes.now)) ≡ result.count }
+        ensures room { at + result.count ≤ length self.old }
+        ensures few { result.read ≤ length bytes.now }
+        ensures cells { self.new ≡ cells_spliced at
+            (narrow_cells (text (take result.read bytes.now)) rendition is_protected)
+            (at + result.count) self.old }
+    {
+        let _ = &self.cells;
+        Put { count: 0, read: 0 }
+    }
+
+    /// Puts the characters of two columns with which some bytes of UTF-8 begin over twice as many
+    /// old cells, from `at` on, as far as there is room: those that `is_known_wide` knows. An old
+    /// half that loses its other half becomes blank.
+    pub fn put_wides(
+        &mut self,
+        at: usize,
+        bytes: &[u8],
+        rendition: Rendition,
+        is_protected: bool,
+    ) -> Put
+        requires inside { at ≤ length self.old }
+        ensures text { IsText (take result.read bytes.now) }
+        ensures wides { list_all is_known_wide (text (take result.read bytes.now)) ≡ true }
+        ensures count { length (text (take result.read bytes.now)) ≡ result.count }
+        ensures room { at + 2 * result.count ≤ length self.old }
+        ensures few { result.read ≤ length bytes.now }
+        ensures cells { self.new ≡ cells_spliced at
+            (wide_cells (text (take result.read bytes.now)) rendition is_protected)
+            (at + 2 * result.count) self.old }
+    {
+        let _ = &self.cells;
+        Put { count: 0, read: 0 }
     }
 
     /// Erases the unprotected cells from `from` up to but not including `end`.

@@ -9,17 +9,18 @@ use Rattle.std.proofs.lemmas.Bool.Decides.{nat_tests}
 use Rattle.charsets.specs.declared.unit.Coding.TheVariants.{Utf8}
 use Rattle.charsets.specs.declared.unit.Unit.{Unit}
 use Rattle.charsets.specs.declared.unit.Unit.TheVariants.{Code}
+use Rattle.charsets.specs.Utf8.{codes}
 use Rattle.charsets.specs.Units.{units, is_plain, is_character}
 use Rattle.charsets.proofs.Joins.{units-append}
-use Rattle.charsets.proofs.Pieces.{units-plain}
+use Rattle.charsets.proofs.Pieces.{units-plain, codes-plain}
 
 -- one byte of 20 to 7E
 pub one_byte_reads : (bytes : List ℕ) → 0 < length bytes → 0x1F < get_or bytes 0 0 → get_or bytes 0 0 < 0x7F
-    → units Utf8 (take 1 bytes) ≡ (Code (get_or bytes 0 0) ∷ [], [])
+    → codes (take 1 bytes) ≡ (get_or bytes 0 0 ∷ [], [])
 one_byte_reads [] some low high = absurd (omega arith)
 one_byte_reads (a ∷ bytes) some low high =
     let plain : is_plain a ≡ true = grind (arith, nat_tests) in
-    units-plain Utf8 (a ∷ []) (rw plain refl)
+    codes-plain (a ∷ []) (rw plain refl)
 
 -- the first `read` bytes are read as the first `count` of the given characters
 pub record AreRead (bytes given : List ℕ) (count read : ℕ) : Type 0 where
@@ -34,7 +35,7 @@ none_read bytes characters = record
 
 pub next_read : (bytes characters : List ℕ) (count read character size : ℕ)
     → AreRead bytes characters count read → count < length characters → size ≤ length bytes - read
-    → units Utf8 (take size (take (length bytes - read) (drop read bytes))) ≡ (Code character ∷ [], [])
+    → codes (take size (take (length bytes - read) (drop read bytes))) ≡ (character ∷ [], [])
     → is_character character ≡ true
     → AreRead bytes (set characters count character) (count + 1) (read + size)
 next_read bytes characters count read character size so_far inside fits reads is =
@@ -42,7 +43,8 @@ next_read bytes characters count read character size so_far inside fits reads is
     let rest : take (length bytes - read) (drop read bytes) ≡ drop read bytes = take_all (length bytes - read)
     (drop read bytes) (omega (arith, length-drop read bytes)) in
     let next : units Utf8 (take size (drop read bytes)) ≡ (Code character ∷ [], []) = ap
-    (λ (v : List ℕ). units Utf8 (take size v)) (sym rest) ∙ reads in
+    (λ (v : List ℕ). units Utf8 (take size v)) (sym rest)
+    ∙ ap (λ (p : List ℕ × List ℕ). (map (λ c. Code c) p.0, p.1)) reads in
     let more : take (count + 1) (set characters count character) ≡ take count characters ++ character ∷ [] =
     take_more_set characters count character inside in
     record {

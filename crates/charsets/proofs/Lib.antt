@@ -8,3 +8,4 @@ pub mod Shifted
 pub mod Scalars
 pub mod Fronts
 pub mod Characters
+pub mod Texts

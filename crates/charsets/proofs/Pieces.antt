@@ -42,7 +42,7 @@ units_of_pieces-whole coding pieces =
     ∙ ap (λ (x : List Unit × List ℕ).
     (x.0 ++ (units_of_pieces coding x.1 pieces).0, (units_of_pieces coding x.1 pieces).1)) (units-none coding))
 
-codes-plain : (bytes : List ℕ) → list_all is_plain bytes ≡ true → codes bytes ≡ (bytes, [])
+pub codes-plain : (bytes : List ℕ) → list_all is_plain bytes ≡ true → codes bytes ≡ (bytes, [])
 unfolding cut
 codes-plain [] h = refl
 codes-plain (b ∷ bytes) h =

@@ -4,3 +4,4 @@ pub mod Units
 pub mod Sets
 pub mod Shifts
 pub mod Entries
+pub mod Text

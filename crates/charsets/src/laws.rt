@@ -10,6 +10,8 @@ ghost use Rattle.charsets.specs.declared.unit.Coding.TheVariants.{Utf8};
 ghost use Rattle.charsets.specs.declared.unit.Unit.TheVariants.{Code};
 ghost use Rattle.charsets.specs.Shifts.{set_at, is_graphic, mapped, spent};
 ghost use Rattle.charsets.specs.Units.{units, units_of_pieces, is_plain, IsUnit};
+ghost use Rattle.charsets.specs.Utf8.{codes, with_front};
+ghost use Rattle.charsets.specs.Text.{text, IsText};
 
 /// If some bytes leave no incomplete character, the bytes after them are read as if they came
 /// first.
@@ -17,6 +19,16 @@ pub fn whole_ones_join()
     ensures { (coding : Coding) (front later : List ℕ) → (units coding front).1 ≡ [] →
         units coding (front ++ later)
         ≡ ((units coding front).0 ++ (units coding later).0, (units coding later).1) }
+{}
+
+/// If some bytes leave no incomplete character, the codes of the bytes after them follow theirs. So
+/// two texts joined are a text, of the characters of both.
+pub fn texts_join()
+    ensures codes { (front later : List ℕ) → (codes front).1 ≡ [] →
+        codes (front ++ later) ≡ with_front (codes front).0 (codes later) }
+    ensures texts { (front later : List ℕ) → IsText front → IsText later → IsText (front ++ later) }
+    ensures characters { (front later : List ℕ) → IsText front →
+        text (front ++ later) ≡ text front ++ text later }
 {}
 
 /// CAN (18) drops an incomplete character, which then gives no unit.

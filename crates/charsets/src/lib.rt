@@ -12,9 +12,9 @@ mod whole;
 pub use decoder::Decoder;
 pub use laws::{
     ascii_stands_for_itself, beginnings_go_on, can_ends_all, characters_read_back, each_is_a_unit,
-    pieces_are_whole, plain_bytes_stand, whole_ones_join,
+    pieces_are_whole, plain_bytes_stand, texts_join, whole_ones_join,
 };
 pub use sets::CharacterSet;
 pub use shifts::{Place, Shift, Shifts};
 pub use unit::{Coding, Unit, Units};
-pub use whole::first_characters;
+pub use whole::{first_character, first_characters};

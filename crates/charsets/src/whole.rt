@@ -6,15 +6,16 @@ ghost use Rattle.std.specs.List.{list_all};
 ghost use Rattle.charsets.specs.declared.unit.Coding.TheVariants.{Utf8};
 ghost use Rattle.charsets.specs.declared.unit.Unit.TheVariants.{Code};
 ghost use Rattle.charsets.specs.Units.{is_character, units};
+ghost use Rattle.charsets.specs.Utf8.{codes};
 
 use crate::utf8::{can_continue, can_follow, char_of_2, char_of_3, char_of_4};
 
 /// The graphic character with which some bytes begin in UTF-8, and its number of bytes (Unicode core
 /// specification, table 3-7). None if they begin with anything else.
 #[inline(always)]
-fn first_character(bytes: &[u8]) -> Option<(char, usize)>
+pub fn first_character(bytes: &[u8]) -> Option<(char, usize)>
     requires { 0 < length bytes.now }
-    ensures reads { IfSome result (λ c. units Utf8 (take c.1 bytes.now) ≡ (Code c.0 ∷ [], [])) }
+    ensures reads { IfSome result (λ c. codes (take c.1 bytes.now) ≡ (c.0 ∷ [], [])) }
     ensures character { IfSome result (λ c. is_character c.0 ≡ true) }
     ensures some { IfSome result (λ c. 0 < c.1) }
     ensures few { IfSome result (λ c. c.1 ≤ length bytes.now) }
@@ -69,7 +70,7 @@ pub fn first_characters(bytes: &[u8], characters: &mut [char]) -> (usize, usize)
 fn character_of_2(a: u8, b: u8) -> Option<char>
     requires low { 0xC1 < a }
     requires high { a < 0xE0 }
-    ensures reads { IfSome result (λ c. units Utf8 (a ∷ b ∷ []) ≡ (Code c ∷ [], [])) }
+    ensures reads { IfSome result (λ c. codes (a ∷ b ∷ []) ≡ (c ∷ [], [])) }
     ensures graphic { IfSome result (λ c. 0xA0 ≤ c) }
 {
     if !can_continue(b) || (a == 0xC2 && b < 0xA0) {
@@ -82,7 +83,7 @@ fn character_of_2(a: u8, b: u8) -> Option<char>
 fn character_of_3(a: u8, b: u8, c: u8) -> Option<char>
     requires low { 0xE0 ≤ a }
     requires high { a < 0xF0 }
-    ensures reads { IfSome result (λ d. units Utf8 (a ∷ b ∷ c ∷ []) ≡ (Code d ∷ [], [])) }
+    ensures reads { IfSome result (λ d. codes (a ∷ b ∷ c ∷ []) ≡ (d ∷ [], [])) }
     ensures graphic { IfSome result (λ d. 0xA0 ≤ d) }
 {
     if !can_follow(a, b) || !can_continue(c) {
@@ -94,7 +95,7 @@ fn character_of_3(a: u8, b: u8, c: u8) -> Option<char>
 /// The character of these four bytes. None if they are no well-formed character.
 fn character_of_4(a: u8, b: u8, c: u8, d: u8) -> Option<char>
     requires { 0xF0 ≤ a }
-    ensures reads { IfSome result (λ e. units Utf8 (a ∷ b ∷ c ∷ d ∷ []) ≡ (Code e ∷ [], [])) }
+    ensures reads { IfSome result (λ e. codes (a ∷ b ∷ c ∷ d ∷ []) ≡ (e ∷ [], [])) }
     ensures graphic { IfSome result (λ e. 0xA0 ≤ e) }
 {
     if 0xF4 < a || !can_follow(a, b) || !can_continue(c) || !can_continue(d) {

@@ -1,0 +1,37 @@
+//! Characters whose width is known without looking it up.
+
+ghost use Rattle.std.specs.Prelude.{◌≡◌};
+ghost use Rattle.cells.specs.Letters.{is_known_wide, is_letter};
+
+/// A character of width 0 among the letters.
+const SOFT_HYPHEN: char = '\u{AD}';
+
+/// Whether a character is a letter of one column: one of 20 to 7E, of U+00A0 to U+02FF without the
+/// soft hyphen, a Greek, Cyrillic or Armenian one up to U+058F, or a Hebrew one.
+#[inline(always)]
+pub fn is_letter(character: char) -> bool
+    ensures { result ≡ is_letter character }
+{
+    if character < '\u{7F}' {
+        ' ' <= character
+    } else if character < '\u{300}' {
+        '\u{A0}' <= character && character != SOFT_HYPHEN
+    } else {
+        ('\u{370}' <= character && character < '\u{483}')
+            || ('\u{48A}' <= character && character < '\u{590}')
+            || ('\u{5D0}' <= character && character < '\u{5EB}')
+    }
+}
+
+/// Whether a character is an ideograph, a kana, a Hangul syllable or an emoticon, which take two
+/// columns each.
+#[inline(always)]
+pub fn is_known_wide(character: char) -> bool
+    ensures { result ≡ is_known_wide character }
+{
+    ('\u{3400}' <= character && character < '\u{A000}')
+        || ('\u{3041}' <= character && character < '\u{3097}')
+        || ('\u{30A0}' <= character && character < '\u{3100}')
+        || ('\u{AC00}' <= character && character < '\u{D7A4}')
+        || ('\u{1F600}' <= character && character < '\u{1F650}')
+}
