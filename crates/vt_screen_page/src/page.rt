@@ -1,7 +1,10 @@
 //! The page of a screen.
 
 ghost use Rattle.std.specs.Prelude.{◌≡◌, ℕ, ◌+◌, ◌*◌, ◌-◌, ◌<◌, ◌≤◌, ◌↔◌, [], ◌∷◌, length, replicate};
-ghost use Rattle.std.specs.Prelude.{IfOk, Err, false, slice_index};
+ghost use Rattle.std.specs.Prelude.{IfOk, Err, true, false, slice_index, take};
+ghost use Rattle.std.specs.List.{list_all};
+ghost use Rattle.charsets.specs.Text.{text, IsText};
+ghost use Rattle.cells.specs.Letters.{is_known_wide, is_letter};
 ghost use Rattle.cells.specs.Line.{blank, unprotected_erased, narrow_cells, narrow_cells_of, plain};
 ghost use Rattle.cells.specs.Wide.{wide_cells};
 ghost use Rattle.cells.specs.Page.{IsGrid, IsGridSize, line_at, page_from, page_marked};
@@ -12,7 +15,7 @@ ghost use Rattle.scrollback.specs.Kept.{with_line, Continues};
 ghost use Rattle.vt_screen_page.specs.Store.{placed_in_order, turned};
 
 use crate::store;
-use cells::{Cell, CodeUnit, GridFault, Line, Rendition, Shape, blank_lines, is_grid_size};
+use cells::{Cell, CodeUnit, GridFault, Line, Put, Rendition, Shape, blank_lines, is_grid_size};
 use scrollback::Ring;
 use std::alloc::{AllocError, Global};
 use std::marker::Model;
@@ -197,6 +200,57 @@ impl Page {
     {
         let place = self.places[at.line];
         self.stored[place as usize].put_wide_run(at.column, characters, rendition, is_protected);
+    }
+
+    /// Puts the letters of one column with which some bytes of UTF-8 begin over as many old cells,
+    /// from `at` on, as far as there is room. An old half that loses its other half becomes blank.
+    pub fn put_letters(
+        &mut self,
+        at: CellPosition,
+        bytes: &[u8],
+        rendition: Rendition,
+        is_protected: bool,
+    ) -> Put
+        requires line_inside { at.line < length self.old.lines }
+        requires inside { at.column ≤ length (line_at self.old.lines at.line) }
+        ensures text { IsText (take result.read bytes.now) }
+        ensures letters { list_all is_letter (text (take result.read bytes.now)) ≡ true }
+        ensures count { length (text (take result.read bytes.now)) ≡ result.count }
+        ensures room { at.column + result.count ≤ length (line_at self.old.lines at.line) }
+        ensures few { result.read ≤ length bytes.now }
+        ensures lines { self.new.lines ≡ page_spliced at.line at.column
+            (narrow_cells (text (take result.read bytes.now)) rendition is_protected)
+            (at.column + result.count) self.old.lines }
+        ensures places { self.new.places ≡ self.old.places }
+    {
+        let place = self.places[at.line];
+        self.stored[place as usize].put_letters(at.column, bytes, rendition, is_protected)
+    }
+
+    /// Puts the characters of two columns with which some bytes of UTF-8 begin over twice as many
+    /// old cells, from `at` on, as far as there is room: those that `is_known_wide` knows. An old
+    /// half that loses its other half becomes blank.
+    pub fn put_wides(
+        &mut self,
+        at: CellPosition,
+        bytes: &[u8],
+        rendition: Rendition,
+        is_protected: bool,
+    ) -> Put
+        requires line_inside { at.line < length self.old.lines }
+        requires inside { at.column ≤ length (line_at self.old.lines at.line) }
+        ensures text { IsText (take result.read bytes.now) }
+        ensures wides { list_all is_known_wide (text (take result.read bytes.now)) ≡ true }
+        ensures count { length (text (take result.read bytes.now)) ≡ result.count }
+        ensures room { at.column + 2 * result.count ≤ length (line_at self.old.lines at.line) }
+        ensures few { result.read ≤ length bytes.now }
+        ensures lines { self.new.lines ≡ page_spliced at.line at.column
+            (wide_cells (text (take result.read bytes.now)) rendition is_protected)
+            (at.column + 2 * result.count) self.old.lines }
+        ensures places { self.new.places ≡ self.old.places }
+    {
+        let place = self.places[at.line];
+        self.stored[place as usize].put_wides(at.column, bytes, rendition, is_protected)
     }
 
     /// Erases the unprotected cells of a line from `from` up to but not including `end`.

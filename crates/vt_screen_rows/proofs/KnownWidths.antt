@@ -171,6 +171,10 @@ katakana_are : all_are 2 0x30A0 0x3100 kind_number_stepped.steps ≡ true
 unfolding tables kind_number_stepped all_are
 katakana_are = refl
 
+syllables_are : all_are 2 0xAC00 0xD7A4 kind_number_stepped.steps ≡ true
+unfolding tables kind_number_stepped all_are
+syllables_are = refl
+
 emoticons_are : all_are 2 0x1F600 0x1F650 kind_number_stepped.steps ≡ true
 unfolding tables kind_number_stepped all_are
 emoticons_are = refl
@@ -230,3 +234,7 @@ katakana_wide c low high =
 pub emoticon_wide : (c : ℕ) → 0x1F600 ≤ c → c < 0x1F650 → IsWide c
 emoticon_wide c low high =
     wide_is c (omega arith) (known 2 0x1F600 0x1F650 c emoticons_are (omega arith) (omega arith) low high)
+
+pub syllable_wide : (c : ℕ) → 0xAC00 ≤ c → c < 0xD7A4 → IsWide c
+syllable_wide c low high =
+    wide_is c (omega arith) (known 2 0xAC00 0xD7A4 c syllables_are (omega arith) (omega arith) low high)

@@ -12,6 +12,7 @@ mod printing;
 mod resetting;
 mod runs;
 mod sizing;
+mod text;
 
 pub use display::Display;
 pub use runs::prints_ascii;
