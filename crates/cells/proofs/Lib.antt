@@ -16,5 +16,5 @@ pub mod Looks
 pub mod Wides
 pub mod WideRuns
 pub mod UsedSplices
-pub mod Units
-pub mod Texts
+pub mod Written
+pub mod Mending

@@ -71,14 +71,10 @@ right_cell character rendition is_protected =
       is_protected = is_protected;
     }
 
--- a run of characters of width 1, and one of things that each stand for a character
+-- a run of characters of width 1
 abbrev pub narrow_cells : List ℕ → Rendition → Bool → List Cell
 narrow_cells characters rendition is_protected =
     map (λ character. narrow_cell character rendition is_protected) characters
-
-abbrev pub narrow_cells_of : {U : Type 0} → (U → ℕ) → List U → Rendition → Bool → List Cell
-narrow_cells_of code_of units rendition is_protected =
-    map (λ unit. narrow_cell (code_of unit) rendition is_protected) units
 
 -- marks and one more; it is dropped if there are two (Unicode core specification, section 5.13)
 abbrev pub joined : Marks → ℕ → Marks

@@ -4,13 +4,11 @@ ghost use Rattle.std.specs.Prelude.{◌≡◌, ◌+◌, ◌*◌, ◌-◌, ◌<�
 ghost use Rattle.std.specs.Prelude.{IsTrue};
 ghost use Rattle.std.specs.List.{copy_within};
 ghost use Rattle.cells.specs.Line.{cells_from, cells_spliced, IsPaired, cut_of, blank};
-ghost use Rattle.cells.specs.Line.{unprotected_erased, fresh_at, narrow_cell, narrow_cells_of};
+ghost use Rattle.cells.specs.Line.{unprotected_erased, fresh_at, narrow_cell, narrow_cells};
 ghost use Rattle.cells.specs.Line.{ArePlainFrom, plain, left_cell, right_cell};
 ghost use Rattle.cells.specs.Put.{AreNarrow, AreNarrowIn, IsPut};
-ghost use Rattle.cells.specs.Wide.{wide_cells};
 
 use crate::cell::{Cell, Rendition, Shape};
-use crate::unit::CodeUnit;
 
 /// Blanks both halves of a wide character that the boundary before column `at` would cut.
 pub fn cut(cells: &mut [Cell], at: usize)
@@ -67,11 +65,9 @@ pub fn put_narrow(cells: &mut [Cell], at: usize, cell: Cell, rest: usize)
     requires narrow { cell.shape ≡ Shape.Narrow }
     ensures { cells.new ≡ cells_spliced at (cell ∷ []) rest cells.old }
 {
-    if rest == at + 1 && cells[at].is_narrow() {
-        cells[at] = cell;
-        return;
+    if rest != at + 1 || !cells[at].is_narrow() {
+        splice(cells, at, 1, rest);
     }
-    splice(cells, at, 1, rest);
     cells[at] = cell;
 }
 
@@ -85,12 +81,9 @@ pub fn put_wide(cells: &mut [Cell], at: usize, left: Cell, right: Cell, rest: us
     requires right { right.shape ≡ Shape.Right }
     ensures { cells.new ≡ cells_spliced at (left ∷ right ∷ []) rest cells.old }
 {
-    if rest == at + 2 && !cells[at].is_right() && !cells[at + 1].is_left() {
-        cells[at] = left;
-        cells[at + 1] = right;
-        return;
+    if rest != at + 2 || cells[at].is_right() || cells[at + 1].is_left() {
+        splice(cells, at, 2, rest);
     }
-    splice(cells, at, 2, rest);
     cells[at] = left;
     cells[at + 1] = right;
 }
@@ -169,71 +162,41 @@ fn copy_over(cells: &mut [Cell], at: usize, fresh: &[Cell])
     cells[at..at + fresh.len()].copy_from_slice(fresh);
 }
 
-/// Puts characters of width 1 over as many old cells, from `at` on.
-pub fn put_run<U: CodeUnit>(
+/// Puts characters of width 1 over as many old cells, from `at` on. `codes` has their code points.
+pub fn put_run(
     cells: &mut [Cell],
     at: usize,
-    units: &[U],
+    codes: &[u8],
     rendition: Rendition,
     is_protected: bool,
 )
     requires paired { IsPaired cells.old }
-    requires room { at + length units.now ≤ length cells.old }
+    requires room { at + length codes.now ≤ length cells.old }
     ensures { cells.new ≡ cells_spliced at
-        (narrow_cells_of U.code_of units.now rendition is_protected) (at + length units.now)
-        cells.old }
+        (narrow_cells codes.now rendition is_protected) (at + length codes.now) cells.old }
 {
-    if units.is_empty() {
+    if codes.is_empty() {
         return;
     }
-    if units.len() == 1 {
-        let cell = Cell::narrow(units[0].character(), rendition, is_protected);
+    if codes.len() == 1 {
+        let cell = Cell::narrow(codes[0] as char, rendition, is_protected);
         put_narrow(cells, at, cell, at + 1);
         return;
     }
     cut(cells, at);
-    cut(cells, at + units.len());
+    cut(cells, at + codes.len());
     let space = space_cell(rendition, is_protected);
-    for column in 0..units.len() {
-        let character = units[column].character();
+    for column in 0..codes.len() {
+        let character = codes[column] as char;
         let mut cell = space;
         cell.character = character;
         cells[at + column] = cell;
     }
 }
 
-/// Puts characters of width 2 over twice as many old cells, from `at` on.
-pub fn put_wide_run(
-    cells: &mut [Cell],
-    at: usize,
-    characters: &[char],
-    rendition: Rendition,
-    is_protected: bool,
-)
-    requires paired { IsPaired cells.old }
-    requires room { at + 2 * length characters.now ≤ length cells.old }
-    ensures { cells.new ≡ cells_spliced at (wide_cells characters.now rendition is_protected)
-        (at + 2 * length characters.now) cells.old }
-{
-    if characters.is_empty() {
-        return;
-    }
-    cut(cells, at);
-    cut(cells, at + 2 * characters.len());
-    let (left, right) = space_halves(rendition, is_protected);
-    for place in 0..characters.len() {
-        let character = characters[place];
-        let (mut first, mut second) = (left, right);
-        first.character = character;
-        second.character = character;
-        cells[at + 2 * place] = first;
-        cells[at + (2 * place + 1)] = second;
-    }
-}
-
 /// The halves of a wide space. This function isn't inlined, for the reason given at `space_cell`.
 #[inline(never)]
-fn space_halves(rendition: Rendition, is_protected: bool) -> (Cell, Cell)
+pub fn space_halves(rendition: Rendition, is_protected: bool) -> (Cell, Cell)
     ensures left { result.0 ≡ left_cell 0x20 rendition is_protected }
     ensures right { result.1 ≡ right_cell 0x20 rendition is_protected }
 {
@@ -242,27 +205,27 @@ fn space_halves(rendition: Rendition, is_protected: bool) -> (Cell, Cell)
 }
 
 /// Puts characters of width 1 without rendition or protection over as many cells, from `at` on.
-/// All old cells from `at` on differ from blanks in their characters only, so only characters are
-/// written: eight at a time, which makes the loop itself cheap.
-pub fn put_run_over_plain<U: CodeUnit>(cells: &mut [Cell], at: usize, units: &[U])
+/// `codes` has their code points. All old cells from `at` on differ from blanks in their characters
+/// only, so only characters are written: eight at a time, which makes the loop itself cheap.
+pub fn put_run_over_plain(cells: &mut [Cell], at: usize, codes: &[u8])
     requires paired { IsPaired cells.old }
     requires plain { ArePlainFrom at cells.old }
-    requires room { at + length units.now ≤ length cells.old }
+    requires room { at + length codes.now ≤ length cells.old }
     ensures { cells.new ≡ cells_spliced at
-        (narrow_cells_of U.code_of units.now plain false) (at + length units.now) cells.old }
+        (narrow_cells codes.now plain false) (at + length codes.now) cells.old }
 {
-    if units.is_empty() {
+    if codes.is_empty() {
         return;
     }
-    let eights = units.len() / 8;
+    let eights = codes.len() / 8;
     for eight in 0..eights {
         for place in 0..8 {
             let column = 8 * eight + place;
-            cells[at + column].character = units[column].character();
+            cells[at + column].character = codes[column] as char;
         }
     }
-    for column in 8 * eights..units.len() {
-        cells[at + column].character = units[column].character();
+    for column in 8 * eights..codes.len() {
+        cells[at + column].character = codes[column] as char;
     }
 }
 
@@ -288,7 +251,7 @@ pub fn blank_plain(cells: &mut [Cell], from: usize, end: usize)
 /// A space. This function isn't inlined, so that the cells of a run are copied from one in memory
 /// as a whole and not field by field.
 #[inline(never)]
-fn space_cell(rendition: Rendition, is_protected: bool) -> Cell
+pub fn space_cell(rendition: Rendition, is_protected: bool) -> Cell
     ensures { result ≡ narrow_cell 0x20 rendition is_protected }
 {
     Cell::narrow(' ', rendition, is_protected)

@@ -9,7 +9,7 @@ mod letters;
 mod line;
 mod put;
 mod shifting;
-mod unit;
+mod texts;
 mod unlike;
 
 pub use cell::{Cell, Colour, Marks, Rendition, Shape};
@@ -18,5 +18,4 @@ pub use grid::{Grid, GridFault, blank_lines, is_grid_size};
 pub use letters::{is_known_wide, is_letter};
 pub use line::Line;
 pub use put::Put;
-pub use unit::CodeUnit;
 pub use unlike::next_unlike;

@@ -8,15 +8,14 @@ ghost use Rattle.charsets.specs.Text.{text, IsText};
 ghost use Rattle.cells.specs.Letters.{is_known_wide, is_letter};
 ghost use Rattle.cells.specs.Line.{cells_from, cells_spliced, cell_at, marked, IsPaired};
 ghost use Rattle.cells.specs.Line.{IsBlankFrom, blank, unprotected_erased, narrow_cell};
-ghost use Rattle.cells.specs.Line.{narrow_cells, narrow_cells_of, ArePlainFrom, plain};
+ghost use Rattle.cells.specs.Line.{narrow_cells, ArePlainFrom, plain};
 ghost use Rattle.cells.specs.Wide.{wide_cells};
 ghost use Rattle.cells.specs.Resizing.{line_resized};
 
 use crate::cell::{Cell, Rendition, Shape};
-use crate::edits;
 use crate::put::Put;
 use crate::shifting::splice_used;
-use crate::unit::CodeUnit;
+use crate::{edits, texts};
 use std::alloc::{AllocError, Global};
 use std::marker::Model;
 
@@ -79,34 +78,30 @@ fn clear_behind_run(cells: &mut [Cell], used: usize, is_plain: bool, codes: &[u8
 
 /// Puts characters of width 1 over as many cells, from `at` on, each in a copy of a space. The
 /// cells from `plain_from` on differ from blanks in their characters only.
-fn put_run_behind<U: CodeUnit>(
-    cells: &mut [Cell],
-    plain_from: usize,
-    at: usize,
-    units: &[U],
-    space: Cell,
-)
+fn put_run_behind(cells: &mut [Cell], plain_from: usize, at: usize, codes: &[u8], space: Cell)
     requires paired { IsPaired cells.old }
     requires plain { ArePlainFrom plain_from cells.old }
-    requires room { at + length units.now ≤ length cells.old }
+    requires room { at + length codes.now ≤ length cells.old }
     requires space { space ≡ narrow_cell 0x20 space.rendition space.is_protected }
     ensures { cells.new ≡ cells_spliced at
-        (narrow_cells_of U.code_of units.now space.rendition space.is_protected)
-        (at + length units.now) cells.old }
+        (narrow_cells codes.now space.rendition space.is_protected)
+        (at + length codes.now) cells.old }
 {
-    if units.len() > 1 && plain_from <= at && space.is_blank() {
-        edits::put_run_over_plain(cells, at, units);
+    if codes.len() > 1 && plain_from <= at && space.is_blank() {
+        edits::put_run_over_plain(cells, at, codes);
     } else {
-        edits::put_run(cells, at, units, space.rendition, space.is_protected);
+        edits::put_run(cells, at, codes, space.rendition, space.is_protected);
     }
 }
 
 /// The column from which on a line is blank, after its cells from `rest` on were moved to `start`.
 fn used_after(used: usize, start: usize, rest: usize, width: usize) -> usize
+    requires used { used ≤ width }
+    requires room { start ≤ width }
     ensures { result ≡ min (used - rest + start) width }
 {
     if start == rest {
-        return used.max(start).min(width);
+        return used.max(start);
     }
     used.saturating_sub(rest).saturating_add(start).min(width)
 }
@@ -274,49 +269,18 @@ impl Line {
         if self.is_plain { 0 } else { self.used }
     }
 
-    /// Puts characters of width 1 over as many old cells, from `at` on. An old half that loses its
-    /// other half becomes blank.
-    pub fn put_run<U: CodeUnit>(
-        &mut self,
-        at: usize,
-        units: &[U],
-        rendition: Rendition,
-        is_protected: bool,
-    )
-        requires room { at + length units.now ≤ length self.old }
+    /// Puts characters of width 1 over as many old cells, from `at` on. `codes` has their code
+    /// points. An old half that loses its other half becomes blank.
+    pub fn put_run(&mut self, at: usize, codes: &[u8], rendition: Rendition, is_protected: bool)
+        requires room { at + length codes.now ≤ length self.old }
         ensures { self.new ≡ cells_spliced at
-            (narrow_cells_of U.code_of units.now rendition is_protected) (at + length units.now)
-            self.old }
+            (narrow_cells codes.now rendition is_protected) (at + length codes.now) self.old }
     {
         let space = Cell::narrow(' ', rendition, is_protected);
         let plain_from = self.plain_from();
-        put_run_behind(self.cells.as_mut_slice(), plain_from, at, units, space);
-        self.used = self.used.max(at + units.len());
+        put_run_behind(self.cells.as_mut_slice(), plain_from, at, codes, space);
+        self.used = self.used.max(at + codes.len());
         self.is_plain = self.is_plain & space.is_blank();
-    }
-
-    /// Puts characters of width 2 over twice as many old cells, from `at` on. An old half that
-    /// loses its other half becomes blank.
-    pub fn put_wide_run(
-        &mut self,
-        at: usize,
-        characters: &[char],
-        rendition: Rendition,
-        is_protected: bool,
-    )
-        requires room { at + 2 * length characters.now ≤ length self.old }
-        ensures { self.new ≡ cells_spliced at (wide_cells characters.now rendition is_protected)
-            (at + 2 * length characters.now) self.old }
-    {
-        edits::put_wide_run(
-            self.cells.as_mut_slice(),
-            at,
-            characters,
-            rendition,
-            is_protected,
-        );
-        self.used = self.used.max(at + 2 * characters.len());
-        self.is_plain = false;
     }
 
     /// Puts the letters of one column with which some bytes of UTF-8 begin over as many old cells,
@@ -338,8 +302,16 @@ impl Line {
             (narrow_cells (text (take result.read bytes.now)) rendition is_protected)
             (at + result.count) self.old }
     {
-        let _ = &self.cells;
-        Put { count: 0, read: 0 }
+        let put = texts::put_letters(
+            self.cells.as_mut_slice(),
+            at,
+            bytes,
+            rendition,
+            is_protected,
+        );
+        self.used = self.used.max(at + put.count);
+        self.is_plain = false;
+        put
     }
 
     /// Puts the characters of two columns with which some bytes of UTF-8 begin over twice as many
@@ -362,8 +334,16 @@ impl Line {
             (wide_cells (text (take result.read bytes.now)) rendition is_protected)
             (at + 2 * result.count) self.old }
     {
-        let _ = &self.cells;
-        Put { count: 0, read: 0 }
+        let put = texts::put_wides(
+            self.cells.as_mut_slice(),
+            at,
+            bytes,
+            rendition,
+            is_protected,
+        );
+        self.used = self.used.max(at + 2 * put.count);
+        self.is_plain = false;
+        put
     }
 
     /// Erases the unprotected cells from `from` up to but not including `end`.

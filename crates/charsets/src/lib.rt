@@ -17,4 +17,4 @@ pub use laws::{
 pub use sets::CharacterSet;
 pub use shifts::{Place, Shift, Shifts};
 pub use unit::{Coding, Unit, Units};
-pub use whole::{first_character, first_characters};
+pub use whole::first_character;

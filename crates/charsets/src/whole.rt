@@ -1,11 +1,8 @@
 //! Complete characters at the beginning of a list of bytes.
 
 ghost use Rattle.std.specs.Prelude.{◌≡◌, ◌<◌, ◌≤◌, [], ◌∷◌, true, IfSome};
-ghost use Rattle.std.specs.Prelude.{length, map, take};
-ghost use Rattle.std.specs.List.{list_all};
-ghost use Rattle.charsets.specs.declared.unit.Coding.TheVariants.{Utf8};
-ghost use Rattle.charsets.specs.declared.unit.Unit.TheVariants.{Code};
-ghost use Rattle.charsets.specs.Units.{is_character, units};
+ghost use Rattle.std.specs.Prelude.{length, take};
+ghost use Rattle.charsets.specs.Units.{is_character};
 ghost use Rattle.charsets.specs.Utf8.{codes};
 
 use crate::utf8::{can_continue, can_follow, char_of_2, char_of_3, char_of_4};
@@ -41,28 +38,6 @@ pub fn first_character(bytes: &[u8]) -> Option<(char, usize)>
         return None;
     }
     Some((character_of_4(a, b, bytes[2], bytes[3])?, 4))
-}
-
-/// Reads the graphic characters with which some bytes begin in UTF-8, at most as many as
-/// `characters` has room for. Returns the number of characters and their number of bytes.
-pub fn first_characters(bytes: &[u8], characters: &mut [char]) -> (usize, usize)
-    ensures reads { units Utf8 (take result.1 bytes.now)
-        ≡ (map (λ character. Code character) (take result.0 characters.new), []) }
-    ensures characters { list_all is_character (take result.0 characters.new) ≡ true }
-    ensures room { result.0 ≤ length characters.new }
-    ensures few { result.1 ≤ length bytes.now }
-{
-    let mut count = 0;
-    let mut read = 0;
-    while count < characters.len() && read < bytes.len() {
-        let Some((character, size)) = first_character(&bytes[read..]) else {
-            return (count, read);
-        };
-        characters[count] = character;
-        count += 1;
-        read += size;
-    }
-    (count, read)
 }
 
 /// The character of these two bytes. None if they are no well-formed character, or are a C1

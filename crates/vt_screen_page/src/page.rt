@@ -5,7 +5,7 @@ ghost use Rattle.std.specs.Prelude.{IfOk, Err, true, false, slice_index, take};
 ghost use Rattle.std.specs.List.{list_all};
 ghost use Rattle.charsets.specs.Text.{text, IsText};
 ghost use Rattle.cells.specs.Letters.{is_known_wide, is_letter};
-ghost use Rattle.cells.specs.Line.{blank, unprotected_erased, narrow_cells, narrow_cells_of, plain};
+ghost use Rattle.cells.specs.Line.{blank, unprotected_erased, narrow_cells, plain};
 ghost use Rattle.cells.specs.Wide.{wide_cells};
 ghost use Rattle.cells.specs.Page.{IsGrid, IsGridSize, line_at, page_from, page_marked};
 ghost use Rattle.cells.specs.Page.{page_spliced, edited};
@@ -15,7 +15,7 @@ ghost use Rattle.scrollback.specs.Kept.{with_line, Continues};
 ghost use Rattle.vt_screen_page.specs.Store.{placed_in_order, turned};
 
 use crate::store;
-use cells::{Cell, CodeUnit, GridFault, Line, Put, Rendition, Shape, blank_lines, is_grid_size};
+use cells::{Cell, GridFault, Line, Put, Rendition, Shape, blank_lines, is_grid_size};
 use scrollback::Ring;
 use std::alloc::{AllocError, Global};
 use std::marker::Model;
@@ -161,45 +161,24 @@ impl Page {
         self.stored[place as usize].put_wide(at.column, left, right, rest);
     }
 
-    /// Puts characters of width 1 over as many old cells, from `at` on. An old half that loses its
-    /// other half becomes blank.
-    pub fn put_run<U: CodeUnit>(
+    /// Puts characters of width 1 over as many old cells, from `at` on. `codes` has their code
+    /// points. An old half that loses its other half becomes blank.
+    pub fn put_run(
         &mut self,
         at: CellPosition,
-        units: &[U],
+        codes: &[u8],
         rendition: Rendition,
         is_protected: bool,
     )
         requires line_inside { at.line < length self.old.lines }
-        requires room { at.column + length units.now ≤ length (line_at self.old.lines at.line) }
+        requires room { at.column + length codes.now ≤ length (line_at self.old.lines at.line) }
         ensures lines { self.new.lines
-            ≡ page_spliced at.line at.column
-            (narrow_cells_of U.code_of units.now rendition is_protected)
-            (at.column + length units.now) self.old.lines }
+            ≡ page_spliced at.line at.column (narrow_cells codes.now rendition is_protected)
+            (at.column + length codes.now) self.old.lines }
         ensures places { self.new.places ≡ self.old.places }
     {
         let place = self.places[at.line];
-        self.stored[place as usize].put_run(at.column, units, rendition, is_protected);
-    }
-
-    /// Puts characters of width 2 over twice as many old cells, from `at` on. An old half that loses
-    /// its other half becomes blank.
-    pub fn put_wide_run(
-        &mut self,
-        at: CellPosition,
-        characters: &[char],
-        rendition: Rendition,
-        is_protected: bool,
-    )
-        requires line_inside { at.line < length self.old.lines }
-        requires room { at.column + 2 * length characters.now ≤ length (line_at self.old.lines at.line) }
-        ensures lines { self.new.lines
-            ≡ page_spliced at.line at.column (wide_cells characters.now rendition is_protected)
-            (at.column + 2 * length characters.now) self.old.lines }
-        ensures places { self.new.places ≡ self.old.places }
-    {
-        let place = self.places[at.line];
-        self.stored[place as usize].put_wide_run(at.column, characters, rendition, is_protected);
+        self.stored[place as usize].put_run(at.column, codes, rendition, is_protected);
     }
 
     /// Puts the letters of one column with which some bytes of UTF-8 begin over as many old cells,

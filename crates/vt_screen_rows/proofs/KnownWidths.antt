@@ -5,6 +5,7 @@ use Rattle.std.specs.Prelude.{slice_index_or}
 use Rattle.std.proofs.lemmas.Bool.{and_parts, cases_lt, cond-true, cond-false, lt-leb}
 use Rattle.std.proofs.lemmas.Bool.Decides.{nat_tests}
 use Rattle.cells.specs.Glyph.{drawn_as, glyph_columns}
+use Rattle.cells.specs.Letters.{is_known_wide}
 use Rattle.terminal_model.specs.Printing.{columns_of, drawn}
 use Rattle.ucd_table.specs.Steps.{Step, step_value}
 use Rattle.ucd_table.proofs.Computing.{tables}
@@ -14,7 +15,6 @@ use Rattle.unicode_width.specs.declared.kind.Kind.TheVariants as kinds
 use Rattle.unicode_width.specs.Kind.{kind, kind_number, number_of_kind}
 use Rattle.unicode_width.specs.Width.{alone, char_width, of_kind}
 use Rattle.unicode_width.proofs.KindLemmas.{kind_number_stepped}
-use Rattle.vt_screen_rows.specs.Runs.{IsWide}
 
 -- the width of each kind by its number, outside of East Asian contexts; 9 for the last one, whose characters differ
 abbrev width_of : ℕ → ℕ
@@ -211,6 +211,12 @@ pub point_drawn : (c : ℕ) → 0x591 ≤ c → c < 0x5BE → drawn c ≡ c
 unfolding drawn
 point_drawn c low high = ap (λ (w : Option ℕ). drawn_as w c) (point_width c low high)
 
+-- a character of two columns that is in no set
+pub record IsWide (character : ℕ) : Type 0 where
+  pub beyond : 0xA0 ≤ character
+  pub columns : columns_of character ≡ 2
+  pub drawn : drawn character ≡ character
+
 wide_is : (c : ℕ) → 0xA0 ≤ c → char_width false c ≡ Some 2 → IsWide c
 unfolding columns_of drawn
 wide_is c beyond width = record {
@@ -219,22 +225,41 @@ wide_is c beyond width = record {
   drawn = ap (λ (w : Option ℕ). drawn_as w c) width;
 }
 
-pub ideograph_wide : (c : ℕ) → 0x3400 ≤ c → c < 0xA000 → IsWide c
+ideograph_wide : (c : ℕ) → 0x3400 ≤ c → c < 0xA000 → IsWide c
 ideograph_wide c low high =
     wide_is c (omega arith) (known 2 0x3400 0xA000 c ideographs_are (omega arith) (omega arith) low high)
 
-pub hiragana_wide : (c : ℕ) → 0x3041 ≤ c → c < 0x3097 → IsWide c
+hiragana_wide : (c : ℕ) → 0x3041 ≤ c → c < 0x3097 → IsWide c
 hiragana_wide c low high =
     wide_is c (omega arith) (known 2 0x3041 0x3097 c hiragana_are (omega arith) (omega arith) low high)
 
-pub katakana_wide : (c : ℕ) → 0x30A0 ≤ c → c < 0x3100 → IsWide c
+katakana_wide : (c : ℕ) → 0x30A0 ≤ c → c < 0x3100 → IsWide c
 katakana_wide c low high =
     wide_is c (omega arith) (known 2 0x30A0 0x3100 c katakana_are (omega arith) (omega arith) low high)
 
-pub emoticon_wide : (c : ℕ) → 0x1F600 ≤ c → c < 0x1F650 → IsWide c
+emoticon_wide : (c : ℕ) → 0x1F600 ≤ c → c < 0x1F650 → IsWide c
 emoticon_wide c low high =
     wide_is c (omega arith) (known 2 0x1F600 0x1F650 c emoticons_are (omega arith) (omega arith) low high)
 
-pub syllable_wide : (c : ℕ) → 0xAC00 ≤ c → c < 0xD7A4 → IsWide c
+syllable_wide : (c : ℕ) → 0xAC00 ≤ c → c < 0xD7A4 → IsWide c
 syllable_wide c low high =
     wide_is c (omega arith) (known 2 0xAC00 0xD7A4 c syllables_are (omega arith) (omega arith) low high)
+
+pub known_wide : (c : ℕ) → is_known_wide c ≡ true → IsWide c
+known_wide c h =
+    elim (cases_lt c 0x3097) [
+      | inl hiragana ↦ hiragana_wide c (grind (arith, nat_tests)) hiragana
+      | inr after_hiragana ↦
+          elim (cases_lt c 0x3100) [
+            | inl katakana ↦ katakana_wide c (grind (arith, nat_tests)) katakana
+            | inr after_kana ↦
+                elim (cases_lt c 0xA000) [
+                  | inl ideograph ↦ ideograph_wide c (grind (arith, nat_tests)) ideograph
+                  | inr after_ideographs ↦
+                      elim (cases_lt c 0xD7A4) [
+                        | inl syllable ↦ syllable_wide c (grind (arith, nat_tests)) syllable
+                        | inr later ↦ emoticon_wide c (grind (arith, nat_tests)) (grind (arith, nat_tests))
+                      ]
+                ]
+          ]
+    ]

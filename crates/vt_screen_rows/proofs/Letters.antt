@@ -1,8 +1,6 @@
 -- The characters from U+00A0 on stand for themselves, and a letter takes one column.
-use Rattle.std.proofs.Common.{◌≡◌, ℕ, zero, suc, ◌+◌, ◌<◌, ◌≤◌, Bool, true, false, ◌&&◌, Option, Some, None, List}
-use Rattle.std.proofs.Common.{[], ◌∷◌, refl, sym, ap, ◌∙◌, arith, inl, inr, cond, length, take, get_or}
-use Rattle.std.proofs.lemmas.List.{take_more}
-use Rattle.std.proofs.lemmas.List.Folds.{list_all-append}
+use Rattle.std.proofs.Common.{◌≡◌, ℕ, zero, suc, ◌<◌, ◌≤◌, Bool, true, false, ◌&&◌, Option, Some, None, List}
+use Rattle.std.proofs.Common.{[], ◌∷◌, refl, sym, ap, ◌∙◌, arith, inl, inr, cond}
 use Rattle.std.proofs.lemmas.Bool.{cases_lt}
 use Rattle.unicode_width.specs.Width.{char_width}
 use Rattle.cells.specs.Glyph.{drawn_as, glyph_columns}
@@ -19,7 +17,7 @@ use Rattle.terminal_model.specs.Table.{acted, acted_from}
 use Rattle.vt_screen_rows.specs.Places.{acted_places, printed_places, wrapped_places}
 use Rattle.std.specs.List.{list_all}
 use Rattle.charsets.specs.Units.{is_plain}
-use Rattle.vt_screen_rows.specs.Runs.{is_letter}
+use Rattle.cells.specs.Letters.{is_letter}
 use Rattle.vt_screen_rows.proofs.KnownWidths.{latin_width, more_latin_width, greek_width, cyrillic_width, hebrew_width}
 use Rattle.terminal_model.proofs.Plain.{columns-plain, drawn-plain}
 
@@ -111,10 +109,3 @@ plain_letters [] h = refl
 plain_letters (c ∷ codes) h =
     let k = both (is_plain c) (list_all is_plain codes) h in
     rw (plain_letter c k.0) (plain_letters codes k.1)
-
--- one letter more at the front
-pub one_more : (codes : List ℕ) (n d : ℕ) → n < length codes → list_all is_letter (take n codes) ≡ true
-    → is_letter (get_or codes n d) ≡ true → list_all is_letter (take (n + 1) codes) ≡ true
-one_more codes n d inside so_far next =
-    ap (list_all is_letter) (take_more codes n d inside)
-    ∙ list_all-append is_letter (take n codes) (get_or codes n d ∷ []) ∙ rw (so_far, next) refl

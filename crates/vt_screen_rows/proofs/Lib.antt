@@ -9,3 +9,4 @@ pub mod Letters
 pub mod WideRuns
 pub mod KnownWidths
 pub mod LineRuns
+pub mod Texts

@@ -4,7 +4,7 @@ use Rattle.std.proofs.Common.{take, drop, refl, sym, ap, ◌∙◌, arith, eq-eq
 use Rattle.std.specs.List.{list_all}
 use Rattle.std.proofs.lemmas.List.{take-append-drop, map-append}
 use Rattle.charsets.specs.declared.unit.Unit.TheVariants.{Code}
-use Rattle.vt_screen_rows.specs.Runs.{is_letter}
+use Rattle.cells.specs.Letters.{is_letter}
 use Rattle.cells.specs.Line.{narrow_cells, plain}
 use Rattle.cells.specs.Page.{line_at, page_from, page_spliced}
 use Rattle.cells.specs.Moves.{scrolled_up}

@@ -6,7 +6,7 @@ use Rattle.std.proofs.lemmas.List.{take_all, take-append-drop, length-drop, drop
 use Rattle.charsets.specs.declared.shifts.Shifts.{Shifts}
 use Rattle.charsets.specs.declared.unit.Unit.TheVariants.{Code}
 use Rattle.charsets.specs.Shifts.{spent}
-use Rattle.vt_screen_rows.specs.Runs.{is_letter}
+use Rattle.cells.specs.Letters.{is_letter}
 use Rattle.charsets.proofs.Shifted.{mapped-ascii, spent-none}
 use Rattle.cells.specs.Line.{narrow_cell, narrow_cells, spliced}
 use Rattle.cells.specs.Page.{page_from, edited}

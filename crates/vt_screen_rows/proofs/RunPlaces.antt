@@ -4,7 +4,7 @@ use Rattle.std.proofs.Common.{drop, Option, refl, sym, ap, ◌∙◌, subst, ari
 use Rattle.std.specs.List.{list_all}
 use Rattle.std.proofs.lemmas.List.{take-append-drop, drop-drop, map-append}
 use Rattle.charsets.specs.declared.unit.Unit.TheVariants.{Code}
-use Rattle.vt_screen_rows.specs.Runs.{is_letter}
+use Rattle.cells.specs.Letters.{is_letter}
 use Rattle.charsets.proofs.Shifted.{mapped-ascii}
 use Rattle.terminal_model.specs.declared.action.Action.{Action}
 use Rattle.terminal_model.specs.declared.action.Action.TheVariants.{Print}

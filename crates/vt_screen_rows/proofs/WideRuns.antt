@@ -1,27 +1,41 @@
 -- Wide characters that are printed one after another and fit in the line are one run.
 use Rattle.std.proofs.Common.{◌≡◌, ℕ, suc, ◌+◌, ◌*◌, ◌-◌, ◌<◌, ◌≤◌, Bool, true, false, ◌&&◌, ◌||◌, cond, ltb, List, []}
-use Rattle.std.proofs.Common.{◌∷◌, length, take, get_or, Option, Some, refl, sym, ap, ◌∙◌, subst, arith, lt-ltb}
+use Rattle.std.proofs.Common.{◌∷◌, length, Option, Some, refl, ap, ◌∙◌, subst, arith, lt-ltb}
 use Rattle.std.proofs.lemmas.Bool.{ne_eqb}
-use Rattle.std.proofs.lemmas.List.{get_or-take, length-take}
+use Rattle.std.specs.List.{list_all}
 use Rattle.charsets.specs.declared.shifts.Shifts.{Shifts}
 use Rattle.charsets.specs.declared.unit.Unit.TheVariants.{Code}
 use Rattle.charsets.specs.Shifts.{spent}
 use Rattle.charsets.proofs.Shifted.{spent-none}
+use Rattle.cells.specs.Letters.{is_known_wide}
 use Rattle.cells.specs.Line.{spliced}
 use Rattle.cells.specs.Page.{page_from, edited}
 use Rattle.cells.specs.Wide.{wide_cells}
 use Rattle.cells.proofs.WideRuns.{page_wides_more}
 use Rattle.terminal_model.specs.declared.action.Action.TheVariants.{Print}
 use Rattle.terminal_model.specs.declared.state.State.{State}
-use Rattle.terminal_model.specs.Screen.{Screen, IsSound, with_page, with_state}
+use Rattle.terminal_model.specs.Screen.{Screen, IsSound, line_edited, with_page, with_state}
 use Rattle.terminal_model.specs.Scrollback.{is_wrapped}
 use Rattle.terminal_model.specs.Printing.{advanced, drawn, lacks_room, printed, printed_as, wide_or_none, wide_printed}
 use Rattle.terminal_model.specs.Printing.{wrapped}
 use Rattle.terminal_model.specs.Table.{acted, acted_from, all_acted}
 use Rattle.terminal_model.proofs.Sound.{IsSound-acted}
 use Rattle.vt_screen_rows.specs.Places.{acted_places, all_acted_places, printed_places, wrapped_places}
-use Rattle.vt_screen_rows.specs.Runs.{TakesRuns, IsWide, AreWide, prints, wides_placed}
-use Rattle.vt_screen_rows.proofs.Letters.{beyond_mapped}
+use Rattle.vt_screen_rows.specs.Runs.{TakesRuns, prints}
+use Rattle.vt_screen_rows.proofs.KnownWidths.{IsWide, known_wide}
+use Rattle.vt_screen_rows.proofs.Letters.{beyond_mapped, both}
+
+-- characters of width 2 over twice as many cells from the cursor on, which goes to the column after them
+abbrev pub wides_placed : List ℕ → Screen → Screen
+wides_placed characters x =
+    let s : State = x.state in
+    record x {
+      state = advanced (record s { column = s.column + (2 * length characters - 2) }) 2;
+      page = line_edited s
+          (spliced s.column (wide_cells characters s.rendition s.is_protecting)
+          (s.column + 2 * length characters) s.columns)
+          x.page;
+    }
 
 -- there is room for one
 has_room : (s : State) → s.column + 2 ≤ s.columns → lacks_room s ≡ false
@@ -109,25 +123,25 @@ room_behind : (v s : State) (n : ℕ) → v ≡ behind_wide s → s.column + 2 *
     → v.column + 2 * n ≤ v.columns
 room_behind v s n e room = rw e (omega arith)
 
-later_wide : (c : ℕ) (characters : List ℕ) → AreWide (c ∷ characters) → AreWide characters
-later_wide c characters wide = λ k h. wide (suc k) (omega arith)
-
 -- wide characters that fit in the line are a run
 pub wides_run : (characters : List ℕ) (x : Screen) → TakesRuns x.state → x.state.is_wrap_pending ≡ false → IsSound x
-    → AreWide characters → 0 < length characters
+    → list_all is_known_wide characters ≡ true → 0 < length characters
     → x.state.column + 2 * length characters ≤ x.state.columns
     → all_acted x (prints characters) ≡ wides_placed characters x
 wides_run [] x t settled sound wide some room = absurd (omega arith)
-wides_run (c ∷ []) x t settled sound wide some room = wide_one x c t settled (wide 0 (omega arith)) (omega arith)
+wides_run (c ∷ []) x t settled sound wide some room = wide_one x c t settled
+    (known_wide c (both (is_known_wide c) true wide).0) (omega arith)
 wides_run (c ∷ d ∷ more) x t settled sound wide some room =
     let s : State = x.state in
     let y : Screen = wides_placed (c ∷ []) x in
-    let first : acted x (Print (Code c)) ≡ y = wide_one x c t settled (wide 0 (omega arith)) (omega arith) in
+    let k = both (is_known_wide c) (list_all is_known_wide (d ∷ more)) wide in
+    let is : IsWide c = known_wide c k.0 in
+    let first : acted x (Print (Code c)) ≡ y = wide_one x c t settled is (omega arith) in
     let state_is : y.state ≡ behind_wide s = first_state s (omega arith) in
     let takes : TakesRuns y.state = record { ascii = t.ascii; unshifted = t.unshifted; replaces = t.replaces } in
     ap (λ (v : Screen). all_acted v (prints (d ∷ more))) first
     ∙ wides_run (d ∷ more) y takes (settled_behind y.state s state_is)
-    (subst IsSound first (IsSound-acted x (Print (Code c)) sound)) (later_wide c (d ∷ more) wide) (omega arith)
+    (subst IsSound first (IsSound-acted x (Print (Code c)) sound)) k.1 (omega arith)
     (room_behind y.state s (suc (length more)) state_is room)
     ∙ wides_first x c (d ∷ more) sound (omega arith) room
 
@@ -141,27 +155,22 @@ wide_place s c places settled w room =
     ∙ ap (λ (b : Bool). wrapped_places (b && s.modes.wraps) s places) (has_room s room)
 
 pub wides_places : (characters : List ℕ) (x : Screen) (places : List ℕ) → TakesRuns x.state
-    → x.state.is_wrap_pending ≡ false → IsSound x → AreWide characters
+    → x.state.is_wrap_pending ≡ false → IsSound x → list_all is_known_wide characters ≡ true
     → x.state.column + 2 * length characters ≤ x.state.columns → all_acted_places x (prints characters) places ≡ places
 wides_places [] x places t settled sound wide room = refl
-wides_places (c ∷ []) x places t settled sound wide room = wide_place x.state c places settled (wide 0 (omega arith))
-    (omega arith)
+wides_places (c ∷ []) x places t settled sound wide room = wide_place x.state c places settled
+    (known_wide c (both (is_known_wide c) true wide).0) (omega arith)
 wides_places (c ∷ d ∷ more) x places t settled sound wide room =
     let s : State = x.state in
     let y : Screen = wides_placed (c ∷ []) x in
-    let first : acted x (Print (Code c)) ≡ y = wide_one x c t settled (wide 0 (omega arith)) (omega arith) in
+    let k = both (is_known_wide c) (list_all is_known_wide (d ∷ more)) wide in
+    let is : IsWide c = known_wide c k.0 in
+    let first : acted x (Print (Code c)) ≡ y = wide_one x c t settled is (omega arith) in
     let state_is : y.state ≡ behind_wide s = first_state s (omega arith) in
     let takes : TakesRuns y.state = record { ascii = t.ascii; unshifted = t.unshifted; replaces = t.replaces } in
     ap (λ (ps : List ℕ). all_acted_places (acted x (Print (Code c))) (prints (d ∷ more)) ps)
-    (wide_place s c places settled (wide 0 (omega arith)) (omega arith))
+    (wide_place s c places settled is (omega arith))
     ∙ ap (λ (v : Screen). all_acted_places v (prints (d ∷ more)) places) first
     ∙ wides_places (d ∷ more) y places takes (settled_behind y.state s state_is)
-    (subst IsSound first (IsSound-acted x (Print (Code c)) sound)) (later_wide c (d ∷ more) wide)
+    (subst IsSound first (IsSound-acted x (Print (Code c)) sound)) k.1
     (room_behind y.state s (suc (length more)) state_is room)
-
--- the first of some characters
-pub front_wide : (characters : List ℕ) (n : ℕ) → n ≤ length characters
-    → ((k : ℕ) → k < n → IsWide (get_or characters k 0)) → AreWide (take n characters)
-front_wide characters n few wide = λ k h.
-    let within : k < n = omega (arith, length-take n characters) in
-    subst IsWide (sym (get_or-take n characters k 0 within)) (wide k within)

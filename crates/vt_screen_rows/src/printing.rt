@@ -10,18 +10,14 @@ ghost use Rattle.terminal_model.specs.declared.action.Action.TheVariants.{Print}
 ghost use Rattle.vt_screen_rows.specs.Acting.{KeepsLines, MovesLines};
 ghost use Rattle.vt_screen_rows.specs.Displays.{IsFit, screen_of};
 ghost use Rattle.vt_screen_rows.specs.Places.{places_after, printed_places, wrapped_places};
-ghost use Rattle.vt_screen_rows.specs.Runs.{is_letter};
 ghost use Rattle.terminal_model.specs.Scrollback.{is_wrapped};
 
 use crate::display::Display;
-use cells::{Cell, Shape, drawn_as, glyph_columns};
+use cells::{Cell, Shape, drawn_as, glyph_columns, is_letter};
 use charsets::Unit;
 use unicode_width::UnicodeWidthChar;
 use vt_screen_page::CellPosition;
 use vt_screen_state::{advance, following, lacks_room, needs_line, separate};
-
-/// A character of width 0 among the letters.
-const SOFT_HYPHEN: char = '\u{AD}';
 
 /// The long solidus overlay, whose width has a rule of its own.
 const OVERLAY: char = '\u{338}';
@@ -211,27 +207,10 @@ impl Display {
     }
 }
 
-/// Whether a character is a letter of one column: one of 20 to 7E, of U+00A0 to U+02FF without the
-/// soft hyphen, a Greek, Cyrillic or Armenian one up to U+058F, or a Hebrew one.
-#[inline(always)]
-pub fn is_letter(character: char) -> bool
-    ensures { result ≡ is_letter character }
-{
-    if character < '\u{7F}' {
-        ' ' <= character
-    } else if character < '\u{300}' {
-        '\u{A0}' <= character && character != SOFT_HYPHEN
-    } else {
-        ('\u{370}' <= character && character < '\u{483}')
-            || ('\u{48A}' <= character && character < '\u{590}')
-            || ('\u{5D0}' <= character && character < '\u{5EB}')
-    }
-}
-
 /// Whether a character is a combining diacritical mark or a Hebrew point: one of U+0300 to U+036F
 /// or of U+0591 to U+05BD, which take no column. U+0338 is looked up instead.
 #[inline(always)]
-pub fn is_mark(character: char) -> bool
+fn is_mark(character: char) -> bool
     ensures columns { IsTrue result → columns_of character ≡ 0 }
     ensures drawn { IsTrue result → drawn character ≡ character }
 {

@@ -1,13 +1,12 @@
-use Rattle.std.proofs.Common.{◌+◌, ◌*◌, map}
+use Rattle.std.proofs.Common.{◌+◌, ◌*◌}
 use Rattle.cells.proofs.OverPlain.{AreWritten}
 use Rattle.cells.proofs.edits.put_run_over_plain.Given as goal
 
 abbrev pub invariant-loop-place : goal.invariant-loop-place
-invariant-loop-place g l =
-    AreWritten l.at (map g.U.CodeUnit.code_of l.units) l.fn.cells (8 * l.eight + l.place) l.cells
+invariant-loop-place l = AreWritten l.at l.codes l.fn.cells (8 * l.eight + l.place) l.cells
 
 abbrev pub invariant-loop-eight : goal.invariant-loop-eight
-invariant-loop-eight g l = AreWritten l.at (map g.U.CodeUnit.code_of l.units) l.fn.cells (8 * l.eight) l.cells
+invariant-loop-eight l = AreWritten l.at l.codes l.fn.cells (8 * l.eight) l.cells
 
 abbrev pub invariant-loop-column : goal.invariant-loop-column
-invariant-loop-column g l = AreWritten l.at (map g.U.CodeUnit.code_of l.units) l.fn.cells l.column l.cells
+invariant-loop-column l = AreWritten l.at l.codes l.fn.cells l.column l.cells

@@ -1,20 +1,40 @@
-use Rattle.std.proofs.Common.{ap, length, sym, subst}
-use Rattle.std.specs.List.{list_all}
-use Rattle.charsets.proofs.Texts.{text-none, IsText-none}
-use Rattle.cells.specs.Letters.{is_known_wide}
-use Rattle.cells.specs.Line.{IsPaired}
-use Rattle.cells.proofs.Texts.{no_wides_put}
+use Rattle.std.proofs.Common.{◌≡◌, ℕ, ◌+◌, ◌*◌, List, length, take, ◌∙◌, ap, sym, arith}
+use Rattle.charsets.specs.Text.{text}
+use Rattle.cells.specs.declared.cell.Cell.{Cell}
+use Rattle.cells.specs.Line.{taken, spliced}
+use Rattle.cells.specs.Wide.{wide_cells}
+use Rattle.cells.proofs.Wides.{length-wides}
+use Rattle.cells.proofs.Used.{IsUsed-stored, spliced_behind}
 use Rattle.cells.proofs.line.Line.put_wides.Goals as goal
 
-pub returns-clause-text : goal.returns-clause-text
-returns-clause-text c = IsText-none
-
-pub returns-clause-wides : goal.returns-clause-wides
-returns-clause-wides c = ap (list_all is_known_wide) text-none
-
-pub returns-clause-count : goal.returns-clause-count
-returns-clause-count c = ap length text-none
-
-pub returns-clause-cells : goal.returns-clause-cells
-returns-clause-cells c = no_wides_put c.args.rendition c.args.is_protected c.args.at c.args.self.now
-    (subst IsPaired c.self.view_is c.self.invariant.used_part.paired)
+pub invariant_of-self : goal.invariant_of-self
+invariant_of-self c =
+    let items : List Cell = c.self.inside.cells.items in
+    let width : length items ≡ c.self.inside.cells.len = ap length (sym c.as_mut_slice.ensures.value)
+    ∙ c.as_mut_slice.ensures.len in
+    let line : length items ≡ length c.args.self.now = ap length c.self.view_is in
+    let end : ℕ = c.args.at + 2 * c.put_wides-put.result.count in
+    let characters : List ℕ = text (take c.put_wides-put.result.read c.args.bytes.now) in
+    let fresh : List Cell = wide_cells characters c.args.rendition c.args.is_protected in
+    let n : length fresh ≡ 2 * length characters = length-wides c.args.rendition c.args.is_protected characters in
+    record {
+      used_part =
+          IsUsed-stored (spliced c.args.at fresh end (length c.as_mut_slice.result.now)) c.self.inside.used
+          c.max-self-inside.result c.put_wides-put.new.cells c.as_mut_slice.result.now items c.self.inside.cells.len
+          (c.put_wides-put.auto.cells ∙ c.as_mut_slice.ensures.len) c.put_wides-put.ensures.cells
+          c.as_mut_slice.ensures.value c.self.invariant.used_part
+          (omega (
+            arith,
+            c.max-self-inside.ensures,
+            c.self.invariant.used_part.inside,
+            width,
+            line,
+            c.put_wides-put.ensures.room,
+            c.as_mut_slice.ensures.len,
+          ))
+          (λ k past inside. ap (λ m. taken items (spliced c.args.at fresh end m k))
+          (ap length c.as_mut_slice.ensures.value)
+          ∙ spliced_behind c.args.at fresh items end c.self.inside.used k c.self.invariant.used_part.blank
+          (omega (arith, c.max-self-inside.ensures, n, c.put_wides-put.ensures.count, inside, width)));
+      plain = λ e. absurd (cc);
+    }

@@ -1,39 +1,39 @@
 use Rattle.std.proofs.Common.{◌<◌, ◌+◌, List, length, ap, ◌∙◌}
 use Rattle.cells.specs.declared.cell.Cell.{Cell}
-use Rattle.cells.specs.Line.{spliced, narrow_cells_of}
+use Rattle.cells.specs.Line.{spliced, narrow_cells}
 use Rattle.cells.specs.Page.{line_at, page_from, edited}
 use Rattle.vt_screen_page.specs.Store.{Placed, lines_in_order}
 use Rattle.vt_screen_page.proofs.Stored.{edited_page, edited_store}
 use Rattle.vt_screen_page.proofs.page.Page.put_run.Goals as goal
 
 pub invariant_of-self : goal.invariant_of-self
-invariant_of-self g c =
+invariant_of-self c =
     let inside : c.args.at.line < length (lines_in_order c.self.inside.stored.items c.self.inside.places.items) = rw
     (ap (λ (v : Placed). v.lines) c.self.view_is) c.requires.line_inside in
     edited_store c.self.inside.stored.items c.self.inside.places.items c.self.invariant c.args.at.line
     c.index-place.result.now inside c.index-place.ensures
     (λ (line : List Cell). spliced c.args.at.column
-    (narrow_cells_of g.U.CodeUnit.code_of c.args.units.now c.args.rendition c.args.is_protected)
-    (c.args.at.column + length c.args.units.now) (length line)) c.index_mut.result.now c.put_run.new.self
+    (narrow_cells c.args.codes.now c.args.rendition c.args.is_protected)
+    (c.args.at.column + length c.args.codes.now) (length line)) c.index_mut.result.now c.put_run.new.self
     c.index_mut.ensures.value c.put_run.ensures
 
 pub returns-clause-lines : goal.returns-clause-lines
-returns-clause-lines g c =
+returns-clause-lines c =
     let inside : c.args.at.line < length (lines_in_order c.self.inside.stored.items c.self.inside.places.items) = rw
     (ap (λ (v : Placed). v.lines) c.self.view_is) c.requires.line_inside in
     edited_page c.self.inside.stored.items c.self.inside.places.items c.self.invariant c.args.at.line
     c.index-place.result.now inside c.index-place.ensures
     (λ (line : List Cell). spliced c.args.at.column
-    (narrow_cells_of g.U.CodeUnit.code_of c.args.units.now c.args.rendition c.args.is_protected)
-    (c.args.at.column + length c.args.units.now) (length line)) c.index_mut.result.now c.put_run.new.self
+    (narrow_cells c.args.codes.now c.args.rendition c.args.is_protected)
+    (c.args.at.column + length c.args.codes.now) (length line)) c.index_mut.result.now c.put_run.new.self
     c.index_mut.ensures.value c.put_run.ensures
-    ∙ ap (λ (page : List (List Cell)).
+    ∙ ap (λ (g : List (List Cell)).
     (page_from
     (edited c.args.at.line
     ((λ (line : List Cell). spliced c.args.at.column
-    (narrow_cells_of g.U.CodeUnit.code_of c.args.units.now c.args.rendition c.args.is_protected)
-    (c.args.at.column + length c.args.units.now) (length line)) (line_at page c.args.at.line))) page))
+    (narrow_cells c.args.codes.now c.args.rendition c.args.is_protected)
+    (c.args.at.column + length c.args.codes.now) (length line)) (line_at g c.args.at.line))) g))
     (ap (λ (v : Placed). v.lines) c.self.view_is)
 
 pub returns-clause-places : goal.returns-clause-places
-returns-clause-places g c = ap (λ (v : Placed). v.places) c.self.view_is
+returns-clause-places c = ap (λ (v : Placed). v.places) c.self.view_is

@@ -2,7 +2,7 @@ use Rattle.std.proofs.Common.{◌≡◌, ◌<◌, ◌≤◌, [], ◌∷◌, true
 use Rattle.std.proofs.Common.{min}
 use Rattle.std.specs.List.{list_all}
 use Rattle.std.proofs.lemmas.Bool.Decides.{nat_tests}
-use Rattle.vt_screen_rows.specs.Runs.{is_letter}
+use Rattle.cells.specs.Letters.{is_letter}
 use Rattle.terminal_model.specs.declared.action.Action.TheVariants.{CarriageReturn, LineFeed}
 use Rattle.terminal_model.specs.declared.state.State.{State}
 use Rattle.terminal_model.specs.Screen.{Screen, with_state}

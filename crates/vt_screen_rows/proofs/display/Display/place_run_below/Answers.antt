@@ -1,5 +1,4 @@
-use Rattle.std.proofs.Common.{◌≡◌, ℕ, List, true, ap, ◌∙◌, arith}
-use Rattle.std.proofs.lemmas.List.{map-id}
+use Rattle.std.proofs.Common.{◌≡◌, true, ap, ◌∙◌, arith}
 use Rattle.terminal_model.specs.Screen.{Screen}
 use Rattle.terminal_model.specs.Printing.{wrapped}
 use Rattle.vt_screen_rows.specs.Displays.{screen_of}
@@ -17,5 +16,4 @@ place_run-requires-clause-room c =
 
 pub returns-else-scrolls_plain-clause-screen : goal.returns-else-scrolls_plain-clause-screen
 returns-else-scrolls_plain-clause-screen c = c.place_run.ensures.screen
-    ∙ ap (λ (cs : List ℕ). run_placed cs (screen_of c.wrap.new.self)) (map-id c.args.codes.now)
     ∙ ap (run_placed c.args.codes.now) c.wrap.ensures.screen

@@ -4,7 +4,7 @@ use Rattle.terminal_model.specs.Printing.{drawn, printed_as}
 use Rattle.vt_screen_rows.specs.Displays.{screen_of}
 use Rattle.terminal_model.specs.Scrollback.{is_wrapped}
 use Rattle.vt_screen_rows.specs.Places.{wrapped_places}
-use Rattle.vt_screen_rows.specs.Runs.{is_letter}
+use Rattle.cells.specs.Letters.{is_letter}
 use Rattle.vt_screen_rows.proofs.Letters.{columns-letter, drawn-letter}
 use Rattle.vt_screen_rows.proofs.display.Display.print_beyond.Goals as goal
 

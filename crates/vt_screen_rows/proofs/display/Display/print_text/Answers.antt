@@ -1,18 +1,30 @@
-use Rattle.std.proofs.Common.{ℕ, List, sym, ap}
-use Rattle.charsets.proofs.Texts.{text-none, IsText-none}
-use Rattle.terminal_model.specs.Table.{all_acted}
-use Rattle.vt_screen_rows.specs.Displays.{screen_of}
-use Rattle.vt_screen_rows.specs.Places.{all_acted_places}
-use Rattle.vt_screen_rows.specs.Runs.{prints}
+use Rattle.std.proofs.Common.{◌≡◌, ◌+◌, ℕ, take, subst, arith}
+use Rattle.vt_screen_rows.specs.Texts.{PrintsText}
+use Rattle.vt_screen_rows.proofs.Texts.{none_printed, rest_printed}
 use Rattle.vt_screen_rows.proofs.display.Display.print_text.Goals as goal
 
-pub returns-clause-text : goal.returns-clause-text
-returns-clause-text c = IsText-none
+pub loop-read-init : goal.loop-read-init
+loop-read-init c = record { prints = none_printed c.args.self.now c.requires.fit; few = omega arith }
 
-pub returns-clause-screen : goal.returns-clause-screen
-returns-clause-screen c = ap (λ (cs : List ℕ). all_acted (screen_of c.args.self.now) (prints cs)) (sym text-none)
+pub loop-read-preserved : goal.loop-read-preserved
+loop-read-preserved c = record {
+  prints = rest_printed c.args.self.now c.loop-read.self c.print_some_text-size.new.self c.args.bytes.now
+      c.loop-read.read c.print_some_text-size.result c.loop-read.invariant.prints
+      c.print_some_text-size.ensures.prints;
+  few = omega arith;
+}
 
-pub returns-clause-places : goal.returns-clause-places
-returns-clause-places c = ap
-    (λ (cs : List ℕ). all_acted_places (screen_of c.args.self.now) (prints cs) c.args.self.now.page.places)
-    (sym text-none)
+-- the last piece has no byte
+ended : (c : goal.Then-size-eq0)
+    → PrintsText c.args.self.now (take c.loop-read.read c.args.bytes.now) c.print_some_text-size.new.self
+ended c =
+    let e : c.loop-read.read + c.print_some_text-size.result ≡ c.loop-read.read = omega (arith, c.if-size-eq0.true) in
+    subst (λ (n : ℕ). PrintsText c.args.self.now (take n c.args.bytes.now) c.print_some_text-size.new.self) e
+    (rest_printed c.args.self.now c.loop-read.self c.print_some_text-size.new.self c.args.bytes.now c.loop-read.read
+    c.print_some_text-size.result c.loop-read.invariant.prints c.print_some_text-size.ensures.prints)
+
+pub returns-then-size-eq0-clause-screen : goal.returns-then-size-eq0-clause-screen
+returns-then-size-eq0-clause-screen c = (ended c).screen
+
+pub returns-then-size-eq0-clause-places : goal.returns-then-size-eq0-clause-places
+returns-then-size-eq0-clause-places c = (ended c).places
