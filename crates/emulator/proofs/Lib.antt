@@ -3,6 +3,6 @@ pub mod Writings
 pub mod Backs
 pub mod RunLemmas
 pub mod Sequences
-pub mod LetterRuns
+pub mod Texts
 pub mod Wholes
 pub mod LineRuns

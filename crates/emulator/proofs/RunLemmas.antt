@@ -51,9 +51,27 @@ ready-is e t h rest idle =
     ap (λ (r : List ℕ). record { screen = t.screen; rest = r; unended = t.unended }) none
     ∙ ap (λ (u : Rest). record { screen = t.screen; rest = []; unended = u }) ended
 
-run-read : (t : Terminal) (bytes : List ℕ) → t ≡ ready t.screen → list_all is_plain bytes ≡ true
-    → reads t bytes ≡ printed_read t.screen bytes
-run-read t bytes e plain = ap (λ (u : Terminal). reads u bytes) e ∙ reads-plain t.screen bytes plain
+-- characters that were printed at once
+pub printed-has-read : (old new : Parts) (t : Terminal) (bytes printed before : List ℕ) → StandsFor old t
+    → t ≡ ready t.screen → reads t bytes ≡ printed_read t.screen printed
+    → new.screen ≡ effects old.screen (map (λ c. Print c) printed) → new.decoding ≡ old.decoding
+    → new.parsing ≡ old.parsing → HasRead t bytes before new before
+printed-has-read old new t bytes printed before h e r s d p =
+    record {
+      stands = subst (λ (v : Read). StandsFor new v.terminal) (sym r)
+          (record {
+            terminal = subst (λ (v : Read). IsTerminal v.terminal) r (IsTerminal-reads t bytes h.terminal);
+            screen = s ∙ ap (λ (y : Screen). effects y (map (λ c. Print c) printed)) h.screen
+                ∙ effects-are t.screen (map (λ c. Print c) printed);
+            decoding =
+                d ∙ h.decoding
+                ∙ ap (λ (u : List ℕ). record { coding = t.screen.state.coding; rest = u })
+                (ap (λ (u : Terminal). u.rest) e)
+                ∙ ap (λ c. record { coding = c; rest = [] }) (sym (prints-coding t.screen printed));
+            parsing = p ∙ h.parsing ∙ ap (λ (u : Terminal). kept u.unended) e;
+          });
+      reports = sym (append-nil before) ∙ ap (λ (v : Read). before ++ v.reports) (sym r);
+    }
 
 -- a run
 pub run-has-read : (old new : Parts) (t : Terminal) (bytes before : List ℕ) → StandsFor old t → old.decoding.rest ≡ []
@@ -62,23 +80,8 @@ pub run-has-read : (old new : Parts) (t : Terminal) (bytes before : List ℕ) �
     → new.parsing ≡ old.parsing → HasRead t bytes before new before
 run-has-read old new t bytes before h rest idle plain s d p =
     let e : t ≡ ready t.screen = ready-is old t h rest idle in
-    let r : reads t bytes ≡ printed_read t.screen bytes = run-read t bytes e plain in
-    let x : Screen = readings.effects t.screen (map (λ b. Print b) bytes) in
-    record {
-      stands = subst (λ (v : Read). StandsFor new v.terminal) (sym r)
-          (record {
-            terminal = subst (λ (v : Read). IsTerminal v.terminal) r (IsTerminal-reads t bytes h.terminal);
-            screen = s ∙ ap (λ (y : Screen). effects y (map (λ b. Print b) bytes)) h.screen
-                ∙ effects-are t.screen (map (λ b. Print b) bytes);
-            decoding =
-                d ∙ h.decoding
-                ∙ ap (λ (u : List ℕ). record { coding = t.screen.state.coding; rest = u })
-                (ap (λ (u : Terminal). u.rest) e)
-                ∙ ap (λ c. record { coding = c; rest = [] }) (sym (prints-coding t.screen bytes));
-            parsing = p ∙ h.parsing ∙ ap (λ (u : Terminal). kept u.unended) e;
-          });
-      reports = sym (append-nil before) ∙ ap (λ (v : Read). before ++ v.reports) (sym r);
-    }
+    printed-has-read old new t bytes bytes before h e
+    (ap (λ (u : Terminal). reads u bytes) e ∙ reads-plain t.screen bytes plain) s d p
 
 -- more of some bytes, after those before
 pub has-read-on : (t : Terminal) (bytes : List ℕ) (i n : ℕ) (before answered next : List ℕ) (e e' : Parts)

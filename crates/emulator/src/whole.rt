@@ -10,7 +10,7 @@ ghost use Rattle.emulator.specs.Standing.{HasTaken, TakesWhole, IsBetween};
 
 use crate::emulator::Emulator;
 use crate::sequence::{PARAMS, first_sequence};
-use charsets::{Coding, first_characters};
+use charsets::Coding;
 use control_parser::plain_run;
 
 const CAN: u8 = 0x18;
@@ -18,9 +18,6 @@ const CAN: u8 = 0x18;
 const SUB: u8 = 0x1A;
 
 const ESC: u8 = 0x1B;
-
-/// The number of characters that are read before they are printed.
-const CHARACTERS: usize = 64;
 
 impl Emulator {
     /// Reads the complete functions at the beginning of some bytes, as long as they aren't
@@ -187,32 +184,14 @@ impl Emulator {
         found.size + 2
     }
 
-    /// Reads graphic characters, at most as many as are printed at once, and returns their number of
-    /// bytes, or 0 if the bytes begin with none. A combining mark is read alone: mostly characters
-    /// 20 to 7E follow it, which are quicker by themselves.
+    /// Prints graphic characters at the beginning of some bytes, and returns their number of bytes.
+    /// It may stop early, and returns 0 if the bytes begin with none.
     fn read_characters(&mut self, bytes: &[u8]) -> usize
-        requires some { 0 < length bytes.now }
         requires idle { IsBetween self.old }
         requires coding { self.old.decoding.coding ≡ Utf8 }
         ensures { TakesWhole self.old bytes.now result self.new }
     {
-        if bytes[0] == 0xCC || bytes[0] == 0xCD {
-            self.read_into(bytes, &mut [' '; 1])
-        } else {
-            self.read_into(bytes, &mut [' '; CHARACTERS])
-        }
-    }
-
-    /// Reads graphic characters, at most as many as `characters` has room for, and returns their
-    /// number of bytes, or 0 if the bytes begin with none.
-    fn read_into(&mut self, bytes: &[u8], characters: &mut [char]) -> usize
-        requires idle { IsBetween self.old }
-        requires coding { self.old.decoding.coding ≡ Utf8 }
-        ensures { TakesWhole self.old bytes.now result self.new }
-    {
-        let (count, read) = first_characters(bytes, characters);
-        self.screen.print_characters(&characters[..count]);
-        read
+        self.screen.print_text(bytes)
     }
 }
 

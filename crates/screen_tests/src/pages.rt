@@ -11,7 +11,7 @@ type Shown = (Size, usize, &'static [u8], &'static str, (usize, usize));
 
 const SMALL: Size = (2, 5, 0);
 
-static ROWS: [Shown; 35] = [
+static ROWS: [Shown; 41] = [
     // starts blank
     ((3, 3, 0), 0, b"", "___|___|___|", (0, 0)),
     // wraps after the last column
@@ -24,6 +24,54 @@ static ROWS: [Shown; 35] = [
     ((2, 3, 0), 0, b"ab\xE6\xBC\xA2", "ab_|漢_|", (1, 2)),
     // half a wide character is overwritten
     (SMALL, 0, b"\xE6\xBC\xA2x\ra", "a_x__|_____|", (0, 1)),
+    // letters wrap after the last column
+    (
+        SMALL,
+        0,
+        b"\xC3\xA9\xC3\xA9\xC3\xA9\xC3\xA9\xC3\xA8\xC3\xA9",
+        "ééééè|é____|",
+        (1, 1),
+    ),
+    // a letter overwrites half a wide character, whose right half goes
+    (
+        SMALL,
+        0,
+        b"\xE6\xBC\xA2\xE6\xBC\xA2\r\xC3\xA9",
+        "é_漢_|_____|",
+        (0, 1),
+    ),
+    // a wide character overwrites half of another
+    (
+        SMALL,
+        0,
+        b"a\xE6\xBC\xA2\r\xE6\xBC\xA2",
+        "漢___|_____|",
+        (0, 2),
+    ),
+    // wide characters go to the next line whole
+    (
+        SMALL,
+        0,
+        b"\xE6\xBC\xA2\xE6\xBC\xA2\xE6\xBC\xA2",
+        "漢漢_|漢___|",
+        (1, 2),
+    ),
+    // a mark between a letter and wide characters
+    (
+        SMALL,
+        0,
+        b"\xC3\xA9\xCC\x81\xE6\xBC\xA2\xE6\xBC\xA2",
+        "é\u{301}漢漢|_____|",
+        (0, 4),
+    ),
+    // a broken character after letters
+    (
+        SMALL,
+        0,
+        b"\xC3\xA9\xC3\xA9\xC3A",
+        "éé\u{FFFD}A_|_____|",
+        (0, 4),
+    ),
     // DCH cuts a wide character
     (
         SMALL,

@@ -1,8 +1,9 @@
 //! The screen of a VT220.
 
 ghost use Rattle.std.specs.Prelude.{◌≡◌, ℕ, ◌<◌, ◌≤◌, ◌↔◌, true, Err, IfOk, OnOk, OnErr, [], ◌∷◌, false};
-ghost use Rattle.std.specs.Prelude.{IsTrue, length, map, option_copied, slice_get, slice_index};
+ghost use Rattle.std.specs.Prelude.{IsTrue, length, map, option_copied, slice_get, slice_index, take};
 ghost use Rattle.std.specs.List.{list_all, range_with_len};
+ghost use Rattle.charsets.specs.Text.{IsText, text};
 ghost use Rattle.charsets.specs.Units.{is_plain};
 ghost use Rattle.control_parser.specs.declared.func.Func.TheVariants.{Control, Csi, Esc, Print};
 ghost use Rattle.cells.specs.Page.{IsGridSize, line_at};
@@ -105,14 +106,17 @@ impl Screen {
         self.display.print_line(codes);
     }
 
-    /// Prints characters from 20 to 7E and from A0 on, one after another. It needs no memory.
-    pub fn print_characters(&mut self, characters: &[char])
-        ensures effect { self.new.screen
-            ≡ effects self.old.screen (map (λ character. Print character) characters.now) }
+    /// Prints graphic characters with which some bytes of UTF-8 begin, and returns their number of
+    /// bytes. It may stop early, and returns 0 if the bytes begin with none. It needs no memory.
+    pub fn print_text(&mut self, bytes: &[u8]) -> usize
+        ensures text { IsText (take result bytes.now) }
+        ensures few { result ≤ length bytes.now }
+        ensures effect { self.new.screen ≡ effects self.old.screen
+            (map (λ code. Print code) (text (take result bytes.now))) }
         ensures places { self.new.places ≡ effects_places self.old.screen
-            (map (λ character. Print character) characters.now) self.old.places }
+            (map (λ code. Print code) (text (take result bytes.now))) self.old.places }
     {
-        self.display.print_characters(characters);
+        self.display.print_text(bytes)
     }
 
     /// Performs a C0 control, as `apply` does. It isn't answered.
