@@ -62,8 +62,19 @@ impl Emulator {
         ensures { TakesWhole self.old bytes.now result self.new }
     {
         let run = plain_front(bytes);
-        self.screen.print_run(&bytes[..run]);
+        self.read_plain(bytes, run);
         run
+    }
+
+    /// Reads the first `run` of some bytes, which are 20 to 7E.
+    #[inline(always)]
+    fn read_plain(&mut self, bytes: &[u8], run: usize)
+        requires idle { IsBetween self.old }
+        requires plain { list_all is_plain (take run bytes.now) ≡ true }
+        requires few { run ≤ length bytes.now }
+        ensures { TakesWhole self.old bytes.now run self.new }
+    {
+        self.screen.print_run(&bytes[..run]);
     }
 
     /// Reads one complete function at the beginning of some bytes, or one run of bytes 20 to 7E,
@@ -82,7 +93,7 @@ impl Emulator {
             return self.read_escape(bytes);
         }
         if 0x1F < first && first < 0x7F {
-            return self.read_run(bytes);
+            return self.read_run_or_one(bytes);
         }
         match first {
             b'\r' => self.read_return(bytes),
@@ -93,6 +104,21 @@ impl Emulator {
             }
             _ => self.read_characters(bytes),
         }
+    }
+
+    /// Reads the bytes 20 to 7E at the beginning of some bytes, and returns their number. Between two
+    /// control functions there is mostly one, which is read without counting.
+    #[inline(always)]
+    fn read_run_or_one(&mut self, bytes: &[u8]) -> usize
+        requires plain { list_all is_plain (take 1 bytes.now) ≡ true }
+        requires idle { IsBetween self.old }
+        ensures { TakesWhole self.old bytes.now result self.new }
+    {
+        if bytes.len() > 1 && bytes[1] < b' ' {
+            self.read_plain(bytes, 1);
+            return 1;
+        }
+        self.read_run(bytes)
     }
 
     /// Reads a CR and returns its number of bytes. If an LF follows, it reads both and the run of

@@ -85,6 +85,7 @@ impl Screen {
 
     /// Prints characters 20 to 7E, one after another: `codes` has their code points. It needs no
     /// memory.
+    #[inline(always)]
     pub fn print_run(&mut self, codes: &[u8])
         requires { list_all is_plain codes.now ≡ true }
         ensures effect { self.new.screen
