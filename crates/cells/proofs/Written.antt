@@ -41,7 +41,7 @@ IsPut-more at fresh old line cell is room =
       rest = λ k h. get_or-set_other line end k cell blank (omega (arith, n, h)) ∙ is.rest k (omega (arith, n, h));
     }
 
-IsPut-none : (at : ℕ) (old : List Cell) → IsPut at [] old old
+pub IsPut-none : (at : ℕ) (old : List Cell) → IsPut at [] old old
 IsPut-none at old = record {
   width = refl;
   front = λ k h. refl;
