@@ -1,22 +1,24 @@
 //! Text in UTF-8 that is put into cells as it is decoded.
 
 ghost use Rattle.std.specs.Prelude.{◌≡◌, ◌+◌, ◌*◌, ◌<◌, ◌≤◌, [], ◌∷◌, true, length, take, IfSome, IsTrue};
+ghost use Rattle.std.specs.Prelude.{slice_set};
 ghost use Rattle.std.specs.List.{list_all};
 ghost use Rattle.charsets.specs.Text.{text, IsText};
 ghost use Rattle.charsets.specs.Units.{is_character};
 ghost use Rattle.charsets.specs.Utf8.{codes};
-ghost use Rattle.cells.specs.Letters.{is_known_wide, is_letter};
-ghost use Rattle.cells.specs.Line.{cell_at, cells_spliced, is_right, narrow_cells, IsPaired};
+ghost use Rattle.cells.specs.Letters.{is_known_wide, is_lettered, letter_cells};
+ghost use Rattle.cells.specs.Line.{cell_at, cells_spliced, is_right, marked, IsPaired};
 ghost use Rattle.cells.specs.Put.{mended, IsPut};
 ghost use Rattle.cells.specs.Wide.{wide_cells};
 
 use crate::cell::{Cell, Rendition};
 use crate::edits::{space_cell, space_halves};
-use crate::letters::{is_known_wide, is_letter};
+use crate::letters::{is_known_wide, is_letter, is_mark};
 use crate::put::Put;
 use charsets::first_character;
 
-/// Puts the letters of one column with which some bytes begin over as many old cells, from `at` on.
+/// Puts the letters of one column with which some bytes begin, and the marks behind them, over as
+/// many old cells as there are letters, from `at` on.
 /// It isn't inlined, so that its loop stays tight.
 #[inline(never)]
 pub fn put_letters(
@@ -29,12 +31,13 @@ pub fn put_letters(
     requires paired { IsPaired cells.old }
     requires inside { at ≤ length cells.old }
     ensures text { IsText (take result.read bytes.now) }
-    ensures letters { list_all is_letter (text (take result.read bytes.now)) ≡ true }
-    ensures count { length (text (take result.read bytes.now)) ≡ result.count }
+    ensures letters { is_lettered (text (take result.read bytes.now)) ≡ true }
+    ensures count { length (letter_cells (text (take result.read bytes.now))
+        rendition is_protected) ≡ result.count }
     ensures room { at + result.count ≤ length cells.old }
     ensures few { result.read ≤ length bytes.now }
     ensures cells { cells.new ≡ cells_spliced at
-        (narrow_cells (text (take result.read bytes.now)) rendition is_protected)
+        (letter_cells (text (take result.read bytes.now)) rendition is_protected)
         (at + result.count) cells.old }
 {
     let is_cut = cuts_wide(cells, at);
@@ -98,7 +101,8 @@ fn mend(cells: &mut [Cell], at: usize, end: usize, is_cut: bool)
     }
 }
 
-/// Writes the letters with which some bytes begin into the cells from `at` on.
+/// Writes the letters with which some bytes begin, and the marks behind them, into the cells from
+/// `at` on.
 #[inline(always)]
 fn write_letters(
     cells: &mut [Cell],
@@ -109,28 +113,32 @@ fn write_letters(
 ) -> Put
     requires { at ≤ length cells.old }
     ensures text { IsText (take result.read bytes.now) }
-    ensures letters { list_all is_letter (text (take result.read bytes.now)) ≡ true }
-    ensures count { length (text (take result.read bytes.now)) ≡ result.count }
+    ensures letters { is_lettered (text (take result.read bytes.now)) ≡ true }
+    ensures count { length (letter_cells (text (take result.read bytes.now))
+        rendition is_protected) ≡ result.count }
     ensures room { at + result.count ≤ length cells.old }
     ensures few { result.read ≤ length bytes.now }
     ensures cells { IsPut at
-        (narrow_cells (text (take result.read bytes.now)) rendition is_protected)
+        (letter_cells (text (take result.read bytes.now)) rendition is_protected)
         cells.old cells.new }
 {
     let space = space_cell(rendition, is_protected);
     let mut column = at;
     let mut read = 0;
     while column < cells.len() && read < bytes.len() {
-        let Some((character, size)) = first_letter(&bytes[read..]) else {
-            return Put {
-                count: column - at,
-                read,
-            };
+        let Some((character, size)) = first_short(&bytes[read..]) else {
+            break;
         };
-        let mut cell = space;
-        cell.character = character;
-        cells[column] = cell;
-        column += 1;
+        if is_letter(character) {
+            let mut cell = space;
+            cell.character = character;
+            cells[column] = cell;
+            column += 1;
+        } else if at < column && is_mark(character) {
+            join_mark(cells, column - 1, character);
+        } else {
+            break;
+        }
         read += size;
     }
     Put {
@@ -139,14 +147,24 @@ fn write_letters(
     }
 }
 
-/// The letter with which some bytes begin in UTF-8, and its number of bytes, one or two. None if
+/// Adds a mark to a cell. A cell with two marks drops it.
+#[inline(always)]
+fn join_mark(cells: &mut [Cell], column: usize, mark: char)
+    requires { column < length cells.old }
+    ensures { cells.new ≡ slice_set cells.old column (marked (cell_at cells.old column) mark) }
+{
+    let marks = cells[column].marks;
+    cells[column].marks = marks.joined(mark);
+}
+
+/// The character with which some bytes begin in UTF-8, and its number of bytes, one or two. None if
 /// they begin with anything else.
 #[inline(always)]
-fn first_letter(bytes: &[u8]) -> Option<(char, usize)>
+fn first_short(bytes: &[u8]) -> Option<(char, usize)>
     requires { 0 < length bytes.now }
     ensures reads { IfSome result (λ c. codes (take c.1 bytes.now) ≡ (c.0 ∷ [], [])) }
     ensures character { IfSome result (λ c. is_character c.0 ≡ true) }
-    ensures letter { IfSome result (λ c. is_letter c.0 ≡ true) }
+    ensures some { IfSome result (λ c. 0 < c.1) }
     ensures few { IfSome result (λ c. c.1 ≤ length bytes.now) }
 {
     let a = bytes[0];
@@ -156,12 +174,7 @@ fn first_letter(bytes: &[u8]) -> Option<(char, usize)>
     if bytes.len() < 2 || a < 0xC2 || a > 0xDF {
         return None;
     }
-    let (character, size) = first_character(bytes)?;
-    if is_letter(character) {
-        Some((character, size))
-    } else {
-        None
-    }
+    first_character(bytes)
 }
 
 /// Writes the wide characters with which some bytes begin into the cells from `at` on.
