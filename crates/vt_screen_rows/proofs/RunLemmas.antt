@@ -109,7 +109,7 @@ first_state s room =
           (record { line = s.line; column = s.column });
     }) fits
 
-last_state : (s : State) (n : ℕ) → 0 < n
+pub last_state : (s : State) (n : ℕ) → 0 < n
     → advanced (record (behind_first s) { column = s.column + 1 + (n - 1) }) 1 ≡ advanced
     (record s { column = s.column + (suc n - 1) }) 1
 last_state s n some =
