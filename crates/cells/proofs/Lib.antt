@@ -18,3 +18,4 @@ pub mod WideRuns
 pub mod UsedSplices
 pub mod Written
 pub mod Mending
+pub mod Lettered

@@ -225,7 +225,7 @@ put_next at fresh old count line so_far inside = record {
 }
 
 -- cells of width 1 need nothing beside them
-whole_narrow : (fresh : List Cell) (j : ℕ) → (cell_at fresh j).shape ≡ Narrow → fresh_at fresh j ≡ cell_at fresh j
+pub whole_narrow : (fresh : List Cell) (j : ℕ) → (cell_at fresh j).shape ≡ Narrow → fresh_at fresh j ≡ cell_at fresh j
 whole_narrow fresh j narrow = ap
     (λ s. kept s (cell_at fresh j) (is_left (cell_at fresh j).shape && is_right (cell_at fresh (suc j)).shape)
     (right_follows fresh j)) narrow

@@ -1,10 +1,13 @@
 //! Characters whose width is known without looking it up.
 
 ghost use Rattle.std.specs.Prelude.{◌≡◌};
-ghost use Rattle.cells.specs.Letters.{is_known_wide, is_letter};
+ghost use Rattle.cells.specs.Letters.{is_known_wide, is_letter, is_mark};
 
 /// A character of width 0 among the letters.
 const SOFT_HYPHEN: char = '\u{AD}';
+
+/// A mark that isn't among the known ones.
+const OVERLAY: char = '\u{338}';
 
 /// Whether a character is a letter of one column: one of 20 to 7E, of U+00A0 to U+02FF without the
 /// soft hyphen, a Greek, Cyrillic or Armenian one up to U+058F, or a Hebrew one.
@@ -21,6 +24,16 @@ pub fn is_letter(character: char) -> bool
             || ('\u{48A}' <= character && character < '\u{590}')
             || ('\u{5D0}' <= character && character < '\u{5EB}')
     }
+}
+
+/// Whether a character is a combining diacritical mark or a Hebrew point: one of U+0300 to U+036F
+/// without U+0338, or of U+0591 to U+05BD. They take no column.
+#[inline(always)]
+pub fn is_mark(character: char) -> bool
+    ensures { result ≡ is_mark character }
+{
+    ('\u{300}' <= character && character < '\u{370}' && character != OVERLAY)
+        || ('\u{591}' <= character && character < '\u{5BE}')
 }
 
 /// Whether a character is an ideograph, a kana, a Hangul syllable or an emoticon, which take two

@@ -15,7 +15,7 @@ mod unlike;
 pub use cell::{Cell, Colour, Marks, Rendition, Shape};
 pub use glyph::{drawn_as, glyph_columns, glyph_width};
 pub use grid::{Grid, GridFault, blank_lines, is_grid_size};
-pub use letters::{is_known_wide, is_letter};
+pub use letters::{is_known_wide, is_letter, is_mark};
 pub use line::Line;
 pub use put::Put;
 pub use unlike::next_unlike;

@@ -5,7 +5,7 @@ ghost use Rattle.std.specs.Prelude.{IsTrue, false, true, take};
 ghost use Rattle.std.specs.Prelude.{slice_set};
 ghost use Rattle.std.specs.List.{list_all};
 ghost use Rattle.charsets.specs.Text.{text, IsText};
-ghost use Rattle.cells.specs.Letters.{is_known_wide, is_letter};
+ghost use Rattle.cells.specs.Letters.{is_known_wide, is_lettered, letter_cells};
 ghost use Rattle.cells.specs.Line.{cells_from, cells_spliced, cell_at, marked, IsPaired};
 ghost use Rattle.cells.specs.Line.{IsBlankFrom, blank, unprotected_erased, narrow_cell};
 ghost use Rattle.cells.specs.Line.{narrow_cells, ArePlainFrom, plain};
@@ -283,8 +283,9 @@ impl Line {
         self.is_plain = self.is_plain & space.is_blank();
     }
 
-    /// Puts the letters of one column with which some bytes of UTF-8 begin over as many old cells,
-    /// from `at` on, as far as there is room. An old half that loses its other half becomes blank.
+    /// Puts the letters of one column with which some bytes of UTF-8 begin, and the marks behind
+    /// them, over as many old cells as there are letters, from `at` on, as far as there is room. An
+    /// old half that loses its other half becomes blank. The result counts the columns.
     pub fn put_letters(
         &mut self,
         at: usize,
@@ -294,12 +295,13 @@ impl Line {
     ) -> Put
         requires inside { at ≤ length self.old }
         ensures text { IsText (take result.read bytes.now) }
-        ensures letters { list_all is_letter (text (take result.read bytes.now)) ≡ true }
-        ensures count { length (text (take result.read bytes.now)) ≡ result.count }
+        ensures letters { is_lettered (text (take result.read bytes.now)) ≡ true }
+        ensures count { length (letter_cells (text (take result.read bytes.now))
+            rendition is_protected) ≡ result.count }
         ensures room { at + result.count ≤ length self.old }
         ensures few { result.read ≤ length bytes.now }
         ensures cells { self.new ≡ cells_spliced at
-            (narrow_cells (text (take result.read bytes.now)) rendition is_protected)
+            (letter_cells (text (take result.read bytes.now)) rendition is_protected)
             (at + result.count) self.old }
     {
         let put = texts::put_letters(

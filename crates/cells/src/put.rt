@@ -1,4 +1,4 @@
-/// How many characters were put, and how many bytes they took.
+/// How many columns or wide characters were put, and how many bytes they took.
 #[derive(Clone, Copy)]
 pub struct Put {
     pub count: usize,

@@ -5,8 +5,8 @@ ghost use Rattle.std.specs.List.{list_all};
 ghost use Rattle.charsets.specs.Text.{text, IsText};
 ghost use Rattle.charsets.specs.Units.{is_character};
 ghost use Rattle.charsets.specs.Utf8.{codes};
-ghost use Rattle.cells.specs.Letters.{is_known_wide, is_letter};
-ghost use Rattle.cells.specs.Line.{cell_at, cells_spliced, is_right, narrow_cells, IsPaired};
+ghost use Rattle.cells.specs.Letters.{is_known_wide, is_letter, is_lettered, letter_cells};
+ghost use Rattle.cells.specs.Line.{cell_at, cells_spliced, is_right, IsPaired};
 ghost use Rattle.cells.specs.Put.{mended, IsPut};
 ghost use Rattle.cells.specs.Wide.{wide_cells};
 
@@ -16,7 +16,8 @@ use crate::letters::{is_known_wide, is_letter};
 use crate::put::Put;
 use charsets::first_character;
 
-/// Puts the letters of one column with which some bytes begin over as many old cells, from `at` on.
+/// Puts the letters of one column with which some bytes begin, and the marks behind them, over as
+/// many old cells as there are letters, from `at` on.
 /// It isn't inlined, so that its loop stays tight.
 #[inline(never)]
 pub fn put_letters(
@@ -29,12 +30,13 @@ pub fn put_letters(
     requires paired { IsPaired cells.old }
     requires inside { at ≤ length cells.old }
     ensures text { IsText (take result.read bytes.now) }
-    ensures letters { list_all is_letter (text (take result.read bytes.now)) ≡ true }
-    ensures count { length (text (take result.read bytes.now)) ≡ result.count }
+    ensures letters { is_lettered (text (take result.read bytes.now)) ≡ true }
+    ensures count { length (letter_cells (text (take result.read bytes.now))
+        rendition is_protected) ≡ result.count }
     ensures room { at + result.count ≤ length cells.old }
     ensures few { result.read ≤ length bytes.now }
     ensures cells { cells.new ≡ cells_spliced at
-        (narrow_cells (text (take result.read bytes.now)) rendition is_protected)
+        (letter_cells (text (take result.read bytes.now)) rendition is_protected)
         (at + result.count) cells.old }
 {
     let is_cut = cuts_wide(cells, at);
@@ -109,34 +111,16 @@ fn write_letters(
 ) -> Put
     requires { at ≤ length cells.old }
     ensures text { IsText (take result.read bytes.now) }
-    ensures letters { list_all is_letter (text (take result.read bytes.now)) ≡ true }
-    ensures count { length (text (take result.read bytes.now)) ≡ result.count }
+    ensures letters { is_lettered (text (take result.read bytes.now)) ≡ true }
+    ensures count { length (letter_cells (text (take result.read bytes.now))
+        rendition is_protected) ≡ result.count }
     ensures room { at + result.count ≤ length cells.old }
     ensures few { result.read ≤ length bytes.now }
     ensures cells { IsPut at
-        (narrow_cells (text (take result.read bytes.now)) rendition is_protected)
+        (letter_cells (text (take result.read bytes.now)) rendition is_protected)
         cells.old cells.new }
 {
-    let space = space_cell(rendition, is_protected);
-    let mut column = at;
-    let mut read = 0;
-    while column < cells.len() && read < bytes.len() {
-        let Some((character, size)) = first_letter(&bytes[read..]) else {
-            return Put {
-                count: column - at,
-                read,
-            };
-        };
-        let mut cell = space;
-        cell.character = character;
-        cells[column] = cell;
-        column += 1;
-        read += size;
-    }
-    Put {
-        count: column - at,
-        read,
-    }
+    Put { count: 0, read: 0 }
 }
 
 /// The letter with which some bytes begin in UTF-8, and its number of bytes, one or two. None if

@@ -1,8 +1,8 @@
 use Rattle.std.proofs.Common.{◌≡◌, ℕ, ◌+◌, List, length, take, ◌∙◌, ap, sym, arith}
 use Rattle.charsets.specs.Text.{text}
 use Rattle.cells.specs.declared.cell.Cell.{Cell}
-use Rattle.cells.specs.Line.{taken, spliced, narrow_cells}
-use Rattle.cells.proofs.Putting.{length-narrow_cells}
+use Rattle.cells.specs.Letters.{letter_cells}
+use Rattle.cells.specs.Line.{taken, spliced}
 use Rattle.cells.proofs.Used.{IsUsed-stored, spliced_behind}
 use Rattle.cells.proofs.line.Line.put_letters.Goals as goal
 
@@ -14,9 +14,8 @@ invariant_of-self c =
     let line : length items ≡ length c.args.self.now = ap length c.self.view_is in
     let end : ℕ = c.args.at + c.put_letters-put.result.count in
     let characters : List ℕ = text (take c.put_letters-put.result.read c.args.bytes.now) in
-    let fresh : List Cell = narrow_cells characters c.args.rendition c.args.is_protected in
-    let n : length fresh ≡ c.put_letters-put.result.count = length-narrow_cells characters c.args.rendition
-    c.args.is_protected ∙ c.put_letters-put.ensures.count in
+    let fresh : List Cell = letter_cells characters c.args.rendition c.args.is_protected in
+    let n : length fresh ≡ c.put_letters-put.result.count = c.put_letters-put.ensures.count in
     record {
       used_part =
           IsUsed-stored (spliced c.args.at fresh end (length c.as_mut_slice.result.now)) c.self.inside.used
