@@ -4,7 +4,7 @@ ghost use Rattle.std.specs.Prelude.{◌≡◌, ℕ, ◌+◌, ◌*◌, ◌-◌, �
 ghost use Rattle.std.specs.Prelude.{IfOk, Err, true, false, slice_index, take};
 ghost use Rattle.std.specs.List.{list_all};
 ghost use Rattle.charsets.specs.Text.{text, IsText};
-ghost use Rattle.cells.specs.Letters.{is_known_wide, is_letter};
+ghost use Rattle.cells.specs.Letters.{is_known_wide, is_lettered, letter_cells};
 ghost use Rattle.cells.specs.Line.{blank, unprotected_erased, narrow_cells, plain};
 ghost use Rattle.cells.specs.Wide.{wide_cells};
 ghost use Rattle.cells.specs.Page.{IsGrid, IsGridSize, line_at, page_from, page_marked};
@@ -181,8 +181,9 @@ impl Page {
         self.stored[place as usize].put_run(at.column, codes, rendition, is_protected);
     }
 
-    /// Puts the letters of one column with which some bytes of UTF-8 begin over as many old cells,
-    /// from `at` on, as far as there is room. An old half that loses its other half becomes blank.
+    /// Puts the letters of one column with which some bytes of UTF-8 begin, and the marks behind
+    /// them, over as many old cells as there are letters, from `at` on, as far as there is room. An
+    /// old half that loses its other half becomes blank. The result counts the columns.
     pub fn put_letters(
         &mut self,
         at: CellPosition,
@@ -193,12 +194,13 @@ impl Page {
         requires line_inside { at.line < length self.old.lines }
         requires inside { at.column ≤ length (line_at self.old.lines at.line) }
         ensures text { IsText (take result.read bytes.now) }
-        ensures letters { list_all is_letter (text (take result.read bytes.now)) ≡ true }
-        ensures count { length (text (take result.read bytes.now)) ≡ result.count }
+        ensures letters { is_lettered (text (take result.read bytes.now)) ≡ true }
+        ensures count { length (letter_cells (text (take result.read bytes.now))
+            rendition is_protected) ≡ result.count }
         ensures room { at.column + result.count ≤ length (line_at self.old.lines at.line) }
         ensures few { result.read ≤ length bytes.now }
         ensures lines { self.new.lines ≡ page_spliced at.line at.column
-            (narrow_cells (text (take result.read bytes.now)) rendition is_protected)
+            (letter_cells (text (take result.read bytes.now)) rendition is_protected)
             (at.column + result.count) self.old.lines }
         ensures places { self.new.places ≡ self.old.places }
     {

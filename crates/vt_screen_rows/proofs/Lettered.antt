@@ -1,51 +1,32 @@
 -- Letters and marks that are printed one after another and fit in the line are one run.
-use Rattle.std.proofs.Common.{◌≡◌, ℕ, suc, ◌+◌, ◌-◌, ◌<◌, ◌≤◌, Bool, true, false, ◌&&◌, ◌||◌, List, [], ◌∷◌, length}
+use Rattle.std.proofs.Common.{◌≡◌, ℕ, suc, ◌+◌, ◌-◌, ◌<◌, ◌≤◌, Bool, true, false, ◌||◌, List, [], ◌∷◌, length}
 use Rattle.std.proofs.Common.{Option, Some, refl, sym, ap, ◌∙◌, arith, inl, inr}
 use Rattle.std.specs.List.{list_all}
-use Rattle.std.proofs.lemmas.Bool.{cases_Bool, cases_lt}
+use Rattle.std.proofs.lemmas.Bool.{cases_Bool}
 use Rattle.std.proofs.lemmas.Bool.Decides.{nat_tests}
+use Rattle.charsets.specs.declared.shifts.Place.{Place}
 use Rattle.charsets.specs.declared.unit.Unit.TheVariants.{Code}
 use Rattle.cells.specs.declared.cell.Cell.{Cell}
 use Rattle.cells.specs.declared.cell.Rendition.{Rendition}
 use Rattle.cells.specs.declared.cell.Shape.TheVariants.{Narrow}
-use Rattle.cells.specs.Letters.{is_letter}
+use Rattle.cells.specs.Letters.{is_letter, is_mark, is_letter_or_mark, is_lettered, cells_on, letter_cells}
 use Rattle.cells.specs.Line.{IsPaired, marked, narrow_cell, narrow_cells, spliced}
-use Rattle.cells.specs.Page.{IsPage}
+use Rattle.cells.specs.Page.{IsPage, page_marked}
+use Rattle.cells.proofs.Putting.{length-narrow_cells}
 use Rattle.cells.proofs.Splicing.{narrow_pairs}
 use Rattle.terminal_model.specs.declared.action.Action.TheVariants.{Print}
 use Rattle.terminal_model.specs.declared.state.State.{State}
 use Rattle.terminal_model.specs.Screen.{Page, Screen, IsSound, line_edited, with_state}
-use Rattle.terminal_model.specs.Printing.{advanced, columns_of, drawn, printed, printed_as}
+use Rattle.terminal_model.specs.Printing.{advanced, drawn, printed, printed_as, wrapped}
 use Rattle.terminal_model.specs.Scrollback.{is_wrapped}
 use Rattle.terminal_model.specs.Table.{acted, all_acted}
 use Rattle.vt_screen_rows.specs.Places.{wrapped_places, printed_places, acted_places, all_acted_places}
-use Rattle.vt_screen_rows.specs.Runs.{TakesRuns, prints}
+use Rattle.vt_screen_rows.specs.Runs.{TakesRuns, prints, run_placed}
 use Rattle.vt_screen_rows.proofs.CellRuns.{IsPaired-narrow, IsPage-page_over, page_over, page_over_marked, page_over_more}
-use Rattle.vt_screen_rows.proofs.KnownWidths.{mark_columns, mark_drawn, point_columns, point_drawn}
-use Rattle.vt_screen_rows.proofs.Letters.{both, beyond_mapped, beyond_printed}
-use Rattle.vt_screen_rows.proofs.Marks.{is_mark, is_letter_or_mark, is_lettered, cells_on, letter_cells}
-use Rattle.vt_screen_rows.proofs.RunLemmas.{print_one, behind_first, behind_room, behind_settled, first_state, last_state}
-use Rattle.vt_screen_rows.proofs.RunPlaces.{settled_place}
-
--- a mark takes no column and is drawn as it is
-mark_beyond : (c : ℕ) → is_mark c ≡ true → 0xA0 ≤ c
-mark_beyond c h = grind (arith, nat_tests)
-
-pub columns-mark : (c : ℕ) → is_mark c ≡ true → columns_of c ≡ 0
-columns-mark c h =
-    elim (cases_lt c 0x370) [
-      | inl low ↦
-          mark_columns c (grind (arith, nat_tests)) low (λ (e : c ≡ 0x338). grind (arith, nat_tests))
-      | inr high ↦ point_columns c (grind (arith, nat_tests)) (grind (arith, nat_tests))
-    ]
-
-pub drawn-mark : (c : ℕ) → is_mark c ≡ true → drawn c ≡ c
-drawn-mark c h =
-    elim (cases_lt c 0x370) [
-      | inl low ↦
-          mark_drawn c (grind (arith, nat_tests)) low (λ (e : c ≡ 0x338). grind (arith, nat_tests))
-      | inr high ↦ point_drawn c (grind (arith, nat_tests)) (grind (arith, nat_tests))
-    ]
+use Rattle.vt_screen_rows.proofs.Letters.{both, beyond_mapped, beyond_printed, columns-mark, drawn-mark, mark_beyond}
+use Rattle.vt_screen_rows.proofs.RunLemmas.{print_one, print_wrapped, behind_first, behind_room, behind_settled}
+use Rattle.vt_screen_rows.proofs.RunLemmas.{first_state, last_state, settled-wrapped, takes-wrapped}
+use Rattle.vt_screen_rows.proofs.RunPlaces.{one_place, settled_place}
 
 letter_not_mark : (c : ℕ) → is_letter_or_mark c ≡ true → is_mark c ≡ false → is_letter c ≡ true
 letter_not_mark c h other = go (is_letter c) (is_mark c) h other
@@ -90,7 +71,7 @@ module _ (x : Screen) (cell : Cell) (t : TakesRuns x.state) (stands : StandsIn x
       let s : State = x.state in
       let e : s.column + 0 ≡ s.column = omega arith in
       beyond_printed y c (mark_beyond c h)
-      ∙ ap (λ (o : Option ℕ). printed (Some c)
+      ∙ ap (λ (o : Option Place). printed (Some c)
       (with_state y (record y.state { shifts = record y.state.shifts { single = o } }))) (sym t.unshifted)
       ∙ ap (λ (n : ℕ). printed_as n (drawn c) y) (columns-mark c h)
       ∙ ap (λ (d : ℕ). printed_as 0 d y) (drawn-mark c h)
@@ -141,45 +122,191 @@ module _ (r : Rendition) (p : Bool) where
 abbrev cells_in : Screen → Cell → List ℕ → List Cell
 cells_in x cell cs = cells_on x.state.rendition x.state.is_protecting cell cs
 
+module _ (x : Screen) (cell : Cell) (t : TakesRuns x.state) (stands : StandsIn x) (narrow : cell.shape ≡ Narrow) (c : ℕ)
+    (cs : List ℕ) where
+  abbrev new : Cell
+  new = narrow_cell c x.state.rendition x.state.is_protecting
+
+  mark_first : is_mark c ≡ true → x.state.column + length (cells_in x (marked cell c) cs) ≤ x.state.columns
+      → all_acted (cells_placed (marked cell c ∷ []) x) (prints cs) ≡ cells_placed (cells_in x (marked cell c) cs) x
+      → all_acted (cells_placed (cell ∷ []) x) (prints (c ∷ cs)) ≡ cells_placed (cells_in x cell (c ∷ cs)) x
+  mark_first joins room later =
+      let s : State = x.state in
+      let some : 0 < length (cells_in x (marked cell c) cs) =
+      cells_on-some s.rendition s.is_protecting (marked cell c) cs in
+      ap (λ (v : Screen). all_acted v (prints cs)) (mark_joins x cell t stands narrow c joins (omega arith))
+      ∙ rw joins later
+
+  letter_first : is_mark c ≡ false → is_letter c ≡ true
+      → x.state.column + suc (length (cells_in x new cs)) ≤ x.state.columns
+      → all_acted (cells_placed (new ∷ []) (cells_placed (cell ∷ []) x)) (prints cs) ≡ cells_placed (cells_in x new cs)
+      (cells_placed (cell ∷ []) x)
+      → all_acted (cells_placed (cell ∷ []) x) (prints (c ∷ cs)) ≡ cells_placed (cells_in x cell (c ∷ cs)) x
+  letter_first other letter room later =
+      let s : State = x.state in
+      let y : Screen = cells_placed (cell ∷ []) x in
+      let behind : List Cell = cells_in x new cs in
+      let some : 0 < length behind = cells_on-some s.rendition s.is_protecting new cs in
+      let state_is : y.state ≡ behind_first s = first_state s (omega arith) in
+      ap (λ (v : Screen). all_acted v (prints cs))
+      (print_one y c (takes x cell t stands narrow) (behind_settled y.state s state_is) letter)
+      ∙ later
+      ∙ cells_first x cell t stands narrow behind (cells_on-paired s.rendition s.is_protecting new cs refl) some room
+      ∙ rw other refl
+
 -- letters and marks behind a cell that was put last
 pub run_on : (cs : List ℕ) (x : Screen) (cell : Cell) → TakesRuns x.state → StandsIn x → cell.shape ≡ Narrow
-    → list_all is_letter_or_mark cs ≡ true
-    → x.state.column + length (cells_in x cell cs) ≤ x.state.columns
+    → list_all is_letter_or_mark cs ≡ true → x.state.column + length (cells_in x cell cs) ≤ x.state.columns
     → all_acted (cells_placed (cell ∷ []) x) (prints cs) ≡ cells_placed (cells_in x cell cs) x
 run_on [] x cell t stands narrow h room = refl
 run_on (c ∷ cs) x cell t stands narrow h room =
+    let s : State = x.state in
+    let y : Screen = cells_placed (cell ∷ []) x in
+    let new : Cell = narrow_cell c s.rendition s.is_protecting in
     let k = both (is_letter_or_mark c) (list_all is_letter_or_mark cs) h in
     elim (cases_Bool (is_mark c)) [
-      | inl joins ↦ joined joins k.1 (rw joins at room)
-      | inr other ↦ follows other (letter_not_mark c k.0 other) k.1 (rw other at room)
+      | inl joins ↦
+          let room' : s.column + length (cells_in x (marked cell c) cs) ≤ s.columns = rw joins at room in
+          mark_first x cell t stands narrow c cs joins room' (run_on cs x (marked cell c) t stands narrow k.1 room')
+      | inr other ↦
+          let room' : s.column + suc (length (cells_in x new cs)) ≤ s.columns = rw other at room in
+          let some : 0 < length (cells_in x new cs) = cells_on-some s.rendition s.is_protecting new cs in
+          letter_first x cell t stands narrow c cs other (letter_not_mark c k.0 other) room'
+          (run_on cs y new (takes x cell t stands narrow) (stands_behind x cell t stands narrow) refl k.1
+          (behind_room y.state s (length (cells_in x new cs)) (first_state s (omega arith)) room'))
     ]
-  where
-    joined : is_mark c ≡ true → list_all is_letter_or_mark cs ≡ true
-        → x.state.column + length (cells_in x (marked cell c) cs) ≤ x.state.columns
-        → all_acted (acted (cells_placed (cell ∷ []) x) (Print (Code c))) (prints cs) ≡ cells_placed
-        (cells_in x cell (c ∷ cs)) x
-    joined joins later room =
-        let s : State = x.state in
-        let some : 0 < length (cells_in x (marked cell c) cs) = cells_on-some s.rendition s.is_protecting
-        (marked cell c) cs in
-        ap (λ (v : Screen). all_acted v (prints cs)) (mark_joins x cell t stands narrow c joins (omega arith))
-        ∙ run_on cs x (marked cell c) t stands narrow later room
-        ∙ rw joins refl
 
-    follows : is_mark c ≡ false → is_letter c ≡ true → list_all is_letter_or_mark cs ≡ true
-        → x.state.column + suc (length (cells_in x (narrow_cell c x.state.rendition x.state.is_protecting) cs)) ≤ x.state.columns
-        → all_acted (acted (cells_placed (cell ∷ []) x) (Print (Code c))) (prints cs) ≡ cells_placed
-        (cells_in x cell (c ∷ cs)) x
-    follows other letter later room =
-        let s : State = x.state in
-        let y : Screen = cells_placed (cell ∷ []) x in
-        let new : Cell = narrow_cell c s.rendition s.is_protecting in
-        let behind : List Cell = cells_in x new cs in
-        let some : 0 < length behind = cells_on-some s.rendition s.is_protecting new cs in
-        let state_is : y.state ≡ behind_first s = first_state s (omega arith) in
-        ap (λ (v : Screen). all_acted v (prints cs))
-        (print_one y c (takes x cell t stands narrow) (behind_settled y.state s state_is) letter)
-        ∙ run_on cs y new (takes x cell t stands narrow) (stands_behind x cell t stands narrow) refl later
-        (behind_room y.state s (length behind) state_is room)
-        ∙ cells_first x cell t stands narrow behind (cells_on-paired s.rendition s.is_protecting new cs refl) some room
-        ∙ rw other refl
+-- they move no line
+places_on_run : (cs : List ℕ) (x : Screen) (cell : Cell) (places : List ℕ) → TakesRuns x.state → StandsIn x
+    → cell.shape ≡ Narrow → list_all is_letter_or_mark cs ≡ true
+    → x.state.column + length (cells_in x cell cs) ≤ x.state.columns
+    → all_acted_places (cells_placed (cell ∷ []) x) (prints cs) places ≡ places
+places_on_run [] x cell places t stands narrow h room = refl
+places_on_run (c ∷ cs) x cell places t stands narrow h room =
+    let s : State = x.state in
+    let y : Screen = cells_placed (cell ∷ []) x in
+    let new : Cell = narrow_cell c s.rendition s.is_protecting in
+    let k = both (is_letter_or_mark c) (list_all is_letter_or_mark cs) h in
+    elim (cases_Bool (is_mark c)) [
+      | inl joins ↦
+          let room' : s.column + length (cells_in x (marked cell c) cs) ≤ s.columns = rw joins at room in
+          let some : 0 < length (cells_in x (marked cell c) cs) =
+          cells_on-some s.rendition s.is_protecting (marked cell c) cs in
+          ap (λ (ps : List ℕ). all_acted_places (acted y (Print (Code c))) (prints cs) ps)
+          (mark_place x cell t stands narrow c places joins)
+          ∙ ap (λ (v : Screen). all_acted_places v (prints cs) places)
+          (mark_joins x cell t stands narrow c joins (omega arith))
+          ∙ places_on_run cs x (marked cell c) places t stands narrow k.1 room'
+      | inr other ↦
+          let room' : s.column + suc (length (cells_in x new cs)) ≤ s.columns = rw other at room in
+          let some : 0 < length (cells_in x new cs) = cells_on-some s.rendition s.is_protecting new cs in
+          let state_is : y.state ≡ behind_first s = first_state s (omega arith) in
+          let letter : is_letter c ≡ true = letter_not_mark c k.0 other in
+          let settled : y.state.is_wrap_pending ≡ false = behind_settled y.state s state_is in
+          ap (λ (ps : List ℕ). all_acted_places (acted y (Print (Code c))) (prints cs) ps)
+          (settled_place y.state c places (takes x cell t stands narrow) settled letter)
+          ∙ ap (λ (v : Screen). all_acted_places v (prints cs) places)
+          (print_one y c (takes x cell t stands narrow) settled letter)
+          ∙ places_on_run cs y new places (takes x cell t stands narrow) (stands_behind x cell t stands narrow) refl k.1
+          (behind_room y.state s (length (cells_in x new cs)) state_is room')
+    ]
+
+-- letters and the marks behind them
+pub lettered_run : (cs : List ℕ) (x : Screen) → TakesRuns x.state → x.state.is_wrap_pending ≡ false → IsSound x
+    → is_lettered cs ≡ true → 0 < length cs
+    → x.state.column + length (letter_cells cs x.state.rendition x.state.is_protecting) ≤ x.state.columns
+    → all_acted x (prints cs) ≡ cells_placed (letter_cells cs x.state.rendition x.state.is_protecting) x
+lettered_run [] x t settled sound h some room = absurd (omega arith)
+lettered_run (c ∷ cs) x t settled sound h some room =
+    let s : State = x.state in
+    let k = both (is_letter c) (list_all is_letter_or_mark cs) h in
+    ap (λ (v : Screen). all_acted v (prints cs)) (print_one x c t settled k.0)
+    ∙ run_on cs x (narrow_cell c s.rendition s.is_protecting) t
+    (record { sized = sound.sized; line = sound.cursor.0 }) refl k.1 room
+
+pub lettered_places : (cs : List ℕ) (x : Screen) (places : List ℕ) → TakesRuns x.state
+    → x.state.is_wrap_pending ≡ false → IsSound x → is_lettered cs ≡ true
+    → x.state.column + length (letter_cells cs x.state.rendition x.state.is_protecting) ≤ x.state.columns
+    → all_acted_places x (prints cs) places ≡ places
+lettered_places [] x places t settled sound h room = refl
+lettered_places (c ∷ cs) x places t settled sound h room =
+    let s : State = x.state in
+    let k = both (is_letter c) (list_all is_letter_or_mark cs) h in
+    ap (λ (ps : List ℕ). all_acted_places (acted x (Print (Code c))) (prints cs) ps)
+    (settled_place s c places t settled k.0)
+    ∙ ap (λ (v : Screen). all_acted_places v (prints cs) places) (print_one x c t settled k.0)
+    ∙ places_on_run cs x (narrow_cell c s.rendition s.is_protecting) places t
+    (record { sized = sound.sized; line = sound.cursor.0 }) refl k.1 room
+
+-- letters alone
+letter_alone : (c : ℕ) → is_letter c ≡ true → is_mark c ≡ false
+letter_alone c h = grind (arith, nat_tests)
+
+letters_lettered : (cs : List ℕ) → list_all is_letter cs ≡ true → list_all is_letter_or_mark cs ≡ true
+letters_lettered [] h = refl
+letters_lettered (c ∷ cs) h =
+    let k = both (is_letter c) (list_all is_letter cs) h in rw k.0 (letters_lettered cs k.1)
+
+lettered_are : (cs : List ℕ) → list_all is_letter cs ≡ true → is_lettered cs ≡ true
+lettered_are [] h = refl
+lettered_are (c ∷ cs) h =
+    let k = both (is_letter c) (list_all is_letter cs) h in rw k.0 (letters_lettered cs k.1)
+
+module _ (r : Rendition) (p : Bool) where
+  alone_on : (c : ℕ) (cs : List ℕ) → list_all is_letter cs ≡ true
+      → cells_on r p (narrow_cell c r p) cs ≡ narrow_cells (c ∷ cs) r p
+  alone_on c [] h = refl
+  alone_on c (d ∷ cs) h =
+      let k = both (is_letter d) (list_all is_letter cs) h in
+      rw (letter_alone d k.0) (ap (λ (later : List Cell). narrow_cell c r p ∷ later) (alone_on d cs k.1))
+
+  cells_alone : (cs : List ℕ) → list_all is_letter cs ≡ true → letter_cells cs r p ≡ narrow_cells cs r p
+  cells_alone [] h = refl
+  cells_alone (c ∷ cs) h = alone_on c cs (both (is_letter c) (list_all is_letter cs) h).1
+
+module _ (codes : List ℕ) (x : Screen) (t : TakesRuns x.state) (settled : x.state.is_wrap_pending ≡ false)
+    (sound : IsSound x) (h : list_all is_letter codes ≡ true)
+    (room : x.state.column + length codes ≤ x.state.columns) where
+  alone : letter_cells codes x.state.rendition x.state.is_protecting ≡ narrow_cells codes x.state.rendition
+      x.state.is_protecting
+  alone = cells_alone x.state.rendition x.state.is_protecting codes h
+
+  wide_as : length (narrow_cells codes x.state.rendition x.state.is_protecting) ≡ length codes
+  wide_as = length-narrow_cells codes x.state.rendition x.state.is_protecting
+
+  room_alone : x.state.column + length (letter_cells codes x.state.rendition x.state.is_protecting) ≤ x.state.columns
+  room_alone = rw (alone, wide_as) room
+
+  pub run_is : 0 < length codes → all_acted x (prints codes) ≡ run_placed codes x
+  run_is some =
+      let s : State = x.state in
+      let fresh : List Cell = narrow_cells codes s.rendition s.is_protecting in
+      lettered_run codes x t settled sound (lettered_are codes h) some room_alone
+      ∙ ap (λ (cells : List Cell). cells_placed cells x) alone
+      ∙ ap (λ (n : ℕ). record x {
+        state = advanced (record s { column = s.column + (n - 1) }) 1;
+        page = line_edited s (spliced s.column fresh (s.column + n) s.columns) x.page;
+      }) wide_as
+
+  pub run_places : (places : List ℕ) → all_acted_places x (prints codes) places ≡ places
+  run_places places = lettered_places codes x places t settled sound (lettered_are codes h) room_alone
+
+-- a run of characters does so too
+pub prints_places : (x : Screen) (codes places : List ℕ) → TakesRuns x.state → list_all is_letter codes ≡ true
+    → 0 < length codes → IsSound (wrapped x.state.is_wrap_pending x)
+    → (wrapped x.state.is_wrap_pending x).state.column + length codes ≤
+    (wrapped x.state.is_wrap_pending x).state.columns
+    → all_acted_places x (prints codes) places ≡ wrapped_places x.state.is_wrap_pending x.state places
+prints_places x [] places t h some sound room = absurd (omega arith)
+prints_places x (c ∷ codes) places t h some sound room =
+    let w : Screen = wrapped x.state.is_wrap_pending x in
+    let after : List ℕ = wrapped_places x.state.is_wrap_pending x.state places in
+    let k = both (is_letter c) (list_all is_letter codes) h in
+    let takes : TakesRuns w.state = takes-wrapped x x.state.is_wrap_pending t in
+    let settled : w.state.is_wrap_pending ≡ false = settled-wrapped x x.state.is_wrap_pending refl in
+    ap (λ (ps : List ℕ). all_acted_places (acted x (Print (Code c))) (prints codes) ps)
+    (one_place x.state c places t k.0)
+    ∙ ap (λ (v : Screen). all_acted_places v (prints codes) after) (sym (print_wrapped x c t k.0))
+    ∙ ap (λ (ps : List ℕ). all_acted_places (acted w (Print (Code c))) (prints codes) ps)
+    (sym (settled_place w.state c after takes settled k.0))
+    ∙ run_places (c ∷ codes) w takes settled sound h room after

@@ -11,5 +11,4 @@ pub mod KnownWidths
 pub mod LineRuns
 pub mod Texts
 pub mod CellRuns
-pub mod Marks
 pub mod Lettered
