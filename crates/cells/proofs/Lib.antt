@@ -16,6 +16,6 @@ pub mod Looks
 pub mod Wides
 pub mod WideRuns
 pub mod UsedSplices
+pub mod Lettered
 pub mod Written
 pub mod Mending
-pub mod Lettered

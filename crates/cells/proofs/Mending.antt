@@ -1,16 +1,14 @@
 -- New cells put over old ones, and the torn halves beside them blanked after that.
 use Rattle.std.proofs.Common.{◌≡◌, ℕ, ◌+◌, ◌-◌, ◌<◌, ◌≤◌, Bool, true, false, cond, List, length, set, sym, ap, ◌∙◌}
 use Rattle.std.proofs.Common.{◌⊎◌, inr, subst, arith, ⊎_elim}
-use Rattle.std.proofs.lemmas.List.{ext_get_or, length-set, get_or-map, get_or-set_same, get_or-set_other}
+use Rattle.std.proofs.lemmas.List.{ext_get_or, length-set, get_or-set_same, get_or-set_other}
 use Rattle.std.proofs.lemmas.Bool.{cases_lt, cases_eq, cases_Bool}
 use Rattle.cells.specs.declared.cell.Cell.{Cell}
-use Rattle.cells.specs.declared.cell.Rendition.{Rendition}
-use Rattle.cells.specs.Line.{blank, cell_at, is_right, IsPaired, cells_spliced, cut_of, fresh_at, narrow_cell}
-use Rattle.cells.specs.Line.{narrow_cells}
+use Rattle.cells.specs.Line.{blank, cell_at, is_right, IsPaired, cells_spliced, cut_of, fresh_at}
 use Rattle.cells.specs.Put.{IsPut, mended}
 use Rattle.cells.proofs.Cutting.{before_right, right_inside}
 use Rattle.cells.proofs.Settling.{length-cut_of}
-use Rattle.cells.proofs.Putting.{put_is, length-narrow_cells, narrow_at}
+use Rattle.cells.proofs.Putting.{put_is}
 use Rattle.cells.proofs.PuttingWhole.{put_none}
 
 module _ (at : ℕ) (fresh old line : List Cell) (is : IsPut at fresh old line) (some : 0 < length fresh)
@@ -130,13 +128,3 @@ nothing_put at count fresh old line n none paired is =
     ext_get_or blank line old is.width
     (λ k h. ⊎_elim (λ (a : k < at). is.front k a) (λ (b : at ≤ k). is.rest k (omega arith)) (cases_lt k at))
     ∙ subst (λ m. old ≡ cells_spliced at fresh (at + m) old) n (put_none at fresh old z paired)
-
-module _ (rendition : Rendition) (is_protected : Bool) where
-  -- no half lacks its other half
-  pub narrow_complete : (characters : List ℕ) (j : ℕ) → j < length (narrow_cells characters rendition is_protected)
-      → fresh_at (narrow_cells characters rendition is_protected) j ≡ cell_at
-      (narrow_cells characters rendition is_protected) j
-  narrow_complete characters j h =
-      let inside : j < length characters = rw (length-narrow_cells characters rendition is_protected) at h in
-      narrow_at characters rendition is_protected j inside
-      ∙ sym (get_or-map (λ code. narrow_cell code rendition is_protected) characters j 0 blank inside)

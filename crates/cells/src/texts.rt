@@ -1,18 +1,19 @@
 //! Text in UTF-8 that is put into cells as it is decoded.
 
 ghost use Rattle.std.specs.Prelude.{◌≡◌, ◌+◌, ◌*◌, ◌<◌, ◌≤◌, [], ◌∷◌, true, length, take, IfSome, IsTrue};
+ghost use Rattle.std.specs.Prelude.{slice_set};
 ghost use Rattle.std.specs.List.{list_all};
 ghost use Rattle.charsets.specs.Text.{text, IsText};
 ghost use Rattle.charsets.specs.Units.{is_character};
 ghost use Rattle.charsets.specs.Utf8.{codes};
-ghost use Rattle.cells.specs.Letters.{is_known_wide, is_letter, is_lettered, letter_cells};
-ghost use Rattle.cells.specs.Line.{cell_at, cells_spliced, is_right, IsPaired};
+ghost use Rattle.cells.specs.Letters.{is_known_wide, is_lettered, letter_cells};
+ghost use Rattle.cells.specs.Line.{cell_at, cells_spliced, is_right, marked, IsPaired};
 ghost use Rattle.cells.specs.Put.{mended, IsPut};
 ghost use Rattle.cells.specs.Wide.{wide_cells};
 
 use crate::cell::{Cell, Rendition};
 use crate::edits::{space_cell, space_halves};
-use crate::letters::{is_known_wide, is_letter};
+use crate::letters::{is_known_wide, is_letter, is_mark};
 use crate::put::Put;
 use charsets::first_character;
 
@@ -100,7 +101,8 @@ fn mend(cells: &mut [Cell], at: usize, end: usize, is_cut: bool)
     }
 }
 
-/// Writes the letters with which some bytes begin into the cells from `at` on.
+/// Writes the letters with which some bytes begin, and the marks behind them, into the cells from
+/// `at` on.
 #[inline(always)]
 fn write_letters(
     cells: &mut [Cell],
@@ -120,17 +122,49 @@ fn write_letters(
         (letter_cells (text (take result.read bytes.now)) rendition is_protected)
         cells.old cells.new }
 {
-    Put { count: 0, read: 0 }
+    let space = space_cell(rendition, is_protected);
+    let mut column = at;
+    let mut read = 0;
+    while column < cells.len() && read < bytes.len() {
+        let Some((character, size)) = first_short(&bytes[read..]) else {
+            break;
+        };
+        if is_letter(character) {
+            let mut cell = space;
+            cell.character = character;
+            cells[column] = cell;
+            column += 1;
+        } else if at < column && is_mark(character) {
+            join_mark(cells, column - 1, character);
+        } else {
+            break;
+        }
+        read += size;
+    }
+    Put {
+        count: column - at,
+        read,
+    }
 }
 
-/// The letter with which some bytes begin in UTF-8, and its number of bytes, one or two. None if
+/// Adds a mark to a cell. A cell with two marks drops it.
+#[inline(always)]
+fn join_mark(cells: &mut [Cell], column: usize, mark: char)
+    requires { column < length cells.old }
+    ensures { cells.new ≡ slice_set cells.old column (marked (cell_at cells.old column) mark) }
+{
+    let marks = cells[column].marks;
+    cells[column].marks = marks.joined(mark);
+}
+
+/// The character with which some bytes begin in UTF-8, and its number of bytes, one or two. None if
 /// they begin with anything else.
 #[inline(always)]
-fn first_letter(bytes: &[u8]) -> Option<(char, usize)>
+fn first_short(bytes: &[u8]) -> Option<(char, usize)>
     requires { 0 < length bytes.now }
     ensures reads { IfSome result (λ c. codes (take c.1 bytes.now) ≡ (c.0 ∷ [], [])) }
     ensures character { IfSome result (λ c. is_character c.0 ≡ true) }
-    ensures letter { IfSome result (λ c. is_letter c.0 ≡ true) }
+    ensures some { IfSome result (λ c. 0 < c.1) }
     ensures few { IfSome result (λ c. c.1 ≤ length bytes.now) }
 {
     let a = bytes[0];
@@ -140,12 +174,7 @@ fn first_letter(bytes: &[u8]) -> Option<(char, usize)>
     if bytes.len() < 2 || a < 0xC2 || a > 0xDF {
         return None;
     }
-    let (character, size) = first_character(bytes)?;
-    if is_letter(character) {
-        Some((character, size))
-    } else {
-        None
-    }
+    first_character(bytes)
 }
 
 /// Writes the wide characters with which some bytes begin into the cells from `at` on.
@@ -192,7 +221,8 @@ fn write_wides(
 }
 
 /// The wide character with which some bytes begin in UTF-8, and its number of bytes. None if they
-/// begin with anything else.
+/// begin with anything else. The first byte of such a character is one of E3 to F0, so the others
+/// aren't decoded.
 #[inline(always)]
 fn first_known_wide(bytes: &[u8]) -> Option<(char, usize)>
     requires { 0 < length bytes.now }
@@ -201,6 +231,10 @@ fn first_known_wide(bytes: &[u8]) -> Option<(char, usize)>
     ensures wide { IfSome result (λ c. is_known_wide c.0 ≡ true) }
     ensures few { IfSome result (λ c. c.1 ≤ length bytes.now) }
 {
+    let a = bytes[0];
+    if a < 0xE3 || 0xF0 < a {
+        return None;
+    }
     let (character, size) = first_character(bytes)?;
     if is_known_wide(character) {
         Some((character, size))

@@ -1,4 +1,5 @@
 use Rattle.std.proofs.Common.{◌+◌, take, set, refl, sym, ap, subst, arith}
+use Rattle.std.specs.List.{list_all}
 use Rattle.charsets.specs.Text.{text}
 use Rattle.cells.specs.declared.cell.Cell.{Cell}
 use Rattle.cells.specs.Letters.{is_known_wide}
@@ -8,22 +9,22 @@ use Rattle.cells.proofs.Written.{IsWritten, none_written, wide_written}
 use Rattle.cells.proofs.texts.write_wides.Goals as goal
 
 pub loop-column-init : goal.loop-column-init
-loop-column-init c = none_written is_known_wide (wides c.args.rendition c.args.is_protected) c.args.at c.args.bytes.now
-    c.args.cells.now refl c.requires
+loop-column-init c = none_written (list_all is_known_wide) (wides c.args.rendition c.args.is_protected) c.args.at
+    c.args.bytes.now c.args.cells.now refl refl c.requires
 
 pub loop-column-preserved : goal.loop-column-preserved
 loop-column-preserved c =
     let left : Cell = left_cell c.in-Some.character c.args.rendition c.args.is_protected in
     subst
-    (λ (x : Cell). IsWritten is_known_wide (wides c.args.rendition c.args.is_protected) c.args.at c.args.bytes.now
-    c.args.cells.now (set (set c.loop-column.cells c.loop-column.column x) (c.loop-column.column + 1)
+    (λ (x : Cell). IsWritten (list_all is_known_wide) (wides c.args.rendition c.args.is_protected) c.args.at
+    c.args.bytes.now c.args.cells.now (set (set c.loop-column.cells c.loop-column.column x) (c.loop-column.column + 1)
     (record c.space_halves.result.1 { character = c.in-Some.character })) (c.loop-column.column + 2)
     (c.loop-column.read + c.in-Some.size))
     (sym (ap (λ (x : Cell). record x { character = c.in-Some.character }) c.space_halves.ensures.left))
     (subst
-    (λ (x : Cell). IsWritten is_known_wide (wides c.args.rendition c.args.is_protected) c.args.at c.args.bytes.now
-    c.args.cells.now (set (set c.loop-column.cells c.loop-column.column left) (c.loop-column.column + 1) x)
-    (c.loop-column.column + 2) (c.loop-column.read + c.in-Some.size))
+    (λ (x : Cell). IsWritten (list_all is_known_wide) (wides c.args.rendition c.args.is_protected) c.args.at
+    c.args.bytes.now c.args.cells.now (set (set c.loop-column.cells c.loop-column.column left)
+    (c.loop-column.column + 1) x) (c.loop-column.column + 2) (c.loop-column.read + c.in-Some.size))
     (sym (ap (λ (x : Cell). record x { character = c.in-Some.character }) c.space_halves.ensures.right))
     (wide_written c.args.rendition c.args.is_protected is_known_wide c.args.at c.args.bytes.now c.args.cells.now
     c.loop-column.cells c.loop-column.column c.loop-column.read c.in-Some.character c.in-Some.size

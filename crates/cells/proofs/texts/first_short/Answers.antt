@@ -1,5 +1,5 @@
 use Rattle.charsets.proofs.Characters.{one_byte_reads}
-use Rattle.cells.proofs.texts.first_letter.Goals as goal
+use Rattle.cells.proofs.texts.first_short.Goals as goal
 
 pub returns-then-a-lt127-clause-reads : goal.returns-then-a-lt127-clause-reads
 returns-then-a-lt127-clause-reads c =
