@@ -13,15 +13,23 @@ left_not_right s h = rw (left_only s h) refl
 right_not_left : (s : Shape) → is_right s ≡ true → is_left s ≡ false
 right_not_left s h = rw (right_only s h) refl
 
+-- a right half has a column before it
+pub before_right : (at : ℕ) (cells : List Cell) → IsPaired cells → is_right (cell_at cells at).shape ≡ true → 0 < at
+before_right at cells paired right = ⊎_elim (λ h. h)
+    (λ h. let e : at ≡ 0 = omega arith in absurd (true≢false _ right (rw e paired.first))) (cases_lt 0 at)
+
+-- a right half is a cell of the line
+pub right_inside : (at : ℕ) (cells : List Cell) → is_right (cell_at cells at).shape ≡ true → at < length cells
+right_inside at cells right = ⊎_elim (λ h. h)
+    (λ h. absurd (true≢false _ right (ap (λ (x : Cell). is_right x.shape) (cell_at_past cells at h))))
+    (cases_lt at (length cells))
+
 module _ (cells : List Cell) (at : ℕ) (paired : IsPaired cells) (right : is_right (cell_at cells at).shape ≡ true) where
   above : 0 < at
-  above = ⊎_elim (λ h. h) (λ h. let e : at ≡ 0 = omega arith in absurd (true≢false _ right (rw e paired.first)))
-      (cases_lt 0 at)
+  above = before_right at cells paired right
 
   inside : at < length cells
-  inside = ⊎_elim (λ h. h)
-      (λ h. absurd (true≢false _ right (ap (λ (x : Cell). is_right x.shape) (cell_at_past cells at h))))
-      (cases_lt at (length cells))
+  inside = right_inside at cells right
 
   there : cell_at (set (set cells (at - 1) blank) at blank) at ≡ blank
   there = get_or-set_same _ at blank blank (rw (length-set cells (at - 1) blank) inside)

@@ -5,22 +5,13 @@ use Rattle.std.proofs.lemmas.List.{ext_get_or, length-set, get_or-map, get_or-se
 use Rattle.std.proofs.lemmas.Bool.{cases_lt, cases_eq, cases_Bool}
 use Rattle.cells.specs.declared.cell.Cell.{Cell}
 use Rattle.cells.specs.declared.cell.Rendition.{Rendition}
-use Rattle.cells.specs.Line.{blank, cell_at, is_right, IsPaired, cells_spliced, cut_of, fresh_at, narrow_cell, narrow_cells}
+use Rattle.cells.specs.Line.{blank, cell_at, is_right, IsPaired, cells_spliced, cut_of, fresh_at, narrow_cell}
+use Rattle.cells.specs.Line.{narrow_cells}
 use Rattle.cells.specs.Put.{IsPut, mended}
-use Rattle.cells.proofs.Settling.{cell_at_past, length-cut_of, true≢false}
+use Rattle.cells.proofs.Cutting.{before_right, right_inside}
+use Rattle.cells.proofs.Settling.{length-cut_of}
 use Rattle.cells.proofs.Putting.{put_is, length-narrow_cells, narrow_at}
 use Rattle.cells.proofs.PuttingWhole.{put_none}
-
--- a right half has a column before it
-pub before_right : (at : ℕ) (cells : List Cell) → IsPaired cells → is_right (cell_at cells at).shape ≡ true → 0 < at
-before_right at cells paired right = ⊎_elim (λ h. h)
-    (λ h. let e : at ≡ 0 = omega arith in absurd (true≢false _ right (rw e paired.first))) (cases_lt 0 at)
-
--- a right half is a cell of the line
-right_inside : (at : ℕ) (cells : List Cell) → is_right (cell_at cells at).shape ≡ true → at < length cells
-right_inside at cells right = ⊎_elim (λ h. h)
-    (λ h. absurd (true≢false _ right (ap (λ (x : Cell). is_right x.shape) (cell_at_past cells at h))))
-    (cases_lt at (length cells))
 
 module _ (at : ℕ) (fresh old line : List Cell) (is : IsPut at fresh old line) (some : 0 < length fresh)
     (room : at + length fresh ≤ length old) (paired : IsPaired old) where

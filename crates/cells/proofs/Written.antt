@@ -73,8 +73,8 @@ module _ (is : ℕ → Bool) (cells_of : List ℕ → List Cell) (at : ℕ) (byt
       }
 
   -- one more character
-  module _ (line : List Cell) (column read character size : ℕ) (so_far : IsWritten is cells_of at bytes old line column read)
-      (fits : size ≤ length bytes - read)
+  module _ (line : List Cell) (column read character size : ℕ)
+      (so_far : IsWritten is cells_of at bytes old line column read) (fits : size ≤ length bytes - read)
       (reads : codes (take size (take (length bytes - read) (drop read bytes))) ≡ (character ∷ [], []))
       (graphic : is_character character ≡ true) (known : is character ≡ true) where
     characters : text (take (read + size) bytes) ≡ text (take read bytes) ++ character ∷ []
@@ -121,7 +121,8 @@ module _ (rendition : Rendition) (is_protected : Bool) where
       (IsPut-more at fresh old line cell so_far.put (omega (arith, so_far.columns))))
 
   pub wide_written : (is : ℕ → Bool) (at : ℕ) (bytes : List ℕ) (old line : List Cell) (column read character size : ℕ)
-      → IsWritten is (wides rendition is_protected) at bytes old line column read → column + 1 < length old → size ≤ length bytes - read
+      → IsWritten is (wides rendition is_protected) at bytes old line column read → column + 1 < length old
+      → size ≤ length bytes - read
       → codes (take size (take (length bytes - read) (drop read bytes))) ≡ (character ∷ [], [])
       → is_character character ≡ true → is character ≡ true
       → IsWritten is (wides rendition is_protected) at bytes old
@@ -136,8 +137,8 @@ module _ (rendition : Rendition) (is_protected : Bool) where
       (IsPut-more at fresh old line left so_far.put (omega (arith, so_far.columns))) in
       let end : at + length (fresh ++ left ∷ []) ≡ column + 1 = ap (λ n. at + n) (length-append fresh (left ∷ []))
       ∙ omega (arith, so_far.columns) in
-      written_more is (wides rendition is_protected) at bytes old line column read character size so_far fits reads graphic known
-      (left ∷ right ∷ []) (set (set line column left) (column + 1) right)
+      written_more is (wides rendition is_protected) at bytes old line column read character size so_far fits reads graphic
+      known (left ∷ right ∷ []) (set (set line column left) (column + 1) right)
       (wides-append rendition is_protected (text (take read bytes)) character) (omega arith)
       (subst (λ (v : List Cell). IsPut at v old (set (set line column left) (column + 1) right))
       (append_assoc fresh (left ∷ []) (right ∷ []))
