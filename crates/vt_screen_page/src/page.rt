@@ -1,7 +1,7 @@
 //! The page of a screen.
 
-ghost use Rattle.std.specs.Prelude.{◌≡◌, ℕ, ◌+◌, ◌*◌, ◌-◌, ◌<◌, ◌≤◌, ◌↔◌, [], ◌∷◌, length, replicate};
-ghost use Rattle.std.specs.Prelude.{IfOk, Err, true, false, slice_index, take};
+ghost use Rattle.std.specs.Prelude.{◌≡◌, ℕ, ◌+◌, ◌*◌, ◌-◌, ◌<◌, ◌≤◌, ◌↔◌, [], ◌∷◌, length};
+ghost use Rattle.std.specs.Prelude.{replicate, IfOk, Err, true, false, slice_index, take};
 ghost use Rattle.std.specs.List.{list_all};
 ghost use Rattle.charsets.specs.Text.{text, IsText};
 ghost use Rattle.cells.specs.Letters.{is_known_wide, is_letter};
@@ -197,8 +197,8 @@ impl Page {
         self.stored[place as usize].put_letters(at.column, bytes, rendition, is_protected)
     }
 
-    /// Puts the characters of two columns with which some bytes of UTF-8 begin, as `put_letters` puts
-    /// letters: those that `is_known_wide` knows, each over two old cells.
+    /// Puts the characters of two columns with which some bytes of UTF-8 begin, as `put_letters`
+    /// puts letters: those that `is_known_wide` knows, each over two old cells.
     pub fn put_wides(
         &mut self,
         at: CellPosition,
