@@ -12,3 +12,4 @@ pub mod LineRuns
 pub mod Texts
 pub mod CellRuns
 pub mod Lettered
+pub mod LetterRuns

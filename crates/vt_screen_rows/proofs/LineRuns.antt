@@ -20,7 +20,7 @@ use Rattle.vt_screen_rows.specs.Places.{all_acted_places, indexed_places}
 use Rattle.vt_screen_rows.specs.Runs.{ScrollsPlain, TakesRuns, prints, run_placed}
 use Rattle.vt_screen_rows.proofs.RunLemmas.{all_acted-append, print_is}
 use Rattle.vt_screen_rows.proofs.RunPlaces.{all_acted_places-append, settled_place}
-use Rattle.vt_screen_rows.proofs.Lettered.{run_is, run_places}
+use Rattle.vt_screen_rows.proofs.LetterRuns.{run_is, run_places}
 use Rattle.vt_screen_rows.proofs.Letters.{both}
 
 pub sound_wrapped : (x : Screen) → IsSound x → IsSound (wrapped true x)

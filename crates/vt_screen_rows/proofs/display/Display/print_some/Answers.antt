@@ -9,7 +9,7 @@ use Rattle.vt_screen_rows.specs.Runs.{TakesRuns, prints, run_placed}
 use Rattle.vt_screen_rows.proofs.Letters.{plain_letters}
 use Rattle.vt_screen_rows.proofs.RunLemmas.{all_acted_fit, list_all-take, prints_wrapped, settled-wrapped}
 use Rattle.vt_screen_rows.proofs.RunLemmas.{takes-wrapped}
-use Rattle.vt_screen_rows.proofs.Lettered.{prints_places, run_is}
+use Rattle.vt_screen_rows.proofs.LetterRuns.{prints_places, run_is}
 use Rattle.vt_screen_rows.proofs.display.Display.print_some.Goals as goal
 
 pub returns-clause-screen : goal.returns-clause-screen
