@@ -5,7 +5,7 @@ use Rattle.std.specs.Prelude.{slice_index_or}
 use Rattle.std.proofs.lemmas.Bool.{and_parts, cases_lt, cond-true, cond-false, lt-leb}
 use Rattle.std.proofs.lemmas.Bool.Decides.{nat_tests}
 use Rattle.cells.specs.Glyph.{drawn_as, glyph_columns}
-use Rattle.cells.specs.Letters.{is_known_wide}
+use Rattle.cells.specs.Letters.{is_known_wide, is_mark}
 use Rattle.terminal_model.specs.Printing.{columns_of, drawn}
 use Rattle.ucd_table.specs.Steps.{Step, step_value}
 use Rattle.ucd_table.proofs.Computing.{tables}
@@ -192,24 +192,15 @@ mark_width c low high other =
           high
     ]
 
-pub mark_columns : (c : ℕ) → 0x300 ≤ c → c < 0x370 → (c ≡ 0x338 → ⊥) → columns_of c ≡ 0
-unfolding columns_of
-mark_columns c low high other = ap glyph_columns (mark_width c low high other)
-
-pub mark_drawn : (c : ℕ) → 0x300 ≤ c → c < 0x370 → (c ≡ 0x338 → ⊥) → drawn c ≡ c
-unfolding drawn
-mark_drawn c low high other = ap (λ (w : Option ℕ). drawn_as w c) (mark_width c low high other)
-
 point_width : (c : ℕ) → 0x591 ≤ c → c < 0x5BE → char_width false c ≡ Some 0
 point_width c low high = known 0 0x591 0x5BE c points_are (omega arith) (omega arith) low high
 
-pub point_columns : (c : ℕ) → 0x591 ≤ c → c < 0x5BE → columns_of c ≡ 0
-unfolding columns_of
-point_columns c low high = ap glyph_columns (point_width c low high)
-
-pub point_drawn : (c : ℕ) → 0x591 ≤ c → c < 0x5BE → drawn c ≡ c
-unfolding drawn
-point_drawn c low high = ap (λ (w : Option ℕ). drawn_as w c) (point_width c low high)
+pub known_mark : (c : ℕ) → is_mark c ≡ true → char_width false c ≡ Some 0
+known_mark c h =
+    elim (cases_lt c 0x370) [
+      | inl mark ↦ mark_width c (grind (arith, nat_tests)) mark (λ (e : c ≡ 0x338). grind (arith, nat_tests))
+      | inr point ↦ point_width c (grind (arith, nat_tests)) (grind (arith, nat_tests))
+    ]
 
 -- a character of two columns that is in no set
 pub record IsWide (character : ℕ) : Type 0 where

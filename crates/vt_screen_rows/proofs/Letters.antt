@@ -17,8 +17,9 @@ use Rattle.terminal_model.specs.Table.{acted, acted_from}
 use Rattle.vt_screen_rows.specs.Places.{acted_places, printed_places, wrapped_places}
 use Rattle.std.specs.List.{list_all}
 use Rattle.charsets.specs.Units.{is_plain}
-use Rattle.cells.specs.Letters.{is_letter}
+use Rattle.cells.specs.Letters.{is_letter, is_mark}
 use Rattle.vt_screen_rows.proofs.KnownWidths.{latin_width, more_latin_width, greek_width, cyrillic_width, hebrew_width}
+use Rattle.vt_screen_rows.proofs.KnownWidths.{known_mark}
 use Rattle.terminal_model.proofs.Plain.{columns-plain, drawn-plain}
 
 pub both : (p q : Bool) → (p && q) ≡ true → (p ≡ true) × (q ≡ true)
@@ -100,6 +101,18 @@ drawn-letter c h =
       | inl low ↦ drawn-plain c (plain_below c h low)
       | inr high ↦ ap (λ (w : Option ℕ). drawn_as w c) (letter_width c h high)
     ]
+
+-- a mark takes no column
+pub mark_beyond : (c : ℕ) → is_mark c ≡ true → 0xA0 ≤ c
+mark_beyond c h = grind (arith, nat_tests)
+
+pub columns-mark : (c : ℕ) → is_mark c ≡ true → columns_of c ≡ 0
+unfolding columns_of
+columns-mark c h = ap glyph_columns (known_mark c h)
+
+pub drawn-mark : (c : ℕ) → is_mark c ≡ true → drawn c ≡ c
+unfolding drawn
+drawn-mark c h = ap (λ (w : Option ℕ). drawn_as w c) (known_mark c h)
 
 plain_letter : (c : ℕ) → is_plain c ≡ true → is_letter c ≡ true
 plain_letter c h = rw h refl

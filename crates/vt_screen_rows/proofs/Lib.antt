@@ -10,3 +10,6 @@ pub mod WideRuns
 pub mod KnownWidths
 pub mod LineRuns
 pub mod Texts
+pub mod CellRuns
+pub mod Lettered
+pub mod LetterRuns

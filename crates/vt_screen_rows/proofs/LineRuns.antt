@@ -18,8 +18,9 @@ use Rattle.terminal_model.specs.Table.{acted, acted_from, all_acted}
 use Rattle.terminal_model.proofs.Sound.{IsSound-acted}
 use Rattle.vt_screen_rows.specs.Places.{all_acted_places, indexed_places}
 use Rattle.vt_screen_rows.specs.Runs.{ScrollsPlain, TakesRuns, prints, run_placed}
-use Rattle.vt_screen_rows.proofs.RunLemmas.{all_acted-append, print_is, run_is}
-use Rattle.vt_screen_rows.proofs.RunPlaces.{all_acted_places-append, run_places, settled_place}
+use Rattle.vt_screen_rows.proofs.RunLemmas.{all_acted-append, print_is}
+use Rattle.vt_screen_rows.proofs.RunPlaces.{all_acted_places-append, settled_place}
+use Rattle.vt_screen_rows.proofs.LetterRuns.{run_is, run_places}
 use Rattle.vt_screen_rows.proofs.Letters.{both}
 
 pub sound_wrapped : (x : Screen) → IsSound x → IsSound (wrapped true x)
@@ -81,14 +82,14 @@ module _ (x : Screen) (codes : List ℕ) (t : TakesRuns x.state) (sound : IsSoun
   -- characters in the next line
   pub line_printed : all_acted x (CarriageReturn ∷ LineFeed ∷ prints codes) ≡ run_placed codes w
   line_printed = ap (λ (v : Screen). all_acted v (prints codes)) (line_begun x)
-      ∙ run_is codes w takes refl (sound_wrapped x sound) letters some inside
+      ∙ run_is codes w takes refl (sound_wrapped x sound) letters inside some
 
   pub line_places : (places : List ℕ)
       → all_acted_places x (CarriageReturn ∷ LineFeed ∷ prints codes) places ≡ indexed_places x.state places
   unfolding acted_from
   line_places places = ap (λ (v : Screen). all_acted_places v (prints codes) (indexed_places x.state places))
       (line_begun x)
-      ∙ run_places codes w (indexed_places x.state places) takes refl (sound_wrapped x sound) letters inside
+      ∙ run_places codes w takes refl (sound_wrapped x sound) letters inside (indexed_places x.state places)
 
 -- some characters, and then the others
 pub prints_after : (x : Screen) (codes : List ℕ) (n : ℕ)

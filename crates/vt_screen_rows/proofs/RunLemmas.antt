@@ -1,6 +1,6 @@
 -- Letters printed one after another are one run.
 use Rattle.std.proofs.Common.{◌≡◌, ℕ, zero, suc, ◌+◌, ◌-◌, ◌<◌, ◌≤◌, Bool, true, false, cond, ltb, List, [], ◌∷◌, ◌++◌}
-use Rattle.std.proofs.Common.{length, take, drop, Option, Some, refl, sym, ap, ◌∙◌, subst, arith, lt-ltb}
+use Rattle.std.proofs.Common.{length, take, drop, Option, Some, refl, sym, ap, ◌∙◌, arith, lt-ltb}
 use Rattle.std.specs.List.{list_all}
 use Rattle.std.proofs.lemmas.List.{take_all, take-append-drop, length-drop, drop-drop, map-append}
 use Rattle.charsets.specs.declared.shifts.Shifts.{Shifts}
@@ -10,7 +10,6 @@ use Rattle.cells.specs.Letters.{is_letter}
 use Rattle.charsets.proofs.Shifted.{mapped-ascii, spent-none}
 use Rattle.cells.specs.Line.{narrow_cell, narrow_cells, spliced}
 use Rattle.cells.specs.Page.{page_from, edited}
-use Rattle.cells.proofs.Runs.{page_run_more}
 use Rattle.terminal_model.specs.declared.action.Action.{Action}
 use Rattle.terminal_model.specs.declared.action.Action.TheVariants.{Print}
 use Rattle.terminal_model.specs.declared.state.State.{State}
@@ -109,61 +108,18 @@ first_state s room =
           (record { line = s.line; column = s.column });
     }) fits
 
-last_state : (s : State) (n : ℕ) → 0 < n
+pub last_state : (s : State) (n : ℕ) → 0 < n
     → advanced (record (behind_first s) { column = s.column + 1 + (n - 1) }) 1 ≡ advanced
     (record s { column = s.column + (suc n - 1) }) 1
 last_state s n some =
     let e : s.column + 1 + (n - 1) ≡ s.column + (suc n - 1) = omega arith in
     ap (λ (m : ℕ). advanced (record s { column = m }) 1) e
 
--- a first character and a run after it are one run
-run_first : (x : Screen) (c : ℕ) (codes : List ℕ) → IsSound x → 0 < length codes
-    → x.state.column + suc (length codes) ≤ x.state.columns
-    → run_placed codes (run_placed (c ∷ []) x) ≡ run_placed (c ∷ codes) x
-run_first x c codes sound some room =
-    let s : State = x.state in
-    let page_one = page_from
-    (edited s.line (spliced s.column (narrow_cells (c ∷ []) s.rendition s.is_protecting) (s.column + 1) s.columns))
-    x.page in
-    ap (λ (v : State). run_placed codes (record x { state = v; page = page_one })) (first_state s (omega arith))
-    ∙ ap
-    (λ (v : State). record x {
-      state = v;
-      page = page_from
-          (edited s.line
-          (spliced (s.column + 1) (narrow_cells codes s.rendition s.is_protecting) (s.column + 1 + length codes)
-          s.columns)) page_one;
-    })
-    (last_state s (length codes) some)
-    ∙ ap (λ page. record x
-    { state = advanced (record s { column = s.column + (suc (length codes) - 1) }) 1; page = page })
-    (page_run_more s.rendition s.is_protecting s.rows s.columns s.line s.column c codes x.page sound.sized
-    sound.cursor.0 some room)
-
 pub behind_settled : (v s : State) → v ≡ behind_first s → v.is_wrap_pending ≡ false
 behind_settled v s e = ap (λ (u : State). u.is_wrap_pending) e
 
 pub behind_room : (v s : State) (n : ℕ) → v ≡ behind_first s → s.column + suc n ≤ s.columns → v.column + n ≤ v.columns
 behind_room v s n e room = rw e (omega arith)
-
--- characters that fit in the line are a run
-pub run_is : (codes : List ℕ) (x : Screen) → TakesRuns x.state → x.state.is_wrap_pending ≡ false → IsSound x
-    → list_all is_letter codes ≡ true → 0 < length codes
-    → x.state.column + length codes ≤ x.state.columns → all_acted x (prints codes) ≡ run_placed codes x
-run_is [] x t settled sound h some room = absurd (omega arith)
-run_is (c ∷ []) x t settled sound h some room = print_one x c t settled (both (is_letter c) true h).0
-run_is (c ∷ d ∷ more) x t settled sound h some room =
-    let s : State = x.state in
-    let y : Screen = run_placed (c ∷ []) x in
-    let k = both (is_letter c) (list_all is_letter (d ∷ more)) h in
-    let first : acted x (Print (Code c)) ≡ y = print_one x c t settled k.0 in
-    let state_is : y.state ≡ behind_first s = first_state s (omega arith) in
-    let takes : TakesRuns y.state = record { ascii = t.ascii; unshifted = t.unshifted; replaces = t.replaces } in
-    ap (λ (v : Screen). all_acted v (prints (d ∷ more))) first
-    ∙ run_is (d ∷ more) y takes (behind_settled y.state s state_is)
-    (subst IsSound first (IsSound-acted x (Print (Code c)) sound)) k.1 (omega arith)
-    (behind_room y.state s (suc (length more)) state_is room)
-    ∙ run_first x c (d ∷ more) sound (omega arith) room
 
 -- a display that printed characters is fit
 all_acted_columns : (x : Screen) (actions : List Action) → (all_acted x actions).state.columns ≡ x.state.columns

@@ -1,6 +1,6 @@
 -- The characters of bytes of UTF-8, printed one after another.
-use Rattle.std.proofs.Common.{◌≡◌, ℕ, ◌+◌, ◌*◌, ◌-◌, ◌<◌, ◌≤◌, true, false, List, [], ◌∷◌, ◌++◌, length, take, drop, set}
-use Rattle.std.proofs.Common.{refl, sym, ap, ◌∙◌, subst, arith}
+use Rattle.std.proofs.Common.{◌≡◌, ℕ, ◌+◌, ◌*◌, ◌-◌, ◌<◌, ◌≤◌, Bool, true, false, List, [], ◌∷◌, ◌++◌, length, take}
+use Rattle.std.proofs.Common.{drop, set, refl, sym, ap, ◌∙◌, subst, arith}
 use Rattle.std.specs.List.{list_all}
 use Rattle.std.proofs.Math.Seq.{take-add}
 use Rattle.std.proofs.lemmas.List.{map-append, set-get_or}
@@ -10,8 +10,9 @@ use Rattle.charsets.specs.Units.{is_character}
 use Rattle.charsets.specs.Utf8.{codes}
 use Rattle.charsets.proofs.Texts.{text-append, text-none, IsText-append, IsText-none, IsText-one}
 use Rattle.cells.specs.declared.cell.Cell.{Cell}
-use Rattle.cells.specs.Letters.{is_known_wide, is_letter}
-use Rattle.cells.specs.Line.{spliced}
+use Rattle.cells.specs.declared.cell.Rendition.{Rendition}
+use Rattle.cells.specs.Letters.{is_known_wide, is_lettered, letter_cells}
+use Rattle.cells.specs.Line.{narrow_cell, spliced}
 use Rattle.cells.specs.Page.{line_at, IsPage, page_spliced}
 use Rattle.cells.proofs.Pages.{page_from-edited}
 use Rattle.cells.proofs.PuttingWhole.{put_none}
@@ -24,10 +25,11 @@ use Rattle.vt_screen_rows.specs.declared.display.Display.{Display}
 use Rattle.vt_screen_rows.specs.Acting.{KeepsLines, MovesLines}
 use Rattle.vt_screen_rows.specs.Displays.{IsFit, screen_of}
 use Rattle.vt_screen_rows.specs.Places.{all_acted_places, places_after}
-use Rattle.vt_screen_rows.specs.Runs.{TakesRuns, prints, run_placed}
+use Rattle.vt_screen_rows.specs.Runs.{TakesRuns, prints}
 use Rattle.vt_screen_rows.specs.Texts.{PrintsText}
-use Rattle.vt_screen_rows.proofs.RunLemmas.{all_acted-append, all_acted_fit, rest_is, run_is}
-use Rattle.vt_screen_rows.proofs.RunPlaces.{all_acted_places-append, run_places}
+use Rattle.vt_screen_rows.proofs.RunLemmas.{all_acted-append, all_acted_fit, rest_is}
+use Rattle.vt_screen_rows.proofs.RunPlaces.{all_acted_places-append}
+use Rattle.vt_screen_rows.proofs.Lettered.{cells_on-some, cells_placed, lettered_run, lettered_places}
 use Rattle.vt_screen_rows.proofs.WideRuns.{wides_placed, wides_run, wides_places}
 
 -- characters that are no more than these
@@ -53,20 +55,25 @@ page_kept rows columns line at page is inside =
     ∙ ap (λ (cells : List Cell). set page line cells) (sym (put_none at [] (line_at page line) refl (is.paired line)))
     ∙ set-get_or page line []
 
-nil : (cs : List ℕ) → length cs ≡ 0 → cs ≡ []
+pub nil : (cs : List ℕ) → length cs ≡ 0 → cs ≡ []
 nil [] e = refl
 nil (c ∷ cs) e = absurd (omega arith)
 
+pub no_cells : (cs : List ℕ) (r : Rendition) (p : Bool) → length (letter_cells cs r p) ≡ 0 → cs ≡ []
+no_cells [] r p e = refl
+no_cells (c ∷ cs) r p e =
+    let some : 0 < length (letter_cells (c ∷ cs) r p) = cells_on-some r p (narrow_cell c r p) cs in
+    absurd (omega (arith, e, some))
+
 -- a text without characters was put there
 pub none_put : (d later : Display) (bytes : List ℕ) (cells : List ℕ → List Cell) (columns : ℕ → ℕ) (count : ℕ) → IsFit d
-    → IsText bytes → length (text bytes) ≡ count → count ≡ 0 → cells [] ≡ [] → columns 0 ≡ 0
+    → IsText bytes → text bytes ≡ [] → count ≡ 0 → cells [] ≡ [] → columns 0 ≡ 0
     → screen_of later ≡ with_page (screen_of d) d.state
     (page_spliced d.state.line d.state.column (cells (text bytes)) (d.state.column + columns count) d.page.lines)
     → KeepsLines d later → PrintsText d bytes later
-none_put d later bytes cells columns count fit is size none no_cells no_columns put lines =
+none_put d later bytes cells columns count fit is e none no_cells no_columns put lines =
     let s : State = d.state in
     let page : List (List Cell) = d.page.lines in
-    let e : text bytes ≡ [] = nil (text bytes) (size ∙ none) in
     let screen : screen_of later ≡ screen_of d =
     put
     ∙ ap (λ (cs : List ℕ). with_page (screen_of d) s
@@ -122,18 +129,25 @@ rest_printed a b c bytes read size first second =
     (more_printed a b c (take read bytes) (take size (drop read bytes)) first
     (subst (λ (v : List ℕ). PrintsText b v c) rest second))
 
--- letters that were put in the cursor's line; wide characters
+-- letters and marks that were put in the cursor's line; wide characters
 pub letters_printed : (d later : Display) (bytes : List ℕ) → IsFit d → TakesRuns d.state
-    → d.state.is_wrap_pending ≡ false → IsText bytes → list_all is_letter (text bytes) ≡ true
-    → 0 < length (text bytes) → d.state.column + length (text bytes) ≤ d.state.columns
-    → screen_of later ≡ run_placed (text bytes) (screen_of d) → KeepsLines d later → PrintsText d bytes later
-letters_printed d later bytes fit takes settled is letters some room placed lines =
+    → d.state.is_wrap_pending ≡ false → IsText bytes → is_lettered (text bytes) ≡ true
+    → 0 < length (letter_cells (text bytes) d.state.rendition d.state.is_protecting)
+    → d.state.column + length (letter_cells (text bytes) d.state.rendition d.state.is_protecting) ≤ d.state.columns
+    → screen_of later ≡ cells_placed (letter_cells (text bytes) d.state.rendition d.state.is_protecting) (screen_of d)
+    → KeepsLines d later → PrintsText d bytes later
+letters_printed d later bytes fit takes settled is letters cells room placed lines =
     let x : Screen = screen_of d in
+    let some : 0 < length (text bytes) = some_letters (text bytes) d.state.rendition d.state.is_protecting cells in
     let screen : screen_of later ≡ all_acted x (prints (text bytes)) =
-    placed ∙ sym (run_is (text bytes) x takes settled fit.sound letters some room) in
+    placed ∙ sym (lettered_run (text bytes) x takes settled fit.sound letters some room) in
     printed_as d later bytes (text bytes) is refl screen
     (all_acted_fit d later (prints (text bytes)) fit screen lines.width)
-    (lines.places ∙ sym (run_places (text bytes) x d.page.places takes settled fit.sound letters room))
+    (lines.places ∙ sym (lettered_places (text bytes) x d.page.places takes settled fit.sound letters room))
+  where
+    some_letters : (cs : List ℕ) (r : Rendition) (p : Bool) → 0 < length (letter_cells cs r p) → 0 < length cs
+    some_letters [] r p some = some
+    some_letters (c ∷ cs) r p some = omega arith
 
 pub wides_printed : (d later : Display) (bytes : List ℕ) → IsFit d → TakesRuns d.state
     → d.state.is_wrap_pending ≡ false → IsText bytes → list_all is_known_wide (text bytes) ≡ true

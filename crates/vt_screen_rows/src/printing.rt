@@ -1,8 +1,8 @@
 //! Printing of single characters.
 
-ghost use Rattle.std.specs.Prelude.{◌≡◌, ◌<◌, ◌+◌, ◌&&◌, Some, IsTrue};
+ghost use Rattle.std.specs.Prelude.{◌≡◌, ◌<◌, ◌+◌, ◌&&◌, Some};
 ghost use Rattle.charsets.specs.declared.unit.Unit.TheVariants.{Code};
-ghost use Rattle.terminal_model.specs.Printing.{columns_of, drawn, lacks_room, marked_at};
+ghost use Rattle.terminal_model.specs.Printing.{lacks_room, marked_at};
 ghost use Rattle.terminal_model.specs.Printing.{placed_narrow, placed_wide, printed, printed_as};
 ghost use Rattle.terminal_model.specs.Printing.{wide_printed, wrapped};
 ghost use Rattle.terminal_model.specs.Table.{acted};
@@ -13,14 +13,11 @@ ghost use Rattle.vt_screen_rows.specs.Places.{places_after, printed_places, wrap
 ghost use Rattle.terminal_model.specs.Scrollback.{is_wrapped};
 
 use crate::display::Display;
-use cells::{Cell, Shape, drawn_as, glyph_columns, is_letter};
+use cells::{Cell, Shape, drawn_as, glyph_columns, is_letter, is_mark};
 use charsets::Unit;
 use unicode_width::UnicodeWidthChar;
 use vt_screen_page::CellPosition;
 use vt_screen_state::{advance, following, lacks_room, needs_line, separate};
-
-/// The long solidus overlay, whose width has a rule of its own.
-const OVERLAY: char = '\u{338}';
 
 impl Display {
     /// Prints a graphic unit, through the sets; it ends a pending single shift.
@@ -205,15 +202,4 @@ impl Display {
         self.page.put_wide(at, left, right, rest);
         advance(&mut self.state, 2);
     }
-}
-
-/// Whether a character is a combining diacritical mark or a Hebrew point: one of U+0300 to U+036F
-/// or of U+0591 to U+05BD, which take no column. U+0338 is looked up instead.
-#[inline(always)]
-fn is_mark(character: char) -> bool
-    ensures columns { IsTrue result → columns_of character ≡ 0 }
-    ensures drawn { IsTrue result → drawn character ≡ character }
-{
-    ('\u{300}' <= character && character < '\u{370}' && character != OVERLAY)
-        || ('\u{591}' <= character && character < '\u{5BE}')
 }

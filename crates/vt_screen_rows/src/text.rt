@@ -58,8 +58,8 @@ impl Display {
         size
     }
 
-    /// Puts the letters or the wide characters with which some bytes begin in the cursor's line,
-    /// over old cells, as many as there is room for. Returns their number of bytes; 0 if they begin
+    /// Puts the letters and their marks or the wide characters with which some bytes begin in the
+    /// cursor's line, over old cells, as many as there is room for. Returns their number of bytes; 0 if they begin
     /// with another character, or there is no room. `first` is the first character.
     #[inline(always)]
     fn place_text(&mut self, first: char, bytes: &[u8]) -> usize
@@ -78,7 +78,8 @@ impl Display {
         }
     }
 
-    /// Puts the letters with which some bytes begin in the cursor's line, as `place_text` does.
+    /// Puts the letters with which some bytes begin, and the marks behind them, in the cursor's
+    /// line, as `place_text` does.
     fn place_letters(&mut self, bytes: &[u8]) -> usize
         requires fit { IsFit self.old }
         requires takes { TakesRuns self.old.state }

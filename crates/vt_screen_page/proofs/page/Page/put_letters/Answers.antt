@@ -1,7 +1,8 @@
 use Rattle.std.proofs.Common.{◌<◌, ◌+◌, List, length, take, ap, ◌∙◌}
 use Rattle.charsets.specs.Text.{text}
 use Rattle.cells.specs.declared.cell.Cell.{Cell}
-use Rattle.cells.specs.Line.{spliced, narrow_cells}
+use Rattle.cells.specs.Letters.{letter_cells}
+use Rattle.cells.specs.Line.{spliced}
 use Rattle.cells.specs.Page.{line_at, page_from, edited}
 use Rattle.vt_screen_page.specs.Store.{Placed, lines_in_order}
 use Rattle.vt_screen_page.proofs.Stored.{edited_page, edited_store}
@@ -14,7 +15,7 @@ invariant_of-self c =
     edited_store c.self.inside.stored.items c.self.inside.places.items c.self.invariant c.args.at.line
     c.index-place.result.now inside c.index-place.ensures
     (λ (line : List Cell). spliced c.args.at.column
-    (narrow_cells (text (take c.put_letters.result.read c.args.bytes.now)) c.args.rendition c.args.is_protected)
+    (letter_cells (text (take c.put_letters.result.read c.args.bytes.now)) c.args.rendition c.args.is_protected)
     (c.args.at.column + c.put_letters.result.count) (length line)) c.index_mut.result.now c.put_letters.new.self
     c.index_mut.ensures.value c.put_letters.ensures.cells
 
@@ -25,14 +26,14 @@ returns-clause-lines c =
     edited_page c.self.inside.stored.items c.self.inside.places.items c.self.invariant c.args.at.line
     c.index-place.result.now inside c.index-place.ensures
     (λ (line : List Cell). spliced c.args.at.column
-    (narrow_cells (text (take c.put_letters.result.read c.args.bytes.now)) c.args.rendition c.args.is_protected)
+    (letter_cells (text (take c.put_letters.result.read c.args.bytes.now)) c.args.rendition c.args.is_protected)
     (c.args.at.column + c.put_letters.result.count) (length line)) c.index_mut.result.now c.put_letters.new.self
     c.index_mut.ensures.value c.put_letters.ensures.cells
     ∙ ap (λ (g : List (List Cell)).
     (page_from
     (edited c.args.at.line
     ((λ (line : List Cell). spliced c.args.at.column
-    (narrow_cells (text (take c.put_letters.result.read c.args.bytes.now)) c.args.rendition c.args.is_protected)
+    (letter_cells (text (take c.put_letters.result.read c.args.bytes.now)) c.args.rendition c.args.is_protected)
     (c.args.at.column + c.put_letters.result.count) (length line)) (line_at g c.args.at.line))) g))
     (ap (λ (v : Placed). v.lines) c.self.view_is)
 

@@ -7,9 +7,9 @@ use Rattle.terminal_model.specs.Printing.{wrapped}
 use Rattle.vt_screen_rows.specs.Displays.{screen_of}
 use Rattle.vt_screen_rows.specs.Runs.{TakesRuns, prints, run_placed}
 use Rattle.vt_screen_rows.proofs.Letters.{plain_letters}
-use Rattle.vt_screen_rows.proofs.RunLemmas.{all_acted_fit, list_all-take, prints_wrapped, run_is, settled-wrapped}
+use Rattle.vt_screen_rows.proofs.RunLemmas.{all_acted_fit, list_all-take, prints_wrapped, settled-wrapped}
 use Rattle.vt_screen_rows.proofs.RunLemmas.{takes-wrapped}
-use Rattle.vt_screen_rows.proofs.RunPlaces.{prints_places}
+use Rattle.vt_screen_rows.proofs.LetterRuns.{prints_places, run_is}
 use Rattle.vt_screen_rows.proofs.display.Display.print_some.Goals as goal
 
 pub returns-clause-screen : goal.returns-clause-screen
@@ -33,7 +33,7 @@ returns-clause-screen c =
     ∙ ap (run_placed codes) c.wrap.ensures.screen
     ∙ sym
     (run_is codes w (takes-wrapped x x.state.is_wrap_pending takes) (settled-wrapped x x.state.is_wrap_pending refl)
-    sound letters some (omega arith))
+    sound letters (omega arith) some)
     ∙ prints_wrapped x codes takes letters some
 
 pub returns-clause-fit : goal.returns-clause-fit
