@@ -208,7 +208,8 @@ fn write_wides(
 }
 
 /// The wide character with which some bytes begin in UTF-8, and its number of bytes. None if they
-/// begin with anything else.
+/// begin with anything else. The first byte of such a character is one of E3 to F0, so the others
+/// aren't decoded.
 #[inline(always)]
 fn first_known_wide(bytes: &[u8]) -> Option<(char, usize)>
     requires { 0 < length bytes.now }
@@ -217,6 +218,10 @@ fn first_known_wide(bytes: &[u8]) -> Option<(char, usize)>
     ensures wide { IfSome result (λ c. is_known_wide c.0 ≡ true) }
     ensures few { IfSome result (λ c. c.1 ≤ length bytes.now) }
 {
+    let a = bytes[0];
+    if a < 0xE3 || 0xF0 < a {
+        return None;
+    }
     let (character, size) = first_character(bytes)?;
     if is_known_wide(character) {
         Some((character, size))

@@ -2,6 +2,8 @@
 #![tactic(auto)]
 
 mod page;
+mod position;
 mod store;
 
-pub use page::{CellPosition, Page};
+pub use page::Page;
+pub use position::CellPosition;

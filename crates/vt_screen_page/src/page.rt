@@ -1,7 +1,7 @@
 //! The page of a screen.
 
-ghost use Rattle.std.specs.Prelude.{◌≡◌, ℕ, ◌+◌, ◌*◌, ◌-◌, ◌<◌, ◌≤◌, ◌↔◌, [], ◌∷◌, length, replicate};
-ghost use Rattle.std.specs.Prelude.{IfOk, Err, true, false, slice_index, take};
+ghost use Rattle.std.specs.Prelude.{◌≡◌, ℕ, ◌+◌, ◌*◌, ◌-◌, ◌<◌, ◌≤◌, ◌↔◌, [], ◌∷◌, length};
+ghost use Rattle.std.specs.Prelude.{replicate, IfOk, Err, true, false, slice_index, take};
 ghost use Rattle.std.specs.List.{list_all};
 ghost use Rattle.charsets.specs.Text.{text, IsText};
 ghost use Rattle.cells.specs.Letters.{is_known_wide, is_letter};
@@ -14,18 +14,12 @@ ghost use Rattle.cells.specs.Resizing.{page_resized};
 ghost use Rattle.scrollback.specs.Kept.{with_line, Continues};
 ghost use Rattle.vt_screen_page.specs.Store.{placed_in_order, turned};
 
+use crate::position::CellPosition;
 use crate::store;
 use cells::{Cell, GridFault, Line, Put, Rendition, Shape, blank_lines, is_grid_size};
 use scrollback::Ring;
 use std::alloc::{AllocError, Global};
 use std::marker::Model;
-
-/// Where a cell stands on a page. Lines and columns count from 0.
-#[derive(Clone, Copy)]
-pub struct CellPosition {
-    pub line: usize,
-    pub column: usize,
-}
 
 /// A page of 2 to 200 lines of 2 to 300 cells, in which the halves of wide characters are paired.
 /// Lines and columns count from 0. A scroll moves no cells. Only `new` and changes of size need
@@ -62,10 +56,7 @@ impl Page {
         if !is_grid_size(rows, columns) {
             return Err(GridFault::BadSize);
         }
-        match Page::blank(alloc, rows, columns) {
-            Ok(page) => Ok(page),
-            Err(_) => Err(GridFault::NoMemory),
-        }
+        Page::blank(alloc, rows, columns).map_err(|_| GridFault::NoMemory)
     }
 
     fn blank(alloc: Global, rows: usize, columns: usize) -> Result<Page, AllocError>
@@ -206,9 +197,8 @@ impl Page {
         self.stored[place as usize].put_letters(at.column, bytes, rendition, is_protected)
     }
 
-    /// Puts the characters of two columns with which some bytes of UTF-8 begin over twice as many
-    /// old cells, from `at` on, as far as there is room: those that `is_known_wide` knows. An old
-    /// half that loses its other half becomes blank.
+    /// Puts the characters of two columns with which some bytes of UTF-8 begin, as `put_letters`
+    /// puts letters: those that `is_known_wide` knows, each over two old cells.
     pub fn put_wides(
         &mut self,
         at: CellPosition,
@@ -381,10 +371,7 @@ impl Page {
         if !is_grid_size(rows, columns) {
             return Err(GridFault::BadSize);
         }
-        match self.in_size(rows, columns) {
-            Ok(page) => Ok(page),
-            Err(_) => Err(GridFault::NoMemory),
-        }
+        self.in_size(rows, columns).map_err(|_| GridFault::NoMemory)
     }
 
     fn in_size(&self, rows: usize, columns: usize) -> Result<Page, AllocError>

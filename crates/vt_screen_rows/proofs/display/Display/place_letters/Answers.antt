@@ -16,8 +16,9 @@ returns-then-put-eq0-clause-prints c =
 pub returns-clause-prints : goal.returns-clause-prints
 returns-clause-prints c =
     let s : State = c.args.self.now.state in
-    letters_printed c.args.self.now _ (take c.put_letters-put.result.read c.args.bytes.now) c.requires.fit c.requires.takes
-    c.requires.settled c.put_letters-put.ensures.text c.put_letters-put.ensures.letters (omega arith) (omega arith)
+    letters_printed c.args.self.now _ (take c.put_letters-put.result.read c.args.bytes.now) c.requires.fit
+    c.requires.takes c.requires.settled c.put_letters-put.ensures.text c.put_letters-put.ensures.letters
+    (omega arith) (omega arith)
     (rw (
       c.advance.ensures,
       c.put_letters-put.ensures.lines,

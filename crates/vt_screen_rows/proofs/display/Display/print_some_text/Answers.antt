@@ -21,7 +21,8 @@ returns-clause-prints c =
           subst (λ (d : Display). PrintsText old [] d) (sym w.self-is)
           (subst (λ (n : ℕ). PrintsText old (take n bytes) w.place_text-read.new.self) none
           w.place_text-read.ensures.prints)
-      | else-takes_runs w ↦ subst (λ (d : Display). PrintsText old [] d) (sym w.self-is) (none_printed old c.requires.fit)
+      | else-takes_runs w ↦
+          subst (λ (d : Display). PrintsText old [] d) (sym w.self-is) (none_printed old c.requires.fit)
     ] in
     more_printed old c.if-takes_runs.self c.print_code.new.self [] (take c.in-Some.size bytes) before
     (one_printed c.if-takes_runs.self c.print_code.new.self (take c.in-Some.size bytes) c.in-Some.character
