@@ -1,7 +1,7 @@
 //! Performs all the actions of a control function.
 
 ghost use Rattle.std.specs.Prelude.{◌≡◌, ◌≤◌, [], None, Some, false, length, IfSome, IsTrue};
-ghost use Rattle.terminal_model.specs.Functions.{alone, each, rendered, sequence_actions};
+ghost use Rattle.terminal_model.specs.Functions.{alone, control_action, each, rendered, sequence_actions};
 ghost use Rattle.terminal_model.specs.Reports.{all_answered};
 ghost use Rattle.terminal_model.specs.Table.{acted};
 ghost use Rattle.vt_screen_state.specs.Acting.{actions_in};
@@ -14,7 +14,9 @@ ghost use Rattle.vt_screen.specs.Performing.{Performs, PerformsIf};
 
 use terminal_model::{Action, Report};
 use vt_screen_rows::Display;
-use vt_screen_state::{Acts, Setting, render_value, rendition_action, sequence_acts};
+use vt_screen_state::{
+    Acts, Setting, control_action, render_value, rendition_action, sequence_acts,
+};
 
 /// Performs the actions of a control function, in turn, and returns the answer.
 #[inline(always)]
@@ -47,6 +49,20 @@ pub fn perform_silently(display: &mut Display, action: Option<Action>)
 {
     if let Some(action) = action {
         display.apply_row(action);
+    }
+}
+
+/// Performs a C0 control, which isn't answered. CR and LF, the commonest ones, have a case of their
+/// own, so that the compiler finds their rows.
+#[inline(always)]
+pub fn perform_control(display: &mut Display, control: u8)
+    requires { IsFit display.old }
+    ensures { Performs display.old (alone (control_action control)) display.new }
+{
+    match control {
+        b'\r' => display.apply_row(Action::CarriageReturn),
+        b'\n' => display.apply_row(Action::LineFeed),
+        _ => perform_silently(display, control_action(control)),
     }
 }
 

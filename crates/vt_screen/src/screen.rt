@@ -17,7 +17,7 @@ ghost use Rattle.vt_screen.specs.Effects.{effects, line_of};
 ghost use Rattle.vt_screen.specs.Stored.{MovesPlaces, effects_places};
 ghost use Rattle.vt_screen.specs.Sizes.{IsScreenSize};
 
-use crate::performing::{perform, perform_sequence, perform_silently};
+use crate::performing::{perform, perform_control, perform_sequence, perform_silently};
 use cells::{Cell, GridFault};
 use charsets::Coding;
 use control_parser::Func;
@@ -25,7 +25,7 @@ use std::alloc::Global;
 use std::marker::Model;
 use terminal_model::{MAX_KEEP, Modes, Report};
 use vt_screen_rows::{Display, prints_ascii};
-use vt_screen_state::{acts_of, control_action, escape_action, plain_escape_action};
+use vt_screen_state::{acts_of, escape_action, plain_escape_action};
 
 // Wraps `Display`, whose rows are methods of another crate: an invariant there would have to be
 // shown after each field that a row sets.
@@ -126,7 +126,7 @@ impl Screen {
         ensures places { MovesPlaces self.old (Control control) self.new }
         ensures silent { report self.old.screen (Control control) ≡ [] }
     {
-        perform_silently(&mut self.display, control_action(control));
+        perform_control(&mut self.display, control);
     }
 
     /// Performs the escape sequence without intermediates that has this final byte, as `apply`
