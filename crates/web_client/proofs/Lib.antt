@@ -5,3 +5,4 @@ pub mod Adding
 pub mod Passing
 pub mod Login
 pub mod Judging
+pub mod Frames

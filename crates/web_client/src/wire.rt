@@ -1,5 +1,7 @@
 //! What a browser is sent over its connection.
 
+ghost use Rattle.std.specs.Prelude.{◌≡◌, OnOk};
+
 use crate::display::Display;
 use attach_proto::Why;
 use std::alloc::{AllocError, AllocFailed, Global};
@@ -97,7 +99,9 @@ impl Wire {
     }
 
     /// Sends a close frame, after which the connection ends.
-    pub fn close(&mut self, code: CloseCode, reason: &str) {
+    pub fn close(&mut self, code: CloseCode, reason: &str)
+        ensures { self.new.stage ≡ Stage.Last }
+    {
         let frame = CloseFrame { code, reason };
         let _ = self
             .context
@@ -132,7 +136,9 @@ impl Wire {
     }
 
     /// Tells why the session lets the browser go, and ends.
-    pub fn tell_gone(&mut self, why: Why) -> Result<(), End> {
+    pub fn tell_gone(&mut self, why: Why) -> Result<(), End>
+        ensures { OnOk result (self.new.stage ≡ Stage.Last) }
+    {
         let number = why.number();
         let text = format!(in self.alloc; "{{\"gone\":{number}}}")?;
         self.send_text(text.as_str())?;
