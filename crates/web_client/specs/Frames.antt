@@ -135,11 +135,18 @@ TakesAll watcher old new =
     (n : ℕ) × (last : Page) × TakesFrames n old last
     × ((Waits last × (new ≡ last)) ⊎ ((new.stage ≡ Last) × EndsAt watcher last new.seat))
 
--- A page's request: it isn't whole or was refused, or the page opened. Then the frames come after the request.
+-- A page's request isn't whole yet, or its answer is the last, or a WebSocket begins after its bytes.
+abbrev pub Answers : Page → Page → Type 0
+Answers old new =
+    (new ≡ old)
+    ⊎ (((new.stage ≡ Last) × (new.seat ≡ old.seat))
+    ⊎ ((n : ℕ) × (new ≡ record old { stage = Socket; waiting = drop n old.waiting })))
+
 abbrev pub TakesRequest : {A : Type 0} → Option A → Page → Page → Type 0
 TakesRequest watcher old new =
-    ((new.stage ≡ Socket → ⊥) × (new.seat ≡ old.seat))
-    ⊎ ((n : ℕ) × TakesAll watcher (record old { stage = Socket; waiting = drop n old.waiting }) new)
+    (new ≡ old)
+    ⊎ (((new.stage ≡ Last) × (new.seat ≡ old.seat))
+    ⊎ ((n : ℕ) × TakesAll watcher (record old { stage = Socket; waiting = drop n old.waiting }) new))
 
 -- what came of a browser is taken
 abbrev pub TakesBytes : {A : Type 0} → Option A → Stage → Page → Page → Type 0

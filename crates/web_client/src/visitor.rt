@@ -1,11 +1,11 @@
 //! A browser's connection: its request, its messages, and who it is.
 
 ghost use Rattle.std.specs.Prelude.{◌≡◌, ◌↔◌, ℕ, List, drop, option_map, IfOk, IfSome, OnOk};
-ghost use Rattle.std.specs.Prelude.{IsTrue};
+ghost use Rattle.std.specs.Prelude.{IsTrue, ◌<◌, ◌≤◌, [], length, false, true};
 ghost use Rattle.websocket.specs.Content.{received_content, IsReceivedInside, HasValidText};
-ghost use Rattle.web_client.specs.Asking.{Asks, Keeps};
+ghost use Rattle.web_client.specs.Asking.{Asks, Keeps, IfOwn};
 ghost use Rattle.web_client.specs.Sending.{IsReceived};
-ghost use Rattle.web_client.specs.Frames.{page, IsSaid, Reads, TakesMessage, TakesAll, TakesBytes};
+ghost use Rattle.web_client.specs.Frames.{page, IsSaid, Reads, Answers, TakesMessage, TakesAll, TakesBytes};
 
 use crate::display::Display;
 use crate::front::drop_front;
@@ -88,7 +88,9 @@ impl Visitor {
     }
 
     /// Whether nothing is read any more.
-    pub fn is_last(&self) -> bool {
+    pub fn is_last(&self) -> bool
+        ensures { IsTrue result ↔ (self.now.wire.stage ≡ Stage.Last) }
+    {
         self.wire.stage == Stage::Last
     }
 
@@ -100,7 +102,12 @@ impl Visitor {
     }
 
     /// Whether the browser is to be read: it isn't while much waits for its client.
-    pub fn can_read(&self) -> bool {
+    pub fn can_read(&self) -> bool
+        ensures last { self.now.wire.stage ≡ Stage.Last → result ≡ false }
+        ensures own { IfOwn self.now.seat (λ c. 65536 < length c.outgoing → result ≡ false) }
+        ensures other { (self.now.wire.stage ≡ Stage.Last → ⊥)
+            → IfOwn self.now.seat (λ c. length c.outgoing ≤ 65536) → result ≡ true }
+    {
         let waiting = match &self.seat {
             Seat::Own(client) => client.waiting(),
             _ => 0,
@@ -114,7 +121,9 @@ impl Visitor {
     }
 
     /// Whether no bytes wait for the browser.
-    pub fn is_idle(&self) -> bool {
+    pub fn is_idle(&self) -> bool
+        ensures { IsTrue result ↔ (self.now.wire.output.items ≡ []) }
+    {
         self.wire.output.is_empty()
     }
 
@@ -187,10 +196,7 @@ impl Visitor {
     // Takes the answer to a request.
     fn take_answer(&mut self, answer: Answer) -> Result<(), End>
         requires { self.old.wire.stage ≡ Stage.Request }
-        ensures opens { self.new.wire.stage ≡ Stage.Socket → (n : ℕ) × (page self.new ≡ record (page self.old) {
-          stage = Stage.Socket;
-          waiting = drop n self.old.input.items;
-        }) }
+        ensures answers { Answers (page self.old) (page self.new) }
         ensures seat { self.new.seat ≡ self.old.seat }
     {
         match answer {
@@ -244,7 +250,9 @@ impl Visitor {
     }
 
     /// Answers a browser that has just opened its page with a refusal, since the bridge is full.
-    pub fn turn_away(&mut self) -> Result<(), End> {
+    pub fn turn_away(&mut self) -> Result<(), End>
+        ensures { OnOk result ((self.new.wire.stage ≡ Stage.Last) × (self.new.seat ≡ Seat.Nobody)) }
+    {
         let bytes = refusal(self.wire.alloc, "503 Service Unavailable")?;
         self.wire.output = bytes;
         self.wire.stage = Stage::Last;
@@ -254,7 +262,9 @@ impl Visitor {
 
     /// The server's connection ended, or there is none.
     pub fn lose(&mut self, reason: &str)
-        ensures { self.new.seat ≡ self.old.seat }
+        ensures open { self.old.wire.stage ≡ Stage.Socket → self.new.wire.stage ≡ Stage.Last }
+        ensures other { (self.old.wire.stage ≡ Stage.Socket → ⊥) → self.new ≡ self.old }
+        ensures seat { self.new.seat ≡ self.old.seat }
     {
         if self.is_open() {
             let _ = self.wire.say(reason);
@@ -264,7 +274,8 @@ impl Visitor {
 
     /// Ends the connection for this reason.
     pub fn dismiss(&mut self, reason: &str)
-        ensures { self.new.seat ≡ self.old.seat }
+        ensures stage { self.new.wire.stage ≡ Stage.Last }
+        ensures seat { self.new.seat ≡ self.old.seat }
     {
         if self.is_open() {
             self.wire.close(CloseCode::Policy, reason);
@@ -283,7 +294,7 @@ impl Visitor {
 
     /// Another page is shown from now on, of which nothing was sent.
     pub fn change_page(&mut self)
-        ensures { self.new.seat ≡ self.old.seat }
+        ensures { self.new ≡ record self.old { view = record { is_welcomed = false; since = 0 } } }
     {
         self.view = View::NOTHING;
     }

@@ -1,6 +1,8 @@
 //! What a browser is sent over its connection.
 
 ghost use Rattle.std.specs.Prelude.{◌≡◌, OnOk};
+ghost use Rattle.web_client.specs.Judging.{end_of};
+ghost use Rattle.web_client.specs.declared.wire.End.TheVariants as end;
 
 use crate::display::Display;
 use attach_proto::Why;
@@ -27,18 +29,24 @@ pub enum End {
 }
 
 impl From<AllocError> for End {
+    ghost from_gives = { λ _ e. e ≡ end.NoMemory };
+
     fn from(_error: AllocError) -> End {
         End::NoMemory
     }
 }
 
 impl<T: Drop> From<AllocFailed<T>> for End {
+    ghost from_gives = { λ _ e. e ≡ end.NoMemory };
+
     fn from(_error: AllocFailed<T>) -> End {
         End::NoMemory
     }
 }
 
 impl From<SheetFault> for End {
+    ghost from_gives = { λ fault e. e ≡ end_of fault };
+
     fn from(fault: SheetFault) -> End {
         match fault {
             SheetFault::NoMemory => End::NoMemory,
