@@ -1,7 +1,11 @@
 //! What a browser is sent over its connection.
 
 ghost use Rattle.std.specs.Prelude.{◌≡◌, OnOk};
+ghost use Rattle.terminal_model.specs.Reading.{Terminal};
+ghost use Rattle.emulator.specs.Standing.{StandsFor};
+ghost use Rattle.web_page.specs.Laying.{Shown, page_of};
 ghost use Rattle.web_client.specs.Judging.{end_of};
+ghost use Rattle.web_client.specs.Rows.{SendsText, IsAsFar, SendsPage};
 ghost use Rattle.web_client.specs.declared.wire.End.TheVariants as end;
 
 use crate::display::Display;
@@ -118,7 +122,9 @@ impl Wire {
     }
 
     /// Sends a text.
-    fn send_text(&mut self, text: &str) -> Result<(), End> {
+    fn send_text(&mut self, text: &str) -> Result<(), End>
+        ensures { OnOk result (SendsText text.now self.old self.new) }
+    {
         match self
             .context
             .write(Message::Text(text), &mut self.output, &mut NoMask)
@@ -155,12 +161,21 @@ impl Wire {
     }
 
     // Sends what is new of a page.
-    fn send_rows(&mut self, view: &mut View, display: &mut Display) -> Result<(), End> {
-        if let Some(text) = display.update(view.since)? {
-            self.send_text(text.as_str())?;
-            view.since = display.moment();
+    fn send_rows(&mut self, view: &mut View, display: &mut Display) -> Result<(), End>
+        // The browser then shows the page of a terminal that has read all draws.
+        ensures { (t : Terminal) (b : Shown) → StandsFor display.old.sheet.terminal t
+            → IsAsFar view.old.since display.old.sheet b
+            → OnOk result (SendsPage t b self.old self.new × StandsFor display.new.sheet.terminal t
+            × IsAsFar view.new.since display.new.sheet (page_of t.screen)) }
+    {
+        match display.update(view.since)? {
+            Some(text) => {
+                self.send_text(text.as_str())?;
+                view.since = display.moment();
+                Ok(())
+            }
+            None => Ok(()),
         }
-        Ok(())
     }
 
     /// Sends what is new of a display. Rows wait until the last ones were taken: what is sent then is
