@@ -1,7 +1,9 @@
 -- The frames of a page: how they are read from its WebSocket, and what their messages do.
-use Rattle.std.specs.Prelude.{◌≡◌, ◌⊎◌, ℕ, zero, suc, List, [], drop, Option, Some, None, Ok, Err}
+use Rattle.std.specs.Prelude.{◌≡◌, ◌⊎◌, ℕ, zero, suc, false, List, [], drop, Option, Some, None, Ok, Err}
 use Rattle.websocket.specs.declared.error.Error.{Error}
 use Rattle.websocket.specs.declared.protocol.frame.codec.FrameStatus.TheVariants.{Partial, Complete}
+use Rattle.websocket.specs.declared.protocol.config.Role.TheVariants.{Server}
+use Rattle.websocket.specs.declared.protocol.state.WebSocketState.TheVariants.{Active}
 use Rattle.websocket.specs.Content.{Content, text, binary, ping, pong, close}
 use Rattle.websocket.specs.Connection.{Connection, Effect, read_step, StartsWithFragment, ReadAsksReply}
 use Rattle.web_client.specs.declared.seat.Seat.{Seat}
@@ -23,6 +25,19 @@ pub record Page : Type 0 where
 
 abbrev pub page : Visitor → Page
 page v = record { stage = v.wire.stage; socket = v.wire.context; waiting = v.input.items; seat = v.seat }
+
+-- a WebSocket of a server that has read nothing: frames are masked, and no message is longer than a kind and a payload
+abbrev pub fresh : Connection
+fresh = record {
+  role = Server;
+  state = Active;
+  config = record { max_message_size = Some 8193; max_frame_size = Some 8193; accept_unmasked_frames = false };
+  fragments = None;
+}
+
+-- a connection that has sent nothing
+abbrev pub begun : Page
+begun = record { stage = Request; socket = fresh; waiting = []; seat = Nobody }
 
 -- ---- frames
 

@@ -3,9 +3,10 @@
 ghost use Rattle.std.specs.Prelude.{◌≡◌, ◌↔◌, ℕ, List, drop, option_map, IfOk, IfSome, OnOk};
 ghost use Rattle.std.specs.Prelude.{IsTrue, ◌<◌, ◌≤◌, [], length, false, true};
 ghost use Rattle.websocket.specs.Content.{received_content, IsReceivedInside, HasValidText};
-ghost use Rattle.web_client.specs.Asking.{Asks, Keeps, IfOwn};
+ghost use Rattle.web_client.specs.Asking.{Asks, Keeps, IsOwn, IfOwn};
 ghost use Rattle.web_client.specs.Sending.{IsReceived};
-ghost use Rattle.web_client.specs.Frames.{page, IsSaid, Reads, Answers, TakesMessage, TakesAll, TakesBytes};
+ghost use Rattle.web_client.specs.Rows.{IsDue, Shows};
+ghost use Rattle.web_client.specs.Frames.{page, begun, IsSaid, Reads, Answers, TakesMessage, TakesAll, TakesBytes};
 
 use crate::display::Display;
 use crate::front::drop_front;
@@ -77,7 +78,11 @@ fn said(alloc: Global, received: &Option<Received>, input: &[u8]) -> Result<Fram
 
 impl Visitor {
     /// A connection that has sent nothing.
-    pub fn new(alloc: Global) -> Visitor {
+    pub fn new(alloc: Global) -> Visitor
+        ensures page { page result ≡ begun }
+        ensures output { result.wire.output.items ≡ [] }
+        ensures view { result.view.since ≡ 0 }
+    {
         Visitor {
             input: Vec::new(alloc),
             wire: Wire::new(alloc),
@@ -301,7 +306,10 @@ impl Visitor {
 
     /// Shows a page that others watch too.
     pub fn show_shared(&mut self, display: &mut Display) -> Result<(), End>
-        ensures { self.new.seat ≡ self.old.seat }
+        ensures shows { self.old.wire.stage ≡ Stage.Socket → IsDue display.old self.old.wire
+            → OnOk result (Shows display.old self.old.view.since self.old.wire
+            display.new self.new.view.since self.new.wire) }
+        ensures seat { self.new.seat ≡ self.old.seat }
     {
         if !self.is_open() {
             return Ok(());
@@ -311,7 +319,11 @@ impl Visitor {
 
     /// Shows the page of its own client: what the browser is sent is made from the display alone.
     pub fn show_own(&mut self) -> Result<(), End>
-        ensures { Keeps self.old.seat self.new.seat }
+        ensures shows { self.old.wire.stage ≡ Stage.Socket
+            → IfOwn self.old.seat (λ old. IsDue old.display self.old.wire
+            → OnOk result (IsOwn self.new.seat (λ new. Shows old.display self.old.view.since self.old.wire
+            new.display self.new.view.since self.new.wire))) }
+        ensures keeps { Keeps self.old.seat self.new.seat }
     {
         if !self.is_open() {
             return Ok(());

@@ -1,7 +1,5 @@
 use Rattle.std.proofs.Common.{◌∙◌, Err, ap, subst}
 use Rattle.std.proofs.lemmas.Result.{err_from_is_err_and}
-use Rattle.attach_proto.specs.declared.fault.ProtoFault.TheVariants as proto
-use Rattle.web_client.specs.declared.fault.ClientFault.TheVariants as client
 use Rattle.web_client.specs.Hearing.{Display, Hears, KeepsSent}
 use Rattle.web_client.proofs.Hearing.{heard, not_memory}
 use Rattle.web_client.proofs.display.Display.hear_all.Goals as goal

@@ -6,8 +6,7 @@ use Rattle.websocket.specs.declared.protocol.frame.codec.FrameStatus.TheVariants
 use Rattle.websocket.specs.Content.{received_content}
 use Rattle.websocket.specs.Connection.{read_step}
 use Rattle.websocket.specs.View.{Returns, KeepsRest}
-use Rattle.web_client.specs.declared.visitor.Visitor.{Visitor}
-use Rattle.web_client.specs.Frames.{page, Reads}
+use Rattle.web_client.specs.Frames.{page}
 use Rattle.web_client.proofs.Frames.{front, completes, leaves, read_whole}
 use Rattle.web_client.proofs.visitor.Visitor.read_frame.Goals as goal
 use Rattle.web_client.proofs.visitor.Visitor.read_frame.Goals.{then-is_last, else-is_last}

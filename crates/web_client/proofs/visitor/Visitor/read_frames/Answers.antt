@@ -2,7 +2,7 @@ use Rattle.std.proofs.Common.{List, ℕ, ◌<◌, length, refl, sym, subst}
 use Rattle.web_client.specs.declared.visitor.Frame.{Frame}
 use Rattle.web_client.specs.Frames.{page, Reads, TakesMessage}
 use Rattle.web_client.proofs.Adding.{then_same, then_more, nothing}
-use Rattle.web_client.proofs.Frames.{started, after_other, after_message, after_none, after_end, shrinks}
+use Rattle.web_client.proofs.Frames.{started, after_other, after_message, shrinks}
 use Rattle.web_client.proofs.visitor.Visitor.read_frames.Goals as goal
 
 pub frames-init : goal.frames-init

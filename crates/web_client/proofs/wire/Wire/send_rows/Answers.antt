@@ -4,8 +4,8 @@ use Rattle.web_page.specs.Showing.{IsShown}
 use Rattle.web_client.specs.Rows.{SendsText}
 use Rattle.web_client.proofs.wire.Wire.send_rows.Goals as goal
 
-pub returns-in_ok-send_text-in-Some : goal.returns-in_ok-send_text-in-Some
-returns-in_ok-send_text-in-Some c = λ t b w h.
+pub returns-in_ok-send_text-in-Some-clause-rows : goal.returns-in_ok-send_text-in-Some-clause-rows
+returns-in_ok-send_text-in-Some-clause-rows c = λ t b w h.
     let made = rw c.in-Some.is at (c.in_ok-text.ensures.shows t b w h) in
     let then = c.in_ok-text.ensures.then t w in (
       inr (
@@ -18,8 +18,8 @@ returns-in_ok-send_text-in-Some c = λ t b w h.
       inr (subst (λ (n : ℕ). IsShown n c.update.new.self.sheet (page_of t.screen)) (sym c.moment-view.ensures) then.1),
     )
 
-pub returns-in-None : goal.returns-in-None
-returns-in-None c = λ t b w h.
+pub returns-in-None-clause-rows : goal.returns-in-None-clause-rows
+returns-in-None-clause-rows c = λ t b w h.
     let same = rw c.in-None.is at (c.in_ok-text.ensures.shows t b w h) in
     let then = c.in_ok-text.ensures.then t w in (
       inl (refl, same),
