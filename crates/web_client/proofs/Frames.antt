@@ -1,5 +1,6 @@
 -- Frames that are read one after another.
-use Rattle.std.proofs.Common.{◌≡◌, ◌⊎◌, ℕ, suc, ◌<◌, List, ◌++◌, take, drop, length, Option, option_map, Result, Ok, Err}
+use Rattle.std.proofs.Common.{◌≡◌, ◌⊎◌, ℕ, suc, ◌<◌, List, ◌++◌, take, drop, length, Option, option_map}
+use Rattle.std.proofs.Common.{Result, Ok, Err}
 use Rattle.std.proofs.Common.{refl, sym, ap, ◌∙◌, subst, inl, inr, arith, length-drop}
 use Rattle.std.proofs.Math.Seq.{take-append_seam}
 use Rattle.websocket.specs.declared.error.Error.{Error}
@@ -14,7 +15,8 @@ use Rattle.web_client.specs.declared.seat.Seat.{Seat}
 use Rattle.web_client.specs.declared.wire.Stage.TheVariants.{Socket, Last}
 use Rattle.web_client.specs.declared.visitor.Frame.{Frame}
 use Rattle.web_client.specs.declared.visitor.Frame.TheVariants as frame
-use Rattle.web_client.specs.Frames.{Page, Says, SaysNothing, Closes, IsSaid, BeginsWith, IsRead, Reads, GoesOn, EndsWith, TakesMessage}
+use Rattle.web_client.specs.Frames.{Page, Says, SaysNothing, Closes, IsSaid, BeginsWith, IsRead, Reads}
+use Rattle.web_client.specs.Frames.{GoesOn, EndsWith, TakesMessage}
 use Rattle.web_client.specs.Frames.{TakesFrame, TakesFrames, EndsAt, TakesAll}
 
 -- what was lent, in front of nothing
@@ -83,7 +85,8 @@ after_other watcher old now next w e r s =
     )
 
 pub after_message : {A : Type 0} (watcher : Option A) (message : List ℕ) (old now read next : Page)
-    → Went watcher old now → now.stage ≡ Socket → ((f : ℕ × Effect) × IsRead f now read × Says f.1.message message) → read.seat ≡ now.seat
+    → Went watcher old now → now.stage ≡ Socket
+    → ((f : ℕ × Effect) × IsRead f now read × Says f.1.message message) → read.seat ≡ now.seat
     → TakesMessage watcher message read next → Went watcher old next
 after_message watcher message old now read next w e r s t =
     let k = going watcher old now w e in

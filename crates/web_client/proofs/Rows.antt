@@ -32,7 +32,9 @@ either_adds (Ok v) r conn old new h k = leaves_adds r conn old new h
 either_adds (Err e) r conn old new h k = ([], k ∙ sym (append-nil old))
 
 pub text_adds : (text : List ℕ) (old new : Wire) → SendsText text old new → Adds old new
-text_adds text old new h = adds old.context.role (Some (record { opcode = code.Data Text; payload = text })) old.output.items new.output.items h.frame
+text_adds text old new h =
+    adds old.context.role (Some (record { opcode = code.Data Text; payload = text })) old.output.items
+    new.output.items h.frame
 
 pub same_adds : (old new : Wire) → new ≡ old → Adds old new
 same_adds old new e = ([], ap (λ (w : Wire). w.output.items) e ∙ sym (append-nil old.output.items))
