@@ -5,3 +5,5 @@ pub mod Adding
 pub mod Passing
 pub mod Login
 pub mod Judging
+pub mod Frames
+pub mod Rows

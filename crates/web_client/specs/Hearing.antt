@@ -4,12 +4,16 @@ use Rattle.attach_proto.specs.declared.message.Message.{Message}
 use Rattle.attach_proto.specs.declared.message.Message.TheVariants.{Welcome, Draw, Say, Gone}
 use Rattle.attach_proto.specs.declared.side.Side.TheVariants.{Peer}
 use Rattle.attach_proto.specs.declared.why.Why.{Why}
+use Rattle.attach_proto.specs.declared.fault.ProtoFault.{ProtoFault}
+use Rattle.attach_proto.specs.declared.fault.ProtoFault.TheVariants as proto
 use Rattle.attach_proto.specs.Streams.{Reading, HasRead}
 use Rattle.terminal_model.specs.Reading.{Terminal, reads}
 use Rattle.terminal_model.specs.Writing.{Size}
 use Rattle.emulator.specs.Standing.{StandsFor, TakesWriting}
-use Rattle.web_page.specs.Showing.{Sheet}
+use Rattle.web_page.specs.Showing.{Sheet, AreAsFar}
 use Rattle.web_page.specs.Showing.{IsBlank as IsBlankSheet}
+use Rattle.web_client.specs.declared.fault.ClientFault.{ClientFault}
+use Rattle.web_client.specs.declared.fault.ClientFault.TheVariants as client
 
 -- the name that the client gave, what was read of the stream, the page that it draws, and whether
 -- and why the server lets the client in or go
@@ -53,9 +57,14 @@ unfoldable pub all_noted : Told → List Message → Told
 all_noted t [] = t
 all_noted t (m ∷ later) = all_noted (noted t m) later
 
+-- browsers are as far as they were, and no moment has ended
+abbrev pub KeepsSent : (old new : Sheet) → Type 0
+KeepsSent old new = (new.moment ≡ old.moment) × AreAsFar old new
+
 -- its page has another size, and nothing else of the stream was read
 pub record IsResized (rows columns : ℕ) (old new : Display) : Type 0 where
   pub sheet : TakesWriting old.sheet.terminal (Size rows columns) new.sheet.terminal
+  pub sent : KeepsSent old.sheet new.sheet
   pub name : new.name ≡ old.name
   pub reading : new.reading ≡ old.reading
   pub told : told new ≡ told old
@@ -77,3 +86,14 @@ Hears old bytes new =
     → StandsFor old.sheet.terminal t
     → (made : List Message) × HasRead new.reading (messages ++ made) (stream ++ bytes)
     × StandsFor new.sheet.terminal (all_drawn t made) × (told new ≡ all_noted (told old) made)
+
+-- what a fault of the stream is to a client
+abbrev pub heard_fault : ProtoFault → ClientFault
+heard_fault proto.NoMemory = client.NoMemory
+heard_fault _ = client.BadFrame
+
+-- memory was refused, or the stream has a fault
+abbrev pub FailsToHear : Reading → ClientFault → Type 0
+FailsToHear r client.NoMemory = Unit {0}
+FailsToHear r client.BadFrame = (fault : ProtoFault) × (r.fault ≡ Some fault)
+FailsToHear r client.Unspellable = ⊥

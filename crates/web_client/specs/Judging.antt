@@ -1,6 +1,10 @@
 -- Which messages a browser may send, and why one is refused.
 use Rattle.std.specs.Prelude.{◌≡◌, ◌⊎◌, ◌≤◌, ℕ, List, [], ◌∷◌, length, take, drop, Option, Some, None, Result, Ok, Err}
 use Rattle.attach_proto.specs.Texts.{IsToken}
+use Rattle.web_page.specs.declared.sheet.SheetFault.{SheetFault}
+use Rattle.web_page.specs.declared.sheet.SheetFault.TheVariants as sheet
+use Rattle.web_client.specs.declared.wire.End.{End}
+use Rattle.web_client.specs.declared.wire.End.TheVariants as end
 use Rattle.web_client.specs.declared.fault.ClientFault.{ClientFault}
 use Rattle.web_client.specs.declared.fault.ClientFault.TheVariants as client
 use Rattle.web_client.specs.declared.seat.Seat.{Seat}
@@ -73,3 +77,8 @@ abbrev pub fault_of : ClientFault → SeatFault
 fault_of client.NoMemory = NoMemory
 fault_of client.Unspellable = Wrong
 fault_of client.BadFrame = Wrong
+
+-- what a page that can't be updated ends with
+abbrev pub end_of : SheetFault → End
+end_of sheet.NoMemory = end.NoMemory
+end_of sheet.TooOld = end.Broken

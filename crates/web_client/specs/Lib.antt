@@ -2,3 +2,5 @@ pub mod Sending
 pub mod Hearing
 pub mod Asking
 pub mod Judging
+pub mod Frames
+pub mod Rows

@@ -59,6 +59,7 @@ impl Client {
             display: Display::new(alloc, rows, columns, name)?,
         };
         let name = Text::of(alloc, name)?;
+        // A token is 64 digits and a text is UTF-8, so a frame spells both: these calls ensure it.
         let _digits = token.as_slice();
         let _text = name.as_str();
         client.ask(&Message::Attach {

@@ -1,17 +1,18 @@
 //! What the server has told a client: whether it is in, its page, and why it ended. A browser is shown
 //! this alone, and no token is in it.
 
-ghost use Rattle.std.specs.Prelude.{◌≡◌, ◌↔◌, IsTrue, Some, None, ◌++◌, ◌⊎◌, ℕ, List};
-ghost use Rattle.std.specs.Prelude.{IfOk, IfErr, OnOk, OnErr, MatchOption};
+ghost use Rattle.std.specs.Prelude.{◌≡◌, ◌↔◌, IsTrue, Some, None, ◌⊎◌};
+ghost use Rattle.std.specs.Prelude.{IfOk, IfErr, IfSome, OnOk, Err, MatchOption};
 ghost use Rattle.std.specs.String.{string_bytes};
 ghost use Rattle.terminal_model.specs.Reading.{Terminal, reads};
 ghost use Rattle.emulator.specs.Standing.{StandsFor};
 ghost use Rattle.web_page.specs.Updates.{Update, spelled};
 ghost use Rattle.web_page.specs.Laying.{Shown, laid, page_of};
-ghost use Rattle.web_page.specs.Showing.{IsShown};
+ghost use Rattle.web_page.specs.Showing.{IsShown, AreAsFar, newer};
+ghost use Rattle.web_page.specs.Failing.{FailsAt, IsNext};
 ghost use Rattle.web_page.specs.Vacant.{IsVacant};
-ghost use Rattle.web_client.specs.Hearing.{IsBlank, IsResized, drawn, all_drawn, Hears};
-ghost use Rattle.web_client.specs.Hearing.{told, refused, noted, all_noted};
+ghost use Rattle.web_client.specs.Hearing.{IsBlank, IsResized, drawn, all_drawn, Hears, KeepsSent};
+ghost use Rattle.web_client.specs.Hearing.{told, refused, noted, all_noted, FailsToHear};
 
 use crate::fault::ClientFault;
 use attach_proto::{Message, Reader, Side, Text, Why};
@@ -125,8 +126,14 @@ impl Display {
         ensures then { (t : Terminal) → StandsFor self.old.sheet.terminal t
             → OnOk result (StandsFor self.new.sheet.terminal t
             × IsShown self.new.sheet.moment self.new.sheet (page_of t.screen)) }
-        ensures browsers { (other : ℕ) (b : Shown) → IsShown other self.old.sheet b
-            → OnOk result (IsShown other self.new.sheet b) }
+        // It has the rows that are new, and no others.
+        ensures rows { IfOk result (λ made. IfSome made (λ text. string_bytes text ≡ spelled (record {
+          head = self.new.sheet.head;
+          rows = newer since 0 self.new.sheet.rows;
+        }))) }
+        ensures browsers { OnOk result (AreAsFar self.old.sheet self.new.sheet) }
+        ensures fault { IfErr result (FailsAt self.old.sheet.moment) }
+        ensures moment { IsNext self.old.sheet.moment self.new.sheet.moment }
         ensures reading { self.new.reading ≡ self.old.reading }
         ensures told { told self.new ≡ told self.old }
     {
@@ -162,6 +169,8 @@ impl Display {
     fn draw(&mut self, bytes: &[u8]) -> Result<(), ClientFault>
         ensures sheet { OnOk result ((t : Terminal) → StandsFor self.old.sheet.terminal t
             → StandsFor self.new.sheet.terminal (reads t bytes.now).terminal) }
+        ensures sent { KeepsSent self.old.sheet self.new.sheet }
+        ensures fault { IfErr result (λ e. e ≡ ClientFault.NoMemory) }
         ensures reading { self.new.reading ≡ self.old.reading }
         ensures told { told self.new ≡ told self.old }
     {
@@ -174,6 +183,7 @@ impl Display {
     // Notes why the server lets nobody in. What it says later stands in the page's last row.
     fn note(&mut self, text: &str) -> Result<(), ClientFault>
         ensures sheet { self.new.sheet ≡ self.old.sheet }
+        ensures fault { IfErr result (λ e. e ≡ ClientFault.NoMemory) }
         ensures reading { self.new.reading ≡ self.old.reading }
         ensures told { OnOk result (told self.new ≡ refused (told self.old) text.now) }
     {
@@ -187,6 +197,8 @@ impl Display {
     fn hear(&mut self, message: &Message) -> Result<(), ClientFault>
         ensures sheet { OnOk result ((t : Terminal) → StandsFor self.old.sheet.terminal t
             → StandsFor self.new.sheet.terminal (drawn t message.now)) }
+        ensures sent { KeepsSent self.old.sheet self.new.sheet }
+        ensures fault { IfErr result (λ e. e ≡ ClientFault.NoMemory) }
         ensures reading { self.new.reading ≡ self.old.reading }
         ensures told { OnOk result (told self.new ≡ noted (told self.old) message.now) }
     {
@@ -209,6 +221,8 @@ impl Display {
     fn hear_each(&mut self, messages: &[Message]) -> Result<(), ClientFault>
         ensures sheet { OnOk result ((t : Terminal) → StandsFor self.old.sheet.terminal t
             → StandsFor self.new.sheet.terminal (all_drawn t messages.now)) }
+        ensures sent { KeepsSent self.old.sheet self.new.sheet }
+        ensures fault { IfErr result (λ e. e ≡ ClientFault.NoMemory) }
         ensures reading { self.new.reading ≡ self.old.reading }
         ensures told { OnOk result (told self.new ≡ all_noted (told self.old) messages.now) }
     {
@@ -218,16 +232,15 @@ impl Display {
         Ok(())
     }
 
-    /// Takes bytes of the server.
+    /// Takes bytes of the server. If something isn't understood, it has taken what came before.
     pub fn hear_all(&mut self, bytes: &[u8]) -> Result<(), ClientFault>
-        ensures { OnOk result (Hears self.old bytes.now self.new) }
+        ensures hears { (result ≡ Err ClientFault.NoMemory → ⊥) → Hears self.old bytes.now self.new }
+        ensures fault { IfErr result (FailsToHear self.new.reading) }
+        ensures sent { KeepsSent self.old.sheet self.new.sheet }
     {
         let mut messages = Vec::new(self.alloc);
         let fed = self.reader.feed(bytes, &mut messages);
         self.hear_each(&messages)?;
-        match fed {
-            Ok(()) => Ok(()),
-            Err(_) => Err(ClientFault::BadFrame),
-        }
+        Ok(fed?)
     }
 }

@@ -1,8 +1,10 @@
 //! Why a client ends.
 
 ghost use Rattle.std.specs.Prelude.{◌≡◌};
+ghost use Rattle.web_client.specs.Hearing.{heard_fault};
 ghost use Rattle.web_client.specs.declared.fault.ClientFault.TheVariants as client;
 
+use attach_proto::ProtoFault;
 use std::alloc::AllocError;
 
 /// Why a client ends.
@@ -20,5 +22,16 @@ impl From<AllocError> for ClientFault {
 
     fn from(_error: AllocError) -> ClientFault {
         ClientFault::NoMemory
+    }
+}
+
+impl From<ProtoFault> for ClientFault {
+    ghost from_gives = { λ fault e. e ≡ heard_fault fault };
+
+    fn from(fault: ProtoFault) -> ClientFault {
+        match fault {
+            ProtoFault::NoMemory => ClientFault::NoMemory,
+            _ => ClientFault::BadFrame,
+        }
     }
 }

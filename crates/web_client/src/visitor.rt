@@ -1,8 +1,12 @@
 //! A browser's connection: its request, its messages, and who it is.
 
-ghost use Rattle.std.specs.Prelude.{◌≡◌, ℕ, List, OnOk};
-ghost use Rattle.web_client.specs.Asking.{Asks, Keeps};
+ghost use Rattle.std.specs.Prelude.{◌≡◌, ◌↔◌, ℕ, List, drop, option_map, IfOk, IfSome, OnOk};
+ghost use Rattle.std.specs.Prelude.{IsTrue, ◌<◌, ◌≤◌, [], length, false, true};
+ghost use Rattle.websocket.specs.Content.{received_content, IsReceivedInside, HasValidText};
+ghost use Rattle.web_client.specs.Asking.{Asks, Keeps, IsOwn, IfOwn};
 ghost use Rattle.web_client.specs.Sending.{IsReceived};
+ghost use Rattle.web_client.specs.Rows.{IsDue, Shows};
+ghost use Rattle.web_client.specs.Frames.{page, begun, IsSaid, Reads, Answers, TakesMessage, TakesAll, TakesBytes};
 
 use crate::display::Display;
 use crate::front::drop_front;
@@ -14,7 +18,7 @@ use attach_proto::Why;
 use std::alloc::Global;
 use std::io;
 use std::io::Read;
-use websocket::protocol::{CloseCode, FrameStatus, Message, NoMask};
+use websocket::protocol::{CloseCode, FrameStatus, Message, NoMask, Received};
 
 /// While more bytes wait for the server, the browser isn't read.
 const MUCH: usize = 65_536;
@@ -44,9 +48,41 @@ enum Frame {
     Message(Vec<u8>),
 }
 
+impl Frame {
+    fn is_last(&self) -> bool
+        ensures { IsTrue result ↔ (self.now ≡ Frame.None) }
+    {
+        match self {
+            Frame::None => true,
+            Frame::Other | Frame::Message(_) => false,
+        }
+    }
+}
+
+// What a frame says that was read, if it ends a message. A page sends no texts.
+fn said(alloc: Global, received: &Option<Received>, input: &[u8]) -> Result<Frame, End>
+    requires inside { IfSome received.now (IsReceivedInside input.now) }
+    requires text { IfSome received.now (λ it. HasValidText (received_content input.now it)) }
+    ensures { IfOk result (IsSaid (option_map (received_content input.now) received.now)) }
+{
+    match received {
+        Some(received) => match received.message(input) {
+            Message::Binary(bytes) => Ok(Frame::Message(bytes.to_vec(alloc)?)),
+            Message::Text(_) => Ok(Frame::Message(Vec::new(alloc))),
+            Message::Close(_) => Ok(Frame::None),
+            Message::Ping(_) | Message::Pong(_) => Ok(Frame::Other),
+        },
+        None => Ok(Frame::Other),
+    }
+}
+
 impl Visitor {
     /// A connection that has sent nothing.
-    pub fn new(alloc: Global) -> Visitor {
+    pub fn new(alloc: Global) -> Visitor
+        ensures page { page result ≡ begun }
+        ensures output { result.wire.output.items ≡ [] }
+        ensures view { result.view.since ≡ 0 }
+    {
         Visitor {
             input: Vec::new(alloc),
             wire: Wire::new(alloc),
@@ -57,17 +93,26 @@ impl Visitor {
     }
 
     /// Whether nothing is read any more.
-    pub fn is_last(&self) -> bool {
+    pub fn is_last(&self) -> bool
+        ensures { IsTrue result ↔ (self.now.wire.stage ≡ Stage.Last) }
+    {
         self.wire.stage == Stage::Last
     }
 
     /// Whether its page is open.
-    pub fn is_open(&self) -> bool {
+    pub fn is_open(&self) -> bool
+        ensures { IsTrue result ↔ (self.now.wire.stage ≡ Stage.Socket) }
+    {
         self.wire.stage == Stage::Socket
     }
 
     /// Whether the browser is to be read: it isn't while much waits for its client.
-    pub fn can_read(&self) -> bool {
+    pub fn can_read(&self) -> bool
+        ensures last { self.now.wire.stage ≡ Stage.Last → result ≡ false }
+        ensures own { IfOwn self.now.seat (λ c. 65536 < length c.outgoing → result ≡ false) }
+        ensures other { (self.now.wire.stage ≡ Stage.Last → ⊥)
+            → IfOwn self.now.seat (λ c. length c.outgoing ≤ 65536) → result ≡ true }
+    {
         let waiting = match &self.seat {
             Seat::Own(client) => client.waiting(),
             _ => 0,
@@ -81,13 +126,16 @@ impl Visitor {
     }
 
     /// Whether no bytes wait for the browser.
-    pub fn is_idle(&self) -> bool {
+    pub fn is_idle(&self) -> bool
+        ensures { IsTrue result ↔ (self.now.wire.output.items ≡ []) }
+    {
         self.wire.output.is_empty()
     }
 
     // Reads one frame of the page.
     fn read_frame(&mut self) -> Result<Frame, End>
-        ensures { self.new.seat ≡ self.old.seat }
+        ensures reads { IfOk result (λ frame. Reads (page self.old) frame (page self.new)) }
+        ensures seat { self.new.seat ≡ self.old.seat }
     {
         let wire = &mut self.wire;
         let status = wire
@@ -101,26 +149,20 @@ impl Visitor {
                 return Ok(Frame::None);
             }
         };
-        let mut frame = Frame::Other;
-        if let Some(received) = &step.message {
-            match received.message(self.input.as_slice()) {
-                Message::Binary(bytes) => frame = Frame::Message(bytes.to_vec(wire.alloc)?),
-                Message::Text(_) => frame = Frame::Message(Vec::new(wire.alloc)),
-                Message::Close(_) => {
-                    wire.stage = Stage::Last;
-                    return Ok(Frame::None);
-                }
-                _ => {}
-            }
+        let frame = said(wire.alloc, &step.message, self.input.as_slice())?;
+        drop_front(&mut self.input, step.consumed);
+        if frame.is_last() {
+            wire.stage = Stage::Last;
         }
-        let consumed = step.consumed.min(self.input.len());
-        drop_front(&mut self.input, consumed);
         Ok(frame)
     }
 
     // Takes one message of the page.
     fn take_message(&mut self, site: &Site, message: &[u8]) -> Result<(), End>
-        ensures { Asks self.old.seat self.new.seat }
+        ensures takes { OnOk result (TakesMessage site.now.watcher message.now (page self.old)
+            (page self.new)) }
+        ensures input { self.new.input.items ≡ self.old.input.items }
+        ensures asks { Asks self.old.seat self.new.seat }
     {
         match self.seat.take(self.wire.alloc, site, message) {
             Ok(()) => {}
@@ -136,18 +178,17 @@ impl Visitor {
                 self.wire.tell_gone(Why::Fault)
             }
             Seat::Left => self.wire.tell_gone(Why::Detached),
-            _ => Ok(()),
+            Seat::Nobody | Seat::Own(_) | Seat::Watching(_, _) => Ok(()),
         }
     }
 
     // Takes the frames that are whole.
     fn read_frames(&mut self, site: &Site) -> Result<(), End>
-        ensures { Asks self.old.seat self.new.seat }
+        requires { self.old.wire.stage ≡ Stage.Socket }
+        ensures takes { OnOk result (TakesAll site.now.watcher (page self.old) (page self.new)) }
+        ensures asks { Asks self.old.seat self.new.seat }
     {
-        'frames: for _ in 0..u64::MAX {
-            if !self.is_open() {
-                break;
-            }
+        'frames: while self.is_open() {
             match self.read_frame()? {
                 Frame::None => break,
                 Frame::Other => {}
@@ -159,7 +200,9 @@ impl Visitor {
 
     // Takes the answer to a request.
     fn take_answer(&mut self, answer: Answer) -> Result<(), End>
-        ensures { self.new.seat ≡ self.old.seat }
+        requires { self.old.wire.stage ≡ Stage.Request }
+        ensures answers { Answers (page self.old) (page self.new) }
+        ensures seat { self.new.seat ≡ self.old.seat }
     {
         match answer {
             Answer::Part => {}
@@ -197,17 +240,24 @@ impl Visitor {
     /// Takes what came of the browser. For its own client it adds frames that the browser may ask for,
     /// and nothing else.
     pub fn take(&mut self, site: &Site) -> Result<(), End>
-        ensures { Asks self.old.seat self.new.seat }
+        ensures takes { OnOk result (TakesBytes site.now.watcher self.old.wire.stage (page self.old)
+            (page self.new)) }
+        ensures asks { Asks self.old.seat self.new.seat }
     {
         if self.wire.stage == Stage::Request {
             let answer = answered(self.wire.alloc, site, &self.input)?;
             self.take_answer(answer)?;
         }
-        self.read_frames(site)
+        if self.is_open() {
+            self.read_frames(site)?;
+        }
+        Ok(())
     }
 
     /// Answers a browser that has just opened its page with a refusal, since the bridge is full.
-    pub fn turn_away(&mut self) -> Result<(), End> {
+    pub fn turn_away(&mut self) -> Result<(), End>
+        ensures { OnOk result ((self.new.wire.stage ≡ Stage.Last) × (self.new.seat ≡ Seat.Nobody)) }
+    {
         let bytes = refusal(self.wire.alloc, "503 Service Unavailable")?;
         self.wire.output = bytes;
         self.wire.stage = Stage::Last;
@@ -217,7 +267,9 @@ impl Visitor {
 
     /// The server's connection ended, or there is none.
     pub fn lose(&mut self, reason: &str)
-        ensures { self.new.seat ≡ self.old.seat }
+        ensures open { self.old.wire.stage ≡ Stage.Socket → self.new.wire.stage ≡ Stage.Last }
+        ensures other { (self.old.wire.stage ≡ Stage.Socket → ⊥) → self.new ≡ self.old }
+        ensures seat { self.new.seat ≡ self.old.seat }
     {
         if self.is_open() {
             let _ = self.wire.say(reason);
@@ -227,7 +279,8 @@ impl Visitor {
 
     /// Ends the connection for this reason.
     pub fn dismiss(&mut self, reason: &str)
-        ensures { self.new.seat ≡ self.old.seat }
+        ensures stage { self.new.wire.stage ≡ Stage.Last }
+        ensures seat { self.new.seat ≡ self.old.seat }
     {
         if self.is_open() {
             self.wire.close(CloseCode::Policy, reason);
@@ -246,14 +299,17 @@ impl Visitor {
 
     /// Another page is shown from now on, of which nothing was sent.
     pub fn change_page(&mut self)
-        ensures { self.new.seat ≡ self.old.seat }
+        ensures { self.new ≡ record self.old { view = record { is_welcomed = false; since = 0 } } }
     {
         self.view = View::NOTHING;
     }
 
     /// Shows a page that others watch too.
     pub fn show_shared(&mut self, display: &mut Display) -> Result<(), End>
-        ensures { self.new.seat ≡ self.old.seat }
+        ensures shows { self.old.wire.stage ≡ Stage.Socket → IsDue display.old self.old.wire
+            → OnOk result (Shows display.old self.old.view.since self.old.wire
+            display.new self.new.view.since self.new.wire) }
+        ensures seat { self.new.seat ≡ self.old.seat }
     {
         if !self.is_open() {
             return Ok(());
@@ -263,7 +319,11 @@ impl Visitor {
 
     /// Shows the page of its own client: what the browser is sent is made from the display alone.
     pub fn show_own(&mut self) -> Result<(), End>
-        ensures { Keeps self.old.seat self.new.seat }
+        ensures shows { self.old.wire.stage ≡ Stage.Socket
+            → IfOwn self.old.seat (λ old. IsDue old.display self.old.wire
+            → OnOk result (IsOwn self.new.seat (λ new. Shows old.display self.old.view.since self.old.wire
+            new.display self.new.view.since self.new.wire))) }
+        ensures keeps { Keeps self.old.seat self.new.seat }
     {
         if !self.is_open() {
             return Ok(());

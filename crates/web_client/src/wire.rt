@@ -1,5 +1,15 @@
 //! What a browser is sent over its connection.
 
+ghost use Rattle.std.specs.Prelude.{◌≡◌, ◌↔◌, [], None, OnOk, IfSome, IsTrue};
+ghost use Rattle.terminal_model.specs.Reading.{Terminal};
+ghost use Rattle.emulator.specs.Standing.{StandsFor};
+ghost use Rattle.web_page.specs.Laying.{Shown, page_of};
+ghost use Rattle.web_client.specs.Judging.{end_of};
+ghost use Rattle.web_client.specs.Hearing.{told};
+ghost use Rattle.web_client.specs.Frames.{fresh};
+ghost use Rattle.web_client.specs.Rows.{SendsText, IsAsFar, SendsPage, Adds, IsDue, Shows};
+ghost use Rattle.web_client.specs.declared.wire.End.TheVariants as end;
+
 use crate::display::Display;
 use attach_proto::Why;
 use std::alloc::{AllocError, AllocFailed, Global};
@@ -25,18 +35,24 @@ pub enum End {
 }
 
 impl From<AllocError> for End {
+    ghost from_gives = { λ _ e. e ≡ end.NoMemory };
+
     fn from(_error: AllocError) -> End {
         End::NoMemory
     }
 }
 
 impl<T: Drop> From<AllocFailed<T>> for End {
+    ghost from_gives = { λ _ e. e ≡ end.NoMemory };
+
     fn from(_error: AllocFailed<T>) -> End {
         End::NoMemory
     }
 }
 
 impl From<SheetFault> for End {
+    ghost from_gives = { λ fault e. e ≡ end_of fault };
+
     fn from(fault: SheetFault) -> End {
         match fault {
             SheetFault::NoMemory => End::NoMemory,
@@ -82,7 +98,11 @@ pub struct Wire {
 
 impl Wire {
     /// A connection that has sent nothing.
-    pub fn new(alloc: Global) -> Wire {
+    pub fn new(alloc: Global) -> Wire
+        ensures stage { result.stage ≡ Stage.Request }
+        ensures output { result.output.items ≡ [] }
+        ensures context { result.context ≡ fresh }
+    {
         let config = WebSocketConfig {
             max_message_size: Some(LONGEST),
             max_frame_size: Some(LONGEST),
@@ -97,7 +117,10 @@ impl Wire {
     }
 
     /// Sends a close frame, after which the connection ends.
-    pub fn close(&mut self, code: CloseCode, reason: &str) {
+    pub fn close(&mut self, code: CloseCode, reason: &str)
+        ensures adds { Adds self.old self.new }
+        ensures stage { self.new.stage ≡ Stage.Last }
+    {
         let frame = CloseFrame { code, reason };
         let _ = self
             .context
@@ -106,7 +129,9 @@ impl Wire {
     }
 
     /// Sends a text.
-    fn send_text(&mut self, text: &str) -> Result<(), End> {
+    fn send_text(&mut self, text: &str) -> Result<(), End>
+        ensures { OnOk result (SendsText text.now self.old self.new) }
+    {
         match self
             .context
             .write(Message::Text(text), &mut self.output, &mut NoMask)
@@ -124,7 +149,10 @@ impl Wire {
     }
 
     /// Tells a text to the browser's user.
-    pub fn say(&mut self, text: &str) -> Result<(), End> {
+    #[tactic(auto, using(crate::proofs::Rows::text_adds))]
+    pub fn say(&mut self, text: &str) -> Result<(), End>
+        ensures { OnOk result (Adds self.old self.new) }
+    {
         let mut out = String::from_str(self.alloc, "{\"say\":\"")?;
         put_text(&mut out, text)?;
         out.push_str("\"}")?;
@@ -132,7 +160,10 @@ impl Wire {
     }
 
     /// Tells why the session lets the browser go, and ends.
-    pub fn tell_gone(&mut self, why: Why) -> Result<(), End> {
+    pub fn tell_gone(&mut self, why: Why) -> Result<(), End>
+        ensures adds { OnOk result (Adds self.old self.new) }
+        ensures stage { OnOk result (self.new.stage ≡ Stage.Last) }
+    {
         let number = why.number();
         let text = format!(in self.alloc; "{{\"gone\":{number}}}")?;
         self.send_text(text.as_str())?;
@@ -141,28 +172,49 @@ impl Wire {
     }
 
     // Sends what is new of a page.
-    fn send_rows(&mut self, view: &mut View, display: &mut Display) -> Result<(), End> {
-        if let Some(text) = display.update(view.since)? {
-            self.send_text(text.as_str())?;
-            view.since = display.moment();
+    fn send_rows(&mut self, view: &mut View, display: &mut Display) -> Result<(), End>
+        // The browser then shows the page of a terminal that has read all draws.
+        ensures rows { (t : Terminal) (b : Shown) → StandsFor display.old.sheet.terminal t
+            → IsAsFar view.old.since display.old.sheet b
+            → OnOk result (SendsPage t b self.old self.new × StandsFor display.new.sheet.terminal t
+            × IsAsFar view.new.since display.new.sheet (page_of t.screen)) }
+        ensures told { told display.new ≡ told display.old }
+    {
+        match display.update(view.since)? {
+            Some(text) => {
+                self.send_text(text.as_str())?;
+                view.since = display.moment();
+                Ok(())
+            }
+            None => Ok(()),
         }
-        Ok(())
     }
 
-    /// Sends what is new of a display. Rows wait until the last ones were taken: what is sent then is
-    /// what the page shows then.
-    pub fn show(&mut self, view: &mut View, display: &mut Display) -> Result<(), End> {
-        if self.output.len() > TOO_MUCH {
-            return Err(End::TooFarBehind);
-        }
-        let is_idle = self.output.is_empty();
+    // Whether rows are sent now.
+    fn is_due(&self, display: &Display) -> bool
+        ensures { IsTrue result ↔ IsDue display.now self.now }
+    {
+        display.is_welcome() && (self.output.is_empty() || display.gone().is_some())
+    }
+
+    // Tells once that the server let the browser's client in.
+    fn welcome(&mut self, view: &mut View, display: &Display) -> Result<(), End>
+        ensures adds { OnOk result (Adds self.old self.new) }
+        ensures since { view.new.since ≡ view.old.since }
+    {
         if display.is_welcome() && !view.is_welcomed {
             view.is_welcomed = true;
             self.send_text("{\"welcome\":1}")?;
         }
-        if display.is_welcome() && (is_idle || display.gone().is_some()) {
-            self.send_rows(view, display)?;
-        }
+        Ok(())
+    }
+
+    // Ends if the server let the client go.
+    fn end(&mut self, display: &Display) -> Result<(), End>
+        ensures adds { OnOk result (Adds self.old self.new) }
+        ensures gone { IfSome display.now.gone (λ _. OnOk result (self.new.stage ≡ Stage.Last)) }
+        ensures stays { display.now.gone ≡ None → self.new ≡ self.old }
+    {
         match display.gone() {
             Some(why) => {
                 if let Some(text) = display.refusal() {
@@ -172,5 +224,25 @@ impl Wire {
             }
             None => Ok(()),
         }
+    }
+
+    /// Sends what is new of a display. Rows wait until the last ones were taken: what is sent then is
+    /// what the page shows then.
+    pub fn show(&mut self, view: &mut View, display: &mut Display) -> Result<(), End>
+        ensures due { IsDue display.old self.old → OnOk result (Shows display.old view.old.since self.old
+            display.new view.new.since self.new) }
+        ensures later { (IsDue display.old self.old → ⊥)
+            → (view.new.since ≡ view.old.since) × (display.new ≡ display.old) }
+        ensures gone { IfSome display.old.gone (λ _. OnOk result (self.new.stage ≡ Stage.Last)) }
+    {
+        if self.output.len() > TOO_MUCH {
+            return Err(End::TooFarBehind);
+        }
+        let is_due = self.is_due(display);
+        self.welcome(view, display)?;
+        if is_due {
+            self.send_rows(view, display)?;
+        }
+        self.end(display)
     }
 }

@@ -1,9 +1,9 @@
 -- Texts of JSON say what they spell, and no byte of them is markup.
-use Rattle.std.proofs.Common.{◌≡◌, ◌≢◌, ◌⊎◌, ℕ, ◌+◌, ◌*◌, ◌/◌, ◌%◌, ◌<◌, ◌≤◌, Bool, true, false, cond, ◌&&◌, ◌||◌}
-use Rattle.std.proofs.Common.{◌==◌, nat_lt, List, [], ◌∷◌, ◌++◌, refl, arith, inl, inr, ⊎_elim}
+use Rattle.std.proofs.Common.{◌≡◌, ◌≢◌, ◌⊎◌, ℕ, ◌+◌, ◌/◌, ◌%◌, ◌<◌, ◌≤◌, true, false, cond}
+use Rattle.std.proofs.Common.{nat_lt, List, [], ◌∷◌, ◌++◌, refl, arith, inl, inr, ⊎_elim}
 use Rattle.std.proofs.lemmas.Bool.{or_parts, and_cases, ltb-false, ltb-true, eqb-false}
-use Rattle.std.specs.List.{flat_map, AllByRecursion}
-use Rattle.std.specs.Char.{encode_utf8, digit_char}
+use Rattle.std.specs.List.{AllByRecursion}
+use Rattle.std.specs.Char.{digit_char}
 use lib.Utf8.{encode}
 use Rattle.web_page.specs.Json.{is_escaped, escape, spelled_character, spelled_text, IsHarmless, Says}
 use Rattle.web_page.specs.Json.{nothing, itself, escaped}

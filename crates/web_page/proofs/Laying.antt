@@ -1,18 +1,16 @@
 -- Rows that changed, laid over what a browser shows, are the whole sheet.
-use Rattle.std.proofs.Common.{◌≡◌, ℕ, suc, ◌+◌, ◌<◌, ◌≤◌, Bool, true, false, cond, nat_lt, List, [], ◌∷◌, length}
+use Rattle.std.proofs.Common.{◌≡◌, ℕ, suc, ◌<◌, true, false, cond, nat_lt, List, [], ◌∷◌, length}
 use Rattle.std.proofs.Common.{take, map, get_or, refl, sym, ap, ◌∙◌, arith}
-use Rattle.std.proofs.lemmas.Bool.{ltb-true, ltb-false}
+use Rattle.std.proofs.lemmas.Bool.{ltb-true}
 use Rattle.std.proofs.lemmas.List.{length-map}
-use Rattle.cells.specs.declared.cell.Cell.{Cell}
-use Rattle.cells.specs.Page.{IsPage}
 use Rattle.terminal_model.specs.Screen.{Screen}
 use Rattle.terminal_model.specs.Reading.{Terminal}
-use Rattle.emulator.specs.Standing.{Parts, StandsFor}
+use Rattle.emulator.specs.Standing.{StandsFor}
 use Rattle.web_page.specs.declared.head.Head.{Head}
 use Rattle.web_page.specs.Runs.{Run, runs}
-use Rattle.web_page.specs.Updates.{Update, head_of}
+use Rattle.web_page.specs.Updates.{head_of}
 use Rattle.web_page.specs.Laying.{Shown, put_at, put_all, laid, page_of}
-use Rattle.web_page.specs.Showing.{Kept, Sheet, kept_at, shown_of, newer, IsShown, IsLooked}
+use Rattle.web_page.specs.Showing.{Kept, Sheet, kept_at, shown_of, newer, IsLooked}
 
 -- rows that come later than the first one leave it
 pub shift : (since n : ℕ) (rs : List Kept) (v : List Run) (vs : List (List Run))

@@ -1,17 +1,16 @@
 -- Looks at the rows of a page, one after another.
 use Rattle.std.proofs.Common.{◌≡◌, ◌⊎◌, ℕ, suc, ◌+◌, ◌<◌, ◌≤◌, Bool, true, false, ◌||◌, List, [], ◌∷◌, length}
-use Rattle.std.proofs.Common.{take, map, get_or, refl, sym, ap, ◌∙◌, ◌++◌, set, arith, inl, inr, ⊎_elim}
-use Rattle.std.proofs.Common.{below_more, subst}
+use Rattle.std.proofs.Common.{take, map, refl, sym, ap, ◌∙◌, ◌++◌, set, arith, inl, inr, ⊎_elim}
+use Rattle.std.proofs.Common.{below_more}
 use Rattle.std.proofs.lemmas.List.{get_or-take, take_all, length-take, length_push, get_or_push, get_or_append_left}
 use Rattle.std.proofs.lemmas.List.{length-set, get_or-set_same, get_or-set_other}
 use Rattle.std.proofs.lemmas.Bool.{or_parts, true≢false, cases_lt}
 use Rattle.cells.specs.declared.cell.Cell.{Cell}
 use Rattle.cells.specs.Line.{unprotected}
 use Rattle.cells.specs.Page.{line_at}
-use Rattle.emulator.specs.Standing.{Parts}
-use Rattle.web_page.specs.Runs.{Run, runs}
+use Rattle.web_page.specs.Runs.{runs}
 use Rattle.web_page.specs.Laying.{Shown}
-use Rattle.web_page.specs.Showing.{Kept, Sheet, kept_at, shown_of, IsShown, LooksAt, HasLooked}
+use Rattle.web_page.specs.Showing.{Kept, Sheet, kept_at, IsShown, LooksAt, HasLooked}
 
 pub cells_are : (rows : List Kept) (page : List (List Cell)) → length rows ≡ length page
     → ((n : ℕ) → n < length page → (kept_at rows n).cells ≡ line_at page n) → map (λ (r : Kept). r.cells) rows ≡ page

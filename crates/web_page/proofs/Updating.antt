@@ -1,14 +1,13 @@
 -- Looks at a whole sheet, and the updates after them.
-use Rattle.std.proofs.Common.{◌≡◌, ◌⊎◌, ℕ, zero, suc, ◌+◌, ◌<◌, ◌≤◌, Bool, true, false, List, [], ◌∷◌, length}
-use Rattle.std.proofs.Common.{map, get_or, refl, sym, ap, ◌∙◌, arith, inl, inr, ⊎_elim, subst}
+use Rattle.std.proofs.Common.{◌≡◌, ◌⊎◌, ℕ, zero, suc, ◌+◌, ◌<◌, ◌≤◌, Bool, false, List, [], ◌∷◌, length}
+use Rattle.std.proofs.Common.{map, get_or, refl, sym, ap, ◌∙◌, arith, ⊎_elim, subst}
 use Rattle.std.proofs.lemmas.List.{length-map}
-use Rattle.cells.specs.declared.cell.Cell.{Cell}
-use Rattle.terminal_model.specs.Screen.{Screen, Page}
+use Rattle.terminal_model.specs.Screen.{Page}
 use Rattle.terminal_model.specs.Reading.{Terminal}
 use Rattle.emulator.specs.Standing.{Parts, StandsFor}
 use Rattle.web_page.specs.declared.head.Head.{Head}
 use Rattle.web_page.specs.Runs.{Run, runs}
-use Rattle.web_page.specs.Updates.{Update, head_of, spelled}
+use Rattle.web_page.specs.Updates.{head_of}
 use Rattle.web_page.specs.Laying.{Shown, laid, page_of}
 use Rattle.web_page.specs.Showing.{Kept, Sheet, kept_at, shown_of, newer, IsShown, IsLooked, HasLooked, Looks}
 use Rattle.web_page.proofs.Laying.{AreShown, whole, shows}

@@ -1,10 +1,9 @@
 -- Runs that are written one cell after another.
-use Rattle.std.proofs.Common.{◌≡◌, ℕ, suc, ◌+◌, ◌<◌, Bool, true, false, cond, ◌&&◌, ◌==◌, nat_lt, List, [], ◌∷◌, ◌++◌}
+use Rattle.std.proofs.Common.{◌≡◌, ℕ, suc, ◌+◌, ◌<◌, true, false, cond, ◌&&◌, ◌==◌, nat_lt, List, [], ◌∷◌, ◌++◌}
 use Rattle.std.proofs.Common.{◌≤◌, arith, length, drop, get_or, Option, Some, None, refl, sym, ap, ◌∙◌}
 use Rattle.std.proofs.Common.{append_assoc, subst}
 use Rattle.std.proofs.lemmas.List.{append-nil, drop_more, drop_all, at_drop_more, at_drop_all, length_push}
-use Rattle.std.proofs.lemmas.Bool.{and_parts, and_from, eqb-true, eq-eqb, lt-ltb, le-ltb, ltb-true, ltb-false}
-use Rattle.std.specs.Prelude.{decimal, codes}
+use Rattle.std.proofs.lemmas.Bool.{and_parts, and_from, eqb-true, eq-eqb, lt-ltb, le-ltb}
 use Rattle.std.specs.List.{flat_map}
 use Rattle.cells.specs.declared.cell.Cell.{Cell}
 use Rattle.cells.specs.Line.{is_right}
@@ -13,7 +12,7 @@ use Rattle.web_page.specs.Styles.{style_value}
 use Rattle.web_page.specs.Updates.{spelled_row}
 use Rattle.web_page.specs.Showing.{Kept, newer}
 use Rattle.web_page.specs.Runs.{Run, letters, run_of, are_one, with_cell, after_cell, runs, run_head}
-use Rattle.web_page.specs.Runs.{spelled_run, spelled_runs, rest_of}
+use Rattle.web_page.specs.Runs.{spelled_runs, rest_of}
 
 pub text-append : (a b : List ℕ) → spelled_text (a ++ b) ≡ spelled_text a ++ spelled_text b
 text-append [] b = refl

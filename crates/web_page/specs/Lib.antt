@@ -4,4 +4,5 @@ pub mod Runs
 pub mod Updates
 pub mod Laying
 pub mod Showing
+pub mod Failing
 pub mod Vacant

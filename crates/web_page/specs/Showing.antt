@@ -1,6 +1,6 @@
 -- A sheet, and how far the browsers are that were sent updates of it.
 use Rattle.std.specs.Prelude.{◌≡◌, ◌⊎◌, ℕ, ◌<◌, ◌≤◌, suc, nat_lt, cond, List, [], ◌∷◌, length, map}
-use Rattle.std.specs.Prelude.{slice_index_or, Bool, true, false}
+use Rattle.std.specs.Prelude.{slice_index_or, Bool, false}
 use Rattle.cells.specs.declared.cell.Cell.{Cell}
 use Rattle.cells.specs.Page.{line_at}
 use Rattle.terminal_model.specs.Screen.{starting}
@@ -50,6 +50,10 @@ pub record IsShown (since : ℕ) (s : Sheet) (b : Shown) : Type 0 where
   pub rows : (n : ℕ) → n < length s.rows → (kept_at s.rows n).stamp < since
       → (n < length b.rows) × (slice_index_or b.rows n [] ≡ runs (kept_at s.rows n).cells)
 
+-- browsers are as far as they were
+abbrev pub AreAsFar : (old new : Sheet) → Type 0
+AreAsFar old new = (since : ℕ) (b : Shown) → IsShown since old b → IsShown since new b
+
 -- its head and rows are those of the terminal
 pub record IsLooked (terminal : Parts) (head : Head) (rows : List Kept) : Type 0 where
   pub same_head : head ≡ head_of terminal.screen
@@ -84,4 +88,4 @@ pub record Looks (old new : Sheet) : Type 0 where
   pub terminal : new.terminal ≡ old.terminal
   pub looked : IsLooked new.terminal new.head new.rows
   pub later : 0 < new.moment
-  pub browsers : (since : ℕ) (b : Shown) → IsShown since old b → IsShown since new b
+  pub browsers : AreAsFar old new

@@ -1,7 +1,7 @@
 //! The page of a terminal, for browsers that were sent more or less of it.
 
-ghost use Rattle.std.specs.Prelude.{◌≡◌, ◌⊎◌, ◌≤◌, ◌<◌, ℕ, List, [], Some, None, OnOk, OnErr};
-ghost use Rattle.std.specs.Prelude.{◌↔◌, IsTrue, IfOk, IfErr, IfSome, MatchOption, length, take, false};
+ghost use Rattle.std.specs.Prelude.{◌≡◌, ◌⊎◌, ◌≤◌, ℕ, OnOk, OnErr, ◌↔◌};
+ghost use Rattle.std.specs.Prelude.{IsTrue, IfOk, IfErr, IfSome, MatchOption, length, Err, false};
 ghost use Rattle.std.specs.String.{string_bytes};
 ghost use Rattle.cells.specs.Page.{IsGridSize};
 ghost use Rattle.terminal_model.specs.Reading.{Terminal, reads};
@@ -10,7 +10,9 @@ ghost use Rattle.emulator.specs.Standing.{StandsFor, TakesWriting};
 ghost use Rattle.web_page.specs.Updates.{Update, spelled};
 ghost use Rattle.web_page.specs.Laying.{Shown, laid, page_of};
 ghost use Rattle.web_page.specs.Vacant.{IsVacant};
-ghost use Rattle.web_page.specs.Showing.{IsBlank, IsShown, IsLooked, HasLooked, Looks, newer};
+ghost use Rattle.web_page.specs.Showing.{IsBlank, IsShown, AreAsFar, IsLooked, HasLooked, Looks, newer};
+ghost use Rattle.web_page.specs.Failing.{FailsAt, IsNext};
+ghost use Rattle.web_page.specs.declared.sheet.SheetFault.TheVariants as sheet;
 
 use crate::head::Head;
 use crate::line::{put_number, put_numbers};
@@ -33,6 +35,8 @@ pub enum SheetFault {
 }
 
 impl From<AllocError> for SheetFault {
+    ghost from_gives = { λ _ e. e ≡ sheet.NoMemory };
+
     fn from(_error: AllocError) -> SheetFault {
         SheetFault::NoMemory
     }
@@ -117,7 +121,8 @@ fn count_of(is_new: bool, head: Head, old: Head) -> u64
 impl Sheet {
     /// A terminal of this size that has read nothing.
     pub fn new(alloc: Global, rows: u16, columns: u16) -> Result<Sheet, GridFault>
-        ensures { IfOk result (IsBlank rows columns) }
+        ensures ok { IfOk result (IsBlank rows columns) }
+        ensures bad_size { (result ≡ Err GridFault.BadSize) ↔ (¬ IsGridSize rows columns) }
     {
         let emulator = Emulator::new(alloc, usize::from(rows), usize::from(columns), 0)?;
         let head = Head::of(&emulator);
@@ -136,8 +141,10 @@ impl Sheet {
     pub fn resize(&mut self, rows: u16, columns: u16) -> Result<(), GridFault>
         ensures ok { OnOk result (TakesWriting self.old.terminal (Size rows columns)
             self.new.terminal) }
-        ensures browsers { (since : ℕ) (b : Shown) → IsShown since self.old b
-            → IsShown since self.new b }
+        ensures err { OnErr result (self.new ≡ self.old) }
+        ensures bad_size { (result ≡ Err GridFault.BadSize) ↔ (¬ IsGridSize rows columns) }
+        ensures moment { self.new.moment ≡ self.old.moment }
+        ensures browsers { AreAsFar self.old self.new }
     {
         self.is_stale = true;
         self.emulator
@@ -148,8 +155,8 @@ impl Sheet {
     pub fn read(&mut self, draw: &[u8]) -> Result<(), Stopped>
         ensures ok { OnOk result ((t : Terminal) → StandsFor self.old.terminal t
             → StandsFor self.new.terminal (reads t draw.now).terminal) }
-        ensures browsers { (since : ℕ) (b : Shown) → IsShown since self.old b
-            → IsShown since self.new b }
+        ensures moment { self.new.moment ≡ self.old.moment }
+        ensures browsers { AreAsFar self.old self.new }
     {
         self.is_stale = true;
         let read = self.emulator.feed_all(draw, &mut self.reports);
@@ -173,7 +180,9 @@ impl Sheet {
 
     // Looks at what changed since the last look.
     fn look(&mut self) -> Result<(), SheetFault>
-        ensures { OnOk result (Looks self.old self.new) }
+        ensures looks { OnOk result (Looks self.old self.new) }
+        ensures fault { IfErr result (FailsAt self.old.moment) }
+        ensures moment { IsNext self.old.moment self.new.moment }
     {
         if !self.is_stale {
             return Ok(());
@@ -214,12 +223,18 @@ impl Sheet {
             → IfOk result (λ made. MatchOption made (b ≡ page_of t.screen)
             (λ text. (u : Update) × (string_bytes text ≡ spelled u)
             × (laid u b ≡ page_of t.screen))) }
+        // It has the rows that are new, and no others.
+        ensures rows { IfOk result (λ made. IfSome made (λ text. string_bytes text ≡ spelled (record {
+          head = self.new.head;
+          rows = newer since 0 self.new.rows;
+        }))) }
         ensures then { (t : Terminal) → StandsFor self.old.terminal t
             → OnOk result (StandsFor self.new.terminal t
             × IsShown self.new.moment self.new (page_of t.screen)) }
-        // Other browsers are as far as they were.
-        ensures browsers { (other : ℕ) (b : Shown) → IsShown other self.old b
-            → OnOk result (IsShown other self.new b) }
+        ensures browsers { OnOk result (AreAsFar self.old self.new) }
+        // It fails for memory, or after 2^64 - 2 updates.
+        ensures fault { IfErr result (FailsAt self.old.moment) }
+        ensures moment { IsNext self.old.moment self.new.moment }
     {
         self.look()?;
         if since >= self.moment {

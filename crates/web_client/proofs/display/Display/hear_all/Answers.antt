@@ -1,24 +1,49 @@
-use Rattle.std.proofs.Common.{◌≡◌, List, ◌++◌, ap, sym, ◌∙◌, subst}
-use Rattle.attach_proto.specs.declared.message.Message.{Message}
-use Rattle.attach_proto.specs.Streams.{Reading, HasRead}
-use Rattle.emulator.specs.Standing.{Parts, StandsFor}
-use Rattle.web_client.specs.Hearing.{Display, all_drawn, told, all_noted}
+use Rattle.std.proofs.Common.{◌∙◌, Err, ap, subst}
+use Rattle.std.proofs.lemmas.Result.{err_from_is_err_and}
+use Rattle.web_client.specs.Hearing.{Display, Hears, KeepsSent}
+use Rattle.web_client.proofs.Hearing.{heard, not_memory}
 use Rattle.web_client.proofs.display.Display.hear_all.Goals as goal
 
-pub returns-in-Ok : goal.returns-in-Ok
-returns-in-Ok c = λ messages stream t r w.
-    let got = c.in-Ok.ensures.reads (λ e. cc) in
-    let items : c.deref.result.now ≡ got.0 = c.deref.ensures.value ∙ (got.1
-    ∙ ap (λ (l : List Message). l ++ got.0) c.new-messages.ensures.items) in
-    let before = subst (λ (x : Reading). HasRead x messages stream)
-    (sym (ap (λ (p : Display). p.reading) c.self.view_is)) r in
-    let stands = subst (λ (p : Parts). StandsFor p t)
-    (sym (ap (λ (p : Display). p.sheet.terminal) c.self.view_is)) w in (
-      got.0,
-      subst (λ (x : Reading). HasRead x (messages ++ got.0) (stream ++ c.args.bytes.now))
-          (sym c.hear_each.ensures.reading) (got.2 messages stream before),
-      subst (λ (l : List Message). StandsFor c.hear_each.new.self.sheet.terminal (all_drawn t l)) items
-          (c.in_ok-hear_each.ensures.sheet t stands),
-      subst (λ (l : List Message). told c.hear_each.new.self ≡ all_noted (told c.args.self.now) l) items
-          (c.in_ok-hear_each.ensures.told ∙ ap (λ (p : Display). all_noted (told p) c.deref.result.now) c.self.view_is),
-    )
+pub returns-clause-hears : goal.returns-clause-hears
+returns-clause-hears c = λ n.
+    let old : Display = record {
+      name = c.self.inside.name;
+      reading = c.self.inside.reader;
+      sheet = c.self.inside.sheet;
+      is_welcome = c.self.inside.is_welcome;
+      refusal = c.self.inside.refusal;
+      gone = c.self.inside.gone;
+    } in
+    subst (λ (d : Display). Hears d c.args.bytes.now c.hear_each.new.self) c.self.view_is
+    (heard old c.hear_each.new.self c.args.bytes.now c.feed-fed.new.self c.new-messages.result.items
+    c.feed-fed.new.out.items c.deref.result.now (c.in_ok-fed.ensures.reads (λ z. cc))
+    c.new-messages.ensures.items c.deref.ensures.value c.hear_each.ensures.reading c.in_ok-hear_each.ensures.sheet c.in_ok-hear_each.ensures.told)
+
+pub returns-in_err-fed-clause-hears : goal.returns-in_err-fed-clause-hears
+returns-in_err-fed-clause-hears c = λ n.
+    let p = err_from_is_err_and c.from_residual-in_err-fed.result c.from_residual-in_err-fed.ensures.1 in
+    let old : Display = record {
+      name = c.self.inside.name;
+      reading = c.self.inside.reader;
+      sheet = c.self.inside.sheet;
+      is_welcome = c.self.inside.is_welcome;
+      refusal = c.self.inside.refusal;
+      gone = c.self.inside.gone;
+    } in
+    subst (λ (d : Display). Hears d c.args.bytes.now c.hear_each.new.self) c.self.view_is
+    (heard old c.hear_each.new.self c.args.bytes.now c.feed-fed.new.self c.new-messages.result.items
+    c.feed-fed.new.out.items c.deref.result.now (c.in_err-fed.ensures.reads
+    (λ z. not_memory c.in_err-fed.field-0.0 p.0 p.2 (λ q. n (p.1 ∙ ap Err q)) (cc z)))
+    c.new-messages.ensures.items c.deref.ensures.value c.hear_each.ensures.reading c.in_ok-hear_each.ensures.sheet c.in_ok-hear_each.ensures.told)
+
+pub returns-clause-sent : goal.returns-clause-sent
+returns-clause-sent c =
+    subst (λ (d : Display). KeepsSent d.sheet c.hear_each.new.self.sheet) c.self.view_is c.hear_each.ensures.sent
+
+pub returns-in_err-fed-clause-sent : goal.returns-in_err-fed-clause-sent
+returns-in_err-fed-clause-sent c =
+    subst (λ (d : Display). KeepsSent d.sheet c.hear_each.new.self.sheet) c.self.view_is c.hear_each.ensures.sent
+
+pub returns-in_err-hear_each-clause-sent : goal.returns-in_err-hear_each-clause-sent
+returns-in_err-hear_each-clause-sent c =
+    subst (λ (d : Display). KeepsSent d.sheet c.hear_each.new.self.sheet) c.self.view_is c.hear_each.ensures.sent

@@ -3,7 +3,7 @@ use Rattle.attach_proto.specs.declared.message.Message.{Message}
 use Rattle.terminal_model.specs.Reading.{Terminal}
 use Rattle.emulator.specs.Standing.{StandsFor}
 use Rattle.web_client.specs.Hearing.{drawn, all_drawn, Told, told, noted, all_noted}
-use Rattle.web_client.proofs.Hearing.{one_more, none_more, one_told, none_told}
+use Rattle.web_client.proofs.Hearing.{one_more, none_more, one_told, none_told, kept_on}
 use Rattle.web_client.proofs.display.Display.hear_each.Goals as goal
 
 pub loop-message-preserved : goal.loop-message-preserved
@@ -17,6 +17,8 @@ loop-message-preserved c = record {
             (drop (c.loop-message.message-index + 1) c.args.messages.now))
             (sym c.message-item.is)),
       );
+  sent = kept_on c.args.self.now.sheet c.loop-message.self.sheet c.hear.new.self.sheet c.loop-message.invariant.sent
+      c.hear.ensures.sent;
   reading = c.hear.ensures.reading ∙ c.loop-message.invariant.reading;
   told =
       c.loop-message.invariant.told
@@ -38,3 +40,8 @@ pub returns-clause-told : goal.returns-clause-told
 returns-clause-told c =
     sym (c.loop-message.invariant.told
     ∙ none_told c.args.messages.now c.loop-message.message-index (told c.loop-message.self) (omega arith))
+
+pub returns-in_err-hear-clause-sent : goal.returns-in_err-hear-clause-sent
+returns-in_err-hear-clause-sent c =
+    kept_on c.args.self.now.sheet c.loop-message.self.sheet c.hear.new.self.sheet c.loop-message.invariant.sent
+    c.hear.ensures.sent

@@ -1,7 +1,7 @@
 use Rattle.std.proofs.Common.{◌≡◌, drop}
 use Rattle.terminal_model.specs.Reading.{Terminal}
 use Rattle.emulator.specs.Standing.{StandsFor}
-use Rattle.web_client.specs.Hearing.{all_drawn, told, all_noted}
+use Rattle.web_client.specs.Hearing.{all_drawn, told, all_noted, KeepsSent}
 use Rattle.web_client.proofs.display.Display.hear_each.Given as goal
 
 abbrev pub invariant-loop-message : goal.invariant-loop-message
@@ -9,6 +9,7 @@ invariant-loop-message l = record {
   sheet : (t s : Terminal) → StandsFor l.fn.self.sheet.terminal t
       → s ≡ all_drawn t l.messages → (u : Terminal) × StandsFor l.self.sheet.terminal u
       × (s ≡ all_drawn u (drop l.message-index l.messages));
+  sent : KeepsSent l.fn.self.sheet l.self.sheet;
   reading : l.self.reading ≡ l.fn.self.reading;
   told : all_noted (told l.fn.self) l.messages ≡ all_noted (told l.self) (drop l.message-index l.messages);
 }

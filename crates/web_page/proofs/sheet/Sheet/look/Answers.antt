@@ -1,10 +1,10 @@
-use Rattle.std.proofs.Common.{arith, ◌<◌, ◌+◌, subst, refl}
+use Rattle.std.proofs.Common.{arith, ◌+◌, subst}
 use Rattle.web_page.specs.Showing.{Sheet, Looks}
-use Rattle.web_page.proofs.Updating.{still, looks, looked_at}
+use Rattle.web_page.proofs.Updating.{looks, looked_at}
 use Rattle.web_page.proofs.sheet.Sheet.look.Goals as goal
 
-pub returns : goal.returns
-returns c =
+pub returns-clause-looks : goal.returns-clause-looks
+returns-clause-looks c =
     let old : Sheet = record {
       terminal = c.self.inside.emulator;
       head = c.self.inside.head;

@@ -1,0 +1,56 @@
+-- Bytes that are added for a browser.
+use Rattle.std.proofs.Common.{◌≡◌, ℕ, List, [], ◌++◌, Option, None, Some, Result, Ok, Err, OnOk, OnErr, sym, ap, ◌∙◌}
+use Rattle.std.proofs.Common.{append_assoc, append-nil}
+use Rattle.terminal_model.specs.Reading.{Terminal}
+use Rattle.emulator.specs.Standing.{StandsFor}
+use Rattle.web_page.specs.Laying.{Shown, page_of}
+use Rattle.websocket.specs.declared.error.Error.{Error}
+use Rattle.websocket.specs.declared.protocol.config.Role.{Role}
+use Rattle.websocket.specs.declared.protocol.frame.coding.OpCode.TheVariants as code
+use Rattle.websocket.specs.declared.protocol.frame.coding.Data.TheVariants.{Text}
+use Rattle.websocket.specs.Connection.{Connection, Effect, Outgoing, Sends}
+use Rattle.websocket.specs.View.{Leaves}
+use Rattle.web_client.specs.declared.wire.Wire.{Wire}
+use Rattle.web_client.specs.Hearing.{Display}
+use Rattle.web_client.specs.Rows.{SendsText, Adds, IsAsFar, SendsPage, Shows}
+
+-- what a reply adds
+pub adds : (role : Role) (reply : Option Outgoing) (old new : List ℕ) → Sends role reply old new
+    → (more : List ℕ) × (new ≡ old ++ more)
+adds role None old new h = ([], h ∙ sym (append-nil old))
+adds role (Some frame) old new h = (_, h.2)
+
+pub leaves_adds : (r : Result Effect Error) (conn : Connection) (old new : List ℕ) → Leaves r conn old new
+    → (more : List ℕ) × (new ≡ old ++ more)
+leaves_adds (Err e) conn old new h = absurd h
+leaves_adds (Ok effect) conn old new h = adds conn.role effect.reply old new h.1
+
+-- what a close adds, whether it succeeds or not
+pub either_adds : {A E : Type 0} (result : Result A E) (r : Result Effect Error) (conn : Connection) (old new : List ℕ)
+    → OnOk result (Leaves r conn old new) → OnErr result (new ≡ old) → (more : List ℕ) × (new ≡ old ++ more)
+either_adds (Ok v) r conn old new h k = leaves_adds r conn old new h
+either_adds (Err e) r conn old new h k = ([], k ∙ sym (append-nil old))
+
+pub text_adds : (text : List ℕ) (old new : Wire) → SendsText text old new → Adds old new
+text_adds text old new h =
+    adds old.context.role (Some (record { opcode = code.Data Text; payload = text })) old.output.items
+    new.output.items h.frame
+
+pub same_adds : (old new : Wire) → new ≡ old → Adds old new
+same_adds old new e = ([], ap (λ (w : Wire). w.output.items) e ∙ sym (append-nil old.output.items))
+
+pub both_add : (a b c : Wire) → Adds a b → Adds b c → Adds a c
+both_add a b c h k = (
+  h.0 ++ k.0,
+  k.1 ∙ ap (λ (l : List ℕ). l ++ k.0) h.1 ∙ append_assoc a.output.items h.0 k.0,
+)
+
+-- rows that were sent between other bytes
+pub shows : {A E : Type 0} (result : Result A E) (old : Display) (since : ℕ) (before v w : Wire) (new : Display)
+    (later : ℕ) (after : Wire) → Adds before v → OnOk result (Adds w after)
+    → ((t : Terminal) (b : Shown) → StandsFor old.sheet.terminal t → IsAsFar since old.sheet b
+    → SendsPage t b v w × StandsFor new.sheet.terminal t × IsAsFar later new.sheet (page_of t.screen))
+    → OnOk result (Shows old since before new later after)
+shows (Ok x) old since before v w new later after h k f = λ t b s a.
+    let sent = f t b s a in (v, w, h, sent.0, k, sent.1, sent.2)
+shows (Err e) old since before v w new later after h k f = tt

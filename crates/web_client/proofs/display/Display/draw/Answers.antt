@@ -1,0 +1,8 @@
+use Rattle.std.proofs.Common.{subst}
+use Rattle.web_client.specs.Hearing.{Display, KeepsSent}
+use Rattle.web_client.proofs.display.Display.draw.Goals as goal
+
+pub returns-clause-sent : goal.returns-clause-sent
+returns-clause-sent c =
+    subst (λ (d : Display). KeepsSent d.sheet c.read.new.self) c.self.view_is
+    (c.read.ensures.moment, c.read.ensures.browsers)

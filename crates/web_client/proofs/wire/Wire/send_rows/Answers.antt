@@ -1,0 +1,32 @@
+use Rattle.std.proofs.Common.{ℕ, List, inl, inr, refl, sym, ◌∙◌, subst}
+use Rattle.web_page.specs.Laying.{Shown, page_of}
+use Rattle.web_page.specs.Showing.{IsShown}
+use Rattle.web_client.specs.Rows.{SendsText}
+use Rattle.web_client.proofs.wire.Wire.send_rows.Goals as goal
+
+pub returns-in_ok-send_text-in-Some-clause-rows : goal.returns-in_ok-send_text-in-Some-clause-rows
+returns-in_ok-send_text-in-Some-clause-rows c = λ t b w h.
+    let made = rw c.in-Some.is at (c.in_ok-text.ensures.shows t b w h) in
+    let then = c.in_ok-text.ensures.then t w in (
+      inr (
+        made.0,
+        made.2,
+        subst (λ (l : List ℕ). SendsText l c.args.self.now c.send_text.new.self)
+            (c.as_str.ensures.value ∙ made.1) c.in_ok-send_text-in-Some.ensures,
+      ),
+      then.0,
+      inr (subst (λ (n : ℕ). IsShown n c.update.new.self.sheet (page_of t.screen)) (sym c.moment-view.ensures) then.1),
+    )
+
+pub returns-in-None-clause-rows : goal.returns-in-None-clause-rows
+returns-in-None-clause-rows c = λ t b w h.
+    let same = rw c.in-None.is at (c.in_ok-text.ensures.shows t b w h) in
+    let then = c.in_ok-text.ensures.then t w in (
+      inl (refl, same),
+      then.0,
+      elim h [
+        | inl e ↦ inl e
+        | inr s ↦ inr (subst (λ (x : Shown). IsShown c.args.view.now.since c.update.new.self.sheet x) same
+            (c.in_ok-text.ensures.browsers c.args.view.now.since b s))
+      ],
+    )

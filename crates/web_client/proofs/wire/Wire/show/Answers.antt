@@ -1,0 +1,30 @@
+use Rattle.std.proofs.Common.{◌≡◌, ℕ, Option, IfSome, OnOk, sym, ap, ◌∙◌, subst}
+use Rattle.attach_proto.specs.declared.why.Why.{Why}
+use Rattle.web_client.specs.declared.wire.Stage.TheVariants.{Last}
+use Rattle.web_client.specs.Hearing.{Display, Told}
+use Rattle.web_client.specs.Rows.{IsAsFar}
+use Rattle.web_client.proofs.Rows.{shows}
+use Rattle.web_client.proofs.wire.Wire.show.Goals as goal
+use Rattle.web_client.proofs.wire.Wire.show.Goals.{then-is_due+in_ok-send_rows, else-is_due}
+
+pub returns-clause-due : goal.returns-clause-due
+returns-clause-due c = λ due.
+    elim c.if-is_due.branch [
+      | then-is_due+in_ok-send_rows w ↦
+          shows c.end.result c.args.display.now c.args.view.now.since c.args.self.now c.welcome.new.self
+          c.if-is_due.self c.if-is_due.display c.if-is_due.view.since c.end.new.self
+          c.in_ok-welcome.ensures.adds c.end.ensures.adds
+          (λ t b s f. rw (w.self-is, w.view-is, w.display-is) (w.in_ok-send_rows.ensures.rows t b s
+          (subst (λ (n : ℕ). IsAsFar n c.args.display.now.sheet b) (sym c.welcome.ensures.since) f)))
+      | else-is_due w ↦ absurd (cc (w.if-is_due.false, c.is_due-is_due.ensures.1 due))
+    ]
+
+pub returns-clause-gone : goal.returns-clause-gone
+returns-clause-gone c =
+    let same : c.if-is_due.display.gone ≡ c.args.display.now.gone =
+    elim c.if-is_due.branch [
+      | then-is_due+in_ok-send_rows w ↦
+          ap (λ (d : Display). d.gone) w.display-is ∙ ap (λ (t : Told). t.gone) w.send_rows.ensures.told
+      | else-is_due w ↦ ap (λ (d : Display). d.gone) w.display-is
+    ] in
+    subst (λ (g : Option Why). IfSome g (λ _. OnOk c.end.result (c.end.new.self.stage ≡ Last))) same c.end.ensures.gone

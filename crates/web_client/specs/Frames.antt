@@ -1,0 +1,170 @@
+-- The frames of a page: how they are read from its WebSocket, and what their messages do.
+use Rattle.std.specs.Prelude.{◌≡◌, ◌⊎◌, ℕ, zero, suc, false, List, [], drop, Option, Some, None, Ok, Err}
+use Rattle.websocket.specs.declared.error.Error.{Error}
+use Rattle.websocket.specs.declared.protocol.frame.codec.FrameStatus.TheVariants.{Partial, Complete}
+use Rattle.websocket.specs.declared.protocol.config.Role.TheVariants.{Server}
+use Rattle.websocket.specs.declared.protocol.state.WebSocketState.TheVariants.{Active}
+use Rattle.websocket.specs.Content.{Content, text, binary, ping, pong, close}
+use Rattle.websocket.specs.Connection.{Connection, Effect, read_step, StartsWithFragment, ReadAsksReply}
+use Rattle.web_client.specs.declared.seat.Seat.{Seat}
+use Rattle.web_client.specs.declared.seat.Seat.TheVariants.{Nobody, Own, Watching, Unknown, Left}
+use Rattle.web_client.specs.declared.wire.Stage.{Stage}
+use Rattle.web_client.specs.declared.wire.Stage.TheVariants.{Request, Socket, Last}
+use Rattle.web_client.specs.declared.visitor.Frame.{Frame}
+use Rattle.web_client.specs.declared.visitor.Frame.TheVariants as frame
+use Rattle.web_client.specs.declared.visitor.Visitor.{Visitor}
+use Rattle.web_client.specs.Asking.{Takes, Keeps}
+use Rattle.web_client.specs.Judging.{IsAllowed}
+
+-- how far a page's connection is, its WebSocket, the bytes that came and weren't read, and its seat
+pub record Page : Type 0 where
+  pub stage : Stage
+  pub socket : Connection
+  pub waiting : List ℕ
+  pub seat : Seat
+
+abbrev pub page : Visitor → Page
+page v = record { stage = v.wire.stage; socket = v.wire.context; waiting = v.input.items; seat = v.seat }
+
+-- a WebSocket of a server that has read nothing: frames are masked, and no message is longer than a kind and a payload
+abbrev pub fresh : Connection
+fresh = record {
+  role = Server;
+  state = Active;
+  config = record { max_message_size = Some 8193; max_frame_size = Some 8193; accept_unmasked_frames = false };
+  fragments = None;
+}
+
+-- a connection that has sent nothing
+abbrev pub begun : Page
+begun = record { stage = Request; socket = fresh; waiting = []; seat = Nobody }
+
+-- ---- frames
+
+-- The message that a frame has for the bridge. A page sends no texts: one counts as an empty message, which is wrong.
+abbrev pub Says : Option Content → List ℕ → Type 0
+Says (Some (binary bytes)) message = message ≡ bytes
+Says (Some (text bytes)) message = message ≡ []
+Says _ message = ⊥
+
+-- a part of a message, a ping or a pong
+abbrev pub SaysNothing : Option Content → Type 0
+SaysNothing None = Unit {0}
+SaysNothing (Some (ping bytes)) = Unit {0}
+SaysNothing (Some (pong bytes)) = Unit {0}
+SaysNothing _ = ⊥
+
+abbrev pub Closes : Option Content → Type 0
+Closes (Some (close reason)) = Unit {0}
+Closes _ = ⊥
+
+-- what a frame that was read says
+abbrev pub IsSaid : Option Content → Frame → Type 0
+IsSaid content frame.None = Closes content
+IsSaid content frame.Other = SaysNothing content
+IsSaid content (frame.Message message) = Says content message.items
+
+-- the bytes that wait begin with this frame: how many bytes it has, and what it does by the WebSocket's protocol
+abbrev pub BeginsWith : Page → (ℕ × Effect) → Type 0
+BeginsWith p f = read_step p.socket p.waiting ≡ Ok (Complete f)
+
+-- they are less than a whole frame
+abbrev pub Waits : Page → Type 0
+Waits p = (needed : ℕ) × (read_step p.socket p.waiting ≡ Ok (Partial needed))
+
+-- their frame breaks the protocol; or memory was refused, for a part of a message or for a reply
+abbrev pub IsBroken : Page → Type 0
+IsBroken p =
+    ((e : Error) × (read_step p.socket p.waiting ≡ Err e))
+    ⊎ (StartsWithFragment p.socket p.waiting ⊎ ReadAsksReply (read_step p.socket p.waiting))
+
+-- the frame was read
+pub record IsRead (f : ℕ × Effect) (old new : Page) : Type 0 where
+  pub next : BeginsWith old f
+  pub stage : new.stage ≡ old.stage
+  pub socket : new.socket ≡ f.1.next
+  pub waiting : new.waiting ≡ drop f.0 old.waiting
+
+-- one frame: it was read, or it isn't whole, or the connection ends at it
+abbrev pub Reads : Page → Frame → Page → Type 0
+Reads old frame.None new =
+    (Waits old × (new ≡ old))
+    ⊎ ((new.stage ≡ Last) × (IsBroken old ⊎ ((f : ℕ × Effect) × BeginsWith old f × Closes f.1.message)))
+Reads old frame.Other new = (f : ℕ × Effect) × IsRead f old new × SaysNothing f.1.message
+Reads old (frame.Message message) new = (f : ℕ × Effect) × IsRead f old new × Says f.1.message message.items
+
+-- ---- messages
+
+-- a browser whose name no user can have, or that has left: its connection ends
+abbrev pub IsOut : Seat → Type 0
+IsOut Nobody = ⊥
+IsOut (Own c) = ⊥
+IsOut (Watching rows columns) = ⊥
+IsOut Unknown = Unit {0}
+IsOut Left = Unit {0}
+
+-- a message that is taken, and after which the connection goes on
+abbrev pub GoesOn : Seat → List ℕ → Seat → Type 0
+GoesOn before message after = Takes before message after × (IsOut after → ⊥)
+
+-- a message at which the connection ends: it isn't allowed, or it is the last
+abbrev pub EndsWith : {A : Type 0} → Option A → Seat → List ℕ → Seat → Type 0
+EndsWith watcher before message after =
+    ((IsAllowed watcher before message → ⊥) × Keeps before after) ⊎ (Takes before message after × IsOut after)
+
+pub record GoesOnBy (message : List ℕ) (old new : Page) : Type 0 where
+  pub stage : new.stage ≡ old.stage
+  pub socket : new.socket ≡ old.socket
+  pub waiting : new.waiting ≡ old.waiting
+  pub seat : GoesOn old.seat message new.seat
+
+abbrev pub TakesMessage : {A : Type 0} → Option A → List ℕ → Page → Page → Type 0
+TakesMessage watcher message old new =
+    GoesOnBy message old new ⊎ ((new.stage ≡ Last) × EndsWith watcher old.seat message new.seat)
+
+-- ---- any number of frames
+
+-- a frame was read, and its message taken
+pub record TakesFrame (old new : Page) : Type 0 where
+  pub frame : ℕ × Effect
+  pub read : IsRead frame old new
+  pub taken : (SaysNothing frame.1.message × (new.seat ≡ old.seat))
+      ⊎ ((message : List ℕ) × Says frame.1.message message × GoesOn old.seat message new.seat)
+
+unfoldable pub TakesFrames : ℕ → Page → Page → Type 0
+TakesFrames zero old new = new ≡ old
+TakesFrames (suc n) old new = (between : Page) × TakesFrames n old between × TakesFrame between new
+
+-- the connection ends at the next frame, which isn't read, or whose message is the last or wrong
+abbrev pub EndsAt : {A : Type 0} → Option A → Page → Seat → Type 0
+EndsAt watcher p after =
+    (IsBroken p × (after ≡ p.seat))
+    ⊎ (((f : ℕ × Effect) × BeginsWith p f × Closes f.1.message × (after ≡ p.seat))
+    ⊎ ((f : ℕ × Effect) × (message : List ℕ) × BeginsWith p f × Says f.1.message message
+    × EndsWith watcher p.seat message after))
+
+-- All frames that are whole were read, one after another, and their messages taken, up to one at which the
+-- connection ends.
+abbrev pub TakesAll : {A : Type 0} → Option A → Page → Page → Type 0
+TakesAll watcher old new =
+    (n : ℕ) × (last : Page) × TakesFrames n old last
+    × ((Waits last × (new ≡ last)) ⊎ ((new.stage ≡ Last) × EndsAt watcher last new.seat))
+
+-- A page's request isn't whole yet, or its answer is the last, or a WebSocket begins after its bytes.
+abbrev pub Answers : Page → Page → Type 0
+Answers old new =
+    (new ≡ old)
+    ⊎ (((new.stage ≡ Last) × (new.seat ≡ old.seat))
+    ⊎ ((n : ℕ) × (new ≡ record old { stage = Socket; waiting = drop n old.waiting })))
+
+abbrev pub TakesRequest : {A : Type 0} → Option A → Page → Page → Type 0
+TakesRequest watcher old new =
+    (new ≡ old)
+    ⊎ (((new.stage ≡ Last) × (new.seat ≡ old.seat))
+    ⊎ ((n : ℕ) × TakesAll watcher (record old { stage = Socket; waiting = drop n old.waiting }) new))
+
+-- what came of a browser is taken
+abbrev pub TakesBytes : {A : Type 0} → Option A → Stage → Page → Page → Type 0
+TakesBytes watcher Request old new = TakesRequest watcher old new
+TakesBytes watcher Socket old new = TakesAll watcher old new
+TakesBytes watcher Last old new = new ≡ old
