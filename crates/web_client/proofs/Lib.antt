@@ -1,5 +1,4 @@
 pub mod Writing
-pub mod Hearing
 pub mod Tokens
 pub mod Adding
 pub mod Passing

@@ -6,7 +6,7 @@ use Rattle.attach_proto.specs.declared.message.Message.TheVariants.{Attach}
 use Rattle.attach_proto.specs.Spelling.{spelling}
 use Rattle.attach_proto.specs.Texts.{token_of, is_token}
 use Rattle.web_client.specs.declared.client.Client.{Client}
-use Rattle.web_client.specs.Hearing.{IsBlank}
+use Rattle.web_page.specs.Hearing.{IsBlank}
 use Rattle.web_client.specs.Asking.{lines_in, columns_in, IsLogin}
 
 chosen : (is : Bool) (bytes token : List ℕ) → Some token ≡ (if is then Some bytes else None) → token ≡ bytes

@@ -3,7 +3,7 @@ use Rattle.std.proofs.Common.{◌≡◌, ℕ, List, [], ◌∷◌, ◌++◌, len
 use Rattle.attach_proto.specs.declared.message.Message.TheVariants.{Keys, Resize, Detach}
 use Rattle.attach_proto.specs.Spelling.{spelling}
 use Rattle.web_client.specs.declared.client.Client.{Client}
-use Rattle.web_client.specs.Hearing.{IsResized}
+use Rattle.web_page.specs.Hearing.{IsResized}
 use Rattle.web_client.specs.Asking.{lines_in, columns_in, Passes}
 
 pub pass_keys : (message keys : List ℕ) (before after : Client) → message ≡ 0x4B ∷ keys

@@ -11,7 +11,7 @@ use Rattle.websocket.specs.declared.protocol.frame.coding.Data.TheVariants.{Text
 use Rattle.websocket.specs.Connection.{Connection, Effect, Outgoing, Sends}
 use Rattle.websocket.specs.View.{Leaves}
 use Rattle.web_client.specs.declared.wire.Wire.{Wire}
-use Rattle.web_client.specs.Hearing.{Display}
+use Rattle.web_page.specs.Hearing.{Display}
 use Rattle.web_client.specs.Rows.{SendsText, Adds, IsAsFar, SendsPage, Shows}
 
 -- what a reply adds

@@ -7,7 +7,7 @@ use Rattle.attach_proto.specs.Streams.{Reading}
 use Rattle.web_page.specs.Showing.{Sheet}
 use Rattle.web_page.proofs.Blank.{same-blank}
 use Rattle.web_client.specs.declared.client.Client.{Client}
-use Rattle.web_client.specs.Hearing.{Display, IsBlank}
+use Rattle.web_page.specs.Hearing.{Display, IsBlank}
 use Rattle.web_client.specs.Asking.{lines_in, columns_in, IsLogin}
 
 -- the first bytes decide a byte among them

@@ -9,7 +9,7 @@ use Rattle.attach_proto.specs.Spelling.{spelling}
 use Rattle.web_client.specs.declared.client.Client.{Client}
 use Rattle.web_client.specs.declared.seat.Seat.{Seat}
 use Rattle.web_client.specs.declared.seat.Seat.TheVariants.{Nobody, Own, Watching, Unknown, Left}
-use Rattle.web_client.specs.Hearing.{Display, IsBlank, IsResized}
+use Rattle.web_page.specs.Hearing.{Display, IsBlank, IsResized}
 
 -- ---- messages
 

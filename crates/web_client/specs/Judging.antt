@@ -5,8 +5,8 @@ use Rattle.web_page.specs.declared.sheet.SheetFault.{SheetFault}
 use Rattle.web_page.specs.declared.sheet.SheetFault.TheVariants as sheet
 use Rattle.web_client.specs.declared.wire.End.{End}
 use Rattle.web_client.specs.declared.wire.End.TheVariants as end
-use Rattle.web_client.specs.declared.fault.ClientFault.{ClientFault}
-use Rattle.web_client.specs.declared.fault.ClientFault.TheVariants as client
+use Rattle.web_page.specs.declared.fault.ClientFault.{ClientFault}
+use Rattle.web_page.specs.declared.fault.ClientFault.TheVariants as client
 use Rattle.web_client.specs.declared.seat.Seat.{Seat}
 use Rattle.web_client.specs.declared.seat.Seat.TheVariants.{Nobody, Own, Watching, Unknown, Left}
 use Rattle.web_client.specs.declared.seat.SeatFault.{SeatFault}

@@ -1,5 +1,4 @@
 pub mod Sending
-pub mod Hearing
 pub mod Asking
 pub mod Judging
 pub mod Frames

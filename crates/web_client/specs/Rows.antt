@@ -9,7 +9,7 @@ use Rattle.web_page.specs.Updates.{Update, spelled}
 use Rattle.web_page.specs.Laying.{Shown, laid, page_of}
 use Rattle.web_page.specs.Showing.{Sheet, IsShown}
 use Rattle.web_client.specs.declared.wire.Wire.{Wire}
-use Rattle.web_client.specs.Hearing.{Display}
+use Rattle.web_page.specs.Hearing.{Display}
 
 -- a frame with this text comes after the bytes on their way to the browser
 pub record SendsText (text : List ℕ) (old new : Wire) : Type 0 where

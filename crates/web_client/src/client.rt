@@ -3,16 +3,15 @@
 ghost use Rattle.std.specs.Prelude.{◌≡◌, ◌++◌, ◌≤◌, ℕ, List, length, IfOk, OnOk, OnErr, IfErr};
 ghost use Rattle.attach_proto.specs.Spelling.{spelling, IsSpellable};
 ghost use Rattle.web_client.specs.Sending.{IsSent};
-ghost use Rattle.web_client.specs.Hearing.{IsBlank, IsResized};
+ghost use Rattle.web_page.specs.Hearing.{IsBlank, IsResized};
 ghost use Rattle.web_client.specs.Judging.{IsTyped, FailsFor};
 
-use crate::display::Display;
-use crate::fault::ClientFault;
 use crate::outgoing::Outgoing;
 use attach_proto::{Bytes, Message, Text, Token, WriteFault, write_message};
 use std::alloc::Global;
 use std::io;
 use std::io::Write;
+use web_page::{ClientFault, Display};
 
 /// A client of the server, over a connection of its own.
 #[derive(Drop)]

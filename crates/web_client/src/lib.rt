@@ -3,8 +3,6 @@
 #![tactic(auto)]
 
 mod client;
-mod display;
-mod fault;
 mod front;
 mod laws;
 mod outgoing;
@@ -15,12 +13,11 @@ mod visitor;
 mod wire;
 
 pub use client::Client;
-pub use display::Display;
-pub use fault::ClientFault;
 pub use front::drop_front;
 pub use laws::tokens_change_no_display;
 pub use requests::refusal;
 pub use seat::{Seat, fitted};
 pub use site::{Site, SiteFile, Watcher};
 pub use visitor::Visitor;
+pub use web_page::{ClientFault, Display};
 pub use wire::End;

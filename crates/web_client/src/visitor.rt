@@ -8,7 +8,6 @@ ghost use Rattle.web_client.specs.Sending.{IsReceived};
 ghost use Rattle.web_client.specs.Rows.{IsDue, Shows};
 ghost use Rattle.web_client.specs.Frames.{page, begun, IsSaid, Reads, Answers, TakesMessage, TakesAll, TakesBytes};
 
-use crate::display::Display;
 use crate::front::drop_front;
 use crate::requests::{Answer, Opening, answered, refusal};
 use crate::seat::{Seat, SeatFault};
@@ -18,6 +17,7 @@ use attach_proto::Why;
 use std::alloc::Global;
 use std::io;
 use std::io::Read;
+use web_page::Display;
 use websocket::protocol::{CloseCode, FrameStatus, Message, NoMask, Received};
 
 /// While more bytes wait for the server, the browser isn't read.

@@ -5,15 +5,14 @@ ghost use Rattle.terminal_model.specs.Reading.{Terminal};
 ghost use Rattle.emulator.specs.Standing.{StandsFor};
 ghost use Rattle.web_page.specs.Laying.{Shown, page_of};
 ghost use Rattle.web_client.specs.Judging.{end_of};
-ghost use Rattle.web_client.specs.Hearing.{told};
+ghost use Rattle.web_page.specs.Hearing.{told};
 ghost use Rattle.web_client.specs.Frames.{fresh};
 ghost use Rattle.web_client.specs.Rows.{SendsText, IsAsFar, SendsPage, Adds, IsDue, Shows};
 ghost use Rattle.web_client.specs.declared.wire.End.TheVariants as end;
 
-use crate::display::Display;
 use attach_proto::Why;
 use std::alloc::{AllocError, AllocFailed, Global};
-use web_page::{SheetFault, put_text};
+use web_page::{Display, SheetFault, put_text};
 use websocket::protocol::{
     CloseCode, CloseFrame, Message, NoMask, Role, WebSocketConfig, WebSocketContext,
 };

@@ -4,3 +4,4 @@ pub mod Looking
 pub mod Updating
 pub mod Harmless
 pub mod Blank
+pub mod Hearing

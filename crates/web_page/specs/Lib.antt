@@ -6,3 +6,4 @@ pub mod Laying
 pub mod Showing
 pub mod Failing
 pub mod Vacant
+pub mod Hearing

@@ -1,7 +1,10 @@
-//! What a browser shows of a terminal: rows of text, and what changed in them since they were sent.
+//! What a browser shows: whether the server let it in, and rows of text, with what changed in them
+//! since they were sent.
 #![tactic(auto)]
 
 mod character;
+mod display;
+mod fault;
 mod head;
 mod laws;
 mod line;
@@ -11,5 +14,7 @@ mod style;
 mod vacant;
 
 pub use character::put_text;
+pub use display::Display;
+pub use fault::ClientFault;
 pub use laws::{blank_sheets_are_equal, texts_hold_no_markup};
 pub use sheet::{Sheet, SheetFault};

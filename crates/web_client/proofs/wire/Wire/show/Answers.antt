@@ -1,7 +1,7 @@
 use Rattle.std.proofs.Common.{◌≡◌, ℕ, Option, IfSome, OnOk, sym, ap, ◌∙◌, subst}
 use Rattle.attach_proto.specs.declared.why.Why.{Why}
 use Rattle.web_client.specs.declared.wire.Stage.TheVariants.{Last}
-use Rattle.web_client.specs.Hearing.{Display, Told}
+use Rattle.web_page.specs.Hearing.{Display, Told}
 use Rattle.web_client.specs.Rows.{IsAsFar}
 use Rattle.web_client.proofs.Rows.{shows}
 use Rattle.web_client.proofs.wire.Wire.show.Goals as goal

@@ -1,6 +1,6 @@
 use Rattle.std.proofs.Common.{subst}
-use Rattle.web_client.specs.Hearing.{Display, KeepsSent}
-use Rattle.web_client.proofs.display.Display.draw.Goals as goal
+use Rattle.web_page.specs.Hearing.{Display, KeepsSent}
+use Rattle.web_page.proofs.display.Display.draw.Goals as goal
 
 pub returns-clause-sent : goal.returns-clause-sent
 returns-clause-sent c =

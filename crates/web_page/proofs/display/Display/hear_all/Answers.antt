@@ -1,8 +1,8 @@
 use Rattle.std.proofs.Common.{◌∙◌, Err, ap, subst}
 use Rattle.std.proofs.lemmas.Result.{err_from_is_err_and}
-use Rattle.web_client.specs.Hearing.{Display, Hears, KeepsSent}
-use Rattle.web_client.proofs.Hearing.{heard, not_memory}
-use Rattle.web_client.proofs.display.Display.hear_all.Goals as goal
+use Rattle.web_page.specs.Hearing.{Display, Hears, KeepsSent}
+use Rattle.web_page.proofs.Hearing.{heard, not_memory}
+use Rattle.web_page.proofs.display.Display.hear_all.Goals as goal
 
 pub returns-clause-hears : goal.returns-clause-hears
 returns-clause-hears c = λ n.

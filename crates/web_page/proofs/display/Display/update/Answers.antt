@@ -1,7 +1,7 @@
 use Rattle.std.proofs.Common.{OnOk, subst}
 use Rattle.web_page.specs.Showing.{AreAsFar}
-use Rattle.web_client.specs.Hearing.{Display}
-use Rattle.web_client.proofs.display.Display.update.Goals as goal
+use Rattle.web_page.specs.Hearing.{Display}
+use Rattle.web_page.proofs.display.Display.update.Goals as goal
 
 pub returns-clause-browsers : goal.returns-clause-browsers
 returns-clause-browsers c =

@@ -11,14 +11,14 @@ ghost use Rattle.web_page.specs.Laying.{Shown, laid, page_of};
 ghost use Rattle.web_page.specs.Showing.{IsShown, AreAsFar, newer};
 ghost use Rattle.web_page.specs.Failing.{FailsAt, IsNext};
 ghost use Rattle.web_page.specs.Vacant.{IsVacant};
-ghost use Rattle.web_client.specs.Hearing.{IsBlank, IsResized, drawn, all_drawn, Hears, KeepsSent};
-ghost use Rattle.web_client.specs.Hearing.{told, refused, noted, all_noted, FailsToHear};
+ghost use Rattle.web_page.specs.Hearing.{IsBlank, IsResized, drawn, all_drawn, Hears, KeepsSent};
+ghost use Rattle.web_page.specs.Hearing.{told, refused, noted, all_noted, FailsToHear};
 
 use crate::fault::ClientFault;
+use crate::sheet::{Sheet, SheetFault};
 use attach_proto::{Message, Reader, Side, Text, Why};
 use std::alloc::Global;
 use std::marker::Model;
-use web_page::{Sheet, SheetFault};
 
 /// What the server has told a client.
 pub struct Display {
@@ -48,7 +48,7 @@ impl Drop for Display {
 }
 
 impl Model for Display {
-    ghost use Rattle.web_client.specs.Hearing.{Display as Heard};
+    ghost use Rattle.web_page.specs.Hearing.{Display as Heard};
 
     ghost Value = { Heard };
 

@@ -2,9 +2,9 @@ use Rattle.std.proofs.Common.{◌+◌, arith, ap, sym, ◌∙◌, refl, subst, d
 use Rattle.attach_proto.specs.declared.message.Message.{Message}
 use Rattle.terminal_model.specs.Reading.{Terminal}
 use Rattle.emulator.specs.Standing.{StandsFor}
-use Rattle.web_client.specs.Hearing.{drawn, all_drawn, Told, told, noted, all_noted}
-use Rattle.web_client.proofs.Hearing.{one_more, none_more, one_told, none_told, kept_on}
-use Rattle.web_client.proofs.display.Display.hear_each.Goals as goal
+use Rattle.web_page.specs.Hearing.{drawn, all_drawn, Told, told, noted, all_noted}
+use Rattle.web_page.proofs.Hearing.{one_more, none_more, one_told, none_told, kept_on}
+use Rattle.web_page.proofs.display.Display.hear_each.Goals as goal
 
 pub loop-message-preserved : goal.loop-message-preserved
 loop-message-preserved c = record {

@@ -1,7 +1,7 @@
 use Rattle.std.proofs.Common.{OnOk, subst, refl}
-use Rattle.web_client.specs.Hearing.{Display, IsResized}
-use Rattle.web_client.proofs.display.Display.resize.Goals as goal
-use Rattle.web_client.proofs.display.Display.resize.Goals.{in-Ok, in-Err}
+use Rattle.web_page.specs.Hearing.{Display, IsResized}
+use Rattle.web_page.proofs.display.Display.resize.Goals as goal
+use Rattle.web_page.proofs.display.Display.resize.Goals.{in-Ok, in-Err}
 
 pub returns-clause-ok : goal.returns-clause-ok
 returns-clause-ok c =

@@ -8,11 +8,11 @@ use Rattle.attach_proto.specs.declared.message.Message.{Message}
 use Rattle.attach_proto.specs.Streams.{Reading, HasRead, TakesPiece}
 use Rattle.terminal_model.specs.Reading.{Terminal}
 use Rattle.web_page.specs.Showing.{Sheet}
-use Rattle.web_client.specs.declared.fault.ClientFault.{ClientFault}
-use Rattle.web_client.specs.declared.fault.ClientFault.TheVariants as client
+use Rattle.web_page.specs.declared.fault.ClientFault.{ClientFault}
+use Rattle.web_page.specs.declared.fault.ClientFault.TheVariants as client
 use Rattle.emulator.specs.Standing.{StandsFor}
-use Rattle.web_client.specs.Hearing.{Display, drawn, all_drawn, Told, told, noted, all_noted, Hears, KeepsSent}
-use Rattle.web_client.specs.Hearing.{heard_fault}
+use Rattle.web_page.specs.Hearing.{Display, drawn, all_drawn, Told, told, noted, all_noted, Hears, KeepsSent}
+use Rattle.web_page.specs.Hearing.{heard_fault}
 
 pub one_more : (messages : List Message) (i : ℕ) (d : Message) (t : Terminal) → i < length messages
     → all_drawn t (drop i messages) ≡ all_drawn (drawn t (get_or messages i d)) (drop (i + 1) messages)

@@ -1,8 +1,8 @@
 //! Why a client ends.
 
 ghost use Rattle.std.specs.Prelude.{◌≡◌};
-ghost use Rattle.web_client.specs.Hearing.{heard_fault};
-ghost use Rattle.web_client.specs.declared.fault.ClientFault.TheVariants as client;
+ghost use Rattle.web_page.specs.Hearing.{heard_fault};
+ghost use Rattle.web_page.specs.declared.fault.ClientFault.TheVariants as client;
 
 use attach_proto::ProtoFault;
 use std::alloc::AllocError;
