@@ -12,4 +12,8 @@ pub mod LineRuns
 pub mod Texts
 pub mod CellRuns
 pub mod Lettered
+pub mod TextSpec
+pub mod Overs
+pub mod Known
+pub mod TextRuns
 pub mod LetterRuns
