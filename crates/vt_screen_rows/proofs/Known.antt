@@ -1,15 +1,21 @@
 -- Letters, marks and known wide characters stand for themselves, and their widths are read off the width table.
-use Rattle.std.proofs.Common.{◌≡◌, ℕ, suc, ◌<◌, ◌≤◌, Bool, true, false, ◌&&◌, ◌||◌, nat_le, ltb, Option, Some, List, []}
+use Rattle.std.proofs.Common.{◌≡◌, ℕ, zero, suc, None, ◌<◌, ◌≤◌, Bool, true, false, ◌&&◌, ◌||◌, nat_le, ltb, Option, Some, List, []}
 use Rattle.std.proofs.Common.{◌∷◌, refl, sym, ap, ◌∙◌, arith, inl, inr, eqb, cond, eqb-true, le-leb, leb-true, ltb-true}
 use Rattle.std.specs.Prelude.{slice_index_or}
 use Rattle.std.proofs.lemmas.Bool.{and_parts, cases_Bool, cases_eq, cases_lt, cond-true, cond-false, lt-leb}
 use Rattle.std.proofs.lemmas.Bool.Decides.{nat_tests}
+use Rattle.charsets.specs.declared.shifts.Shifts.{Shifts}
 use Rattle.charsets.specs.declared.unit.Unit.TheVariants.{Code}
-use Rattle.charsets.specs.Shifts.{is_graphic}
+use Rattle.charsets.specs.Shifts.{is_graphic, is_position, mapped, spent}
 use Rattle.charsets.specs.Units.{is_plain}
 use Rattle.cells.specs.Glyph.{drawn_as, glyph_columns}
-use Rattle.vt_screen_rows.proofs.TextSpec.{is_known_wide, is_letter, is_mark}
-use Rattle.terminal_model.specs.Printing.{columns_of, drawn}
+use Rattle.cells.specs.Texts.{is_known_wide, is_letter, is_mark}
+use Rattle.terminal_model.specs.declared.action.Action.TheVariants.{Print}
+use Rattle.terminal_model.specs.declared.state.State.{State}
+use Rattle.terminal_model.specs.Screen.{Screen, with_state}
+use Rattle.terminal_model.specs.Scrollback.{is_wrapped}
+use Rattle.terminal_model.specs.Printing.{columns_of, drawn, printed, printed_as}
+use Rattle.terminal_model.specs.Table.{acted, acted_from}
 use Rattle.terminal_model.proofs.Plain.{columns-plain, drawn-plain}
 use Rattle.ucd_table.specs.Steps.{Step, step_value}
 use Rattle.ucd_table.proofs.Computing.{tables}
@@ -19,6 +25,7 @@ use Rattle.unicode_width.specs.declared.kind.Kind.TheVariants as kinds
 use Rattle.unicode_width.specs.Kind.{kind, kind_number, number_of_kind}
 use Rattle.unicode_width.specs.Width.{alone, char_width, of_kind}
 use Rattle.unicode_width.proofs.KindLemmas.{kind_number_stepped}
+use Rattle.vt_screen_rows.specs.Places.{acted_places, printed_places, wrapped_places}
 
 -- the width of each kind by its number, outside of East Asian contexts; 9 for the last one, whose characters differ
 abbrev width_of : ℕ → ℕ
@@ -196,3 +203,43 @@ known_letter c h =
                 refl
           ]
     ]
+
+pub printed_known : (x : Screen) (c w : ℕ) → IsKnown c w → printed (Some c) x ≡ printed_as w c x
+printed_known x c w k = ap (λ (n : ℕ). printed_as n (drawn c) x) k.columns ∙ ap (λ (d : ℕ). printed_as w d x) k.drawn
+
+pub places_known : (s : State) (c w : ℕ) (places : List ℕ) → IsKnown c w
+    → printed_places (Some c) s places ≡ wrapped_places (is_wrapped w s) s places
+places_known s c w places k = ap (λ (n : ℕ). wrapped_places (is_wrapped n s) s places) k.columns
+
+-- a character from U+00A0 on is in no set, and ends a single shift
+beyond_graphic : (c : ℕ) → 0xA0 ≤ c → is_graphic (Code c) ≡ true
+beyond_graphic c low = grind (arith, nat_tests)
+
+beyond_mapped : (s : Shifts) (c : ℕ) → 0xA0 ≤ c → mapped s (Code c) ≡ Some c
+unfolding mapped
+beyond_mapped s c low =
+    let set : is_position c ≡ false = grind (arith, nat_tests) in
+    rw (set, beyond_graphic c low) refl
+
+pub beyond_printed : (x : Screen) (c : ℕ) → 0xA0 ≤ c
+    → acted x (Print (Code c)) ≡ printed (Some c)
+    (with_state x (record x.state { shifts = record x.state.shifts { single = None } }))
+unfolding acted_from
+beyond_printed x c low =
+    ap (λ (o : Option ℕ). printed o (with_state x (record x.state { shifts = spent x.state.shifts (Code c) })))
+    (beyond_mapped x.state.shifts c low)
+    ∙ ap (λ (b : Bool). printed (Some c)
+    (with_state x (record x.state { shifts = cond b (record x.state.shifts { single = None }) x.state.shifts })))
+    (beyond_graphic c low)
+
+wrapped_still : (n : ℕ) (s : State) (shifts : Shifts) → is_wrapped n (record s { shifts = shifts }) ≡ is_wrapped n s
+wrapped_still zero s shifts = refl
+wrapped_still (suc zero) s shifts = refl
+wrapped_still (suc (suc n)) s shifts = refl
+
+pub beyond_places : (s : State) (c : ℕ) (places : List ℕ) → 0xA0 ≤ c
+    → printed_places (Some c) (record s { shifts = record s.shifts { single = None } }) places ≡ acted_places s
+    (Print (Code c)) places
+beyond_places s c places low =
+    ap (λ (b : Bool). wrapped_places b s places) (wrapped_still (columns_of c) s (record s.shifts { single = None }))
+    ∙ ap (λ (o : Option ℕ). printed_places o s places) (sym (beyond_mapped s.shifts c low))

@@ -12,7 +12,7 @@ use Rattle.cells.specs.declared.cell.Shape.{Shape}
 use Rattle.cells.specs.declared.cell.Shape.TheVariants.{Narrow, Left, Right}
 use Rattle.cells.specs.Line.{blank, cell_at, is_left, is_right, marked, IsPaired, cells_from, spliced}
 use Rattle.cells.specs.Page.{line_at, IsPage, page_from, page_marked, edited}
-use Rattle.vt_screen_rows.proofs.TextSpec.{whole, last_columns}
+use Rattle.cells.specs.Texts.{whole, last_columns}
 use Rattle.cells.proofs.Pages.{page_from-edited, IsPage-page_from}
 use Rattle.cells.proofs.Settling.{cell_at_past, length-cells_from, IsPaired-cells_from}
 use Rattle.terminal_model.specs.Places.{overlaid_cell}

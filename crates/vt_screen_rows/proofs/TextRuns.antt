@@ -1,9 +1,8 @@
 -- Characters that are printed one after another and fit in the line are one run.
-use Rattle.std.proofs.Common.{◌≡◌, ℕ, suc, ◌+◌, ◌-◌, ◌<◌, ◌≤◌, Bool, true, false, ◌&&◌, ◌||◌, cond, ltb, List, [], ◌∷◌}
+use Rattle.std.proofs.Common.{◌≡◌, ℕ, ◌+◌, ◌-◌, ◌<◌, ◌≤◌, Bool, true, false, ◌&&◌, ◌||◌, cond, ltb, List, [], ◌∷◌}
 use Rattle.std.proofs.Common.{◌++◌, length, Option, Some, refl, sym, ap, ◌∙◌, subst, arith, inl, inr, lt-ltb, length-append}
 use Rattle.std.specs.List.{list_all}
 use Rattle.std.proofs.lemmas.Bool.{and_parts, cases_Bool, ne_eqb}
-use Rattle.charsets.specs.declared.shifts.Place.{Place}
 use Rattle.charsets.specs.declared.shifts.Shifts.{Shifts}
 use Rattle.charsets.specs.declared.unit.Unit.TheVariants.{Code}
 use Rattle.charsets.specs.Shifts.{spent}
@@ -12,14 +11,13 @@ use Rattle.cells.specs.declared.cell.Cell.{Cell}
 use Rattle.cells.specs.declared.cell.Rendition.{Rendition}
 use Rattle.cells.specs.Line.{IsPaired, is_right, marked, spliced, narrow_cell, left_cell}
 use Rattle.cells.specs.Page.{IsPage, page_marked}
-use Rattle.vt_screen_rows.proofs.TextSpec.{base_cell, cells_on, is_base, is_base_or_mark, is_based, is_known_wide, is_letter}
-use Rattle.vt_screen_rows.proofs.TextSpec.{is_mark, last_columns, text_cells, whole}
+use Rattle.cells.specs.Texts.{base_cell, cells_on, is_base, is_base_or_mark, is_based, is_known_wide, is_letter}
+use Rattle.cells.specs.Texts.{is_mark, last_columns, text_cells, whole}
 use Rattle.terminal_model.specs.declared.action.Action.{Action}
 use Rattle.terminal_model.specs.declared.action.Action.TheVariants.{Print}
-use Rattle.terminal_model.specs.declared.state.Position.{Position}
 use Rattle.terminal_model.specs.declared.state.State.{State}
 use Rattle.terminal_model.specs.Screen.{Page, Screen, IsSound, line_edited, with_page, with_state}
-use Rattle.terminal_model.specs.Printing.{advanced, drawn, lacks_room, marked_at, placed, placed_narrow, printed}
+use Rattle.terminal_model.specs.Printing.{advanced, lacks_room, placed, placed_narrow, printed}
 use Rattle.terminal_model.specs.Printing.{printed_as}
 use Rattle.terminal_model.specs.Printing.{wide_or_none, wide_printed, wrapped}
 use Rattle.terminal_model.specs.Scrollback.{is_wrapped}
@@ -27,6 +25,7 @@ use Rattle.terminal_model.specs.Table.{acted, acted_from, all_acted}
 use Rattle.vt_screen_rows.specs.Places.{wrapped_places, printed_places, acted_places, all_acted_places}
 use Rattle.vt_screen_rows.specs.Runs.{TakesRuns, prints}
 use Rattle.vt_screen_rows.proofs.Known.{IsKnown, known_letter, known_mark, known_wide}
+use Rattle.vt_screen_rows.proofs.Known.{places_known, printed_known}
 use Rattle.vt_screen_rows.proofs.Overs.{IsPage-page_over, last_behind, last_fits, page_over, page_over_marked}
 use Rattle.vt_screen_rows.proofs.Overs.{page_over_more, whole_last, whole_paired, whole_pairs}
 
@@ -75,28 +74,29 @@ known_acted x c n t k =
     (mapped-ascii x.state.shifts c t.ascii t.unshifted k.graphic)
     ∙ ap (λ (v : Shifts). printed (Some c) (with_state x (record x.state { shifts = v })))
     (spent-none x.state.shifts c t.unshifted)
-    ∙ ap (λ (m : ℕ). printed_as m (drawn c) x) k.columns
-    ∙ ap (λ (d : ℕ). printed_as n d x) k.drawn
+    ∙ printed_known x c n k
 
 known_places : (s : State) (c n : ℕ) (places : List ℕ) → TakesRuns s → IsKnown c n
     → acted_places s (Print (Code c)) places ≡ wrapped_places (is_wrapped n s) s places
 known_places s c n places t k =
     ap (λ (o : Option ℕ). printed_places o s places) (mapped-ascii s.shifts c t.ascii t.unshifted k.graphic)
-    ∙ ap (λ (m : ℕ). wrapped_places (is_wrapped m s) s places) k.columns
+    ∙ places_known s c n places k
 
 module _ (x : Screen) (c : ℕ) (t : TakesRuns x.state) (settled : x.state.is_wrap_pending ≡ false) where
+  pub letter_placed : is_letter c ≡ true → acted x (Print (Code c)) ≡ placed_narrow c x
+  letter_placed letter =
+      known_acted x c 1 t (known_letter c letter) ∙ ap (λ (b : Bool). placed_narrow c (wrapped b x)) settled
+
   pub letter_makes : is_letter c ≡ true
       → Makes x (Print (Code c) ∷ [])
       (cells_placed (narrow_cell c x.state.rendition x.state.is_protecting ∷ []) x)
   letter_makes letter =
       let s : State = x.state in
-      let k : IsKnown c 1 = known_letter c letter in
       let fresh : List Cell = narrow_cell c s.rendition s.is_protecting ∷ [] in
       record {
         screen =
-            known_acted x c 1 t k ∙ ap (λ (b : Bool). placed_narrow c (wrapped b x)) settled
-            ∙ placed_is x fresh t refl;
-        places = λ places. known_places s c 1 places t k ∙ ap (λ (b : Bool). wrapped_places b s places) settled;
+            letter_placed letter ∙ placed_is x fresh t refl;
+        places = λ places. known_places s c 1 places t (known_letter c letter) ∙ ap (λ (b : Bool). wrapped_places b s places) settled;
       }
 
   wide_makes : is_known_wide c ≡ true → x.state.column + 2 ≤ x.state.columns
@@ -330,3 +330,29 @@ text_makes (c ∷ cs) x t settled sound h some room =
     (base_makes x c t settled k.0 (omega arith))
     (run_on cs x (base_of x c) t (record { sized = sound.sized; line = sound.cursor.0 })
     (base_first c s.rendition s.is_protecting) k.1 room)
+
+-- text has a last character if it has cells
+module _ (cs : List ℕ) (r : Rendition) (p : Bool) where
+  pub text_given : 0 < length (text_cells cs r p) → 0 < length cs
+  text_given some = go cs some
+    where
+      go : (cs : List ℕ) → 0 < length (text_cells cs r p) → 0 < length cs
+      go [] some = some
+      go (c ∷ cs) some = omega arith
+
+  pub text_last : 0 < length (text_cells cs r p) → last_columns (text_cells cs r p) ≤ length (text_cells cs r p)
+  text_last some = go cs some
+    where
+      go : (cs : List ℕ) → 0 < length (text_cells cs r p) → last_columns (text_cells cs r p) ≤ length (text_cells cs r p)
+      go [] some = absurd (omega arith)
+      go (c ∷ cs) some = last_fits _ (cells_on-paired r p (base_cell c r p) cs (base_first c r p)) some
+
+  pub text_none : length (text_cells cs r p) ≡ 0 → cs ≡ []
+  text_none none = go cs none
+    where
+      go : (cs : List ℕ) → length (text_cells cs r p) ≡ 0 → cs ≡ []
+      go [] none = refl
+      go (c ∷ cs) none =
+          let some : length (whole (base_cell c r p)) ≤ length (text_cells (c ∷ cs) r p) =
+          cells_on-more r p (base_cell c r p) cs in
+          absurd (omega (arith, none, some))
