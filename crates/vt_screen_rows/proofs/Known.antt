@@ -1,6 +1,6 @@
 -- Letters, marks and known wide characters stand for themselves, and their widths are read off the width table.
-use Rattle.std.proofs.Common.{◌≡◌, ℕ, zero, suc, None, ◌<◌, ◌≤◌, Bool, true, false, ◌&&◌, ◌||◌, nat_le, ltb, Option, Some, List, []}
-use Rattle.std.proofs.Common.{◌∷◌, refl, sym, ap, ◌∙◌, arith, inl, inr, eqb, cond, eqb-true, le-leb, leb-true, ltb-true}
+use Rattle.std.proofs.Common.{◌≡◌, ℕ, zero, suc, None, ◌<◌, ◌≤◌, Bool, true, false, ◌&&◌, ◌||◌, nat_le, ltb, Option}
+use Rattle.std.proofs.Common.{Some, List, [], ◌∷◌, refl, sym, ap, ◌∙◌, arith, inl, inr, eqb, cond, eqb-true, le-leb, leb-true, ltb-true}
 use Rattle.std.specs.Prelude.{slice_index_or}
 use Rattle.std.proofs.lemmas.Bool.{and_parts, cases_Bool, cases_eq, cases_lt, cond-true, cond-false, lt-leb}
 use Rattle.std.proofs.lemmas.Bool.Decides.{nat_tests}
@@ -27,51 +27,51 @@ use Rattle.unicode_width.specs.Width.{alone, char_width, of_kind}
 use Rattle.unicode_width.proofs.KindLemmas.{kind_number_stepped}
 use Rattle.vt_screen_rows.specs.Places.{acted_places, printed_places, wrapped_places}
 
--- the width of each kind by its number, outside of East Asian contexts; 9 for the last one, whose characters differ
-abbrev width_of : ℕ → ℕ
-width_of n = slice_index_or (0 ∷ 1 ∷ 2 ∷ 1 ∷ 1 ∷ 1 ∷ 1 ∷ 1 ∷ 1 ∷ 2 ∷ 2 ∷ []) n 9
+-- the width of each kind by its number, outside of East Asian contexts; characters of the last one differ
+abbrev width_of : ℕ → ℕ → ℕ
+width_of single n = slice_index_or (0 ∷ 1 ∷ 2 ∷ 1 ∷ 1 ∷ 1 ∷ 1 ∷ 1 ∷ 1 ∷ 2 ∷ 2 ∷ []) n single
 
-of_kind-width : (c : ℕ) (k : Kind) (w : ℕ) → eqb (width_of (number_of_kind k)) w ≡ true → w < 9
-    → (of_kind false c k).0 ≡ w
-of_kind-width c kinds.Zero w h small = eqb-true 0 w h
-of_kind-width c kinds.Narrow w h small = eqb-true 1 w h
-of_kind-width c kinds.Wide w h small = eqb-true 2 w h
-of_kind-width c kinds.Ambiguous w h small = eqb-true 1 w h
-of_kind-width c kinds.Alef w h small = eqb-true 1 w h
-of_kind-width c kinds.KhmerLetter w h small = eqb-true 1 w h
-of_kind-width c kinds.TifinaghConsonant w h small = eqb-true 1 w h
-of_kind-width c kinds.LisuTone w h small = eqb-true 1 w h
-of_kind-width c kinds.RegionalIndicator w h small = eqb-true 1 w h
-of_kind-width c kinds.EmojiModifier w h small = eqb-true 2 w h
-of_kind-width c kinds.Emoji w h small = eqb-true 2 w h
-of_kind-width c kinds.Single w h small = let e : 9 ≡ w = eqb-true 9 w h in absurd (omega arith)
+of_kind-width : (c : ℕ) (k : Kind) (w single : ℕ) → eqb (width_of single (number_of_kind k)) w ≡ true
+    → (single ≡ w → (of_kind false c kinds.Single).0 ≡ w) → (of_kind false c k).0 ≡ w
+of_kind-width c kinds.Zero w single h last = eqb-true 0 w h
+of_kind-width c kinds.Narrow w single h last = eqb-true 1 w h
+of_kind-width c kinds.Wide w single h last = eqb-true 2 w h
+of_kind-width c kinds.Ambiguous w single h last = eqb-true 1 w h
+of_kind-width c kinds.Alef w single h last = eqb-true 1 w h
+of_kind-width c kinds.KhmerLetter w single h last = eqb-true 1 w h
+of_kind-width c kinds.TifinaghConsonant w single h last = eqb-true 1 w h
+of_kind-width c kinds.LisuTone w single h last = eqb-true 1 w h
+of_kind-width c kinds.RegionalIndicator w single h last = eqb-true 1 w h
+of_kind-width c kinds.EmojiModifier w single h last = eqb-true 2 w h
+of_kind-width c kinds.Emoji w single h last = eqb-true 2 w h
+of_kind-width c kinds.Single w single h last = last (eqb-true single w h)
 
 -- all characters between two bounds have this width
 unfoldable all_are : ℕ → ℕ → ℕ → List (Step ℕ) → Bool
 all_are w low high [] = false
 all_are w low high (s ∷ ss) =
     cond (nat_le s.0 low) (all_are w low high ss)
-    (eqb (width_of s.1) w && cond (nat_le high s.0) true (all_are w s.0 high ss))
+    (eqb (width_of 9 s.1) w && cond (nat_le high s.0) true (all_are w s.0 high ss))
 
 all_are-true : (d w low high : ℕ) (ss : List (Step ℕ)) (c : ℕ) → all_are w low high ss ≡ true → low ≤ c → c < high
-    → eqb (width_of (step_value d ss c)) w ≡ true
+    → eqb (width_of 9 (step_value d ss c)) w ≡ true
 unfolding all_are
 all_are-true d w low high [] c h above below = absurd (cc)
 all_are-true d w low high (s ∷ ss) c h above below =
     elim (cases_lt low s.0) [
       | inl begun ↦
           let ends : nat_le s.0 low ≡ false = lt-leb s.0 low begun in
-          let parts = and_parts (eqb (width_of s.1) w) (cond (nat_le high s.0) true (all_are w s.0 high ss))
+          let parts = and_parts (eqb (width_of 9 s.1) w) (cond (nat_le high s.0) true (all_are w s.0 high ss))
           (sym (cond-false _ _ _ ends) ∙ h) in
           elim (cases_lt c s.0) [
-            | inl here ↦ ap (λ (n : ℕ). eqb (width_of n) w) (step_value-here d s ss c here) ∙ parts.0
+            | inl here ↦ ap (λ (n : ℕ). eqb (width_of 9 n) w) (step_value-here d s ss c here) ∙ parts.0
             | inr later ↦
                 let goes : nat_le high s.0 ≡ false = lt-leb high s.0 (omega arith) in
-                ap (λ (n : ℕ). eqb (width_of n) w) (step_value-later d s ss c later)
+                ap (λ (n : ℕ). eqb (width_of 9 n) w) (step_value-later d s ss c later)
                 ∙ all_are-true d w s.0 high ss c (sym (cond-false _ _ _ goes) ∙ parts.1) later below
           ]
       | inr ended ↦
-          ap (λ (n : ℕ). eqb (width_of n) w) (step_value-later d s ss c (omega arith))
+          ap (λ (n : ℕ). eqb (width_of 9 n) w) (step_value-later d s ss c (omega arith))
           ∙ all_are-true d w low high ss c (sym (cond-true _ _ _ (le-leb s.0 low ended)) ∙ h) above below
     ]
 
@@ -79,37 +79,23 @@ known : (w low high c : ℕ) → all_are w low high kind_number_stepped.steps �
     → c < high → char_width false c ≡ Some w
 unfolding char_width alone kind_number
 known w low high c h small beyond above below =
-    let is : eqb (width_of (kind_number c)) w ≡ true = ap (λ (n : ℕ). eqb (width_of n) w) (kind_number_stepped.gives c)
+    let is : eqb (width_of 9 (kind_number c)) w ≡ true = ap (λ (n : ℕ). eqb (width_of 9 n) w) (kind_number_stepped.gives c)
     ∙ all_are-true kind_number_stepped.default w low high kind_number_stepped.steps c h above below in
     let late : nat_le 0xA0 c ≡ true = le-leb 0xA0 c (omega arith) in
     let few : ltb c 0x7F ≡ false = grind (arith, nat_tests) in
-    rw (few, late) (ap Some (of_kind-width c (kind c) w is small))
-
-lamed_is : eqb (step_value kind_number_stepped.default kind_number_stepped.steps 0x5DC) 11 ≡ true
-unfolding tables kind_number_stepped
-lamed_is = refl
+    rw (few, late) (ap Some (of_kind-width c (kind c) w 9 is (λ e. absurd (omega arith))))
 
 -- lamed is of the last kind, in which it takes one column
-of_kind-lamed : (k : Kind) → eqb (number_of_kind k) 11 ≡ true → (of_kind false 0x5DC k).0 ≡ 1
-of_kind-lamed kinds.Zero h = absurd (cc)
-of_kind-lamed kinds.Narrow h = refl
-of_kind-lamed kinds.Wide h = absurd (cc)
-of_kind-lamed kinds.Ambiguous h = refl
-of_kind-lamed kinds.Alef h = refl
-of_kind-lamed kinds.KhmerLetter h = refl
-of_kind-lamed kinds.TifinaghConsonant h = refl
-of_kind-lamed kinds.LisuTone h = refl
-of_kind-lamed kinds.RegionalIndicator h = refl
-of_kind-lamed kinds.EmojiModifier h = absurd (cc)
-of_kind-lamed kinds.Emoji h = absurd (cc)
-of_kind-lamed kinds.Single h = refl
+lamed_is : eqb (width_of 1 (step_value kind_number_stepped.default kind_number_stepped.steps 0x5DC)) 1 ≡ true
+unfolding tables kind_number_stepped
+lamed_is = refl
 
 lamed_width : char_width false 0x5DC ≡ Some 1
 unfolding char_width alone kind_number
 lamed_width =
-    let is : eqb (kind_number 0x5DC) 11 ≡ true =
-    ap (λ (n : ℕ). eqb n 11) (kind_number_stepped.gives 0x5DC) ∙ lamed_is in
-    ap Some (of_kind-lamed (kind 0x5DC) is)
+    let is : eqb (width_of 1 (kind_number 0x5DC)) 1 ≡ true =
+    ap (λ (n : ℕ). eqb (width_of 1 n) 1) (kind_number_stepped.gives 0x5DC) ∙ lamed_is in
+    ap Some (of_kind-width 0x5DC (kind 0x5DC) 1 1 is (λ e. refl))
 
 -- ranges of characters: each from one bound to another, without these
 abbrev in_ranges : List (ℕ × ℕ) → ℕ → Bool
@@ -165,7 +151,8 @@ pub record IsKnown (character width : ℕ) : Type 0 where
   pub columns : columns_of character ≡ width
   pub drawn : drawn character ≡ character
 
-known_by : (c w : ℕ) → 0xA0 ≤ c → char_width false c ≡ Some w → glyph_columns (Some w) ≡ w → drawn_as (Some w) c ≡ c → IsKnown c w
+known_by : (c w : ℕ) → 0xA0 ≤ c → char_width false c ≡ Some w → glyph_columns (Some w) ≡ w → drawn_as (Some w) c ≡ c
+    → IsKnown c w
 unfolding columns_of drawn
 known_by c w beyond width columns drawn = record {
   graphic = grind (arith, nat_tests);
@@ -199,8 +186,8 @@ known_letter c h =
           elim (cases_eq c 0x5DC) [
             | inl lamed ↦ known_by c 1 beyond (rw lamed lamed_width) refl refl
             | inr other ↦
-                known_by c 1 beyond (in_known 1 c letters letters_are (omega arith) (letter_beyond c h beyond other)) refl
-                refl
+                known_by c 1 beyond
+                (in_known 1 c letters letters_are (omega arith) (letter_beyond c h beyond other)) refl refl
           ]
     ]
 

@@ -26,7 +26,7 @@ use Rattle.vt_screen_rows.proofs.Overs.{page_over}
 use Rattle.vt_screen_rows.proofs.TextRuns.{Makes, cells_placed, text_makes}
 
 -- the characters 20 to 7E with which the first of some bytes begin
-pub front_plain : (room : ℕ) (bytes : List ℕ)
+front_plain : (room : ℕ) (bytes : List ℕ)
     → list_all is_plain (take (prefix_len is_plain (take room bytes)) bytes) ≡ true
 front_plain zero bytes = refl
 front_plain (suc room) [] = refl
@@ -40,8 +40,25 @@ front_plain (suc room) (b ∷ bytes) = by (is_plain b) refl (front_plain room by
         rw next (rw e later)
     by false e later = refl
 
-pub front_few : (room : ℕ) (bytes : List ℕ) → prefix_len is_plain (take room bytes) ≤ min room (length bytes)
-front_few room bytes = omega (arith, prefix_len-le-length is_plain (take room bytes), length-take room bytes)
+-- as many bytes of them as have room in a line
+pub record IsFront (bytes : List ℕ) (columns count : ℕ) : Type 0 where
+  pub plain : list_all is_plain (take count bytes) ≡ true
+  pub counted : count ≡ length (take count bytes)
+  pub few : count ≤ length bytes
+  pub room : count ≤ columns
+
+pub front_is : (bytes : List ℕ) (columns room count : ℕ) → room ≡ min (length bytes) columns
+    → count ≡ prefix_len is_plain (take room bytes) → IsFront bytes columns count
+front_is bytes columns room count fits is =
+    let few : prefix_len is_plain (take room bytes) ≤ length (take room bytes) = prefix_len-le-length is_plain
+    (take room bytes) in
+    let n : length (take room bytes) ≡ min room (length bytes) = length-take room bytes in
+    record {
+      plain = rw is (front_plain room bytes);
+      counted = omega (arith, few, n, is, length-take count bytes);
+      few = omega (arith, few, n, is);
+      room = omega (arith, few, n, is, fits);
+    }
 
 -- characters 20 to 7E are text, and have a cell each
 pub plain_letter : (c : ℕ) → is_plain c ≡ true → is_letter c ≡ true
@@ -93,8 +110,11 @@ line_begun x = go x.state.modes.starts_lines
     go true = refl
     go false = refl
 
-module _ (x : Screen) (cs : List ℕ) (t : TakesRuns x.state) (sound : IsSound x) (h : list_all is_plain cs ≡ true)
-    (some : 0 < length cs) (room : length cs ≤ x.state.columns) (scrolls : ScrollsPlain x.state) where
+module _ (x : Screen) (bytes : List ℕ) (count : ℕ) (front : IsFront bytes x.state.columns count)
+    (t : TakesRuns x.state) (sound : IsSound x) (some : 0 < count) (scrolls : ScrollsPlain x.state) where
+  abbrev cs : List ℕ
+  cs = take count bytes
+
   abbrev w : Screen
   w = wrapped true x
 
@@ -108,9 +128,10 @@ module _ (x : Screen) (cs : List ℕ) (t : TakesRuns x.state) (sound : IsSound x
   made =
       let takes : TakesRuns w.state = record { ascii = t.ascii; unshifted = t.unshifted; replaces = t.replaces } in
       let cells : text_cells cs w.state.rendition w.state.is_protecting ≡ fresh = plain_cells w.state.rendition
-      w.state.is_protecting cs h in
+      w.state.is_protecting cs front.plain in
       subst (λ (v : List Cell). Makes w (prints cs) (cells_placed v w)) cells
-      (text_makes cs w takes refl (sound_wrapped x sound) (plain_based cs h) some (rw (cells, n) (omega arith)))
+      (text_makes cs w takes refl (sound_wrapped x sound) (plain_based cs front.plain)
+      (omega (arith, front.counted, some)) (rw (cells, n) (omega (arith, front.counted, front.room))))
 
   is_last : (x.state.line == x.state.bottom) ≡ true
   is_last = eq-eqb x.state.line x.state.bottom scrolls.last
@@ -125,18 +146,19 @@ module _ (x : Screen) (cs : List ℕ) (t : TakesRuns x.state) (sound : IsSound x
       ∙ after.sized.width w.state.line after.cursor.0
 
   -- the first line of the page goes, and the characters stand in the new one at the bottom
-  pub scrolled_run : (m : ℕ) → m ≡ length cs → all_acted x (CarriageReturn ∷ LineFeed ∷ prints cs) ≡ record x {
-    state = advanced (record x.state { column = m - 1 }) 1;
+  pub scrolled_run : all_acted x (CarriageReturn ∷ LineFeed ∷ prints cs) ≡ record x {
+    state = advanced (record x.state { column = count - 1 }) 1;
     page = page_spliced x.state.bottom 0 (narrow_cells cs plain false) (length cs)
         (page_from (scrolled_up 0 x.state.bottom 1) x.page);
     kept = with_newest x.keep (line_at x.page 0) x.kept;
   }
-  scrolled_run m counted =
+  scrolled_run =
       let s : State = x.state in
       let is_first : (s.top == 0) ≡ true = eq-eqb s.top 0 scrolls.first in
-      let none : 0 + (length cs - 1) ≡ length cs - 1 = omega arith in
+      let none : 0 + (length cs - 1) ≡ count - 1 = omega (arith, front.counted) in
       let all : 0 + length cs ≡ length cs = omega arith in
-      let last : last_columns fresh ≡ 1 = rw (narrow_at w.state.rendition w.state.is_protecting cs (length fresh - 1)) refl in
+      let last : last_columns fresh ≡ 1 = rw
+      (narrow_at w.state.rendition w.state.is_protecting cs (length fresh - 1)) refl in
       ap (λ (v : Screen). all_acted v (prints cs)) (line_begun x)
       ∙ made.screen
       ∙ ap (λ (k : ℕ). record w {
@@ -148,7 +170,6 @@ module _ (x : Screen) (cs : List ℕ) (t : TakesRuns x.state) (sound : IsSound x
         page = line_edited w.state (spliced w.state.column fresh (w.state.column + k) w.state.columns) w.page;
       }) n
       ∙ rw (
-        counted,
         is_last,
         is_first,
         none,

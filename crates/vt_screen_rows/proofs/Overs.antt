@@ -1,9 +1,9 @@
 -- New cells over as many old ones, put in one piece or in two.
 use Rattle.std.proofs.Common.{◌≡◌, ℕ, zero, suc, ◌+◌, ◌-◌, ◌<◌, ◌≤◌, Bool, true, false, ◌&&◌, eqb, ltb, leb, cond, List}
 use Rattle.std.proofs.Common.{[], ◌∷◌, ◌++◌, length, set, refl, sym, ap, ◌∙◌, ◌⊎◌, inl, inr, arith, ⊎_elim}
-use Rattle.std.proofs.Common.{length-append}
+use Rattle.std.proofs.Common.{length-append, subst}
 use Rattle.std.specs.Prelude.{if◌then◌else◌, ◌==◌}
-use Rattle.std.proofs.lemmas.List.{ext_get_or, get_or-set_same, get_or-set_other, set-set, get_or_append_left}
+use Rattle.std.proofs.lemmas.List.{append-nil, ext_get_or, get_or-set_same, get_or-set_other, set-set, get_or_append_left}
 use Rattle.std.proofs.lemmas.List.{get_or-append_right, length-set}
 use Rattle.std.proofs.lemmas.Bool.{cases_lt, cases_eq, ne_eqb}
 use Rattle.std.proofs.lemmas.Bool.Decides.{nat_tests}
@@ -163,18 +163,14 @@ halves_next l r later hl hr paired (suc (suc c)) = paired.next c
 module _ (cell : Cell) (first : is_right cell.shape ≡ false) where
   pub whole_pairs : (later : List Cell) → IsPaired later → IsPaired (whole cell ++ later)
   whole_pairs later paired = ⊎_elim
-      (λ (l : cell.shape ≡ Left). rw l (record { first = refl; next = halves_next (record cell { shape = Left }) _ later refl refl paired }))
+      (λ (l : cell.shape ≡ Left).
+      rw l (record { first = refl; next = halves_next (record cell { shape = Left }) _ later refl refl paired }))
       (λ (l : cell.shape ≡ Narrow). rw l (before_others (record cell { shape = Narrow }) later refl paired))
       (shapes cell.shape first)
 
   pub whole_paired : IsPaired (whole cell)
-  whole_paired = ⊎_elim
-      (λ (l : cell.shape ≡ Left). rw l (record { first = refl; next = halves_next (record cell { shape = Left }) _ [] refl refl none }))
-      (λ (l : cell.shape ≡ Narrow). rw l (before_others (record cell { shape = Narrow }) [] refl none))
-      (shapes cell.shape first)
-    where
-      none : IsPaired []
-      none = record { first = refl; next = λ column. refl }
+  whole_paired = subst IsPaired (append-nil (whole cell))
+      (whole_pairs [] (record { first = refl; next = λ column. refl }))
 
   pub whole_last : last_columns (whole cell) ≡ length (whole cell)
   whole_last = ⊎_elim
@@ -251,11 +247,16 @@ module _ (rows width line : ℕ) (page : List (List Cell)) (is_page : IsPage row
       ∙ ap (λ w. set page line (cells_from (spliced at fresh (at + length fresh) w) (line_at page line)))
       (sym (is_page.width line inside))
 
-  line_over : (at : ℕ) (fresh : List Cell)
-      → line_at (page_over width line at fresh page) line ≡ over at fresh (line_at page line)
-  line_over at fresh =
-      ap (λ x. line_at x line) (page_over-set at fresh)
-      ∙ get_or-set_same page line (over at fresh (line_at page line)) [] (rw is_page.height inside)
+  -- an edit of that line
+  edited_over : (at : ℕ) (fresh : List Cell) (f : List Cell → List Cell)
+      → set (page_over width line at fresh page) line (f (line_at (page_over width line at fresh page) line)) ≡ set page
+      line (f (over at fresh (line_at page line)))
+  edited_over at fresh f =
+      let put : List Cell = over at fresh (line_at page line) in
+      ap (λ p. set p line (f (line_at p line))) (page_over-set at fresh)
+      ∙ ap (λ cells. set (set page line put) line (f cells))
+      (get_or-set_same page line put [] (rw is_page.height inside))
+      ∙ set-set page line put (f put)
 
 module _ (rows width line at : ℕ) (cell : Cell) (page : List (List Cell)) (is_page : IsPage rows width page)
     (inside : line < rows) (first : is_right cell.shape ≡ false) where
@@ -268,12 +269,8 @@ module _ (rows width line at : ℕ) (cell : Cell) (page : List (List Cell)) (is_
   pub page_over_marked : (mark : ℕ) → at + length (whole cell) ≤ width
       → page_marked line at mark first_page ≡ page_over width line at (whole (marked cell mark)) page
   page_over_marked mark room =
-      let put : List Cell = over at (whole cell) old in
-      ap (λ cells. set first_page line (set cells at (marked (cell_at cells at) mark)))
-      (line_over rows width line page is_page inside at (whole cell))
-      ∙ ap (λ x. set x line (set put at (marked (cell_at put at) mark)))
-      (page_over-set rows width line page is_page inside at (whole cell))
-      ∙ set-set page line put _
+      edited_over rows width line page is_page inside at (whole cell)
+      (λ cells. set cells at (marked (cell_at cells at) mark))
       ∙ ap (set page line)
       (over_marked at mark cell old first (is_page.paired line) (rw (is_page.width line inside) room))
       ∙ sym (page_over-set rows width line page is_page inside at (whole (marked cell mark)))
@@ -283,14 +280,10 @@ module _ (rows width line at : ℕ) (cell : Cell) (page : List (List Cell)) (is_
       → page_over width line (at + length (whole cell)) later first_page ≡ page_over width line at
       (whole cell ++ later) page
   page_over_more later pairs some room =
-      let put : List Cell = over at (whole cell) old in
       let end : ℕ = at + length (whole cell) in
       page_over-set rows width line first_page (IsPage-page_over rows width line page is_page inside at (whole cell))
       inside end later
-      ∙ ap (λ cells. set first_page line (over end later cells))
-      (line_over rows width line page is_page inside at (whole cell))
-      ∙ ap (λ x. set x line (over end later put)) (page_over-set rows width line page is_page inside at (whole cell))
-      ∙ set-set page line put _
+      ∙ edited_over rows width line page is_page inside at (whole cell) (over end later)
       ∙ ap (set page line)
       (over_more at (whole cell) later old (whole_paired cell first) pairs (whole_pairs cell first later pairs)
       (omega arith) some (is_page.paired line) (rw (is_page.width line inside) room))

@@ -1,6 +1,7 @@
 -- Characters that are printed one after another and fit in the line are one run.
 use Rattle.std.proofs.Common.{◌≡◌, ℕ, ◌+◌, ◌-◌, ◌<◌, ◌≤◌, Bool, true, false, ◌&&◌, ◌||◌, cond, ltb, List, [], ◌∷◌}
-use Rattle.std.proofs.Common.{◌++◌, length, Option, Some, refl, sym, ap, ◌∙◌, subst, arith, inl, inr, lt-ltb, length-append}
+use Rattle.std.proofs.Common.{◌++◌, length, length-append, lt-ltb, Option, Some, refl, sym, ap, ◌∙◌, subst, arith, inl}
+use Rattle.std.proofs.Common.{inr}
 use Rattle.std.specs.List.{list_all}
 use Rattle.std.proofs.lemmas.Bool.{and_parts, cases_Bool, ne_eqb}
 use Rattle.charsets.specs.declared.shifts.Shifts.{Shifts}
@@ -18,8 +19,7 @@ use Rattle.terminal_model.specs.declared.action.Action.TheVariants.{Print}
 use Rattle.terminal_model.specs.declared.state.State.{State}
 use Rattle.terminal_model.specs.Screen.{Page, Screen, IsSound, line_edited, with_page, with_state}
 use Rattle.terminal_model.specs.Printing.{advanced, lacks_room, placed, placed_narrow, printed}
-use Rattle.terminal_model.specs.Printing.{printed_as}
-use Rattle.terminal_model.specs.Printing.{wide_or_none, wide_printed, wrapped}
+use Rattle.terminal_model.specs.Printing.{printed_as, wide_or_none, wide_printed, wrapped}
 use Rattle.terminal_model.specs.Scrollback.{is_wrapped}
 use Rattle.terminal_model.specs.Table.{acted, acted_from, all_acted}
 use Rattle.vt_screen_rows.specs.Places.{wrapped_places, printed_places, acted_places, all_acted_places}
@@ -118,13 +118,10 @@ module _ (x : Screen) (c : ℕ) (t : TakesRuns x.state) (settled : x.state.is_wr
             ∙ ap (λ (b : Bool). wrapped_places (b && s.modes.wraps) s places) left;
       }
 
-base_wide : (c : ℕ) → is_base c ≡ true → is_known_wide c ≡ false → is_letter c ≡ true
-base_wide c h other = go (is_letter c) (is_known_wide c) h other
-  where
-    go : (p q : Bool) → (p || q) ≡ true → q ≡ false → p ≡ true
-    go true q h other = refl
-    go false true h other = sym other
-    go false false h other = h
+left_of : (p q : Bool) → (p || q) ≡ true → q ≡ false → p ≡ true
+left_of true q h other = refl
+left_of false true h other = sym other
+left_of false false h other = h
 
 abbrev base_of : Screen → ℕ → Cell
 base_of x c = base_cell c x.state.rendition x.state.is_protecting
@@ -136,7 +133,7 @@ base_makes : (x : Screen) (c : ℕ) → TakesRuns x.state → x.state.is_wrap_pe
 base_makes x c t settled base room =
     elim (cases_Bool (is_known_wide c)) [
       | inl wide ↦ rw wide (wide_makes x c t settled wide (omega (arith, (rw wide at room))))
-      | inr other ↦ rw other (letter_makes x c t settled (base_wide c base other))
+      | inr other ↦ rw other (letter_makes x c t settled (left_of (is_letter c) (is_known_wide c) base other))
     ]
 
 base_first : (c : ℕ) (r : Rendition) (p : Bool) → is_right (base_cell c r p).shape ≡ false
@@ -146,8 +143,9 @@ base_first c r p =
       | inr other ↦ rw other refl
     ]
 
--- the cursor stands in a page
-pub record StandsIn (x : Screen) : Type 0 where
+-- text is put over old cells of a page
+pub record IsReady (x : Screen) : Type 0 where
+  pub takes : TakesRuns x.state
   pub sized : IsPage x.state.rows x.state.columns x.page
   pub line : x.state.line < x.state.rows
 
@@ -156,22 +154,19 @@ abbrev behind : State → ℕ → State
 behind s n = record s
     { column = s.column + n; is_wrap_pending = false; joining = Some (record { line = s.line; column = s.column }) }
 
-module _ (x : Screen) (cell : Cell) (t : TakesRuns x.state) (stands : StandsIn x)
-    (first : is_right cell.shape ≡ false) where
+module _ (x : Screen) (cell : Cell) (ready : IsReady x) (first : is_right cell.shape ≡ false) where
   abbrev y : Screen
   y = cells_placed (whole cell) x
 
   abbrev n : ℕ
   n = length (whole cell)
 
-  takes : TakesRuns y.state
-  takes = record { ascii = t.ascii; unshifted = t.unshifted; replaces = t.replaces }
-
-  stands_behind : StandsIn y
-  stands_behind = record {
-    sized = IsPage-page_over x.state.rows x.state.columns x.state.line x.page stands.sized stands.line x.state.column
+  ready_behind : IsReady y
+  ready_behind = record {
+    takes = record { ascii = ready.takes.ascii; unshifted = ready.takes.unshifted; replaces = ready.takes.replaces };
+    sized = IsPage-page_over x.state.rows x.state.columns x.state.line x.page ready.sized ready.line x.state.column
         (whole cell);
-    line = stands.line;
+    line = ready.line;
   }
 
   -- marks join the cell
@@ -185,15 +180,15 @@ module _ (x : Screen) (cell : Cell) (t : TakesRuns x.state) (stands : StandsIn x
       let k : IsKnown c 0 = known_mark c mark in
       record {
         screen =
-            known_acted y c 0 takes k
+            known_acted y c 0 ready_behind.takes k
             ∙ ap (λ (m : ℕ). record x { state = y.state; page = page_marked s.line m c y.page }) joins_cell
             ∙ ap (λ (page : Page). record x { state = y.state; page = page })
-            (page_over_marked s.rows s.columns s.line s.column cell x.page stands.sized stands.line first c room)
+            (page_over_marked s.rows s.columns s.line s.column cell x.page ready.sized ready.line first c room)
             ∙ ap (λ (k : ℕ). record x {
               state = advanced (record s { column = s.column + (n - k) }) k;
               page = page_over s.columns s.line s.column (whole (marked cell c)) x.page;
             }) (whole_last cell first ∙ sym (whole_last (marked cell c) first));
-        places = λ places. known_places y.state c 0 places takes k;
+        places = λ places. known_places y.state c 0 places ready_behind.takes k;
       }
 
   -- the state if there are columns behind the cells
@@ -235,7 +230,7 @@ module _ (x : Screen) (cell : Cell) (t : TakesRuns x.state) (stands : StandsIn x
       column
       ∙ ap (λ (page : Page). record x
       { state = advanced (record s { column = s.column + (n + length later - m) }) m; page = page })
-      (page_over_more s.rows s.columns s.line s.column cell x.page stands.sized stands.line first later pairs some
+      (page_over_more s.rows s.columns s.line s.column cell x.page ready.sized ready.line first later pairs some
       (omega arith))
       ∙ ap (λ (k : ℕ). record x {
         state = advanced (record s { column = s.column + (k - m) }) m;
@@ -270,20 +265,12 @@ module _ (r : Rendition) (p : Bool) where
 abbrev cells_in : Screen → Cell → List ℕ → List Cell
 cells_in x cell cs = cells_on x.state.rendition x.state.is_protecting cell cs
 
-base_not_mark : (c : ℕ) → is_base_or_mark c ≡ true → is_mark c ≡ false → is_base c ≡ true
-base_not_mark c h other = go (is_base c) (is_mark c) h other
-  where
-    go : (p q : Bool) → (p || q) ≡ true → q ≡ false → p ≡ true
-    go true q h other = refl
-    go false true h other = sym other
-    go false false h other = h
-
 -- characters and marks behind a character that was put last
-run_on : (cs : List ℕ) (x : Screen) (cell : Cell) → TakesRuns x.state → StandsIn x → is_right cell.shape ≡ false
+run_on : (cs : List ℕ) (x : Screen) (cell : Cell) → IsReady x → is_right cell.shape ≡ false
     → list_all is_base_or_mark cs ≡ true → x.state.column + length (cells_in x cell cs) ≤ x.state.columns
     → Makes (cells_placed (whole cell) x) (prints cs) (cells_placed (cells_in x cell cs) x)
-run_on [] x cell t stands first h room = record { screen = refl; places = λ places. refl }
-run_on (c ∷ cs) x cell t stands first h room =
+run_on [] x cell ready first h room = record { screen = refl; places = λ places. refl }
+run_on (c ∷ cs) x cell ready first h room =
     let s : State = x.state in
     let y : Screen = cells_placed (whole cell) x in
     let new : Cell = base_of x c in
@@ -295,25 +282,24 @@ run_on (c ∷ cs) x cell t stands first h room =
           let enough = cells_on-more s.rendition s.is_protecting (marked cell c) cs in
           rw joins
           (makes_more y (cells_placed (whole (marked cell c)) x) _ (Print (Code c)) (prints cs)
-          (mark_makes x cell t stands first c joins (omega arith))
-          (run_on cs x (marked cell c) t stands first k.1 room'))
+          (mark_makes x cell ready first c joins (omega arith)) (run_on cs x (marked cell c) ready first k.1 room'))
       | inr other ↦
-          let all : length (whole cell ++ later) ≡ length (whole cell) + length later = length-append (whole cell) later in
+          let all : length (whole cell ++ later) ≡ length (whole cell) + length later = length-append (whole cell) later
+          in
           let given : s.column + length (whole cell ++ later) ≤ s.columns = rw other at room in
           let room' : s.column + (length (whole cell) + length later) ≤ s.columns = omega (arith, all, given) in
           let enough : length (whole new) ≤ length later = cells_on-more s.rendition s.is_protecting new cs in
-          let some : 0 < length later = omega arith in
-          let within : y.state.column + length later ≤ y.state.columns = room_behind x cell t stands first (length later)
-          some room' in
+          let within : y.state.column + length later ≤ y.state.columns = room_behind x cell ready first (length later)
+          (omega arith) room' in
           let is_first : is_right new.shape ≡ false = base_first c s.rendition s.is_protecting in
+          let behind : IsReady y = ready_behind x cell ready first in
           rw other
           (subst (λ (v : Screen). Makes y (Print (Code c) ∷ prints cs) v)
-          (cells_first x cell t stands first later
-          (cells_on-paired s.rendition s.is_protecting new cs is_first) some room')
+          (cells_first x cell ready first later (cells_on-paired s.rendition s.is_protecting new cs is_first)
+          (omega arith) room')
           (makes_more y (cells_placed (whole new) y) _ (Print (Code c)) (prints cs)
-          (base_makes y c (takes x cell t stands first) (settled_behind x cell t stands first (omega arith))
-          (base_not_mark c k.0 other) (omega arith))
-          (run_on cs y new (takes x cell t stands first) (stands_behind x cell t stands first) is_first k.1 within)))
+          (base_makes y c behind.takes (settled_behind x cell ready first (omega arith))
+          (left_of (is_base c) (is_mark c) k.0 other) (omega arith)) (run_on cs y new behind is_first k.1 within)))
     ]
 
 -- text that fits in the line
@@ -328,31 +314,16 @@ text_makes (c ∷ cs) x t settled sound h some room =
     let enough = cells_on-more s.rendition s.is_protecting (base_of x c) cs in
     makes_more x (cells_placed (whole (base_of x c)) x) _ (Print (Code c)) (prints cs)
     (base_makes x c t settled k.0 (omega arith))
-    (run_on cs x (base_of x c) t (record { sized = sound.sized; line = sound.cursor.0 })
+    (run_on cs x (base_of x c) (record { takes = t; sized = sound.sized; line = sound.cursor.0 })
     (base_first c s.rendition s.is_protecting) k.1 room)
 
--- text has a last character if it has cells
-module _ (cs : List ℕ) (r : Rendition) (p : Bool) where
-  pub text_given : 0 < length (text_cells cs r p) → 0 < length cs
-  text_given some = go cs some
-    where
-      go : (cs : List ℕ) → 0 < length (text_cells cs r p) → 0 < length cs
-      go [] some = some
-      go (c ∷ cs) some = omega arith
+-- text without cells has no characters, and other text has a last one
+pub text_none : (cs : List ℕ) (r : Rendition) (p : Bool) → length (text_cells cs r p) ≡ 0 → cs ≡ []
+text_none [] r p none = refl
+text_none (c ∷ cs) r p none =
+    absurd (omega (arith, none, cells_on-more r p (base_cell c r p) cs))
 
-  pub text_last : 0 < length (text_cells cs r p) → last_columns (text_cells cs r p) ≤ length (text_cells cs r p)
-  text_last some = go cs some
-    where
-      go : (cs : List ℕ) → 0 < length (text_cells cs r p) → last_columns (text_cells cs r p) ≤ length (text_cells cs r p)
-      go [] some = absurd (omega arith)
-      go (c ∷ cs) some = last_fits _ (cells_on-paired r p (base_cell c r p) cs (base_first c r p)) some
-
-  pub text_none : length (text_cells cs r p) ≡ 0 → cs ≡ []
-  text_none none = go cs none
-    where
-      go : (cs : List ℕ) → length (text_cells cs r p) ≡ 0 → cs ≡ []
-      go [] none = refl
-      go (c ∷ cs) none =
-          let some : length (whole (base_cell c r p)) ≤ length (text_cells (c ∷ cs) r p) =
-          cells_on-more r p (base_cell c r p) cs in
-          absurd (omega (arith, none, some))
+pub text_last : (cs : List ℕ) (r : Rendition) (p : Bool) → 0 < length (text_cells cs r p)
+    → last_columns (text_cells cs r p) ≤ length (text_cells cs r p)
+text_last [] r p some = absurd (omega arith)
+text_last (c ∷ cs) r p some = last_fits _ (cells_on-paired r p (base_cell c r p) cs (base_first c r p)) some

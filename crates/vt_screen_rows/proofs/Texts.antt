@@ -1,5 +1,5 @@
 -- The characters of bytes of UTF-8, printed one after another.
-use Rattle.std.proofs.Common.{◌≡◌, ℕ, ◌+◌, ◌-◌, ◌<◌, ◌≤◌, true, false, List, [], ◌∷◌, ◌++◌, length, take}
+use Rattle.std.proofs.Common.{◌≡◌, ℕ, Bool, ◌+◌, ◌-◌, ◌<◌, ◌≤◌, true, false, List, [], ◌∷◌, ◌++◌, length, take}
 use Rattle.std.proofs.Common.{drop, set, refl, sym, ap, ◌∙◌, subst, arith}
 use Rattle.std.proofs.Math.Seq.{take-add}
 use Rattle.std.proofs.lemmas.List.{length-drop, map-append, set-get_or, take_all}
@@ -9,7 +9,9 @@ use Rattle.charsets.specs.Units.{is_character}
 use Rattle.charsets.specs.Utf8.{codes}
 use Rattle.charsets.proofs.Texts.{text-append, text-none, IsText-append, IsText-none, IsText-one}
 use Rattle.cells.specs.declared.cell.Cell.{Cell}
-use Rattle.cells.specs.Texts.{is_based, text_cells}
+use Rattle.cells.specs.declared.cell.Rendition.{Rendition}
+use Rattle.cells.specs.declared.put.Put.{Put}
+use Rattle.cells.specs.Texts.{PutsText, text_cells}
 use Rattle.cells.specs.Line.{spliced}
 use Rattle.cells.specs.Page.{line_at, IsPage, page_spliced}
 use Rattle.cells.proofs.Pages.{page_from-edited}
@@ -18,6 +20,7 @@ use Rattle.terminal_model.specs.declared.action.Action.{Action}
 use Rattle.terminal_model.specs.declared.action.Action.TheVariants.{Print}
 use Rattle.terminal_model.specs.declared.state.State.{State}
 use Rattle.terminal_model.specs.Screen.{Screen, with_page}
+use Rattle.terminal_model.specs.Printing.{advanced}
 use Rattle.terminal_model.specs.Table.{acted, all_acted}
 use Rattle.vt_screen_rows.specs.declared.display.Display.{Display}
 use Rattle.vt_screen_rows.specs.Acting.{KeepsLines, MovesLines}
@@ -26,7 +29,8 @@ use Rattle.vt_screen_rows.specs.Places.{all_acted_places, places_after}
 use Rattle.vt_screen_rows.specs.Runs.{TakesRuns, prints}
 use Rattle.vt_screen_rows.specs.Texts.{PrintsText}
 use Rattle.vt_screen_rows.proofs.Acted.{all_acted-append, all_acted_fit, all_acted_places-append}
-use Rattle.vt_screen_rows.proofs.TextRuns.{Makes, cells_placed, text_given, text_makes, text_none}
+use Rattle.vt_screen_rows.proofs.TextRuns.{Makes, cells_placed, text_last, text_makes, text_none}
+use Rattle.vt_screen_rows.proofs.Widths.{line_width}
 
 -- characters that are no more than these
 printed_as : (d later : Display) (bytes characters : List ℕ) → IsText bytes → text bytes ≡ characters
@@ -50,26 +54,6 @@ page_kept rows columns line at page is inside =
     page_from-edited line (spliced at [] (at + 0) (length (line_at page line))) rows columns page is inside
     ∙ ap (λ (cells : List Cell). set page line cells) (sym (put_none at [] (line_at page line) refl (is.paired line)))
     ∙ set-get_or page line []
-
--- no text was put there
-pub none_put : (d later : Display) (bytes : List ℕ) (count : ℕ) → IsFit d → IsText bytes → count ≡ 0
-    → length (text_cells (text bytes) d.state.rendition d.state.is_protecting) ≡ count
-    → screen_of later ≡ with_page (screen_of d) d.state
-    (page_spliced d.state.line d.state.column (text_cells (text bytes) d.state.rendition d.state.is_protecting)
-    (d.state.column + count) d.page.lines)
-    → KeepsLines d later → PrintsText d bytes later
-none_put d later bytes count fit is e counted put lines =
-    let s : State = d.state in
-    let page : List (List Cell) = d.page.lines in
-    let none : text bytes ≡ [] = text_none (text bytes) s.rendition s.is_protecting (counted ∙ e) in
-    let screen : screen_of later ≡ screen_of d = put
-    ∙ ap (λ (n : ℕ). with_page (screen_of d) s
-    (page_spliced s.line s.column (text_cells (text bytes) s.rendition s.is_protecting) (s.column + n) page)) e
-    ∙ ap (λ (cs : List ℕ). with_page (screen_of d) s
-    (page_spliced s.line s.column (text_cells cs s.rendition s.is_protecting) (s.column + 0) page)) none
-    ∙ ap (λ (p : List (List Cell)). with_page (screen_of d) s p)
-    (page_kept s.rows s.columns s.line s.column page fit.sound.sized fit.sound.cursor.0) in
-    printed_as d later bytes [] is none screen (all_acted_fit d later [] fit screen lines.width) lines.places
 
 pub one_printed : (d later : Display) (bytes : List ℕ) (c : ℕ) → codes bytes ≡ (c ∷ [], []) → is_character c ≡ true
     → screen_of later ≡ acted (screen_of d) (Print (Code c)) → IsFit later
@@ -118,17 +102,65 @@ rest_printed a b c bytes read size first second =
     (more_printed a b c (take read bytes) (take size (drop read bytes)) first
     (subst (λ (v : List ℕ). PrintsText b v c) rest second))
 
--- text that was put in the cursor's line
-pub text_printed : (d later : Display) (bytes : List ℕ) → IsFit d → TakesRuns d.state
-    → d.state.is_wrap_pending ≡ false → IsText bytes → is_based (text bytes) ≡ true
-    → 0 < length (text_cells (text bytes) d.state.rendition d.state.is_protecting)
-    → d.state.column + length (text_cells (text bytes) d.state.rendition d.state.is_protecting) ≤ d.state.columns
-    → screen_of later ≡ cells_placed (text_cells (text bytes) d.state.rendition d.state.is_protecting) (screen_of d)
-    → KeepsLines d later → PrintsText d bytes later
-text_printed d later bytes fit takes settled is based cells room placed lines =
-    let x : Screen = screen_of d in
-    let some : 0 < length (text bytes) = text_given (text bytes) d.state.rendition d.state.is_protecting cells in
-    let made : Makes x (prints (text bytes)) _ = text_makes (text bytes) x takes settled fit.sound based some room in
-    let screen : screen_of later ≡ all_acted x (prints (text bytes)) = placed ∙ sym made.screen in
-    printed_as d later bytes (text bytes) is refl screen
-    (all_acted_fit d later (prints (text bytes)) fit screen lines.width) (lines.places ∙ sym (made.places d.page.places))
+-- what was put has a last character
+pub put_last : (bytes : List ℕ) (r : Rendition) (p : Bool) (room : ℕ) (put : Put) → PutsText bytes r p room put
+    → 0 < put.count → put.last ≤ put.count
+put_last bytes r p room put puts some =
+    let is : 0 < length (text_cells (text (take put.read bytes)) r p) = rw puts.count some in
+    omega (arith, puts.count, puts.last, text_last (text (take put.read bytes)) r p is)
+
+module _ (d later : Display) (bytes : List ℕ) (put : Put) (fit : IsFit d)
+    (puts : PutsText bytes d.state.rendition d.state.is_protecting
+    (length (line_at d.page.lines d.state.line) - d.state.column) put) (lines : KeepsLines d later) where
+  abbrev s : State
+  s = d.state
+
+  abbrev characters : List ℕ
+  characters = text (take put.read bytes)
+
+  abbrev fresh : List Cell
+  fresh = text_cells characters s.rendition s.is_protecting
+
+  -- no text was put in the cursor's line
+  pub none_put : put.count ≡ 0
+      → screen_of later ≡ with_page (screen_of d) s
+      (page_spliced s.line s.column fresh (s.column + put.count) d.page.lines) → PrintsText d (take put.read bytes) later
+  none_put e placed =
+      let none : characters ≡ [] = text_none characters s.rendition s.is_protecting (puts.count ∙ e) in
+      let screen : screen_of later ≡ screen_of d = placed
+      ∙ ap (λ (n : ℕ). with_page (screen_of d) s (page_spliced s.line s.column fresh (s.column + n) d.page.lines)) e
+      ∙ ap (λ (cs : List ℕ). with_page (screen_of d) s
+      (page_spliced s.line s.column (text_cells cs s.rendition s.is_protecting) (s.column + 0) d.page.lines)) none
+      ∙ ap (λ (p : List (List Cell)). with_page (screen_of d) s p)
+      (page_kept s.rows s.columns s.line s.column d.page.lines fit.sound.sized fit.sound.cursor.0) in
+      printed_as d later (take put.read bytes) [] puts.is_text none screen (all_acted_fit d later [] fit screen lines.width)
+      lines.places
+
+  -- text was put there
+  pub text_printed : TakesRuns s → s.is_wrap_pending ≡ false → 0 < put.count
+      → screen_of later ≡ with_page (screen_of d)
+      (advanced (record s { column = s.column + (put.count - put.last) }) put.last)
+      (page_spliced s.line s.column fresh (s.column + put.count) d.page.lines) → PrintsText d (take put.read bytes) later
+  text_printed takes settled given placed =
+      let x : Screen = screen_of d in
+      let n : length fresh ≡ put.count = puts.count in
+      let some : 0 < length characters = given_by characters (rw n given) in
+      let room : s.column + length fresh ≤ s.columns = omega (
+        arith,
+        n,
+        puts.inside,
+        line_width d fit,
+        fit.sound.cursor.1,
+      ) in
+      let made : Makes x (prints characters) (cells_placed fresh x) = text_makes characters x takes settled fit.sound
+      puts.based some room in
+      let all : with_page x (advanced (record s { column = s.column + (put.count - put.last) }) put.last)
+      (page_spliced s.line s.column fresh (s.column + put.count) d.page.lines) ≡ cells_placed fresh x =
+      rw (line_width d fit, puts.last, n) refl in
+      let screen : screen_of later ≡ all_acted x (prints characters) = placed ∙ all ∙ sym made.screen in
+      printed_as d later (take put.read bytes) characters puts.is_text refl screen
+      (all_acted_fit d later (prints characters) fit screen lines.width) (lines.places ∙ sym (made.places d.page.places))
+    where
+      given_by : (cs : List ℕ) → 0 < length (text_cells cs s.rendition s.is_protecting) → 0 < length cs
+      given_by [] some = some
+      given_by (c ∷ cs) some = omega arith

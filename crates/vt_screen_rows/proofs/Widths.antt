@@ -16,9 +16,6 @@ use Rattle.vt_screen_rows.proofs.SizeLemmas.{acted_columns}
 pub line_width : (d : Display) → IsFit d → length (line_at d.page.lines d.state.line) ≡ d.state.columns
 line_width d fit = fit.sound.sized.width d.state.line fit.sound.cursor.0
 
-pub page_height : (d : Display) → IsFit d → length d.page.lines ≡ d.state.rows
-page_height d fit = fit.sound.sized.height
-
 -- a display that shows another sound screen of the same width is fit
 pub fit_after : (d later : Display) (x : Screen) → IsFit d → screen_of later ≡ x → IsSound x
     → x.state.columns ≡ d.state.columns → later.ring.columns ≡ d.ring.columns → IsFit later

@@ -15,4 +15,3 @@ mod sizing;
 mod text;
 
 pub use display::Display;
-pub use runs::prints_ascii;

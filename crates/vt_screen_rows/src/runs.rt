@@ -5,7 +5,7 @@ ghost use Rattle.charsets.specs.Shifts.{set_at};
 ghost use Rattle.charsets.specs.Units.{is_plain};
 ghost use Rattle.vt_screen_rows.specs.Acting.{ActsByAll, MovesLinesByAll};
 ghost use Rattle.vt_screen_rows.specs.Displays.{IsFit};
-ghost use Rattle.vt_screen_rows.specs.Runs.{PrintsAscii, TakesRuns, prints};
+ghost use Rattle.vt_screen_rows.specs.Runs.{TakesRuns, prints};
 
 use crate::display::Display;
 use charsets::{CharacterSet, Place, Shifts};
@@ -30,18 +30,14 @@ impl Display {
     }
 }
 
-/// Whether characters 20 to 7E stand for themselves: GL is ASCII, and no single shift is pending.
-pub fn prints_ascii(state: &State) -> bool
-    ensures { IsTrue result ↔ PrintsAscii state.now }
-{
-    matches!(set_in_use(&state.shifts), CharacterSet::Ascii) && state.shifts.single.is_none()
-}
-
-/// Whether characters 20 to 7E stand for themselves, and each is put over an old cell.
+/// Whether characters 20 to 7E stand for themselves, and each is put over an old cell: GL is ASCII,
+/// no single shift is pending, and IRM is reset.
 pub fn takes_runs(state: &State) -> bool
     ensures { IsTrue result ↔ TakesRuns state.now }
 {
-    prints_ascii(state) && !state.modes.inserts
+    matches!(set_in_use(&state.shifts), CharacterSet::Ascii)
+        && state.shifts.single.is_none()
+        && !state.modes.inserts
 }
 
 /// The set that 21 to 7E go through if no single shift is pending: mostly that of G0.

@@ -9,7 +9,6 @@ ghost use Rattle.vt_screen_rows.specs.Texts.{PrintsText};
 
 use crate::display::Display;
 use crate::runs::takes_runs;
-use cells::{is_known_wide, is_letter};
 use charsets::first_character;
 use vt_screen_page::CellPosition;
 use vt_screen_state::advance;
@@ -48,8 +47,7 @@ impl Display {
         let Some((character, size)) = first_character(bytes) else {
             return 0;
         };
-        let is_known = is_letter(character) || is_known_wide(character);
-        if is_known && takes_runs(&self.state) && !self.state.is_wrap_pending {
+        if takes_runs(&self.state) && !self.state.is_wrap_pending {
             let read = self.place_text(bytes);
             if read > 0 {
                 return read;
