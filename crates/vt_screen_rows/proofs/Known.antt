@@ -170,24 +170,18 @@ known_wide c h =
     known_by c 2 (grind (arith, nat_tests)) (in_known 2 c wides wides_are (omega arith) (grind (arith, nat_tests))) refl
     refl
 
-letter_beyond : (c : ℕ) → is_letter c ≡ true → 0xA0 ≤ c → (c ≡ 0x5DC → ⊥) → in_ranges letters c ≡ true
-letter_beyond c h beyond other = grind (arith, nat_tests)
-
-plain_below : (c : ℕ) → is_letter c ≡ true → c < 0xA0 → is_plain c ≡ true
-plain_below c h low = grind (arith, nat_tests)
-
 pub known_letter : (c : ℕ) → is_letter c ≡ true → IsKnown c 1
 known_letter c h =
     elim (cases_lt c 0xA0) [
       | inl low ↦
-          let plain : is_plain c ≡ true = plain_below c h low in
+          let plain : is_plain c ≡ true = grind (arith, nat_tests) in
           record { graphic = grind (arith, nat_tests); columns = columns-plain c plain; drawn = drawn-plain c plain }
       | inr beyond ↦
           elim (cases_eq c 0x5DC) [
             | inl lamed ↦ known_by c 1 beyond (rw lamed lamed_width) refl refl
             | inr other ↦
                 known_by c 1 beyond
-                (in_known 1 c letters letters_are (omega arith) (letter_beyond c h beyond other)) refl refl
+                (in_known 1 c letters letters_are (omega arith) (grind (arith, nat_tests))) refl refl
           ]
     ]
 

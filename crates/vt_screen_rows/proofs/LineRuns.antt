@@ -11,7 +11,8 @@ use Rattle.cells.specs.declared.cell.Rendition.{Rendition}
 use Rattle.cells.specs.Line.{cell_at, is_right, narrow_cell, narrow_cells, plain, spliced}
 use Rattle.cells.specs.Page.{line_at, page_from, page_spliced}
 use Rattle.cells.specs.Moves.{scrolled_up}
-use Rattle.cells.specs.Texts.{cells_on, is_base_or_mark, is_based, is_known_wide, is_letter, is_mark, last_columns, text_cells}
+use Rattle.cells.specs.Texts.{cells_on, is_base_or_mark, is_based, is_known_wide, is_letter, is_mark, last_columns}
+use Rattle.cells.specs.Texts.{text_cells}
 use Rattle.cells.proofs.Putting.{length-narrow_cells}
 use Rattle.terminal_model.specs.declared.action.Action.TheVariants.{CarriageReturn, LineFeed, NextLine}
 use Rattle.terminal_model.specs.declared.state.State.{State}
@@ -26,7 +27,7 @@ use Rattle.vt_screen_rows.proofs.Overs.{page_over}
 use Rattle.vt_screen_rows.proofs.TextRuns.{Makes, cells_placed, text_makes}
 
 -- the characters 20 to 7E with which the first of some bytes begin
-front_plain : (room : ℕ) (bytes : List ℕ)
+pub front_plain : (room : ℕ) (bytes : List ℕ)
     → list_all is_plain (take (prefix_len is_plain (take room bytes)) bytes) ≡ true
 front_plain zero bytes = refl
 front_plain (suc room) [] = refl
@@ -40,25 +41,8 @@ front_plain (suc room) (b ∷ bytes) = by (is_plain b) refl (front_plain room by
         rw next (rw e later)
     by false e later = refl
 
--- as many bytes of them as have room in a line
-pub record IsFront (bytes : List ℕ) (columns count : ℕ) : Type 0 where
-  pub plain : list_all is_plain (take count bytes) ≡ true
-  pub counted : count ≡ length (take count bytes)
-  pub few : count ≤ length bytes
-  pub room : count ≤ columns
-
-pub front_is : (bytes : List ℕ) (columns room count : ℕ) → room ≡ min (length bytes) columns
-    → count ≡ prefix_len is_plain (take room bytes) → IsFront bytes columns count
-front_is bytes columns room count fits is =
-    let few : prefix_len is_plain (take room bytes) ≤ length (take room bytes) = prefix_len-le-length is_plain
-    (take room bytes) in
-    let n : length (take room bytes) ≡ min room (length bytes) = length-take room bytes in
-    record {
-      plain = rw is (front_plain room bytes);
-      counted = omega (arith, few, n, is, length-take count bytes);
-      few = omega (arith, few, n, is);
-      room = omega (arith, few, n, is, fits);
-    }
+pub front_few : (room : ℕ) (bytes : List ℕ) → prefix_len is_plain (take room bytes) ≤ min room (length bytes)
+front_few room bytes = omega (arith, prefix_len-le-length is_plain (take room bytes), length-take room bytes)
 
 -- characters 20 to 7E are text, and have a cell each
 pub plain_letter : (c : ℕ) → is_plain c ≡ true → is_letter c ≡ true
@@ -110,10 +94,14 @@ line_begun x = go x.state.modes.starts_lines
     go true = refl
     go false = refl
 
-module _ (x : Screen) (bytes : List ℕ) (count : ℕ) (front : IsFront bytes x.state.columns count)
-    (t : TakesRuns x.state) (sound : IsSound x) (some : 0 < count) (scrolls : ScrollsPlain x.state) where
+module _ (x : Screen) (bytes : List ℕ) (count : ℕ) (h : list_all is_plain (take count bytes) ≡ true)
+    (few : count ≤ length bytes) (room : count ≤ x.state.columns) (t : TakesRuns x.state) (sound : IsSound x)
+    (some : 0 < count) (scrolls : ScrollsPlain x.state) where
   abbrev cs : List ℕ
   cs = take count bytes
+
+  counted : length cs ≡ count
+  counted = omega (arith, few, length-take count bytes)
 
   abbrev w : Screen
   w = wrapped true x
@@ -128,10 +116,10 @@ module _ (x : Screen) (bytes : List ℕ) (count : ℕ) (front : IsFront bytes x.
   made =
       let takes : TakesRuns w.state = record { ascii = t.ascii; unshifted = t.unshifted; replaces = t.replaces } in
       let cells : text_cells cs w.state.rendition w.state.is_protecting ≡ fresh = plain_cells w.state.rendition
-      w.state.is_protecting cs front.plain in
+      w.state.is_protecting cs h in
       subst (λ (v : List Cell). Makes w (prints cs) (cells_placed v w)) cells
-      (text_makes cs w takes refl (sound_wrapped x sound) (plain_based cs front.plain)
-      (omega (arith, front.counted, some)) (rw (cells, n) (omega (arith, front.counted, front.room))))
+      (text_makes cs w takes refl (sound_wrapped x sound) (plain_based cs h) (rw (cells, n) (omega (arith, counted, some)))
+      (rw (cells, n) (omega (arith, counted, room))))
 
   is_last : (x.state.line == x.state.bottom) ≡ true
   is_last = eq-eqb x.state.line x.state.bottom scrolls.last
@@ -155,7 +143,7 @@ module _ (x : Screen) (bytes : List ℕ) (count : ℕ) (front : IsFront bytes x.
   scrolled_run =
       let s : State = x.state in
       let is_first : (s.top == 0) ≡ true = eq-eqb s.top 0 scrolls.first in
-      let none : 0 + (length cs - 1) ≡ count - 1 = omega (arith, front.counted) in
+      let none : 0 + (length cs - 1) ≡ count - 1 = omega (arith, counted) in
       let all : 0 + length cs ≡ length cs = omega arith in
       let last : last_columns fresh ≡ 1 = rw
       (narrow_at w.state.rendition w.state.is_protecting cs (length fresh - 1)) refl in

@@ -94,9 +94,9 @@ module _ (x : Screen) (c : ℕ) (t : TakesRuns x.state) (settled : x.state.is_wr
       let s : State = x.state in
       let fresh : List Cell = narrow_cell c s.rendition s.is_protecting ∷ [] in
       record {
-        screen =
-            letter_placed letter ∙ placed_is x fresh t refl;
-        places = λ places. known_places s c 1 places t (known_letter c letter) ∙ ap (λ (b : Bool). wrapped_places b s places) settled;
+        screen = letter_placed letter ∙ placed_is x fresh t refl;
+        places = λ places. known_places s c 1 places t (known_letter c letter)
+            ∙ ap (λ (b : Bool). wrapped_places b s places) settled;
       }
 
   wide_makes : is_known_wide c ≡ true → x.state.column + 2 ≤ x.state.columns
@@ -223,23 +223,14 @@ module _ (x : Screen) (cell : Cell) (ready : IsReady x) (first : is_right cell.s
       let all : length (whole cell ++ later) ≡ n + length later = length-append (whole cell) later in
       let last : last_columns (whole cell ++ later) ≡ m = last_behind (whole cell) later some in
       let column : s.column + n + (length later - m) ≡ s.column + (n + length later - m) = omega arith in
-      let end : s.column + n + length later ≡ s.column + (n + length later) = omega arith in
       ap (λ (v : State). cells_placed later (record x { state = v; page = y.page })) (state_is (omega arith))
-      ∙ ap (λ (k : ℕ). record x
-      { state = advanced (record s { column = k }) m; page = page_over s.columns s.line (s.column + n) later y.page })
-      column
-      ∙ ap (λ (page : Page). record x
-      { state = advanced (record s { column = s.column + (n + length later - m) }) m; page = page })
-      (page_over_more s.rows s.columns s.line s.column cell x.page ready.sized ready.line first later pairs some
-      (omega arith))
-      ∙ ap (λ (k : ℕ). record x {
-        state = advanced (record s { column = s.column + (k - m) }) m;
-        page = page_over s.columns s.line s.column (whole cell ++ later) x.page;
-      }) (sym all)
-      ∙ ap (λ (k : ℕ). record x {
-        state = advanced (record s { column = s.column + (length (whole cell ++ later) - k) }) k;
-        page = page_over s.columns s.line s.column (whole cell ++ later) x.page;
-      }) (sym last)
+      ∙ rw (
+        page_over_more s.rows s.columns s.line s.column cell x.page ready.sized ready.line first later pairs some
+            (omega arith),
+        last,
+        all,
+        column,
+      ) refl
 
 module _ (r : Rendition) (p : Bool) where
   pub cells_on-paired : (cell : Cell) (cs : List ℕ) → is_right cell.shape ≡ false → IsPaired (cells_on r p cell cs)
@@ -304,7 +295,7 @@ run_on (c ∷ cs) x cell ready first h room =
 
 -- text that fits in the line
 pub text_makes : (cs : List ℕ) (x : Screen) → TakesRuns x.state → x.state.is_wrap_pending ≡ false → IsSound x
-    → is_based cs ≡ true → 0 < length cs
+    → is_based cs ≡ true → 0 < length (text_cells cs x.state.rendition x.state.is_protecting)
     → x.state.column + length (text_cells cs x.state.rendition x.state.is_protecting) ≤ x.state.columns
     → Makes x (prints cs) (cells_placed (text_cells cs x.state.rendition x.state.is_protecting) x)
 text_makes [] x t settled sound h some room = absurd (omega arith)

@@ -144,23 +144,13 @@ module _ (d later : Display) (bytes : List ℕ) (put : Put) (fit : IsFit d)
   text_printed takes settled given placed =
       let x : Screen = screen_of d in
       let n : length fresh ≡ put.count = puts.count in
-      let some : 0 < length characters = given_by characters (rw n given) in
-      let room : s.column + length fresh ≤ s.columns = omega (
-        arith,
-        n,
-        puts.inside,
-        line_width d fit,
-        fit.sound.cursor.1,
-      ) in
+      let room : s.column + length fresh ≤ s.columns = omega
+      (arith, n, puts.inside, line_width d fit, fit.sound.cursor.1) in
       let made : Makes x (prints characters) (cells_placed fresh x) = text_makes characters x takes settled fit.sound
-      puts.based some room in
+      puts.based (rw n given) room in
       let all : with_page x (advanced (record s { column = s.column + (put.count - put.last) }) put.last)
       (page_spliced s.line s.column fresh (s.column + put.count) d.page.lines) ≡ cells_placed fresh x =
       rw (line_width d fit, puts.last, n) refl in
       let screen : screen_of later ≡ all_acted x (prints characters) = placed ∙ all ∙ sym made.screen in
       printed_as d later (take put.read bytes) characters puts.is_text refl screen
       (all_acted_fit d later (prints characters) fit screen lines.width) (lines.places ∙ sym (made.places d.page.places))
-    where
-      given_by : (cs : List ℕ) → 0 < length (text_cells cs s.rendition s.is_protecting) → 0 < length cs
-      given_by [] some = some
-      given_by (c ∷ cs) some = omega arith

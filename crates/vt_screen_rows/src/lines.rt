@@ -29,8 +29,7 @@ impl Display {
             (CarriageReturn ∷ LineFeed ∷ prints (take result bytes.now)) self.new }
     {
         if takes_runs(&self.state) && scrolls_plain(&self.state) {
-            let room = bytes.len().min(self.state.columns);
-            let count = plain_run(&bytes[..room]);
+            let count = plain_front(bytes, self.state.columns);
             if count > 0 {
                 self.page
                     .scroll_in_run(&mut self.ring, self.state.bottom, &bytes[..count]);
@@ -52,4 +51,13 @@ fn scrolls_plain(state: &State) -> bool
 {
     let space = Cell::narrow(' ', state.rendition, state.is_protecting);
     state.line == state.bottom && state.top == 0 && space.is_blank()
+}
+
+/// The number of characters 20 to 7E with which some bytes begin, but at most `most`.
+fn plain_front(bytes: &[u8], most: usize) -> usize
+    ensures plain { list_all is_plain (take result bytes.now) ≡ true }
+    ensures few { result ≤ length bytes.now }
+    ensures room { result ≤ most }
+{
+    plain_run(&bytes[..bytes.len().min(most)])
 }

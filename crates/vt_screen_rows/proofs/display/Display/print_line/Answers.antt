@@ -1,5 +1,5 @@
 use Rattle.std.proofs.Common.{◌≡◌, ◌==◌, [], ◌∷◌, true, take, refl, sym, ap}
-use Rattle.std.proofs.Common.{◌∙◌, arith, eq-eqb}
+use Rattle.std.proofs.Common.{◌∙◌, eq-eqb}
 use Rattle.cells.specs.Page.{line_at}
 use Rattle.terminal_model.specs.declared.action.Action.TheVariants.{CarriageReturn, LineFeed}
 use Rattle.terminal_model.specs.declared.state.State.{State}
@@ -11,44 +11,12 @@ use Rattle.vt_screen_rows.specs.Places.{indexed_places}
 use Rattle.vt_screen_rows.specs.Runs.{ScrollsPlain, prints}
 use Rattle.vt_screen_rows.proofs.Acted.{all_acted_fit}
 use Rattle.vt_screen_rows.proofs.KeptLines.{reverse-with_line}
-use Rattle.vt_screen_rows.proofs.LineRuns.{IsFront, front_is, scrolled_places, scrolled_run}
+use Rattle.vt_screen_rows.proofs.LineRuns.{scrolled_places, scrolled_run}
 use Rattle.vt_screen_rows.proofs.display.Display.print_line.Goals as goal
-
-pub slice_bounds-scroll_in_run-end : goal.slice_bounds-scroll_in_run-end
-slice_bounds-scroll_in_run-end c =
-    (front_is c.args.bytes.now c.args.self.now.state.columns c.min-room.result c.plain_run-count.result c.min-room.ensures
-    c.plain_run-count.ensures).counted
-
-pub scroll_in_run-requires-clause-room : goal.scroll_in_run-requires-clause-room
-scroll_in_run-requires-clause-room c =
-    let front : IsFront c.args.bytes.now c.args.self.now.state.columns c.plain_run-count.result = front_is
-    c.args.bytes.now c.args.self.now.state.columns c.min-room.result c.plain_run-count.result c.min-room.ensures
-    c.plain_run-count.ensures in
-    omega (arith, front.counted, front.room, c.requires.columns)
-
-pub advance-requires-clause-inside : goal.advance-requires-clause-inside
-advance-requires-clause-inside c =
-    let front : IsFront c.args.bytes.now c.args.self.now.state.columns c.plain_run-count.result = front_is
-    c.args.bytes.now c.args.self.now.state.columns c.min-room.result c.plain_run-count.result c.min-room.ensures
-    c.plain_run-count.ensures in
-    omega (arith, front.room, c.if-count-gt0.true)
-
-pub returns-then-count-gt0-clause-plain : goal.returns-then-count-gt0-clause-plain
-returns-then-count-gt0-clause-plain c =
-    (front_is c.args.bytes.now c.args.self.now.state.columns c.min-room.result c.plain_run-count.result c.min-room.ensures
-    c.plain_run-count.ensures).plain
-
-pub returns-then-count-gt0-clause-few : goal.returns-then-count-gt0-clause-few
-returns-then-count-gt0-clause-few c =
-    (front_is c.args.bytes.now c.args.self.now.state.columns c.min-room.result c.plain_run-count.result c.min-room.ensures
-    c.plain_run-count.ensures).few
 
 pub returns-then-count-gt0-clause-screen : goal.returns-then-count-gt0-clause-screen
 returns-then-count-gt0-clause-screen c =
     let d : Display = c.args.self.now in
-    let front : IsFront c.args.bytes.now c.args.self.now.state.columns c.plain_run-count.result = front_is
-    c.args.bytes.now c.args.self.now.state.columns c.min-room.result c.plain_run-count.result c.min-room.ensures
-    c.plain_run-count.ensures in
     rw (
       c.advance.ensures,
       c.scroll_in_run.ensures.lines,
@@ -56,29 +24,27 @@ returns-then-count-gt0-clause-screen c =
       reverse-with_line d.ring.keep d.ring.lines (line_at d.page.lines 0),
     )
     (sym
-    (scrolled_run (screen_of d) c.args.bytes.now c.plain_run-count.result front
-    (c.takes_runs.ensures.0 c.if-takes_runs.true) c.requires.sound c.if-count-gt0.true
-    (c.scrolls_plain.ensures c.if-scrolls_plain.true)))
+    (scrolled_run (screen_of d) c.args.bytes.now c.plain_front-count.result c.plain_front-count.ensures.plain
+    c.plain_front-count.ensures.few c.plain_front-count.ensures.room (c.takes_runs.ensures.0 c.if-takes_runs.true)
+    c.requires.sound c.if-count-gt0.true (c.scrolls_plain.ensures c.if-scrolls_plain.true)))
 
 pub returns-then-count-gt0-clause-fit : goal.returns-then-count-gt0-clause-fit
 returns-then-count-gt0-clause-fit c = all_acted_fit c.args.self.now _
-    (CarriageReturn ∷ LineFeed ∷ prints (take c.plain_run-count.result c.args.bytes.now)) c.requires
+    (CarriageReturn ∷ LineFeed ∷ prints (take c.plain_front-count.result c.args.bytes.now)) c.requires
     (returns-then-count-gt0-clause-screen c) (rw c.scroll_in_run.ensures.kept refl)
 
 pub returns-then-count-gt0-clause-places : goal.returns-then-count-gt0-clause-places
 returns-then-count-gt0-clause-places c =
     let d : Display = c.args.self.now in
-    let front : IsFront c.args.bytes.now c.args.self.now.state.columns c.plain_run-count.result = front_is
-    c.args.bytes.now c.args.self.now.state.columns c.min-room.result c.plain_run-count.result c.min-room.ensures
-    c.plain_run-count.ensures in
     let scrolls : ScrollsPlain d.state = c.scrolls_plain.ensures c.if-scrolls_plain.true in
     let is_last : (d.state.line == d.state.bottom) ≡ true = eq-eqb d.state.line d.state.bottom scrolls.last in
     let moved : c.scroll_in_run.new.self.places ≡ indexed_places d.state d.page.places = rw (is_last, scrolls.first)
     c.scroll_in_run.ensures.places in
     moved
     ∙ sym
-    (scrolled_places (screen_of d) c.args.bytes.now c.plain_run-count.result front
-    (c.takes_runs.ensures.0 c.if-takes_runs.true) c.requires.sound c.if-count-gt0.true scrolls d.page.places)
+    (scrolled_places (screen_of d) c.args.bytes.now c.plain_front-count.result c.plain_front-count.ensures.plain
+    c.plain_front-count.ensures.few c.plain_front-count.ensures.room (c.takes_runs.ensures.0 c.if-takes_runs.true)
+    c.requires.sound c.if-count-gt0.true scrolls d.page.places)
 
 pub returns-clause-fit : goal.returns-clause-fit
 unfolding acted_from
