@@ -1,13 +1,10 @@
 //! The page of a screen.
 
-ghost use Rattle.std.specs.Prelude.{◌≡◌, ℕ, ◌+◌, ◌*◌, ◌-◌, ◌<◌, ◌≤◌, ◌↔◌, [], ◌∷◌, length};
-ghost use Rattle.std.specs.Prelude.{replicate, IfOk, Err, true, false, slice_index, take};
-ghost use Rattle.std.specs.List.{list_all};
-ghost use Rattle.charsets.specs.Text.{text, IsText};
-ghost use Rattle.cells.specs.Letters.{is_known_wide, is_lettered, letter_cells};
+ghost use Rattle.std.specs.Prelude.{◌≡◌, ℕ, ◌+◌, ◌-◌, ◌<◌, ◌≤◌, ◌↔◌, [], ◌∷◌, length};
+ghost use Rattle.std.specs.Prelude.{replicate, IfOk, Err, false, slice_index, take};
+ghost use Rattle.charsets.specs.Text.{text};
 ghost use Rattle.cells.specs.Line.{blank, unprotected_erased, narrow_cells, plain};
 ghost use Rattle.cells.specs.Texts.{text_cells, PutsText};
-ghost use Rattle.cells.specs.Wide.{wide_cells};
 ghost use Rattle.cells.specs.Page.{IsGrid, IsGridSize, line_at, page_from, page_marked};
 ghost use Rattle.cells.specs.Page.{page_spliced, edited};
 ghost use Rattle.cells.specs.Moves.{scrolled_up, scrolled_down, erased_lines, filled};
@@ -151,78 +148,6 @@ impl Page {
     {
         let place = self.places[at.line];
         self.stored[place as usize].put_wide(at.column, left, right, rest);
-    }
-
-    /// Puts characters of width 1 over as many old cells, from `at` on. `codes` has their code
-    /// points. An old half that loses its other half becomes blank.
-    pub fn put_run(
-        &mut self,
-        at: CellPosition,
-        codes: &[u8],
-        rendition: Rendition,
-        is_protected: bool,
-    )
-        requires line_inside { at.line < length self.old.lines }
-        requires room { at.column + length codes.now ≤ length (line_at self.old.lines at.line) }
-        ensures lines { self.new.lines
-            ≡ page_spliced at.line at.column (narrow_cells codes.now rendition is_protected)
-            (at.column + length codes.now) self.old.lines }
-        ensures places { self.new.places ≡ self.old.places }
-    {
-        let place = self.places[at.line];
-        self.stored[place as usize].put_run(at.column, codes, rendition, is_protected);
-    }
-
-    /// Puts the letters of one column with which some bytes of UTF-8 begin, and the marks behind
-    /// them, over as many old cells as there are letters, from `at` on, as far as there is room. An
-    /// old half that loses its other half becomes blank. The result counts the columns.
-    pub fn put_letters(
-        &mut self,
-        at: CellPosition,
-        bytes: &[u8],
-        rendition: Rendition,
-        is_protected: bool,
-    ) -> Put
-        requires line_inside { at.line < length self.old.lines }
-        requires inside { at.column ≤ length (line_at self.old.lines at.line) }
-        ensures text { IsText (take result.read bytes.now) }
-        ensures letters { is_lettered (text (take result.read bytes.now)) ≡ true }
-        ensures count { length (letter_cells (text (take result.read bytes.now))
-            rendition is_protected) ≡ result.count }
-        ensures room { at.column + result.count ≤ length (line_at self.old.lines at.line) }
-        ensures few { result.read ≤ length bytes.now }
-        ensures lines { self.new.lines ≡ page_spliced at.line at.column
-            (letter_cells (text (take result.read bytes.now)) rendition is_protected)
-            (at.column + result.count) self.old.lines }
-        ensures places { self.new.places ≡ self.old.places }
-    {
-        let place = self.places[at.line];
-        self.stored[place as usize].put_letters(at.column, bytes, rendition, is_protected)
-    }
-
-    /// Puts the characters of two columns with which some bytes of UTF-8 begin, as `put_letters`
-    /// puts letters: those that `is_known_wide` knows, each over two old cells.
-    pub fn put_wides(
-        &mut self,
-        at: CellPosition,
-        bytes: &[u8],
-        rendition: Rendition,
-        is_protected: bool,
-    ) -> Put
-        requires line_inside { at.line < length self.old.lines }
-        requires inside { at.column ≤ length (line_at self.old.lines at.line) }
-        ensures text { IsText (take result.read bytes.now) }
-        ensures wides { list_all is_known_wide (text (take result.read bytes.now)) ≡ true }
-        ensures count { length (text (take result.read bytes.now)) ≡ result.count }
-        ensures room { at.column + 2 * result.count ≤ length (line_at self.old.lines at.line) }
-        ensures few { result.read ≤ length bytes.now }
-        ensures lines { self.new.lines ≡ page_spliced at.line at.column
-            (wide_cells (text (take result.read bytes.now)) rendition is_protected)
-            (at.column + 2 * result.count) self.old.lines }
-        ensures places { self.new.places ≡ self.old.places }
-    {
-        let place = self.places[at.line];
-        self.stored[place as usize].put_wides(at.column, bytes, rendition, is_protected)
     }
 
     /// Puts the text with which some bytes of UTF-8 begin over as many old cells as it takes columns,
