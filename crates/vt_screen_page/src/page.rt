@@ -10,7 +10,7 @@ ghost use Rattle.cells.specs.Page.{page_spliced, edited};
 ghost use Rattle.cells.specs.Moves.{scrolled_up, scrolled_down, erased_lines, filled};
 ghost use Rattle.cells.specs.Resizing.{page_resized};
 ghost use Rattle.scrollback.specs.Kept.{with_line, Continues};
-ghost use Rattle.vt_screen_page.specs.Store.{placed_in_order, turned};
+ghost use Rattle.vt_screen_page.specs.Store.{placed_in_order, turned, turned_lines};
 
 use crate::position::CellPosition;
 use crate::store;
@@ -203,12 +203,10 @@ impl Page {
         ensures lines { self.new.lines ≡ page_from (erased_lines first end) self.old.lines }
         ensures places { self.new.places ≡ self.old.places }
     {
-        store::erase_lines(
-            self.stored.as_mut_slice(),
-            self.places.as_slice(),
-            first,
-            end,
-        );
+        for line in first..end {
+            let place = self.places[line];
+            self.stored[place as usize].clear();
+        }
     }
 
     /// Blanks the whole page.
@@ -229,6 +227,18 @@ impl Page {
         store::fill_all(self.stored.as_mut_slice(), cell);
     }
 
+    /// Rotates the lines from `top` to `bottom`, so that the first `count` of them come last.
+    #[inline(always)]
+    fn turn(&mut self, top: usize, bottom: usize, count: usize)
+        requires order { top ≤ bottom }
+        requires inside { bottom < length self.old.lines }
+        requires room { count ≤ bottom + 1 - top }
+        ensures lines { self.new.lines ≡ page_from (turned_lines top bottom count) self.old.lines }
+        ensures places { self.new.places ≡ turned top bottom count self.old.places }
+    {
+        store::turn(self.places.as_mut_slice(), top, bottom, count);
+    }
+
     /// Moves the lines from `top` to `bottom` up by `count`. Lines that leave are lost, and blank
     /// ones come in at the bottom.
     pub fn scroll_up(&mut self, top: usize, bottom: usize, count: usize)
@@ -238,13 +248,9 @@ impl Page {
         ensures lines { self.new.lines ≡ page_from (scrolled_up top bottom count) self.old.lines }
         ensures places { self.new.places ≡ turned top bottom count self.old.places }
     {
-        store::scroll_up(
-            self.stored.as_mut_slice(),
-            self.places.as_mut_slice(),
-            top,
-            bottom,
-            count,
-        );
+        prove!(bottom < self.places.len()); // at most 200, so the sums below fit
+        self.erase_lines(top, top + count);
+        self.turn(top, bottom, count);
     }
 
     /// Moves the lines from `top` to `bottom` down by `count`. Lines that leave are lost, and blank
@@ -257,17 +263,14 @@ impl Page {
         ensures places { self.new.places
             ≡ turned top bottom (bottom + 1 - top - count) self.old.places }
     {
-        store::scroll_down(
-            self.stored.as_mut_slice(),
-            self.places.as_mut_slice(),
-            top,
-            bottom,
-            count,
-        );
+        prove!(bottom < self.places.len()); // at most 200, so the sums below fit
+        let kept = bottom + 1 - top - count;
+        self.erase_lines(top + kept, bottom + 1);
+        self.turn(top, bottom, kept);
     }
 
     /// Moves the lines from the first one to `bottom` up by one. The first line goes into the
-    /// scrollback, and a blank one comes in at the bottom.
+    /// scrollback, which returns a line for reuse as the blank one at the bottom.
     pub fn scroll_into(&mut self, ring: &mut Ring, bottom: usize)
         requires inside { bottom < length self.old.lines }
         requires width { ring.old.columns ≡ length (line_at self.old.lines 0) }
@@ -276,12 +279,11 @@ impl Page {
         ensures kept { ring.new ≡ with_line ring.old (line_at self.old.lines 0) }
         ensures stands { Continues ring.old ring.new (line_at self.old.lines 0) }
     {
-        store::scroll_into(
-            self.stored.as_mut_slice(),
-            self.places.as_mut_slice(),
-            ring,
-            bottom,
-        );
+        let place = self.places[0];
+        let line = &mut self.stored[place as usize];
+        ring.exchange(line);
+        line.clear();
+        self.turn(0, bottom, 1);
     }
 
     /// Moves the lines from the first one to `bottom` up by one. The first line goes into the
@@ -300,13 +302,11 @@ impl Page {
         ensures kept { ring.new ≡ with_line ring.old (line_at self.old.lines 0) }
         ensures stands { Continues ring.old ring.new (line_at self.old.lines 0) }
     {
-        store::scroll_in_run(
-            self.stored.as_mut_slice(),
-            self.places.as_mut_slice(),
-            ring,
-            bottom,
-            codes,
-        );
+        let place = self.places[0];
+        let line = &mut self.stored[place as usize];
+        ring.exchange(line);
+        line.clear_behind_run(codes);
+        self.turn(0, bottom, 1);
     }
 
     /// Copies the page in another size. It keeps the upper left part; new places are blank, and so
