@@ -1,9 +1,9 @@
 -- Pages that are new, filled, or in another size.
-use Rattle.std.proofs.Common.{◌≡◌, ℕ, zero, suc, ◌+◌, ◌<◌, ◌≤◌, List, [], ◌∷◌, ◌++◌, length, get_or, map, take, drop}
-use Rattle.std.proofs.Common.{replicate, refl, sym, ap, ◌∙◌, subst, arith, ⊎_elim, add-one}
+use Rattle.std.proofs.Common.{◌≡◌, ℕ, ◌+◌, ◌<◌, ◌≤◌, List, [], ◌∷◌, ◌++◌, length, get_or, map, take, drop}
+use Rattle.std.proofs.Common.{replicate, refl, sym, ap, ◌∙◌, subst, arith, ⊎_elim}
 use Rattle.std.specs.List.{range_with_len}
 use Rattle.std.proofs.lemmas.List.FromFn.{length-range_with_len, get_or-range_with_len, map-range_with_len_more}
-use Rattle.std.proofs.lemmas.List.{get_or-map, get_or_past, get_or-replicate, length-map, length-replicate, take_at}
+use Rattle.std.proofs.lemmas.List.{get_or-map, get_or_past, get_or-replicate, length-map, length-replicate, map-id, take_at}
 use Rattle.std.proofs.lemmas.Bool.{cases_lt}
 use Rattle.cells.specs.declared.cell.Cell.{Cell}
 use Rattle.cells.specs.declared.cell.Shape.TheVariants.{Narrow}
@@ -18,13 +18,9 @@ use Rattle.vt_screen_page.specs.Store.{Placed, lines_in_order, ArePlaces, IsStor
 use Rattle.vt_screen_page.proofs.Stored.{seen, Makes, length-lines_in_order, line_at-lines_in_order, lines_in_order-is}
 use Rattle.vt_screen_page.proofs.Stored.{IsStore-is}
 
-pub range_more : (a n : ℕ) → range_with_len a (n + 1) ≡ range_with_len a n ++ (a + n) ∷ []
-range_more a n = ap (range_with_len a) (add-one n) ∙ go a n
-  where
-    go : (a n : ℕ) → range_with_len a (suc n) ≡ range_with_len a n ++ (a + n) ∷ []
-    go a zero = let e : a ≡ a + 0 = omega arith in ap (λ x. x ∷ []) e
-    go a (suc n) = let e : a + 1 + n ≡ a + suc n = omega arith in ap (λ xs. a ∷ xs)
-        (go (a + 1) n ∙ ap (λ x. range_with_len (a + 1) n ++ x ∷ []) e)
+pub range_more : (n : ℕ) → range_with_len 0 (n + 1) ≡ range_with_len 0 n ++ n ∷ []
+range_more n = sym (map-id (range_with_len 0 (n + 1))) ∙ map-range_with_len_more (λ k. k) 0 n n (omega arith)
+    ∙ ap (λ (ks : List ℕ). ks ++ n ∷ []) (map-id (range_with_len 0 n))
 
 -- one more line of a resized page
 pub page_resized_more : (rows columns : ℕ) (page : List (List Cell))
@@ -34,14 +30,11 @@ page_resized_more rows columns page = map-range_with_len_more (λ line. line_fro
     (omega arith)
     ∙ ap (λ (line : List Cell). page_resized rows columns page ++ line ∷ []) (line_from-resized page rows columns)
 
--- an empty line in another width is blank
-pub line_resized-none : (width : ℕ) → replicate width blank ≡ line_resized width []
-line_resized-none width = sym (map_same _ (λ (_k : ℕ). blank) 0 width (λ column. refl) ∙ map_replicate blank 0 width)
-
--- the lines of a page, which may have fewer lines, in another width
+-- past the end of a page there is an empty line, which is blank in another width
 pub resized_past : (stored : List (List Cell)) (places : List ℕ) (row width : ℕ) → length places ≤ row
     → replicate width blank ≡ line_resized width (line_at (lines_in_order stored places) row)
-resized_past stored places row width h = line_resized-none width
+resized_past stored places row width h =
+    sym (map_same _ (λ (_k : ℕ). blank) 0 width (λ column. refl) ∙ map_replicate blank 0 width)
     ∙ ap (line_resized width)
     (sym (get_or_past (lines_in_order stored places) row [] (rw (length-lines_in_order stored places) h)))
 
@@ -63,8 +56,7 @@ in_order rows page n grid =
     }
 
 pub resized_in_order : {stored : List (List Cell)} {places : List ℕ} (rows columns : ℕ) → IsGridSize rows columns
-    → IsStore stored places
-    → Makes (page_resized rows columns (lines_in_order stored places)) (range_with_len 0 rows)
+    → IsStore stored places → Makes (page_resized rows columns (lines_in_order stored places)) (range_with_len 0 rows)
     (page_resized rows columns (lines_in_order stored places))
 resized_in_order {stored = stored} {places = places} rows columns size store =
     let page : List (List Cell) = lines_in_order stored places in

@@ -67,16 +67,21 @@ pub record Makes (stored : List (List Cell)) (places : List ℕ) (page : List (L
 pub places_stay : {v w : Placed} → v ≡ w → v.places ≡ w.places
 places_stay view = ap (λ (v : Placed). v.places) view
 
+pub inside_places : (stored : List (List Cell)) (places : List ℕ) {v : Placed} {k : ℕ} → seen stored places ≡ v
+    → k < length v.lines → k < length places
+inside_places stored places {v = v} {k = k} view h = subst (λ n. k < n)
+    (ap (λ (v : Placed). length v.lines) (sym view) ∙ length-lines_in_order stored places) h
+
 -- a stored line is a line of the page
 pub stored_line : {stored : List (List Cell)} {places : List ℕ} {v : Placed} {k place : ℕ} {old : List Cell}
     → seen stored places ≡ v → IsStore stored places → k < length v.lines → place ≡ get_or places k place
     → old ≡ get_or stored place old → old ≡ line_at v.lines k
-stored_line {stored = stored} {places = places} {k = k} {place = place} {old = old} view store h e there = subst
-    (λ (v : Placed). k < length v.lines → old ≡ line_at v.lines k) view (λ h.
-    let within : k < length places = rw (length-lines_in_order stored places) at h in
+stored_line {stored = stored} {places = places} {k = k} {place = place} {old = old} view store h e there =
+    let within : k < length places = inside_places stored places view h in
     let p : place ≡ get_or places k 0 = e ∙ get_or_default places k place 0 within in
     there ∙ get_or_default stored place old [] (rw p (store.places_apart.inside k within))
-    ∙ ap (line_at stored) p ∙ sym (line_at-lines_in_order stored places k within)) h
+    ∙ ap (line_at stored) p ∙ sym (line_at-lines_in_order stored places k within)
+    ∙ ap (λ (v : Placed). line_at v.lines k) view
 
 pub view_grid : {stored : List (List Cell)} {places : List ℕ} {v : Placed} → seen stored places ≡ v
     → IsStore stored places → IsGrid v.lines
@@ -90,7 +95,7 @@ pub replaced : {stored : List (List Cell)} {places : List ℕ} {v : Placed} {k p
 replaced {stored = stored} {places = places} {v = v} {k = k} {place = place} {new = new} line is size paired view store
     h e =
     let same : lines_in_order stored places ≡ v.lines = ap (λ (v : Placed). v.lines) view in
-    let within : k < length places = rw (sym (length-lines_in_order stored places) ∙ ap length same) h in
+    let within : k < length places = inside_places stored places view h in
     let done : lines_in_order (set stored place new) places ≡ set v.lines k line =
     ap (λ q. lines_in_order (set stored q new) places) (e ∙ get_or_default places k place 0 within)
     ∙ lines_in_order-set stored places k new store.places_apart within
@@ -136,13 +141,11 @@ edited_line {stored = stored} {places = places} {v = v} {k = k} {place = place} 
 pub spliced_line : {stored : List (List Cell)} {places : List ℕ} {v : Placed} {k place : ℕ} {old new : List Cell}
     (at rest : ℕ) (fresh : List Cell) → new ≡ cells_spliced at fresh rest old
     → Writes stored places v k place old new (page_spliced k at fresh rest v.lines)
-spliced_line at rest fresh is = edited_line
-    (λ line. spliced at fresh rest (length line)) is
+spliced_line at rest fresh is = edited_line (λ line. spliced at fresh rest (length line)) is
 
 pub marked_line : {stored : List (List Cell)} {places : List ℕ} {v : Placed} {k place : ℕ} {old new : List Cell}
     (column mark : ℕ) → new ≡ set old column (marked (cell_at old column) mark)
     → Writes stored places v k place old new (page_marked k column mark v.lines)
-marked_line column mark is = written
-    (λ line. set line column (marked (cell_at line column) mark)) is
+marked_line column mark is = written (λ line. set line column (marked (cell_at line column) mark)) is
     (λ line. length-set line column (marked (cell_at line column) mark))
     (λ line. IsPaired-set line column (marked (cell_at line column) mark) refl)

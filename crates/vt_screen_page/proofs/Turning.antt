@@ -1,8 +1,6 @@
--- Lines that are blanked, and lines that are rotated.
-use Rattle.std.proofs.Common.{◌≡◌, ℕ, ◌+◌, ◌-◌, ◌<◌, ◌≤◌, true, false, leb, List, [], ◌++◌}
-use Rattle.std.proofs.Common.{length, get_or, set, replicate}
-use Rattle.std.proofs.Common.{take, drop}
-use Rattle.std.proofs.Common.{refl, sym, ap, ◌∙◌, ◌⊎◌, inl, inr, subst, arith, ⊎_elim}
+-- Scrolls: some lines become blank, and lines are rotated.
+use Rattle.std.proofs.Common.{◌≡◌, ℕ, ◌+◌, ◌-◌, ◌<◌, ◌≤◌, true, false, leb, List, [], ◌++◌, length, get_or, set}
+use Rattle.std.proofs.Common.{replicate, take, drop, refl, sym, ap, ◌∙◌, ◌⊎◌, inl, inr, subst, arith, ⊎_elim}
 use Rattle.std.proofs.lemmas.Bool.{cases_lt, cases_eq}
 use Rattle.std.proofs.lemmas.List.{ext_get_or, length-set, get_or-set_same, get_or-set_other, length-replicate, take_at}
 use Rattle.std.proofs.lemmas.List.FromFn.{length-map-range_with_len, get_or-map-range_with_len}
@@ -19,7 +17,7 @@ use Rattle.cells.proofs.Splicing.{IsPaired-blanks}
 use Rattle.vt_screen_page.specs.Store.{Placed, lines_in_order, ArePlaces, IsStore, IsTurned, turned_from, turned}
 use Rattle.vt_screen_page.specs.Store.{turned_lines}
 use Rattle.vt_screen_page.proofs.Stored.{seen, Makes, length-lines_in_order, line_at-lines_in_order, IsStore-is}
-use Rattle.vt_screen_page.proofs.Stored.{replaced, cleared_line}
+use Rattle.vt_screen_page.proofs.Stored.{inside_places, replaced, cleared_line}
 
 pub le-leb' : (a b : ℕ) → a ≤ b → leb a b ≡ true
 le-leb' a b h = grind (arith, nat_tests)
@@ -65,6 +63,7 @@ pub erased_first : (page : List (List Cell)) → IsGrid page → 0 < length page
     → blanked 0 page ≡ page_from (erased_lines 0 (0 + 1)) page
 erased_first page grid some = ap (blanked 0) (erased_none 0 page grid) ∙ erased_next 0 0 page (omega arith) some
 
+-- so it is for the stored lines, when one of them is cleared
 pub erased_more : {stored : List (List Cell)} {places : List ℕ} {place : ℕ} {old new : List Cell} (first k : ℕ)
     (page : List (List Cell)) → IsStore stored places
     → lines_in_order stored places ≡ page_from (erased_lines first k) page → first ≤ k → k < length page
@@ -181,8 +180,7 @@ module _ (top bottom count : ℕ) (order : top ≤ bottom) (room : count ≤ bot
       (store : IsStore stored places) (inside : bottom < length v.lines) (n : length new ≡ len) (same : now ≡ places)
       (is : IsTurned top bottom count now new) where
     within_places : bottom < length places
-    within_places = rw
-        (sym (ap (λ (v : Placed). length v.lines) (sym view) ∙ length-lines_in_order stored places)) inside
+    within_places = inside_places stored places view inside
 
     kept : take len (new ++ drop (length new) places) ≡ turned top bottom count places
     kept = take_at new (drop (length new) places) len n ∙ turned_is now new (rw same within_places) is
@@ -245,7 +243,7 @@ scrolled_in_is bottom page grid inside = ap (page_from (turned_lines 0 bottom 1)
     (erased_first page grid (omega arith))
     ∙ scrolled_up_is 0 bottom 1 (omega arith) (omega arith) page grid inside
 
--- a blank line with cells put at its front
+-- a blank line that begins with other cells
 abbrev pub begun : List Cell → ℕ → ℕ → List Cell
 begun fresh rest width = cells_spliced 0 fresh rest (replicate width blank)
 
