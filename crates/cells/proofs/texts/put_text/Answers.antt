@@ -1,28 +1,25 @@
-use Rattle.std.proofs.Common.{◌≡◌, ℕ, ◌+◌, [], List, length, refl, ◌∙◌, ap, sym, arith}
+use Rattle.std.proofs.Common.{ℕ, List, take, ◌∙◌, arith}
 use Rattle.charsets.specs.Text.{text}
-use Rattle.charsets.proofs.Texts.{text-none, IsText-none}
 use Rattle.cells.specs.declared.cell.Cell.{Cell}
-use Rattle.cells.specs.Line.{cells_spliced}
-use Rattle.cells.specs.Texts.{is_based, last_columns, text_cells}
-use Rattle.cells.proofs.PuttingWhole.{put_none}
+use Rattle.cells.specs.Texts.{text_cells}
+use Rattle.cells.proofs.Mending.{cells_mended, nothing_put}
+use Rattle.cells.proofs.TextCells.{paired_complete, text_paired}
 use Rattle.cells.proofs.texts.put_text.Goals as goal
 
-pub returns-clause-put : goal.returns-clause-put
-returns-clause-put c =
-    let none : text_cells (text []) c.args.rendition c.args.is_protected ≡ [] =
-    ap (λ v. text_cells v c.args.rendition c.args.is_protected) text-none in
-    record {
-      few = omega arith;
-      is_text = IsText-none;
-      based = ap is_based text-none;
-      count = ap length none;
-      last = ap last_columns none;
-      inside = omega arith;
-    }
+pub returns-then-put-gt0-clause-cells : goal.returns-then-put-gt0-clause-cells
+returns-then-put-gt0-clause-cells c =
+    let characters : List ℕ = text (take c.write_text-put.result.read c.args.bytes.now) in
+    let fresh : List Cell = text_cells characters c.args.rendition c.args.is_protected in
+    c.mend.ensures
+    ∙ cells_mended c.args.at c.write_text-put.result.count fresh c.args.cells.now c.write_text-put.new.cells
+    c.cuts_wide-is_cut.result c.write_text-put.ensures.put.count c.cuts_wide-is_cut.ensures c.if-put-gt0.true
+    (omega (arith, c.write_text-put.ensures.put.inside, c.requires.inside)) c.requires.paired
+    c.write_text-put.ensures.cells
+    (λ j h. paired_complete fresh (text_paired c.args.rendition c.args.is_protected characters) j)
 
-pub returns-clause-cells : goal.returns-clause-cells
-returns-clause-cells c =
-    let none : text_cells (text []) c.args.rendition c.args.is_protected ≡ [] =
-    ap (λ v. text_cells v c.args.rendition c.args.is_protected) text-none in
-    put_none c.args.at [] c.args.cells.now refl c.requires.paired
-    ∙ ap (λ (v : List Cell). cells_spliced c.args.at v (c.args.at + 0) c.args.cells.now) (sym none)
+pub returns-else-put-gt0-clause-cells : goal.returns-else-put-gt0-clause-cells
+returns-else-put-gt0-clause-cells c =
+    let characters : List ℕ = text (take c.write_text-put.result.read c.args.bytes.now) in
+    nothing_put c.args.at c.write_text-put.result.count (text_cells characters c.args.rendition c.args.is_protected)
+    c.args.cells.now c.write_text-put.new.cells c.write_text-put.ensures.put.count c.if-put-gt0.false
+    c.requires.paired c.write_text-put.ensures.cells
