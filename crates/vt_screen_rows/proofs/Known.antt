@@ -25,6 +25,8 @@ use Rattle.unicode_width.specs.declared.kind.Kind.TheVariants as kinds
 use Rattle.unicode_width.specs.Kind.{kind, kind_number, number_of_kind}
 use Rattle.unicode_width.specs.Width.{alone, char_width, of_kind}
 use Rattle.unicode_width.proofs.KindLemmas.{kind_number_stepped}
+use Rattle.vt_screen_rows.specs.declared.display.Display.{Display}
+use Rattle.vt_screen_rows.specs.Acting.{MovesLines}
 use Rattle.vt_screen_rows.specs.Places.{acted_places, printed_places, wrapped_places}
 
 -- the width of each kind by its number, outside of East Asian contexts; characters of the last one differ
@@ -191,6 +193,11 @@ printed_known x c w k = ap (λ (n : ℕ). printed_as n (drawn c) x) k.columns �
 pub places_known : (s : State) (c w : ℕ) (places : List ℕ) → IsKnown c w
     → printed_places (Some c) s places ≡ wrapped_places (is_wrapped w s) s places
 places_known s c w places k = ap (λ (n : ℕ). wrapped_places (is_wrapped n s) s places) k.columns
+
+pub lines_known : (d later : Display) (c w : ℕ) → IsKnown c w → MovesLines d (wrapped_places (is_wrapped w d.state)) later
+    → MovesLines d (printed_places (Some c)) later
+lines_known d later c w k lines =
+    record { width = lines.width; places = lines.places ∙ sym (places_known d.state c w d.page.places k) }
 
 -- a character from U+00A0 on is in no set, and ends a single shift
 beyond_graphic : (c : ℕ) → 0xA0 ≤ c → is_graphic (Code c) ≡ true

@@ -1,6 +1,6 @@
 -- A run of characters at the start of a line that scrolls in.
 use Rattle.std.proofs.Common.{◌≡◌, ℕ, zero, suc, ◌+◌, ◌-◌, ◌<◌, ◌≤◌, ◌==◌, Bool, true, false, cond, List, [], ◌∷◌}
-use Rattle.std.proofs.Common.{length, length-take, min, take, refl, sym, ap, ◌∙◌, subst, arith, eq-eqb}
+use Rattle.std.proofs.Common.{length, length-take, min, take, refl, ap, ◌∙◌, subst, arith, eq-eqb}
 use Rattle.std.specs.List.{list_all, prefix_len}
 use Rattle.std.proofs.lemmas.Bool.{and_parts}
 use Rattle.std.proofs.lemmas.List.Sums.{prefix_len-le-length}
@@ -13,6 +13,7 @@ use Rattle.cells.specs.Page.{line_at, page_from, page_spliced}
 use Rattle.cells.specs.Moves.{scrolled_up}
 use Rattle.cells.specs.Texts.{cells_on, is_base_or_mark, is_based, is_known_wide, is_letter, is_mark, last_columns}
 use Rattle.cells.specs.Texts.{text_cells}
+use Rattle.cells.proofs.Pages.{IsPage-page_from}
 use Rattle.cells.proofs.Putting.{length-narrow_cells}
 use Rattle.terminal_model.specs.declared.action.Action.TheVariants.{CarriageReturn, LineFeed, NextLine}
 use Rattle.terminal_model.specs.declared.state.State.{State}
@@ -125,13 +126,8 @@ module _ (x : Screen) (bytes : List ℕ) (count : ℕ) (h : list_all is_plain (t
   is_last = eq-eqb x.state.line x.state.bottom scrolls.last
 
   width : length (line_at (page_from (scrolled_up 0 x.state.bottom 1) x.page) x.state.bottom) ≡ x.state.columns
-  width =
-      let s : State = x.state in
-      let after : IsSound w = sound_wrapped x sound in
-      let line : w.state.line ≡ s.bottom = rw is_last scrolls.last in
-      let page : w.page ≡ page_from (scrolled_up 0 s.bottom 1) x.page = rw (is_last, scrolls.first) refl in
-      sym (ap (λ p. length (line_at p s.bottom)) page) ∙ sym (ap (λ k. length (line_at w.page k)) line)
-      ∙ after.sized.width w.state.line after.cursor.0
+  width = (IsPage-page_from (scrolled_up 0 x.state.bottom 1) x.state.rows x.state.columns x.page sound.sized).width
+      x.state.bottom sound.bottom_inside
 
   -- the first line of the page goes, and the characters stand in the new one at the bottom
   pub scrolled_run : all_acted x (CarriageReturn ∷ LineFeed ∷ prints cs) ≡ record x {

@@ -1,10 +1,10 @@
 -- New cells over as many old ones, put in one piece or in two.
 use Rattle.std.proofs.Common.{◌≡◌, ℕ, zero, suc, ◌+◌, ◌-◌, ◌<◌, ◌≤◌, Bool, true, false, ◌&&◌, eqb, ltb, leb, cond, List}
 use Rattle.std.proofs.Common.{[], ◌∷◌, ◌++◌, length, set, refl, sym, ap, ◌∙◌, ◌⊎◌, inl, inr, arith, ⊎_elim}
-use Rattle.std.proofs.Common.{length-append, subst}
+use Rattle.std.proofs.Common.{eq-eqb, length-append, subst}
 use Rattle.std.specs.Prelude.{if◌then◌else◌, ◌==◌}
-use Rattle.std.proofs.lemmas.List.{append-nil, ext_get_or, get_or-set_same, get_or-set_other, set-set, get_or_append_left}
-use Rattle.std.proofs.lemmas.List.{get_or-append_right, length-set}
+use Rattle.std.proofs.lemmas.List.{append-nil, ext_get_or, get_or-set_same, get_or-set_other, set-set, length-set}
+use Rattle.std.proofs.lemmas.List.{get_or_append_left, get_or-append_right}
 use Rattle.std.proofs.lemmas.Bool.{cases_lt, cases_eq, ne_eqb}
 use Rattle.std.proofs.lemmas.Bool.Decides.{nat_tests}
 use Rattle.cells.specs.declared.cell.Cell.{Cell}
@@ -94,16 +94,12 @@ module _ (at : ℕ) (front later cells : List Cell) (fronts : IsPaired front) (p
       both_is k ∙ before_new later end one k high
       ∙ ap (λ (c : Cell). if (k + 1 == end) && is_left c.shape then blank else c) is
       ∙ ⊎_elim
-      (λ (e : k + 1 ≡ end). rw (closed k e) (go (k + 1 == end) (cell_at front (k - at))))
+      (λ (e : k + 1 ≡ end). rw (eq-eqb (k + 1) end e, closed k e) refl)
       (λ (ne : k + 1 ≡ end → ⊥). rw (ne_eqb (k + 1) end ne) refl)
       (cases_eq (k + 1) end)
       ∙ sym
       (all_is k ∙ in_new (front ++ later) at cells k low (rw n (omega arith))
       ∙ get_or_append_left front later blank (k - at) (omega arith))
-    where
-      go : (b : Bool) (c : Cell) → (if b && false then blank else c) ≡ c
-      go true c = refl
-      go false c = refl
 
   among : (k : ℕ) → end ≤ k → k < end + length later
       → cell_at (over end later one) k ≡ cell_at (over at (front ++ later) cells) k
@@ -118,7 +114,8 @@ module _ (at : ℕ) (front later cells : List Cell) (fronts : IsPaired front) (p
       → cell_at (over end later one) k ≡ cell_at (over at (front ++ later) cells) k
   behind k h =
       let beyond : eqb k end ≡ false = ne_eqb k end (omega arith) in
-      let is : cell_at one k ≡ cell_at cells k = one_is k ∙ behind_new front at cells k (omega arith) ∙ rw beyond refl in
+      let is : cell_at one k ≡ cell_at cells k = one_is k ∙ behind_new front at cells k (omega arith) ∙ rw beyond refl
+      in
       let e : at + length (front ++ later) ≡ end + length later = omega (arith, n) in
       both_is k ∙ behind_new later end one k h
       ∙ ap (λ (c : Cell). if (k == end + length later) && is_right c.shape then blank else c) is

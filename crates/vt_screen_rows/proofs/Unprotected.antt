@@ -22,12 +22,7 @@ before first end line h = grind (arith, nat_tests)
 
 elsewhere : (first at line : ℕ) → (line ≡ at → ⊥)
     → (nat_le first line && nat_lt line at) ≡ (nat_le first line && nat_lt line (at + 1))
-elsewhere first at line ne = ap (λ b. nat_le first line && b) (⊎_elim
-    (λ (h : line < at). let a : nat_lt line at ≡ true = grind (arith, nat_tests) in let b : nat_lt line (at + 1) ≡ true
-    = grind (arith, nat_tests) in a ∙ sym b)
-    (λ (h : at ≤ line). let a : nat_lt line at ≡ false = grind (arith, nat_tests) in let b : nat_lt line (at + 1) ≡
-    false = grind (arith, nat_tests) in a ∙ sym b)
-    (cases_lt line at))
+elsewhere first at line ne = grind (arith, nat_tests)
 
 -- no line is erased yet
 pub unprotected_none : (page : List (List Cell)) (rows columns first : ℕ) → IsPage rows columns page

@@ -27,10 +27,10 @@ impl Display {
         let mut read = 0;
         while read < bytes.len() {
             let size = self.print_some_text(&bytes[read..]);
+            read += size;
             if size == 0 {
                 return read;
             }
-            read += size;
         }
         read
     }

@@ -1,4 +1,4 @@
-use Rattle.std.proofs.Common.{◌≡◌, ◌+◌, ℕ, take, subst, arith}
+use Rattle.std.proofs.Common.{◌+◌, take, arith}
 use Rattle.vt_screen_rows.specs.Texts.{PrintsText}
 use Rattle.vt_screen_rows.proofs.Texts.{none_printed, rest_printed}
 use Rattle.vt_screen_rows.proofs.display.Display.print_text.Goals as goal
@@ -15,13 +15,10 @@ loop-read-preserved c = record {
 }
 
 -- the last piece has no byte
-ended : (c : goal.Then-size-eq0)
-    → PrintsText c.args.self.now (take c.loop-read.read c.args.bytes.now) c.print_some_text-size.new.self
-ended c =
-    let e : c.loop-read.read + c.print_some_text-size.result ≡ c.loop-read.read = omega (arith, c.if-size-eq0.true) in
-    subst (λ (n : ℕ). PrintsText c.args.self.now (take n c.args.bytes.now) c.print_some_text-size.new.self) e
-    (rest_printed c.args.self.now c.loop-read.self c.print_some_text-size.new.self c.args.bytes.now c.loop-read.read
-    c.print_some_text-size.result c.loop-read.invariant.prints c.print_some_text-size.ensures.prints)
+ended : (c : goal.Then-size-eq0) → PrintsText c.args.self.now
+    (take (c.loop-read.read + c.print_some_text-size.result) c.args.bytes.now) c.print_some_text-size.new.self
+ended c = rest_printed c.args.self.now c.loop-read.self c.print_some_text-size.new.self c.args.bytes.now
+    c.loop-read.read c.print_some_text-size.result c.loop-read.invariant.prints c.print_some_text-size.ensures.prints
 
 pub returns-then-size-eq0-clause-screen : goal.returns-then-size-eq0-clause-screen
 returns-then-size-eq0-clause-screen c = (ended c).screen
