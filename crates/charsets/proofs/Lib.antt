@@ -6,6 +6,6 @@ pub mod Tables
 pub mod Pieces
 pub mod Shifted
 pub mod Scalars
-pub mod Fronts
 pub mod Characters
 pub mod Texts
+pub mod Proved

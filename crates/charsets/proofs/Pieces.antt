@@ -1,6 +1,5 @@
 -- Bytes in pieces, and plain bytes.
 use Rattle.std.proofs.Common.{◌≡◌, ℕ, true, List, [], ◌∷◌, ◌++◌, map, refl, sym, ap, ◌∙◌, arith, append_assoc}
-use Rattle.std.specs.Prelude.{nat_lt}
 use Rattle.std.specs.List.{concat, list_all}
 use Rattle.std.proofs.lemmas.Bool.Decides.{nat_tests}
 use Rattle.std.proofs.lemmas.List.{append-nil}
@@ -13,7 +12,6 @@ use Rattle.charsets.specs.Units.{units, units_of_pieces, unit_of_byte, is_plain}
 use Rattle.charsets.proofs.Encoded.{one_byte}
 use Rattle.charsets.proofs.Joins.{units-go_on}
 use Rattle.charsets.proofs.Pushes.{units-none}
-use Rattle.charsets.proofs.Tables.{both}
 
 -- pieces read after some bytes
 behind_front : (coding : Coding) (pieces : List (List ℕ)) (front : List ℕ) → units coding (front ++ concat pieces)
@@ -45,18 +43,11 @@ units_of_pieces-whole coding pieces =
 pub codes-plain : (bytes : List ℕ) → list_all is_plain bytes ≡ true → codes bytes ≡ (bytes, [])
 unfolding cut
 codes-plain [] h = refl
-codes-plain (b ∷ bytes) h =
-    let p = both (is_plain b) (list_all is_plain bytes) h in
-    let low : is_plain b ≡ true = p.0 in
-    one_byte b (grind (arith, nat_tests)) bytes ∙ ap (λ (x : List ℕ × List ℕ). (b ∷ x.0, x.1)) (codes-plain bytes p.1)
+codes-plain (b ∷ bytes) h = grind (arith, nat_tests, one_byte, codes-plain bytes)
 
 bytes-plain : (bytes : List ℕ) → list_all is_plain bytes ≡ true → map unit_of_byte bytes ≡ map (λ b. Code b) bytes
 bytes-plain [] h = refl
-bytes-plain (b ∷ bytes) h =
-    let p = both (is_plain b) (list_all is_plain bytes) h in
-    let low : is_plain b ≡ true = p.0 in
-    let t : nat_lt b 0xA0 ≡ true = grind (arith, nat_tests) in
-    rw t (ap (λ us. Code b ∷ us) (bytes-plain bytes p.1))
+bytes-plain (b ∷ bytes) h = grind (arith, nat_tests, bytes-plain bytes)
 
 pub units-plain : (coding : Coding) (bytes : List ℕ) → list_all is_plain bytes ≡ true
     → units coding bytes ≡ (map (λ b. Code b) bytes, [])

@@ -1,24 +1,20 @@
 -- A table and its rule.
-use Rattle.std.proofs.Common.{◌≡◌, ◌<◌, ◌+◌, ◌-◌, ℕ, zero, suc, Bool, true, false, ◌&&◌, List, [], ◌∷◌, length}
-use Rattle.std.proofs.Common.{slice_index, refl, ap, ◌∙◌, arith}
+use Rattle.std.proofs.Common.{◌≡◌, ◌<◌, ◌+◌, ◌-◌, ℕ, zero, suc, Bool, true, ◌&&◌, List, [], ◌∷◌, length, slice_index, ap}
+use Rattle.std.proofs.Common.{◌∙◌, arith}
 use Rattle.std.specs.Prelude.{◌==◌}
-use Rattle.std.proofs.lemmas.Bool.{eqb-true}
+use Rattle.std.proofs.lemmas.Bool.Decides.{nat_tests}
 use Rattle.charsets.specs.Sets.{supplement}
 
 -- the table has the rule's values, from the position u on
-abbrev pub agrees : (ℕ → ℕ) → ℕ → List ℕ → Bool
+abbrev agrees : (ℕ → ℕ) → ℕ → List ℕ → Bool
 agrees rule u [] = true
 agrees rule u (x ∷ xs) = x == rule u && agrees rule (u + 1) xs
 
-pub both : (a b : Bool) → (a && b) ≡ true → (a ≡ true) × (b ≡ true)
-both true b h = (refl, h)
-both false b h = absurd (cc)
-
-pub index-agrees : (rule : ℕ → ℕ) (u k : ℕ) (xs : List ℕ) → agrees rule u xs ≡ true → k < length xs
+index-agrees : (rule : ℕ → ℕ) (u k : ℕ) (xs : List ℕ) → agrees rule u xs ≡ true → k < length xs
     → slice_index xs k ≡ rule (u + k)
 index-agrees rule u k [] h i = absurd (omega arith)
-index-agrees rule u zero (x ∷ xs) h i = eqb-true x (rule u) (both _ _ h).0 ∙ ap rule (omega arith)
-index-agrees rule u (suc k) (x ∷ xs) h i = index-agrees rule (u + 1) k xs (both (x == rule u) _ h).1 (omega arith)
+index-agrees rule u zero (x ∷ xs) h i = grind (arith, nat_tests)
+index-agrees rule u (suc k) (x ∷ xs) h i = index-agrees rule (u + 1) k xs (grind (arith, nat_tests)) (omega arith)
     ∙ ap rule (omega arith)
 
 -- the table of the supplemental set

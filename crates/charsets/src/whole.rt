@@ -1,4 +1,5 @@
 //! Complete characters at the beginning of a list of bytes.
+#![tactic(auto, unfolding(crate::specs::Utf8::cut, crate::specs::Utf8::piece))]
 
 ghost use Rattle.std.specs.Prelude.{◌≡◌, ◌<◌, ◌≤◌, [], ◌∷◌, true, IfSome};
 ghost use Rattle.std.specs.Prelude.{length, take};
