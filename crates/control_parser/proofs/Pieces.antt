@@ -16,9 +16,9 @@ use Rattle.control_parser.specs.declared.state.SequenceText.{SequenceText}
 use Rattle.control_parser.specs.Grammar.{Rest, nothing, escape, control, string, osc, is_graphic, with_front, functions}
 use Rattle.control_parser.specs.Grammar.{functions_behind}
 use Rattle.control_parser.specs.Kept.{kept, kept_text, parts, opening, functions_of_pieces, StandsFor}
-use Rattle.control_parser.proofs.Machine.{machine, functions_behind-machine}
+use Rattle.control_parser.proofs.Machine.{machine, functions-machine}
 use Rattle.control_parser.proofs.Openings.{functions-go_on}
-use Rattle.control_parser.proofs.Spelled.{both, all_more, print_reads}
+use Rattle.control_parser.proofs.Spelled.{all_weaker, print_reads}
 
 pub functions-none : functions [] ≡ ([], nothing)
 unfolding functions_behind
@@ -49,42 +49,21 @@ machine-graphic : (codes : List ℕ) → list_all is_graphic codes ≡ true
     → machine nothing (map (λ c. Code c) codes) ≡ (map (λ c. Print c) codes, nothing)
 unfolding machine
 machine-graphic [] h = refl
-machine-graphic (c ∷ codes) h =
-    let p = both (is_graphic c) (list_all is_graphic codes) h in
-    ap (λ (x : List Func × Rest). with_front x.0 (machine x.1 (map (λ c. Code c) codes))) (print_reads c p.0)
-    ∙ ap (with_front (Print c ∷ [])) (machine-graphic codes p.1)
+machine-graphic (c ∷ codes) h = rw (print_reads c (grind arith), machine-graphic codes (grind arith)) refl
 
 pub functions-graphic : (codes : List ℕ) → list_all is_graphic codes ≡ true
     → functions (map (λ c. Code c) codes) ≡ (map (λ c. Print c) codes, nothing)
-functions-graphic codes h = functions_behind-machine 0 (map (λ c. Code c) codes) ∙ machine-graphic codes h
-
-plain_graphic : (codes : List ℕ) → list_all is_plain codes ≡ true → list_all is_graphic codes ≡ true
-plain_graphic [] h = refl
-plain_graphic (c ∷ codes) h =
-    let p = both (is_plain c) (list_all is_plain codes) h in
-    let low : is_plain c ≡ true = p.0 in
-    all_more is_graphic c codes (grind (arith, nat_tests)) (plain_graphic codes p.1)
+functions-graphic codes h = functions-machine (map (λ c. Code c) codes) ∙ machine-graphic codes h
 
 pub functions-plain : (codes : List ℕ) → list_all is_plain codes ≡ true
     → functions (map (λ c. Code c) codes) ≡ (map (λ c. Print c) codes, nothing)
-functions-plain codes h = functions-graphic codes (plain_graphic codes h)
+functions-plain codes h =
+    functions-graphic codes (all_weaker is_plain is_graphic (λ c p. grind (arith, nat_tests)) codes h)
 
 -- only `nothing` is kept as Ground
 pub kept-ground : (r : Rest) → kept r ≡ state.Ground → r ≡ nothing
 unfolding kept
-kept-ground nothing h = refl
-kept-ground (escape t) h = by (nat_le (length t) 2) h
-  where
-    by : (b : Bool) → cond b (state.Escape t) state.EscapeIgnored ≡ state.Ground → escape t ≡ nothing
-    by true h = absurd (cc)
-    by false h = absurd (cc)
-kept-ground (control t) h = by (parts t) h
-  where
-    by : (o : Option SequenceText) → kept_text o ≡ state.Ground → control t ≡ nothing
-    by None h = absurd (cc)
-    by (Some x) h = absurd (cc)
-kept-ground string h = absurd (cc)
-kept-ground osc h = absurd (cc)
+kept-ground r h = grind (arith, nat_tests)
 
 pub idle-whole : (old : State) (units : List Unit) → StandsFor old units
     → (old ≡ state.Ground) ↔ ((functions units).1 ≡ nothing)

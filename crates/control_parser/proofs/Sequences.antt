@@ -3,6 +3,7 @@ use Rattle.std.proofs.Common.{◌≡◌, ℕ, zero, suc, ◌+◌, ◌-◌, ◌<�
 use Rattle.std.proofs.Common.{◌++◌, length, take, get_or, Some, refl, sym, ap, ◌∙◌, subst, lt-ltb}
 use Rattle.std.specs.List.{list_all}
 use Rattle.std.proofs.lemmas.List.{take_more}
+use Rattle.std.proofs.lemmas.List.Folds.{list_all_more}
 use Rattle.charsets.specs.declared.unit.Coding.TheVariants.{Utf8}
 use Rattle.control_parser.specs.declared.func.Func.TheVariants.{Csi}
 use Rattle.control_parser.specs.declared.state.SequenceText.{SequenceText}
@@ -18,7 +19,7 @@ use Rattle.control_parser.proofs.Digits.{digit-last, last-stays}
 use Rattle.control_parser.proofs.Machine.{machine}
 use Rattle.control_parser.proofs.Texts.{grown, parts-push}
 use Rattle.control_parser.proofs.Keeping.{control_of-parts}
-use Rattle.control_parser.proofs.Spelled.{all_more, all-append, control_run, last_low, reads_low}
+use Rattle.control_parser.proofs.Spelled.{control_run, last_low, reads_low}
 
 pub no-text : parts [] ≡ Some no_text
 unfolding parts fields
@@ -34,10 +35,7 @@ text-more bytes at text next l h g =
 
 pub inside-more : (bytes : List ℕ) (at : ℕ) → at < length bytes → list_all is_sequence_text (take at bytes) ≡ true
     → is_sequence_text (get_or bytes at 0) ≡ true → list_all is_sequence_text (take (at + 1) bytes) ≡ true
-inside-more bytes at l h g =
-    ap (list_all is_sequence_text) (take_more bytes at 0 l)
-    ∙ all-append is_sequence_text (take at bytes) (get_or bytes at 0 ∷ []) h
-    (all_more is_sequence_text (get_or bytes at 0) [] g refl)
+inside-more bytes at l h g = rw (list_all_more is_sequence_text bytes at 0 l, h, g) refl
 
 -- the text and a final
 whole-text : (text : List ℕ) (t : SequenceText) (last : ℕ) → list_all is_sequence_text text ≡ true → parts text ≡ Some t
@@ -47,7 +45,7 @@ unfolding machine
 whole-text text t last h p above below =
     reads_low (0x1B ∷ 0x5B ∷ (text ++ last ∷ [])) (Csi t.mark t.params t.intermediates last ∷ [])
     (last_low text last h below)
-    (control_run [] text last h above below ∙ ap (λ l. (l, nothing)) (control_of-parts text last (Some t) p))
+    (control_run text last h above below ∙ rw (control_of-parts text last, p) refl)
 
 pub sequence-whole : (bytes : List ℕ) (at : ℕ) (t : SequenceText) → at < length bytes
     → list_all is_sequence_text (take at bytes) ≡ true → parts (take at bytes) ≡ Some t
