@@ -18,64 +18,16 @@ pub fn first_character(bytes: &[u8]) -> Option<(char, usize)>
     ensures some { IfSome result (λ c. 0 < c.1) }
     ensures few { IfSome result (λ c. c.1 ≤ length bytes.now) }
 {
-    let a = bytes[0];
-    if 0x1F < a && a < 0x7F {
-        return Some((a as char, 1));
+    match *bytes {
+        [a @ 0x20..=0x7E, ..] => Some((a as char, 1)),
+        [a @ 0xC2..=0xDF, b, ..] if can_continue(b) && (a != 0xC2 || b >= 0xA0) => {
+            Some((char_of_2(a, b), 2))
+        }
+        [a @ 0xE0..=0xEF, b, c, ..] if can_follow(a, b) && can_continue(c) => {
+            Some((char_of_3(a, b, c), 3))
+        }
+        [a @ 0xF0..=0xF4, b, c, d, ..] if can_follow(a, b) && can_continue(c) && can_continue(d) =>
+            { Some((char_of_4(a, b, c, d), 4)) }
+        _ => None,
     }
-    if bytes.len() < 2 || a < 0xC2 {
-        return None;
-    }
-    let b = bytes[1];
-    if a < 0xE0 {
-        return Some((character_of_2(a, b)?, 2));
-    }
-    if bytes.len() < 3 {
-        return None;
-    }
-    if a < 0xF0 {
-        return Some((character_of_3(a, b, bytes[2])?, 3));
-    }
-    if bytes.len() < 4 {
-        return None;
-    }
-    Some((character_of_4(a, b, bytes[2], bytes[3])?, 4))
-}
-
-/// The character of these two bytes. None if they are no well-formed character, or are a C1
-/// control.
-fn character_of_2(a: u8, b: u8) -> Option<char>
-    requires low { 0xC1 < a }
-    requires high { a < 0xE0 }
-    ensures reads { IfSome result (λ c. codes (a ∷ b ∷ []) ≡ (c ∷ [], [])) }
-    ensures graphic { IfSome result (λ c. 0xA0 ≤ c) }
-{
-    if !can_continue(b) || (a == 0xC2 && b < 0xA0) {
-        return None;
-    }
-    Some(char_of_2(a, b))
-}
-
-/// The character of these three bytes. None if they are no well-formed character.
-fn character_of_3(a: u8, b: u8, c: u8) -> Option<char>
-    requires low { 0xE0 ≤ a }
-    requires high { a < 0xF0 }
-    ensures reads { IfSome result (λ d. codes (a ∷ b ∷ c ∷ []) ≡ (d ∷ [], [])) }
-    ensures graphic { IfSome result (λ d. 0xA0 ≤ d) }
-{
-    if !can_follow(a, b) || !can_continue(c) {
-        return None;
-    }
-    Some(char_of_3(a, b, c))
-}
-
-/// The character of these four bytes. None if they are no well-formed character.
-fn character_of_4(a: u8, b: u8, c: u8, d: u8) -> Option<char>
-    requires { 0xF0 ≤ a }
-    ensures reads { IfSome result (λ e. codes (a ∷ b ∷ c ∷ d ∷ []) ≡ (e ∷ [], [])) }
-    ensures graphic { IfSome result (λ e. 0xA0 ≤ e) }
-{
-    if 0xF4 < a || !can_follow(a, b) || !can_continue(c) || !can_continue(d) {
-        return None;
-    }
-    Some(char_of_4(a, b, c, d))
 }
