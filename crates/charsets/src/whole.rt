@@ -6,7 +6,7 @@ ghost use Rattle.std.specs.Prelude.{length, take};
 ghost use Rattle.charsets.specs.Units.{is_character};
 ghost use Rattle.charsets.specs.Utf8.{codes};
 
-use crate::utf8::{can_continue, can_follow, char_of_2, char_of_3, char_of_4};
+use crate::utf8::{char_of_2, char_of_3, char_of_4, continues, follows};
 
 /// The graphic character with which some bytes begin in UTF-8, and its number of bytes (Unicode core
 /// specification, table 3-7). None if they begin with anything else.
@@ -20,14 +20,15 @@ pub fn first_character(bytes: &[u8]) -> Option<(char, usize)>
 {
     match *bytes {
         [a @ 0x20..=0x7E, ..] => Some((a as char, 1)),
-        [a @ 0xC2..=0xDF, b, ..] if can_continue(b) && (a != 0xC2 || b >= 0xA0) => {
+        [a @ 0xC2..=0xDF, b, ..] if continues(b) && (a != 0xC2 || b >= 0xA0) => {
             Some((char_of_2(a, b), 2))
         }
-        [a @ 0xE0..=0xEF, b, c, ..] if can_follow(a, b) && can_continue(c) => {
+        [a @ 0xE0..=0xEF, b, c, ..] if follows(a, b) && continues(c) => {
             Some((char_of_3(a, b, c), 3))
         }
-        [a @ 0xF0..=0xF4, b, c, d, ..] if can_follow(a, b) && can_continue(c) && can_continue(d) =>
-            { Some((char_of_4(a, b, c, d), 4)) }
+        [a @ 0xF0..=0xF4, b, c, d, ..] if follows(a, b) && continues(c) && continues(d) => {
+            Some((char_of_4(a, b, c, d), 4))
+        }
         _ => None,
     }
 }
