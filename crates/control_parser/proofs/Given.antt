@@ -1,5 +1,5 @@
 -- The functions that units can give.
-use Rattle.std.proofs.Common.{◌≡◌, ℕ, zero, suc, ◌<◌, ◌≤◌, true, List, [], ◌∷◌, ◌++◌, length, take, map, IfSome, refl}
+use Rattle.std.proofs.Common.{◌≡◌, ℕ, zero, suc, ◌<◌, true, List, [], ◌∷◌, ◌++◌, length, take, map, IfSome, refl}
 use Rattle.std.proofs.Common.{arith}
 use Rattle.std.specs.Prelude.{nat_lt}
 use Rattle.std.specs.List.{list_all, AllByRecursion}
@@ -8,8 +8,7 @@ use Rattle.std.proofs.lemmas.Bool.{cond_both}
 use Rattle.std.proofs.lemmas.List.{length-take}
 use Rattle.charsets.specs.declared.unit.Unit.{Unit}
 use Rattle.control_parser.specs.declared.func.Func.{Func}
-use Rattle.control_parser.specs.Text.{is_mark, value, fields, values, mark_of, numbers_of, is_well_formed, params_of}
-use Rattle.control_parser.specs.Text.{intermediates_of}
+use Rattle.control_parser.specs.Text.{is_mark, value, fields, values, mark_of, numbers_of, is_well_formed}
 use Rattle.control_parser.specs.Grammar.{code, Rest, nothing, escape, control, string, osc, control_of, functions}
 use Rattle.control_parser.specs.Spelling.{IsGiven}
 use Rattle.charsets.specs.Units.{IsUnit}

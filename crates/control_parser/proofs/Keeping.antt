@@ -1,5 +1,5 @@
 -- The parser keeps what the grammar leaves incomplete.
-use Rattle.std.proofs.Common.{◌≡◌, ℕ, ◌-◌, Bool, true, false, cond, List, [], ◌∷◌, ◌++◌, length, Option, Some, None, option_to_list, refl}
+use Rattle.std.proofs.Common.{◌≡◌, ℕ, Bool, true, false, cond, List, [], ◌∷◌, ◌++◌, length, Option, Some, None, option_to_list, refl}
 use Rattle.std.proofs.Common.{sym, ap, ◌∙◌, arith, length-append}
 use Rattle.std.proofs.lemmas.Bool.Decides.{nat_tests}
 use Rattle.std.proofs.lemmas.List.{append-nil}
@@ -13,9 +13,9 @@ use Rattle.control_parser.specs.declared.state.State.TheVariants as state
 use Rattle.std.specs.Prelude.{nat_le, ◌==◌}
 use Rattle.control_parser.specs.Text.{is_intermediate, fields}
 use Rattle.control_parser.specs.Grammar.{code, is_control, is_sequence_text, Rest, nothing, escape, control, string, osc, control_of, with_front}
-use Rattle.control_parser.specs.Grammar.{functions_behind, functions}
+use Rattle.control_parser.specs.Grammar.{functions}
 use Rattle.control_parser.specs.Steps.{broken_step, inside_step, step_of, is_final_from}
-use Rattle.control_parser.specs.Kept.{opening, parts, kept_text, kept, StandsFor, HasGiven}
+use Rattle.control_parser.specs.Kept.{opening, parts, kept_text, kept, StandsFor}
 use Rattle.control_parser.proofs.Machine.{rest_broken, rest_inside, rest_step, machine-append, machine-one, functions-machine}
 use Rattle.control_parser.proofs.Machine.{cond_pair}
 use Rattle.control_parser.proofs.Texts.{parts-push}
@@ -99,10 +99,6 @@ next-push old u rest proper h =
       gives-push old u (opening rest) s ∙ ap (λ (x : List Func × Rest). x.0 ++ option_to_list (step_of old u).0) proper,
       stands-push old u (opening rest) s,
     )
-
-pub none_given : (old : State) (given : List Func) → old ≡ state.Ground → given ≡ [] → HasGiven old given []
-unfolding kept functions_behind
-none_given old given h k = record { stands = h; all = k }
 
 -- units that leave nothing incomplete, and more units
 pub functions-append : (us vs : List Unit) → (functions us).1 ≡ nothing

@@ -1,5 +1,5 @@
 -- An incomplete sequence or string goes on like the units that begin it.
-use Rattle.std.proofs.Common.{◌≡◌, ℕ, ◌<◌, Bool, true, List, [], ◌∷◌, ◌++◌, map, refl, sym, ap, ◌∙◌, subst, arith}
+use Rattle.std.proofs.Common.{◌≡◌, ℕ, Bool, true, List, [], ◌∷◌, ◌++◌, map, refl, ap, ◌∙◌, arith}
 use Rattle.std.proofs.Common.{append_assoc}
 use Rattle.std.specs.List.{AllByRecursion, list_all}
 use Rattle.std.proofs.lemmas.Bool.Decides.{nat_tests}
@@ -9,7 +9,6 @@ use Rattle.std.proofs.Math.Utf8.{low_scalar}
 use Rattle.charsets.specs.declared.unit.Unit.{Unit}
 use Rattle.charsets.specs.declared.unit.Unit.TheVariants as units
 use Rattle.charsets.specs.Units.{IsUnit}
-use Rattle.control_parser.specs.declared.func.Func.{Func}
 use Rattle.control_parser.specs.Text.{is_intermediate}
 use Rattle.control_parser.specs.Grammar.{is_sequence_text, Rest, nothing, escape, control, string, osc, with_front}
 use Rattle.control_parser.specs.Grammar.{functions}

@@ -1,7 +1,6 @@
 -- Units in pieces, and units that are printed.
-use Rattle.std.proofs.Common.{◌≡◌, ◌↔◌, ℕ, Bool, true, false, cond, List, [], ◌∷◌, ◌++◌, length, map, Option, Some}
-use Rattle.std.proofs.Common.{None, refl, sym, ap, ◌∙◌, arith, append_assoc}
-use Rattle.std.specs.Prelude.{nat_le}
+use Rattle.std.proofs.Common.{◌≡◌, ℕ, true, List, [], ◌∷◌, ◌++◌, map}
+use Rattle.std.proofs.Common.{refl, sym, ap, ◌∙◌, arith, append_assoc}
 use Rattle.std.specs.List.{flat_map, list_all}
 use Rattle.std.proofs.lemmas.Bool.Decides.{nat_tests}
 use Rattle.std.proofs.lemmas.List.{append-nil}
@@ -10,12 +9,10 @@ use Rattle.charsets.specs.declared.unit.Unit.{Unit}
 use Rattle.charsets.specs.declared.unit.Unit.TheVariants.{Code}
 use Rattle.control_parser.specs.declared.func.Func.{Func}
 use Rattle.control_parser.specs.declared.func.Func.TheVariants.{Print}
-use Rattle.control_parser.specs.declared.state.State.{State}
 use Rattle.control_parser.specs.declared.state.State.TheVariants as state
-use Rattle.control_parser.specs.declared.state.SequenceText.{SequenceText}
-use Rattle.control_parser.specs.Grammar.{Rest, nothing, escape, control, string, osc, is_graphic, with_front, functions}
+use Rattle.control_parser.specs.Grammar.{Rest, nothing, is_graphic, with_front, functions}
 use Rattle.control_parser.specs.Grammar.{functions_behind}
-use Rattle.control_parser.specs.Kept.{kept, kept_text, parts, opening, functions_of_pieces, StandsFor}
+use Rattle.control_parser.specs.Kept.{kept, opening, functions_of_pieces}
 use Rattle.control_parser.proofs.Machine.{machine, functions-machine}
 use Rattle.control_parser.proofs.Openings.{functions-go_on}
 use Rattle.control_parser.proofs.Spelled.{all_weaker, print_reads}
@@ -64,8 +61,3 @@ functions-plain codes h =
 pub kept-ground : (r : Rest) → kept r ≡ state.Ground → r ≡ nothing
 unfolding kept
 kept-ground r h = grind (arith, nat_tests)
-
-pub idle-whole : (old : State) (units : List Unit) → StandsFor old units
-    → (old ≡ state.Ground) ↔ ((functions units).1 ≡ nothing)
-unfolding kept
-idle-whole old units h = (λ e. kept-ground (functions units).1 (sym h ∙ e), λ e. h ∙ ap kept e)

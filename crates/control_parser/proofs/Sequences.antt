@@ -7,7 +7,7 @@ use Rattle.std.proofs.lemmas.List.Folds.{list_all_more}
 use Rattle.charsets.specs.declared.unit.Coding.TheVariants.{Utf8}
 use Rattle.control_parser.specs.declared.func.Func.TheVariants.{Csi}
 use Rattle.control_parser.specs.declared.state.SequenceText.{SequenceText}
-use Rattle.control_parser.specs.Grammar.{is_sequence_text, nothing}
+use Rattle.control_parser.specs.Grammar.{is_sequence_text}
 use Rattle.control_parser.specs.Steps.{text_grown, no_text, valued, TakesDigits}
 use Rattle.control_parser.specs.Kept.{parts}
 use Rattle.control_parser.specs.Spelling.{ReadsAs}

@@ -1,6 +1,6 @@
 -- Spelled functions are read back.
-use Rattle.std.proofs.Common.{◌≡◌, ℕ, ◌/◌, ◌<◌, ◌≤◌, Bool, true, false, ◌&&◌, cond, List, [], ◌∷◌, ◌++◌, length, take}
-use Rattle.std.proofs.Common.{map, Option, Some, None, IfSome, option_to_list, refl, sym, ap, ◌∙◌, subst, arith}
+use Rattle.std.proofs.Common.{◌≡◌, ℕ, ◌<◌, ◌≤◌, Bool, true, false, ◌&&◌, cond, List, [], ◌∷◌, ◌++◌, length, take}
+use Rattle.std.proofs.Common.{map, Option, Some, None, IfSome, option_to_list, refl, ap, ◌∙◌, arith}
 use Rattle.std.proofs.Common.{append_assoc, take_all}
 use Rattle.std.specs.Prelude.{nat_lt, nat_le, ◌==◌}
 use Rattle.std.specs.List.{list_all, flat_map}
@@ -16,8 +16,8 @@ use Rattle.control_parser.specs.declared.func.Func.TheVariants.{Print, High, Con
 use Rattle.control_parser.specs.Text.{is_intermediate, is_digit, is_number, is_mark, while, value, onto_first, fields}
 use Rattle.control_parser.specs.Text.{values, mark_of, unmarked}
 use Rattle.control_parser.specs.Grammar.{is_control, is_graphic, is_sequence_text, Rest, nothing, escape, control}
-use Rattle.control_parser.specs.Grammar.{escape_of, control_of, functions}
-use Rattle.control_parser.specs.Spelling.{digit, decimal, parameter, numerals, spelling, coding_of, are_intermediates}
+use Rattle.control_parser.specs.Grammar.{escape_of, control_of}
+use Rattle.control_parser.specs.Spelling.{decimal, parameter, numerals, spelling, coding_of, are_intermediates}
 use Rattle.control_parser.specs.Spelling.{begins_none, IsGiven, ReadsAs}
 use Rattle.control_parser.proofs.Machine.{Stops, rest_step, machine, machine-append, machine-one, functions-machine}
 use Rattle.control_parser.proofs.Openings.{coded, control_text, escape_text, intermediates_text}
