@@ -1,7 +1,7 @@
 -- Digits that come one by one.
 use Rattle.std.proofs.Common.{◌≡◌, refl, ℕ, zero, suc, ◌-◌, ◌<◌, ◌≤◌, List, [], ◌∷◌, length, take, set, get_or, ap, ◌∙◌}
 use Rattle.std.proofs.Common.{arith}
-use Rattle.control_parser.specs.Text.{last_value, with_last, longer, digit_added}
+use Rattle.control_parser.specs.Text.{with_last, longer, digit_added}
 
 -- the last of the first n + 1 values changes
 pub digit_packed : (n d y : ℕ) (xs : List ℕ) → n < length xs → y ≡ longer (get_or xs n 0) d
@@ -26,8 +26,3 @@ digit-last [] value d = refl
 digit-last (n ∷ []) value d = refl
 digit-last (n ∷ m ∷ []) value d = refl
 digit-last (n ∷ m ∷ k ∷ ns) value d = ap (λ l. n ∷ l) (digit-last (m ∷ k ∷ ns) value d)
-
-pub last-stays : (values : List ℕ) → with_last values (last_value values) ≡ values
-last-stays [] = refl
-last-stays (n ∷ []) = refl
-last-stays (n ∷ m ∷ ns) = ap (λ l. n ∷ l) (last-stays (m ∷ ns))

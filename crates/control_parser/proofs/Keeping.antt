@@ -1,6 +1,6 @@
 -- The parser keeps what the grammar leaves incomplete.
-use Rattle.std.proofs.Common.{◌≡◌, ℕ, Bool, true, false, cond, List, [], ◌∷◌, ◌++◌, length, Option, Some, None, option_to_list, refl}
-use Rattle.std.proofs.Common.{sym, ap, ◌∙◌, arith, length-append}
+use Rattle.std.proofs.Common.{◌≡◌, ℕ, Bool, true, false, cond, List, [], ◌∷◌, ◌++◌, length, Option, Some, None}
+use Rattle.std.proofs.Common.{option_to_list, refl, sym, ap, ◌∙◌, arith, length-append}
 use Rattle.std.proofs.lemmas.Bool.Decides.{nat_tests}
 use Rattle.std.proofs.lemmas.List.{append-nil}
 use Rattle.charsets.specs.declared.unit.Unit.{Unit}
@@ -12,12 +12,12 @@ use Rattle.control_parser.specs.declared.state.State.{State}
 use Rattle.control_parser.specs.declared.state.State.TheVariants as state
 use Rattle.std.specs.Prelude.{nat_le, ◌==◌}
 use Rattle.control_parser.specs.Text.{is_intermediate, fields}
-use Rattle.control_parser.specs.Grammar.{code, is_control, is_sequence_text, Rest, nothing, escape, control, string, osc, control_of, with_front}
-use Rattle.control_parser.specs.Grammar.{functions}
+use Rattle.control_parser.specs.Grammar.{code, is_control, is_sequence_text, Rest, nothing, escape, control, string}
+use Rattle.control_parser.specs.Grammar.{osc, control_of, with_front, functions}
 use Rattle.control_parser.specs.Steps.{broken_step, inside_step, step_of, is_final_from}
 use Rattle.control_parser.specs.Kept.{opening, parts, kept_text, kept, StandsFor}
-use Rattle.control_parser.proofs.Machine.{rest_broken, rest_inside, rest_step, machine-append, machine-one, functions-machine}
-use Rattle.control_parser.proofs.Machine.{cond_pair}
+use Rattle.control_parser.proofs.Machine.{rest_broken, rest_inside, rest_step, machine-append, machine-one}
+use Rattle.control_parser.proofs.Machine.{functions-machine, cond_pair}
 use Rattle.control_parser.proofs.Texts.{parts-push}
 
 record Tracks (s : Option Func × State) (r : List Func × Rest) : Type 0 where
@@ -49,22 +49,22 @@ inside_tracks here r u a f s s' x x' e g h =
 escape_tracks : (t : List ℕ) (u : Unit) (few : Bool) → nat_le (length t) 2 ≡ few
     → Tracks (step_of (cond few (state.Escape t) state.EscapeIgnored) u) (rest_step (escape t) u)
 unfolding kept parts fields
-escape_tracks t u true e =
-    inside_tracks (state.Escape t) (escape t) u (is_intermediate (code u)) (is_final_from 0x2F (code u)) _ _ _ _ (rw e refl)
-    (λ i. grind (arith, nat_tests, length-append t (code u ∷ []))) (λ i. grind (arith, nat_tests))
-escape_tracks t u false e =
-    inside_tracks state.EscapeIgnored (escape t) u (is_intermediate (code u)) (is_final_from 0x2F (code u)) _ _ _ _ (rw e refl)
-    (λ i. grind (arith, nat_tests, length-append t (code u ∷ []))) (λ i. grind (arith, nat_tests))
+escape_tracks t u true e = inside_tracks (state.Escape t) (escape t) u (is_intermediate (code u))
+    (is_final_from 0x2F (code u)) _ _ _ _ (rw e refl) (λ i. grind (arith, nat_tests, length-append t (code u ∷ [])))
+    (λ i. grind (arith, nat_tests))
+escape_tracks t u false e = inside_tracks state.EscapeIgnored (escape t) u (is_intermediate (code u))
+    (is_final_from 0x2F (code u)) _ _ _ _ (rw e refl) (λ i. grind (arith, nat_tests, length-append t (code u ∷ [])))
+    (λ i. grind (arith, nat_tests))
 
 control_tracks : (t : List ℕ) (u : Unit) (o : Option SequenceText) → parts t ≡ o
     → Tracks (step_of (kept_text o) u) (rest_step (control t) u)
 unfolding kept
-control_tracks t u (Some p) e =
-    inside_tracks (state.Control p) (control t) u (is_sequence_text (code u)) (is_final_from 0x3F (code u)) _ _ _ _ (rw e refl)
-    (λ i. grind (arith, parts-push t (code u))) (λ i. grind (arith, control_of-parts t (code u)))
-control_tracks t u None e =
-    inside_tracks state.ControlIgnored (control t) u (is_sequence_text (code u)) (is_final_from 0x3F (code u)) _ _ _ _ (rw e refl)
-    (λ i. grind (arith, parts-push t (code u))) (λ i. grind (arith, control_of-parts t (code u)))
+control_tracks t u (Some p) e = inside_tracks (state.Control p) (control t) u (is_sequence_text (code u))
+    (is_final_from 0x3F (code u)) _ _ _ _ (rw e refl) (λ i. grind (arith, parts-push t (code u)))
+    (λ i. grind (arith, control_of-parts t (code u)))
+control_tracks t u None e = inside_tracks state.ControlIgnored (control t) u (is_sequence_text (code u))
+    (is_final_from 0x3F (code u)) _ _ _ _ (rw e refl) (λ i. grind (arith, parts-push t (code u)))
+    (λ i. grind (arith, control_of-parts t (code u)))
 
 step_tracks : (r : Rest) (u : Unit) → Tracks (step_of (kept r) u) (rest_step r u)
 unfolding kept parts fields
@@ -76,7 +76,8 @@ step_tracks (control t) u = control_tracks t u (parts t) refl
 
 pub functions-push : (us : List Unit) (u : Unit)
     → functions (us ++ u ∷ []) ≡ with_front (functions us).0 (rest_step (functions us).1 u)
-functions-push us u = rw (functions-machine (us ++ u ∷ []), machine-append nothing us (u ∷ []), machine-one, functions-machine us) refl
+functions-push us u =
+    rw (functions-machine (us ++ u ∷ []), machine-append nothing us (u ∷ []), machine-one, functions-machine us) refl
 
 pub stands-push : (old : State) (u : Unit) (us : List Unit) → StandsFor old us
     → StandsFor (step_of old u).1 (us ++ u ∷ [])

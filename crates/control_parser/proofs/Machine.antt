@@ -12,8 +12,9 @@ use Rattle.control_parser.specs.Text.{is_intermediate, while}
 use Rattle.control_parser.specs.Grammar.{code, ESC, SUB, is_control, is_c1, is_sequence_text, in_escape, in_control}
 use Rattle.control_parser.specs.Grammar.{in_string, in_osc, controls, text, Rest, nothing, escape, control, string, osc}
 use Rattle.control_parser.specs.Grammar.{Piece, ends, unended, behind, broken, escape_of, control_of, control_end}
-use Rattle.control_parser.specs.Grammar.{control_sequence, string_end, string_of, is_string_opener, begun_by, escape_end}
-use Rattle.control_parser.specs.Grammar.{escape_sequence, alone, piece, with_front, functions_behind, functions}
+use Rattle.control_parser.specs.Grammar.{control_sequence, string_end, string_of, is_string_opener, begun_by}
+use Rattle.control_parser.specs.Grammar.{escape_end, escape_sequence, alone, piece, with_front, functions_behind}
+use Rattle.control_parser.specs.Grammar.{functions}
 use Rattle.control_parser.specs.Steps.{breaks_string, is_final_from}
 
 abbrev pub rest_begun : ℕ → List Func × Rest
@@ -96,7 +97,8 @@ unfolding machine controls text
 runs p K g [] t = rw (append-nil t) refl
 runs p K g (u ∷ us) t = cond_both {A = List Unit × List Unit} (p u) (u ∷ (while p us).0, (while p us).1) ([], u ∷ us)
     (λ w. machine (K t) (u ∷ us) ≡ with_front (controls w.0) (machine (K (t ++ text w.0)) w.1))
-    (λ e. rw (g t u e, runs p K g us (t ++ text (u ∷ []))) (simp (controls-first u (while p us).0, text-first u (while p us).0, append_assoc)))
+    (λ e. rw (g t u e, runs p K g us (t ++ text (u ∷ [])))
+    (simp (controls-first u (while p us).0, text-first u (while p us).0, append_assoc)))
     (λ e. rw (append-nil t) refl)
 
 -- a string's contents are dropped
@@ -104,7 +106,8 @@ runs_dropped : (p : Unit → Bool) (r : Rest) → ((u : Unit) → p u ≡ true �
     → machine r us ≡ machine r (while p us).1
 unfolding machine
 runs_dropped p r g [] = refl
-runs_dropped p r g (u ∷ us) = cond_both {A = List Unit × List Unit} (p u) (u ∷ (while p us).0, (while p us).1) ([], u ∷ us)
+runs_dropped p r g (u ∷ us) =
+    cond_both {A = List Unit × List Unit} (p u) (u ∷ (while p us).0, (while p us).1) ([], u ∷ us)
     (λ w. machine r (u ∷ us) ≡ machine r w.1) (λ e. rw (g u e) (runs_dropped p r g us)) (λ e. refl)
 
 goes_on_escape : GoesOn in_escape escape

@@ -1,7 +1,6 @@
 -- Spelled functions are read back.
-use Rattle.std.proofs.Common.{◌≡◌, ℕ, ◌<◌, ◌≤◌, Bool, true, false, ◌&&◌, cond, List, [], ◌∷◌, ◌++◌, length, take}
-use Rattle.std.proofs.Common.{map, Option, Some, None, IfSome, option_to_list, refl, ap, ◌∙◌, arith}
-use Rattle.std.proofs.Common.{append_assoc, take_all}
+use Rattle.std.proofs.Common.{◌≡◌, ℕ, ◌<◌, ◌≤◌, Bool, true, false, ◌&&◌, cond, List, [], ◌∷◌, ◌++◌, length, take, map}
+use Rattle.std.proofs.Common.{Option, Some, None, IfSome, option_to_list, refl, ap, ◌∙◌, arith, append_assoc, take_all}
 use Rattle.std.specs.Prelude.{nat_lt, nat_le, ◌==◌}
 use Rattle.std.specs.List.{list_all, flat_map}
 use Rattle.std.proofs.lemmas.Bool.Decides.{nat_tests}
@@ -33,7 +32,8 @@ codes-low (b ∷ bs) h = grind (arith, nat_tests, one_byte, codes-low bs)
 
 pub reads_low : (bs : List ℕ) (given : List Func) → list_all is_low bs ≡ true
     → machine nothing (coded bs) ≡ (given, nothing) → ReadsAs Utf8 bs given
-reads_low bs given h e = (ap (λ (x : List ℕ × List ℕ). x.1) (codes-low bs h), rw (codes-low bs h) (functions-machine (coded bs) ∙ e))
+reads_low bs given h e =
+    (ap (λ (x : List ℕ × List ℕ). x.1) (codes-low bs h), rw (codes-low bs h) (functions-machine (coded bs) ∙ e))
 
 -- the text of a sequence, up to its final
 run_ended : (r r' : Rest) (text : List ℕ) (last : ℕ) (given : List Func) → machine r (coded text) ≡ ([], r')
@@ -45,7 +45,8 @@ run_ended r r' text last given h e =
 pub control_run : (text : List ℕ) (last : ℕ) → list_all is_sequence_text text ≡ true → 0x3F < last → last < 0x7F
     → machine (control []) (coded (text ++ last ∷ [])) ≡ (control_of text last, nothing)
 control_run text last h low high =
-    run_ended (control []) (control text) text last (control_of text last) (control_text text h) (grind (arith, nat_tests))
+    run_ended (control []) (control text) text last (control_of text last) (control_text text h)
+    (grind (arith, nat_tests))
 
 final_escape : (t : List ℕ) (last : ℕ) → begins_none t last ≡ true → 0x2F < last → last < 0x7F
     → rest_step (escape t) (units.Code last) ≡ (escape_of t last, nothing)
@@ -55,7 +56,8 @@ final_escape (x ∷ t) last n low high = grind (arith, nat_tests)
 escape_run : (text : List ℕ) (last : ℕ) → list_all is_intermediate text ≡ true → 0x2F < last → last < 0x7F
     → begins_none text last ≡ true → machine (escape []) (coded (text ++ last ∷ [])) ≡ (escape_of text last, nothing)
 escape_run text last h low high n =
-    run_ended (escape []) (escape text) text last (escape_of text last) (escape_text text h) (final_escape text last n low high)
+    run_ended (escape []) (escape text) text last (escape_of text last) (escape_text text h)
+    (final_escape text last n low high)
 
 -- numerals
 value-decimal : (n : ℕ) → n < 10000 → value (decimal n) ≡ n
@@ -85,13 +87,7 @@ front_fields ds (f ∷ fs) = (ds ++ f) ∷ fs
 fields_front : (ds rest : List ℕ) → list_all is_digit ds ≡ true → fields (ds ++ rest) ≡ front_fields ds (fields rest)
 unfolding fields
 fields_front [] rest h = grind (arith, full_fields rest)
-fields_front (c ∷ ds) rest h =
-    let e : (c == 0x3B) ≡ false = grind (arith, nat_tests) in rw (e, fields_front ds rest (grind arith)) (onto_front c ds (fields rest))
-  where
-    onto_front : (c : ℕ) (ds : List ℕ) (fs : List (List ℕ))
-        → onto_first c (front_fields ds fs) ≡ front_fields (c ∷ ds) fs
-    onto_front c ds [] = refl
-    onto_front c ds (f ∷ fs) = refl
+fields_front (c ∷ ds) rest h = grind (arith, nat_tests, fields_front ds rest)
 
 abbrev others : List ℕ → List ℕ
 others ns = flat_map (λ m. 0x3B ∷ parameter m) ns
@@ -118,7 +114,8 @@ numbers-parameter n = all_weaker is_digit is_number (λ c h. rw h refl) (paramet
 
 numbers-others : (ns : List ℕ) → list_all is_number (others ns) ≡ true
 numbers-others [] = refl
-numbers-others (n ∷ ns) = rw (list_all-append is_number (parameter n) (others ns), numbers-parameter n, numbers-others ns) refl
+numbers-others (n ∷ ns) =
+    rw (list_all-append is_number (parameter n) (others ns), numbers-parameter n, numbers-others ns) refl
 
 numbers-numerals : (n : ℕ) (ns : List ℕ) → list_all is_number (numerals (n ∷ ns)) ≡ true
 numbers-numerals n ns = numbers-others (n ∷ ns)
@@ -173,7 +170,8 @@ control_of-spelled mark n ns is last h few low fine =
     let inner : list_all is_intermediate is ≡ true = grind arith in
     let t = text_parts mark n ns is h inner in
     let w : while is_number (unmarked (csi_text mark ps is)) ≡ (numerals ps, is) =
-    ap (while is_number) t.rest ∙ while_all is_number (numerals ps) is (numbers-numerals n ns) (stops_intermediates is inner) in
+    ap (while is_number) t.rest
+    ∙ while_all is_number (numerals ps) is (numbers-numerals n ns) (stops_intermediates is inner) in
     let vs : take 16 (values (numerals ps)) ≡ ps = ap (take 16) (values-numerals n ns low) ∙ take_all 16 ps few in
     ap (λ (x : List ℕ × List ℕ). cond (list_all is_intermediate x.1 && nat_le (length x.1) 2)
     (Csi (mark_of (csi_text mark ps is)) (take 16 (values x.0)) x.1 last ∷ []) []) w
@@ -203,12 +201,14 @@ pub spelled_reads : (f : Func) → IsGiven f → ReadsAs (coding_of f) (spelling
 unfolding machine
 spelled_reads (Print c) h = (
   ap (λ (x : List ℕ × List ℕ). x.1) (codes-encode c h.1),
-  rw (codes-encode c h.1) (functions-machine (units.Code c ∷ []) ∙ machine-one nothing (units.Code c) ∙ print_reads c h.0),
+  rw (codes-encode c h.1)
+      (functions-machine (units.Code c ∷ []) ∙ machine-one nothing (units.Code c) ∙ print_reads c h.0),
 )
 spelled_reads (High b) h =
     let e : nat_lt b 0xA0 ≡ false = grind (arith, nat_tests) in (refl, rw e (functions-machine (units.High b ∷ [])))
 spelled_reads (Control c) h =
-    reads_low (c ∷ []) (Control c ∷ []) (grind (arith, nat_tests)) (machine-one nothing (units.Code c) ∙ control_reads c h)
+    reads_low (c ∷ []) (Control c ∷ []) (grind (arith, nat_tests))
+    (machine-one nothing (units.Code c) ∙ control_reads c h)
 spelled_reads (Esc is last) (fine, above, below, begins) =
     let inner : list_all is_intermediate is ≡ true = grind arith in
     let few : nat_le (length is) 2 ≡ true = grind arith in

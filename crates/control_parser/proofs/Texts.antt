@@ -82,7 +82,8 @@ length-digit (v ∷ w ∷ vs) d = ap suc (length-digit (w ∷ vs) d)
 -- the sixteen parameters that count, with one more digit, and with one more parameter
 params-digit : (vs : List ℕ) (d : ℕ)
     → take 16 (digit_added vs d) ≡ cond (nat_lt 16 (length vs)) (take 16 vs) (digit_added (take 16 vs) d)
-params-digit vs d = grind (arith, nat_tests, take-digit 16 vs d, take_all 16 vs, take_all 16 (digit_added vs d), length-digit vs d)
+params-digit vs d =
+    grind (arith, nat_tests, take-digit 16 vs d, take_all 16 vs, take_all 16 (digit_added vs d), length-digit vs d)
 
 params-next : (vs : List ℕ)
     → take 16 (vs ++ 0 ∷ []) ≡ cond (nat_lt (length (take 16 vs)) 16) (take 16 vs ++ 0 ∷ []) (take 16 vs)
