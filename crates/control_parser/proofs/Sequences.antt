@@ -1,6 +1,6 @@
 -- A complete control sequence.
-use Rattle.std.proofs.Common.{◌≡◌, ℕ, zero, suc, ◌+◌, ◌-◌, ◌<◌, ◌≤◌, Bool, true, false, cond, arith, List, [], ◌∷◌}
-use Rattle.std.proofs.Common.{◌++◌, length, take, get_or, Some, refl, sym, ap, ◌∙◌, subst, lt-ltb}
+use Rattle.std.proofs.Common.{◌≡◌, ℕ, zero, suc, ◌+◌, ◌-◌, ◌<◌, ◌≤◌, Bool, true, arith, List, [], ◌∷◌, ◌++◌, length}
+use Rattle.std.proofs.Common.{take, get_or, Some, refl, sym, ap, ◌∙◌, subst}
 use Rattle.std.specs.List.{list_all}
 use Rattle.std.proofs.lemmas.List.{take_more}
 use Rattle.std.proofs.lemmas.List.Folds.{list_all_more}
@@ -11,9 +11,7 @@ use Rattle.control_parser.specs.Grammar.{is_sequence_text}
 use Rattle.control_parser.specs.Steps.{text_grown, no_text, valued, TakesDigits}
 use Rattle.control_parser.specs.Kept.{parts}
 use Rattle.control_parser.specs.Spelling.{ReadsAs}
-use Rattle.control_parser.specs.Text.{fields, is_intermediate, is_digit, longer, value_of, last_value, with_last}
-use Rattle.control_parser.specs.Text.{digit_added}
-use Rattle.std.specs.Prelude.{◌==◌}
+use Rattle.control_parser.specs.Text.{fields, is_digit, longer, value_of, with_last}
 use Rattle.std.proofs.lemmas.Bool.Decides.{nat_tests}
 use Rattle.control_parser.proofs.Digits.{digit-last}
 use Rattle.control_parser.proofs.Machine.{machine}

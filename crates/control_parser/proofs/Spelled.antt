@@ -1,7 +1,7 @@
 -- Spelled functions are read back.
 use Rattle.std.proofs.Common.{◌≡◌, ℕ, ◌<◌, ◌≤◌, Bool, true, false, ◌&&◌, cond, List, [], ◌∷◌, ◌++◌, length, take, map}
 use Rattle.std.proofs.Common.{Option, Some, None, IfSome, option_to_list, refl, ap, ◌∙◌, arith, append_assoc, take_all}
-use Rattle.std.specs.Prelude.{nat_lt, nat_le, ◌==◌}
+use Rattle.std.specs.Prelude.{nat_lt, nat_le}
 use Rattle.std.specs.List.{list_all, flat_map}
 use Rattle.std.proofs.lemmas.Bool.Decides.{nat_tests}
 use Rattle.std.proofs.lemmas.List.{append-nil, map-append}
@@ -12,8 +12,8 @@ use Rattle.charsets.specs.Utf8.{codes, cut}
 use Rattle.charsets.proofs.Encoded.{one_byte, codes-encode}
 use Rattle.control_parser.specs.declared.func.Func.{Func}
 use Rattle.control_parser.specs.declared.func.Func.TheVariants.{Print, High, Control, Esc, Csi}
-use Rattle.control_parser.specs.Text.{is_intermediate, is_digit, is_number, is_mark, while, value, onto_first, fields}
-use Rattle.control_parser.specs.Text.{values, mark_of, unmarked}
+use Rattle.control_parser.specs.Text.{is_intermediate, is_digit, is_number, is_mark, while, value, fields, values}
+use Rattle.control_parser.specs.Text.{mark_of, unmarked}
 use Rattle.control_parser.specs.Grammar.{is_control, is_graphic, is_sequence_text, Rest, nothing, escape, control}
 use Rattle.control_parser.specs.Grammar.{escape_of, control_of}
 use Rattle.control_parser.specs.Spelling.{decimal, parameter, numerals, spelling, coding_of, are_intermediates}
