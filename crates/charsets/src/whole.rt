@@ -18,17 +18,25 @@ pub fn first_character(bytes: &[u8]) -> Option<(char, usize)>
     ensures some { IfSome result (λ c. 0 < c.1) }
     ensures few { IfSome result (λ c. c.1 ≤ length bytes.now) }
 {
-    match *bytes {
-        [a @ 0x20..=0x7E, ..] => Some((a as char, 1)),
-        [a @ 0xC2..=0xDF, b, ..] if continues(b) && (a != 0xC2 || b >= 0xA0) => {
-            Some((char_of_2(a, b), 2))
-        }
-        [a @ 0xE0..=0xEF, b, c, ..] if follows(a, b) && continues(c) => {
-            Some((char_of_3(a, b, c), 3))
-        }
-        [a @ 0xF0..=0xF4, b, c, d, ..] if follows(a, b) && continues(c) && continues(d) => {
-            Some((char_of_4(a, b, c, d), 4))
-        }
-        _ => None,
+    let a = bytes[0];
+    if 0x1F < a && a < 0x7F {
+        return Some((a as char, 1));
     }
+    if bytes.len() < 2 || a < 0xC2 {
+        return None;
+    }
+    let b = bytes[1];
+    if a < 0xE0 && continues(b) && (a != 0xC2 || b >= 0xA0) {
+        return Some((char_of_2(a, b), 2));
+    }
+    if bytes.len() < 3 || a < 0xE0 || !follows(a, b) || !continues(bytes[2]) {
+        return None;
+    }
+    if a < 0xF0 {
+        return Some((char_of_3(a, b, bytes[2]), 3));
+    }
+    if bytes.len() < 4 || 0xF4 < a || !continues(bytes[3]) {
+        return None;
+    }
+    Some((char_of_4(a, b, bytes[2], bytes[3]), 4))
 }
