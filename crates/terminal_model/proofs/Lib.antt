@@ -4,11 +4,11 @@ pub mod DrawableGlyphs
 pub mod Spellings
 pub mod Resets
 pub mod Ignored
+pub mod Items
 pub mod Resizes
 pub mod DrawableOrigins
 pub mod DrawableLines
 pub mod DrawableScreens
-pub mod SoundStates
 pub mod SoundPrinting
 pub mod Sound
 pub mod Terminals

@@ -1,8 +1,9 @@
 -- The cell at each place after new cells were put over a line.
+use Rattle.std.proofs.lemmas.Grind.{common_steps}
 use Rattle.std.proofs.Common.{◌≡◌, ℕ, zero, suc, ◌+◌, ◌-◌, ◌<◌, ◌≤◌, Bool, true, false, ◌&&◌, eqb, ltb, leb, List, []}
-use Rattle.std.proofs.Common.{length, set, replicate, refl, sym, ap, ◌∙◌, arith, ⊎_elim, eq-eqb}
+use Rattle.std.proofs.Common.{length, set, refl, sym, ap, ◌∙◌, arith, ⊎_elim, eq-eqb}
 use Rattle.std.specs.Prelude.{if◌then◌else◌, ◌==◌}
-use Rattle.std.proofs.lemmas.List.{get_or_past, get_or-set_same, get_or-set_other, length-replicate, get_or-replicate}
+use Rattle.std.proofs.lemmas.List.{get_or-set_same, get_or-set_other}
 use Rattle.std.proofs.lemmas.Bool.{cases_lt, cases_eq, cases_Bool, ne_eqb}
 use Rattle.std.proofs.lemmas.Bool.Decides.{nat_tests}
 use Rattle.cells.specs.declared.cell.Cell.{Cell}
@@ -251,15 +252,4 @@ marked-at rows columns at from mark page p h w line column =
 
 -- a blank page
 pub blank-at : (rows columns line column : ℕ) → place (blank_page rows columns) line column ≡ blank
-blank-at rows columns line column = ⊎_elim
-    (λ (h : line < rows). ap (λ l. cell_at l column) (get_or-replicate rows line (replicate columns blank) [] h)
-    ∙ blanks columns column)
-    (λ (h : rows ≤ line). ap (λ l. cell_at l column)
-    (get_or_past (blank_page rows columns) line [] (rw (length-replicate rows (replicate columns blank)) h)))
-    (cases_lt line rows)
-  where
-    blanks : (n k : ℕ) → cell_at (replicate n blank) k ≡ blank
-    blanks n k = ⊎_elim
-        (λ (h : k < n). get_or-replicate n k blank blank h)
-        (λ (h : n ≤ k). get_or_past (replicate n blank) k blank (rw (length-replicate n blank) h))
-        (cases_lt k n)
+blank-at rows columns line column = grind (arith, common_steps)
