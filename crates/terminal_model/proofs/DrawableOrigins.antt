@@ -102,16 +102,14 @@ line_from-drawable origin width page h k = record {
       drawable_blank;
   halves = λ n. item-built (λ (c : Cell). Follows c (cell_at (line_from origin width page) (suc n))) _ width blank n
       (λ less. ⊎_elim
-      (λ (inside : suc n < width). rw (
-        get_or-map-range_with_len _ 0 width (suc n) (suc n) blank inside (omega arith),
-        ne_eqb (suc n) width (omega arith),
-      )
+      (λ (inside : suc n < width). rw
+          (get_or-map-range_with_len _ 0 width (suc n) (suc n) blank inside (omega arith),
+          ne_eqb (suc n) width (omega arith))
       (settled_follow page h (origin_before origin n) (origin n) (origin (suc n)) (origin_after origin width (suc n))
       (k.halves n)))
-      (λ (past : width ≤ suc n). rw (
-        eq-eqb (suc n) width (omega arith),
-        cell_at_past (line_from origin width page) (suc n) (rw (length-line_from origin width page) past),
-      )
+      (λ (past : width ≤ suc n). rw
+          (eq-eqb (suc n) width (omega arith),
+          cell_at_past (line_from origin width page) (suc n) (rw (length-line_from origin width page) past))
       (settled_follow page h (origin_before origin n) (origin n) (New blank) (New blank) (pairs_blank (origin n))))
       (cases_lt (suc n) width))
       (λ left. absurd (cc));

@@ -201,15 +201,7 @@ pub edited-at : (rows columns at : ℕ) (source : ℕ → Source) (page : Page) 
     → place (page_from (edited at source) page) line column ≡
     (if line == at then cell_at (cells_from source (line_at page at)) column else place page line column)
 edited-at rows columns at source page p h line column =
-    ap (λ q. place q line column) (page_from-edited at source rows columns page p h)
-    ∙ ⊎_elim
-    (λ (e : line ≡ at). ap (λ l. cell_at (line_at (set page at (cells_from source (line_at page at))) l) column) e
-    ∙ ap (λ l. cell_at l column) (get_or-set_same page at (cells_from source (line_at page at)) [] (rw p.height h))
-    ∙ sym (rw (eq-eqb line at e) refl))
-    (λ (ne : line ≡ at → ⊥). ap (λ l. cell_at l column)
-    (get_or-set_other page at line (cells_from source (line_at page at)) [] ne)
-    ∙ sym (rw (ne_eqb line at ne) refl))
-    (cases_eq line at)
+    rw (page_from-edited at source rows columns page p h) (grind (arith, common_steps, p.height))
 
 -- new cells over a line of a page
 pub over-at : (rows columns at from rest : ℕ) (fresh : List Cell) (page : Page) → IsPage rows columns page → at < rows
