@@ -37,8 +37,8 @@ pub fn move_to(state: &mut State, line: usize, column: usize)
 pub fn go_to_first_column(state: &mut State)
     ensures { state.new ≡ moved_to state.old state.old.line 0 }
 {
-    let line = state.line;
-    move_to(state, line, 0);
+    state.column = 0;
+    settle(state);
 }
 
 /// Moves the cursor home: to the first place of the page, or with ?6 set of the margins (VT220
@@ -64,9 +64,8 @@ pub fn go_up(state: &mut State, count: usize)
     } else {
         0
     };
-    let line = state.line.saturating_sub(count).max(first);
-    let column = state.column;
-    move_to(state, line, column);
+    state.line = state.line.saturating_sub(count).max(first);
+    settle(state);
 }
 
 /// CUD (ECMA-48, 8.3.19): moves the cursor down; from within or above the margins at most to their
@@ -81,9 +80,8 @@ pub fn go_down(state: &mut State, count: usize)
     } else {
         state.rows - 1
     };
-    let line = state.line.saturating_add(count).min(last);
-    let column = state.column;
-    move_to(state, line, column);
+    state.line = state.line.saturating_add(count).min(last);
+    settle(state);
 }
 
 /// CUF (ECMA-48, 8.3.20): moves the cursor right, at most to the last column.
@@ -92,9 +90,8 @@ pub fn go_right(state: &mut State, count: usize)
     ensures { state.new ≡ moved_to state.old state.old.line
         (min (state.old.column + count) (state.old.columns - 1)) }
 {
-    let line = state.line;
-    let column = state.column.saturating_add(count).min(state.columns - 1);
-    move_to(state, line, column);
+    state.column = state.column.saturating_add(count).min(state.columns - 1);
+    settle(state);
 }
 
 /// CUB (ECMA-48, 8.3.18), and BS (8.3.5) with a count of 1: moves the cursor left, at most to the
@@ -102,9 +99,8 @@ pub fn go_right(state: &mut State, count: usize)
 pub fn go_left(state: &mut State, count: usize)
     ensures { state.new ≡ moved_to state.old state.old.line (state.old.column - count) }
 {
-    let line = state.line;
-    let column = state.column.saturating_sub(count);
-    move_to(state, line, column);
+    state.column = state.column.saturating_sub(count);
+    settle(state);
 }
 
 /// CUP (ECMA-48, 8.3.21) and HVP (8.3.63): moves the cursor to a place of the page. With ?6 set the

@@ -74,8 +74,6 @@ pub fn plain_escape_action(last: u8) -> Option<Action>
 /// The action of ESC, one intermediate and a final byte. None if it is ignored.
 fn intermediate_action(intermediate: u8, last: u8) -> Option<Action>
     ensures value { result ≡ intermediate_action intermediate last }
-    ensures counted { IfSome result IsCounted }
-    ensures silent { IfSome result IsSilent }
 {
     match (intermediate, last) {
         (b' ', b'F') => Some(Action::SetEightBitReports(false)),
@@ -95,8 +93,6 @@ fn intermediate_action(intermediate: u8, last: u8) -> Option<Action>
 /// Manual, SCS). None if no set has this byte.
 fn designation(place: Place, last: u8) -> Option<Action>
     ensures value { result ≡ designation (Some place) (designated_set last) }
-    ensures counted { IfSome result IsCounted }
-    ensures silent { IfSome result IsSilent }
 {
     match last {
         b'B' => Some(Action::Designate(place, CharacterSet::Ascii)),

@@ -6,7 +6,7 @@ ghost use Rattle.terminal_model.specs.Motion.{bottom_of, margins_or_none, whole_
 ghost use Rattle.terminal_model.specs.Erasing.{is_in_margins};
 ghost use Rattle.vt_screen_state.specs.Fitted.{fitted};
 
-use crate::cursor::go_home;
+use crate::cursor::{go_home, settle};
 use terminal_model::State;
 
 /// DECSTBM (VT220 Programmer Reference Manual): makes the lines from `top` to `bottom` the margins
@@ -18,10 +18,7 @@ pub fn set_margins(state: &mut State, top: usize, bottom: Option<usize>)
         (bottom_of state.old.rows bottom) state.old }
 {
     let last = state.rows - 1;
-    let bottom = match bottom {
-        Some(bottom) => bottom.min(last),
-        None => last,
-    };
+    let bottom = bottom.unwrap_or(last).min(last);
     if top < bottom {
         state.top = top;
         state.bottom = bottom;
@@ -55,8 +52,6 @@ pub fn fit(state: &mut State, rows: usize, columns: usize)
     state.columns = columns;
     state.line = state.line.min(rows - 1);
     state.column = state.column.min(columns - 1);
-    state.is_wrap_pending = false;
-    state.top = 0;
-    state.bottom = rows - 1;
-    state.joining = None;
+    use_whole_page(state);
+    settle(state);
 }

@@ -47,18 +47,7 @@ pub fn restore(state: &mut State, saved: Option<Saved>)
     requires column_inside { state.old.column < state.old.columns }
     ensures { state.new ≡ restored state.old (saved_or_none saved) }
 {
-    let saved = match saved {
-        Some(saved) => saved,
-        None => never_saved(),
-    };
-    restore_from(state, saved);
-}
-
-fn restore_from(state: &mut State, saved: Saved)
-    requires line_inside { state.old.line < state.old.rows }
-    requires column_inside { state.old.column < state.old.columns }
-    ensures { state.new ≡ restored state.old saved }
-{
+    let saved = saved.unwrap_or(never_saved());
     let last = state.columns - 1;
     state.line = restored_line(state, saved);
     state.column = saved.column.min(last);

@@ -90,8 +90,6 @@ fn colour_action(value: u16) -> Option<Action>
 /// The action of a value of SM or RM (ECMA-48, 7.2). None if the value isn't known.
 fn mode_action(is_set: bool, value: u16) -> Option<Action>
     ensures value { result ≡ mode_set is_set value }
-    ensures counted { IfSome result IsCounted }
-    ensures silent { IfSome result IsSilent }
 {
     match value {
         4 => Some(Action::SetMode(Mode::Insert, is_set)),
@@ -104,8 +102,6 @@ fn mode_action(is_set: bool, value: u16) -> Option<Action>
 /// the value isn't known.
 fn private_mode_action(is_set: bool, value: u16) -> Option<Action>
     ensures value { result ≡ private_mode_set is_set value }
-    ensures counted { IfSome result IsCounted }
-    ensures silent { IfSome result IsSilent }
 {
     match value {
         1 => Some(Action::SetMode(Mode::Arrows, is_set)),
