@@ -1,8 +1,8 @@
 //! Control sequences.
 
 ghost use Rattle.std.specs.Prelude.{◌≡◌, ◌-◌, IfSome, slice_index_or};
-ghost use Rattle.terminal_model.specs.Functions.{alone, between_sequence, count, part_of};
-ghost use Rattle.terminal_model.specs.Functions.{plain_sequence, private_sequence, sequence_actions};
+ghost use Rattle.terminal_model.specs.Functions.{alone, between_sequence, count, part_of, plain_sequence};
+ghost use Rattle.terminal_model.specs.Functions.{private_sequence, sequence_actions};
 ghost use Rattle.vt_screen_state.specs.Acting.{actions_in};
 ghost use Rattle.vt_screen_state.specs.Counted.{AreCounted, IsCounted};
 
@@ -45,8 +45,8 @@ fn intermediate_action(params: &[u16], intermediate: u8, last: u8) -> Option<Act
     }
 }
 
-/// The actions of CSI, parameters and a final byte (ECMA-48, 8.3; VT220 Programmer Reference
-/// Manual, chapter 4). DECSTBM takes the last line of the page if its second parameter is absent or 0.
+/// The actions of CSI, parameters and a final byte (ECMA-48, 8.3; VT220 Programmer Reference Manual, chapter 4).
+/// DECSTBM takes the last line of the page if its second parameter is absent or 0.
 #[inline(always)]
 #[tactic(auto, unfolding(terminal_model::specs::Functions::plain_sequence))]
 fn plain_acts(params: &[u16], last: u8) -> Acts<'_>
@@ -82,8 +82,7 @@ fn plain_acts(params: &[u16], last: u8) -> Acts<'_>
     }
 }
 
-/// The actions of CSI ?, parameters and a final byte (VT220 Programmer Reference Manual, chapter
-/// 4).
+/// The actions of CSI ?, parameters and a final byte (VT220 Programmer Reference Manual, chapter 4).
 #[tactic(auto, unfolding(terminal_model::specs::Functions::private_sequence))]
 fn private_acts(params: &[u16], last: u8) -> Acts<'_>
     ensures value { actions_in result ≡ private_sequence params.now last }
