@@ -1,5 +1,5 @@
 -- New cells in drawable lines, marks, kept lines and lines of another width are drawable.
-use Rattle.std.proofs.Common.{◌≡◌, ℕ, suc, ◌-◌, ◌<◌, Bool, false, ◌&&◌, List, []}
+use Rattle.std.proofs.Common.{◌≡◌, ℕ, ◌-◌, ◌<◌, Bool, false, ◌&&◌, List, []}
 use Rattle.std.proofs.Common.{◌∷◌, length, map, set, replicate, refl, ap, ◌∙◌, subst, arith}
 use Rattle.cells.specs.declared.cell.Cell.{Cell}
 use Rattle.cells.specs.declared.cell.Rendition.{Rendition}
@@ -23,19 +23,12 @@ use Rattle.terminal_model.proofs.DrawableOrigins.{drawable_nil, from_drawable}
 -- new cells in a line
 pub spliced_drawable : (at : ℕ) (fresh : List Cell) (rest width line : ℕ) → IsDrawableLine fresh
     → AreDrawable (λ column. on_line line (spliced at fresh rest width column))
-spliced_drawable at fresh rest width line h = record {
-  cells = λ column. grind (arith, nat_tests, cell_drawable fresh h (column - at), drawable_blank);
-  halves = λ column. grind (arith, nat_tests, h.halves (column - at));
-}
+spliced_drawable at fresh rest width line h = grind (arith, cell_drawable, drawable_blank)
 
 -- NEW CELLS
 
 pub blanks_drawable : (n : ℕ) → IsDrawableLine (replicate n blank)
-blanks_drawable n = record {
-  printed = λ column h. item-replicated IsDrawableCell n blank blank column drawable_blank drawable_blank;
-  halves = λ column. item-replicated (λ (c : Cell). Follows c (cell_at (replicate n blank) (suc column))) n blank blank
-      column (λ left. absurd (cc)) (λ left. absurd (cc));
-}
+blanks_drawable n = grind (arith, common_steps, item-replicated, drawable_blank, Follows)
 
 pub narrow_drawable : (c : ℕ) (r : Rendition) (p : Bool) → IsGlyph 1 c → IsDrawableLine (narrow_cell c r p ∷ [])
 narrow_drawable c r p h = grind (arith, common_steps)

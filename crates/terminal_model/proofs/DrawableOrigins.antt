@@ -1,13 +1,12 @@
 -- Lines and pages of drawable lines are drawable.
-use Rattle.std.proofs.Common.{◌≡◌, ℕ, suc, ◌<◌, ◌≤◌, Bool, true, false, cond, eqb, List, []}
-use Rattle.std.proofs.Common.{length, refl, sym, ap, subst, arith, ⊎_elim, eq-eqb}
+use Rattle.std.proofs.Common.{◌≡◌, ℕ, suc, ◌<◌, ◌≤◌, Bool, true, false, cond, List, []}
+use Rattle.std.proofs.Common.{length, arith, ⊎_elim, eq-eqb}
 use Rattle.std.proofs.lemmas.List.FromFn.{get_or-map-range_with_len}
 use Rattle.std.proofs.lemmas.Bool.{cases_lt, ne_eqb}
 use Rattle.std.proofs.lemmas.Bool.Decides.{nat_tests}
 use Rattle.terminal_model.proofs.Items.{item-built}
 use Rattle.cells.specs.declared.cell.Cell.{Cell}
 use Rattle.cells.specs.declared.cell.Shape.{Shape}
-use Rattle.cells.specs.declared.cell.Shape.TheVariants.{Narrow, Left, Right}
 use Rattle.cells.specs.Line.{blank, cell_at, is_left, is_right, kept, unprotected}
 use Rattle.cells.specs.Line.{right_cell, Source}
 use Rattle.cells.specs.Page.{line_at, Origin, New, From, cell_from, are_own_halves, settled_cell, origin_before}
@@ -24,31 +23,19 @@ pub drawable_blank : IsDrawableCell blank
 drawable_blank = record { glyph = space; marks = tt }
 
 pub cell_drawable : (cells : List Cell) → IsDrawableLine cells → (column : ℕ) → IsDrawableCell (cell_at cells column)
-cell_drawable cells h column = grind
-    (arith, cell_at_past cells column, cases_lt column (length cells), h.printed column, drawable_blank)
+cell_drawable cells h column = grind (arith, cell_at_past, drawable_blank)
 
 -- the cell after a left half is its right half
 abbrev pub Follows : Cell → Cell → Type 0
 Follows left right = is_left left.shape ≡ true → unprotected right ≡ right_cell left.character left.rendition false
 
 kept_drawable : (s : Shape) (cell : Cell) (p q : Bool) → IsDrawableCell cell → IsDrawableCell (kept s cell p q)
-kept_drawable Narrow cell p q h = h
-kept_drawable Left cell true q h = h
-kept_drawable Left cell false q h = drawable_blank
-kept_drawable Right cell p true h = h
-kept_drawable Right cell p false h = drawable_blank
+kept_drawable s cell p q h = grind (arith, nat_tests, drawable_blank)
 
 -- both halves come along, or neither
 kept_follow : (s t : Shape) (l r : Cell) (w q p : Bool) → l.shape ≡ s → r.shape ≡ t → (w ≡ true → Follows l r)
     → Follows (kept s l w q) (kept t r p w)
-kept_follow Narrow t l r w q p e f h = λ left. absurd (cc)
-kept_follow Right t l r w true p e f h = λ left. absurd (cc)
-kept_follow Right t l r w false p e f h = λ left. absurd (cc)
-kept_follow Left t l r false q p e f h = λ left. absurd (cc)
-kept_follow Left Narrow l r true q p e f h = h refl
-kept_follow Left Right l r true q p e f h = h refl
-kept_follow Left Left l r true q p e f h = λ left. let same : unprotected r ≡ right_cell l.character l.rendition false =
-    h refl left in let shape : r.shape ≡ Right = ap (λ (c : Cell). c.shape) same in absurd (cc)
+kept_follow s t l r w q p h k m = grind (arith, nat_tests)
 
 -- LINES FROM ORIGINS
 
@@ -80,19 +67,14 @@ own_follow page h (From n c) (From m d) k w = grind (arith, nat_tests, (h n).hal
 
 settled_drawable : (page : Page) → AreDrawableLines page → (before here after : Origin) → IsDrawableOrigin here
     → IsDrawableCell (settled_cell page before here after)
-settled_drawable page h before here after k =
-    kept_drawable (cell_from page here).shape (cell_from page here) (are_own_halves here after)
-    (are_own_halves before here) (origin_drawable page h here k)
+settled_drawable page h before here after k = search (kept_drawable, origin_drawable)
 
 settled_follow : (page : Page) → AreDrawableLines page → (before a b after : Origin) → Pairs a b
     → Follows (settled_cell page before a b) (settled_cell page a b after)
-settled_follow page h before a b after k =
-    kept_follow (cell_from page a).shape (cell_from page b).shape (cell_from page a) (cell_from page b)
-    (are_own_halves a b) (are_own_halves before a) (are_own_halves b after) refl refl (own_follow page h a b k)
+settled_follow page h before a b after k = grind (arith, kept_follow, own_follow)
 
 pairs_blank : (o : Origin) → Pairs o (New blank)
-pairs_blank (New cell) = λ right. absurd (cc)
-pairs_blank (From line column) = tt
+pairs_blank o = grind (arith, nat_tests)
 
 pub line_from-drawable : (origin : ℕ → Origin) (width : ℕ) (page : Page) → AreDrawableLines page → AreDrawable origin
     → IsDrawableLine (line_from origin width page)
@@ -102,15 +84,15 @@ line_from-drawable origin width page h k = record {
       drawable_blank;
   halves = λ n. item-built (λ (c : Cell). Follows c (cell_at (line_from origin width page) (suc n))) _ width blank n
       (λ less. ⊎_elim
-      (λ (inside : suc n < width). rw
-          (get_or-map-range_with_len _ 0 width (suc n) (suc n) blank inside (omega arith),
-          ne_eqb (suc n) width (omega arith))
+      (λ (inside : suc n < width).
+      rw (get_or-map-range_with_len _ 0 width (suc n) (suc n) blank inside (omega arith))
+      (rw (ne_eqb (suc n) width (omega arith))
       (settled_follow page h (origin_before origin n) (origin n) (origin (suc n)) (origin_after origin width (suc n))
-      (k.halves n)))
-      (λ (past : width ≤ suc n). rw
-          (eq-eqb (suc n) width (omega arith),
-          cell_at_past (line_from origin width page) (suc n) (rw (length-line_from origin width page) past))
-      (settled_follow page h (origin_before origin n) (origin n) (New blank) (New blank) (pairs_blank (origin n))))
+      (k.halves n))))
+      (λ (past : width ≤ suc n).
+      rw (cell_at_past (line_from origin width page) (suc n) (rw (length-line_from origin width page) past))
+      (rw (eq-eqb (suc n) width (omega arith))
+      (settled_follow page h (origin_before origin n) (origin n) (New blank) (New blank) (pairs_blank (origin n)))))
       (cases_lt (suc n) width))
       (λ left. absurd (cc));
 }
@@ -134,30 +116,17 @@ IsOldOrBlank (New cell) = cell ≡ blank
 IsOldOrBlank (From line column) = Prim.Unit {0}
 
 pub old_or_blank : (origin : ℕ → Origin) → ((column : ℕ) → IsOldOrBlank (origin column)) → AreDrawable origin
-old_or_blank origin h = record
-    { cells = λ n. cells (origin n) (h n); halves = λ n. halves (origin n) (origin (suc n)) (h (suc n)) }
-  where
-    cells : (o : Origin) → IsOldOrBlank o → IsDrawableOrigin o
-    cells (New cell) e = subst IsDrawableCell (sym e) drawable_blank
-    cells (From line column) e = tt
-
-    halves : (a b : Origin) → IsOldOrBlank b → Pairs a b
-    halves (New l) (New r) e = λ right. absurd (cc)
-    halves (New l) (From line column) e = tt
-    halves (From line column) b e = tt
+old_or_blank origin h = grind (arith, drawable_blank)
 
 pub old_or_blank_if : (b : Bool) (x y : Origin) → IsOldOrBlank x → IsOldOrBlank y → IsOldOrBlank (cond b x y)
-old_or_blank_if true x y h k = h
-old_or_blank_if false x y h k = k
+old_or_blank_if b x y h k = grind (arith, nat_tests)
 
 pub drawable_if : (b : Bool) (f g : ℕ → Origin) → AreDrawable f → AreDrawable g
     → AreDrawable (λ column. cond b (f column) (g column))
-drawable_if true f g h k = record { cells = h.cells; halves = h.halves }
-drawable_if false f g h k = record { cells = k.cells; halves = k.halves }
+drawable_if b f g h k = grind (arith, nat_tests)
 
 -- one line is edited
 pub edited_drawable : (at : ℕ) (source : ℕ → Source)
     → ((line : ℕ) → AreDrawable (λ column. on_line line (source column))) → (line : ℕ)
     → AreDrawable (edited at source line)
-edited_drawable at source h line = drawable_if (eqb line at) (λ column. on_line line (source column)) (From line)
-    (h line) (from_drawable line)
+edited_drawable at source h line = search (drawable_if, from_drawable)

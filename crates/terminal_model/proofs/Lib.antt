@@ -15,7 +15,6 @@ pub mod Terminals
 pub mod DrawableTerminals
 pub mod Places
 pub mod Frames
-pub mod DrawnRows
 pub mod Leaving
 pub mod WholeReading
 pub mod Further
