@@ -9,13 +9,10 @@ pub mod Putting
 pub mod PuttingWhole
 pub mod Resizing
 pub mod Grids
-pub mod Runs
 pub mod Used
 pub mod OverPlain
 pub mod Looks
-pub mod Wides
-pub mod WideRuns
 pub mod UsedSplices
-pub mod Lettered
+pub mod TextCells
 pub mod Written
 pub mod Mending

@@ -1,122 +1,112 @@
 -- Cells that differ from blanks in their characters only: writing the characters is enough.
 use Rattle.std.proofs.Common.{◌≡◌, ℕ, zero, suc, ◌+◌, ◌-◌, ◌<◌, ◌≤◌, Bool, true, false, ◌&&◌, cond, ltb, List, [], ◌∷◌}
-use Rattle.std.proofs.Common.{◌++◌, length, take, drop, get_or, set, replicate, not, leb, inr, refl, sym, ap, ◌∙◌}
+use Rattle.std.proofs.Common.{◌++◌, length, take, drop, get_or, set, replicate, not, leb, refl, sym, ap, ◌∙◌}
 use Rattle.std.proofs.Common.{subst, arith, ⊎_elim}
-use Rattle.std.proofs.lemmas.List.{get_or_default, ext_get_or, take_at, get_or-replicate, length-replicate, length-set}
-use Rattle.std.proofs.lemmas.List.{get_or-set_same, get_or-set_other}
-use Rattle.std.proofs.lemmas.Bool.{cases_lt, cases_eq}
+use Rattle.std.proofs.Math.Seq.{take-suc}
+use Rattle.std.proofs.lemmas.List.{get_or_default, ext_get_or, take_at, get_or-replicate, length-replicate}
+use Rattle.std.proofs.lemmas.List.{length-take-le, map-append, replicate-append-replicate}
+use Rattle.std.proofs.lemmas.Bool.{cases_lt}
 use Rattle.cells.specs.declared.cell.Cell.{Cell}
-use Rattle.cells.specs.Line.{blank, plain, cell_at, is_right, cut_of, cells_from, spliced, fresh_at, narrow_cell}
-use Rattle.cells.specs.Line.{narrow_cells, IsBlankFrom, IsPaired, IsPlain, ArePlainFrom, IsNoted, Source, Fresh, Old}
+use Rattle.cells.specs.Line.{blank, plain, cell_at, is_left, is_right, cells_from, spliced, narrow_cell, narrow_cells}
+use Rattle.cells.specs.Line.{IsBlankFrom, IsPaired, IsPlain, ArePlainFrom, IsNoted, Source, Fresh, Old}
 use Rattle.cells.specs.Line.{taken, unprotected_erased, are_halves, kept, source_before, source_after, settled}
 use Rattle.cells.specs.Put.{IsPut}
 use Rattle.cells.proofs.Settling.{settled_at, cell_at_past, cell_at-cells_from, length-cells_from, IsPaired-cells_from}
 use Rattle.cells.proofs.Used.{IsBlankFrom-cells_from, spliced_behind}
 use Rattle.cells.proofs.Splicing.{IsPaired-blanks}
-use Rattle.cells.proofs.Runs.{with_run, run_inside, run_outside}
-use Rattle.cells.proofs.Putting.{IsPutSoFar, put_next, narrow_at, length-narrow_cells, run_is}
-use Rattle.cells.proofs.PuttingWhole.{put_none}
+use Rattle.cells.proofs.Putting.{IsPut-more, length-narrow_cells}
+use Rattle.cells.proofs.PuttingWhole.{put_plain}
+
+-- one more character over a plain cell
+next_put : (at count : ℕ) (fresh old line : List Cell) (unread : Cell) (character : ℕ) → ArePlainFrom at old
+    → length fresh ≡ count → at + count < length old → IsPut at fresh old line
+    → IsPut at (fresh ++ narrow_cell character plain false ∷ []) old
+    (set line (at + count) (record (get_or line (at + count) unread) { character = character }))
+next_put at count fresh old line unread character plains n inside put =
+    let new : Cell = narrow_cell character plain false in
+    let within : at + count < length line = rw put.width inside in
+    let is : get_or line (at + count) unread ≡ narrow_cell (cell_at old (at + count)).character plain false =
+    get_or_default line (at + count) unread blank within ∙ put.rest (at + count) (omega (arith, n))
+    ∙ plains (at + count) (omega arith) in
+    subst (λ (x : Cell). IsPut at (fresh ++ new ∷ []) old (set line (at + count) x))
+    (sym (ap (λ (x : Cell). record x { character = character }) is))
+    (subst (λ m. IsPut at (fresh ++ new ∷ []) old (set line (at + m) new)) n
+    (IsPut-more at fresh old line new put (omega (arith, n))))
 
 -- the first `count` characters are written
 abbrev pub AreWritten : ℕ → List ℕ → List Cell → ℕ → List Cell → Type 0
-AreWritten at codes old count line = IsPutSoFar at (narrow_cells codes plain false) old count line
-
-pub none_written : (at : ℕ) (codes : List ℕ) (old : List Cell) → AreWritten at codes old 0 old
-none_written at codes old = record { outside = λ k h. refl; new = λ j h. absurd (omega arith) }
-
--- a cell whose character isn't written yet
-unwritten : (at count : ℕ) (old line : List Cell) (unread : Cell) → ArePlainFrom at old → at + count < length line
-    → cell_at line (at + count) ≡ cell_at old (at + count)
-    → get_or line (at + count) unread ≡ narrow_cell (cell_at old (at + count)).character plain false
-unwritten at count old line unread plains inside same =
-    get_or_default line (at + count) unread blank inside ∙ same ∙ plains (at + count) (omega arith)
+AreWritten at codes old count line = IsPut at (narrow_cells (take count codes) plain false) old line
 
 pub next_written : (at count next : ℕ) (codes : List ℕ) (old line : List Cell) (unread : Cell) → ArePlainFrom at old
-    → at + count < length line → count < length codes → count + 1 ≡ next → AreWritten at codes old count line
+    → at + count < length old → count < length codes → count + 1 ≡ next → AreWritten at codes old count line
     → AreWritten at codes old next
     (set line (at + count) (record (get_or line (at + count) unread) { character = get_or codes count 0 }))
 next_written at count next codes old line unread plains inside within more written =
-    let fresh : List Cell = narrow_cells codes plain false in
-    let is : get_or line (at + count) unread ≡ narrow_cell (cell_at old (at + count)).character plain false =
-    unwritten at count old line unread plains inside (written.outside (at + count) (inr (omega arith))) in
-    subst (λ (x : Cell). AreWritten at codes old next (set line (at + count) x))
-    (narrow_at codes plain false count within
-    ∙ sym (ap (λ (x : Cell). record x { character = get_or codes count 0 }) is))
-    (subst (λ n. AreWritten at codes old n (set line (at + count) (fresh_at fresh count))) more
-    (put_next at fresh old count line written inside))
-
-pub next_read_written : (at count next : ℕ) (codes : List ℕ) (old line : List Cell) (unread : Cell) (character : ℕ)
-    → character ≡ get_or codes count 0 → ArePlainFrom at old
-    → at + count < length line → count < length codes → count + 1 ≡ next → AreWritten at codes old count line
-    → AreWritten at codes old next
-    (set line (at + count) (record (get_or line (at + count) unread) { character = character }))
-next_read_written at count next codes old line unread character is plains inside within more written =
+    let code : ℕ = get_or codes count 0 in
+    let longer : take next codes ≡ take count codes ++ code ∷ [] =
+    (let e : next ≡ suc count = omega (arith, more) in ap (λ n. take n codes) e) ∙ take-suc codes count 0 within in
     subst
-    (λ (n : ℕ). AreWritten at codes old next
-    (set line (at + count) (record (get_or line (at + count) unread) { character = n })))
-    (sym is) (next_written at count next codes old line unread plains inside within more written)
-
--- no wide character stands in a plain cell
-uncut : (column : ℕ) (cells : List Cell) → IsPlain (cell_at cells column) → cut_of column cells ≡ cells
-uncut column cells is = ap
-    (λ (x : Cell). cond (is_right x.shape) (set (set cells (column - 1) blank) column blank) cells) is
-
-uncut_twice : (at behind : ℕ) (cells : List Cell) → at ≤ behind → ArePlainFrom at cells
-    → cut_of behind (cut_of at cells) ≡ cells
-uncut_twice at behind cells order plains = ap (cut_of behind) (uncut at cells (plains at (omega arith)))
-    ∙ uncut behind cells (plains behind order)
-
-pub all_written : (at : ℕ) (codes : List ℕ) (cells line : List Cell) → at + length codes ≤ length cells
-    → 0 < length codes → IsPaired cells → ArePlainFrom at cells → length line ≡ length cells
-    → AreWritten at codes cells (length codes) line
-    → line ≡ cells_from (spliced at (narrow_cells codes plain false) (at + length codes) (length cells)) cells
-all_written at codes cells line room some paired plains same written =
-    let behind : ℕ = at + length codes in
-    let whole : cut_of behind (cut_of at cells) ≡ cells = uncut_twice at behind cells (omega arith) plains in
-    run_is codes plain false at cells line room some paired same
-    (subst (λ old. AreWritten at codes old (length codes) line) (sym whole) written)
-
-pub nothing_written : (at : ℕ) (codes : List ℕ) (cells : List Cell) → length codes ≡ 0 → IsPaired cells
-    → cells ≡ cells_from (spliced at (narrow_cells codes plain false) (at + length codes) (length cells)) cells
-nothing_written at codes cells none paired =
-    let fresh : List Cell = narrow_cells codes plain false in
-    let n : length fresh ≡ length codes = length-narrow_cells codes plain false in
-    put_none at fresh cells (n ∙ none) paired ∙ ap (λ m. cells_from (spliced at fresh (at + m) (length cells)) cells) n
+    (λ (v : List Cell). IsPut at v old
+    (set line (at + count) (record (get_or line (at + count) unread) { character = code })))
+    (sym
+    (ap (λ cs. narrow_cells cs plain false) longer
+    ∙ map-append (λ c. narrow_cell c plain false) (take count codes) (code ∷ [])))
+    (next_put at count (narrow_cells (take count codes) plain false) old line unread code plains
+    (length-narrow_cells (take count codes) plain false ∙ length-take-le count codes (omega arith)) inside written)
 
 -- the first cells are blanked
 abbrev pub AreBlanked : ℕ → List Cell → ℕ → List Cell → Type 0
 AreBlanked from old count line = IsPut from (replicate count blank) old line
 
-pub none_blanked : (from : ℕ) (old : List Cell) → AreBlanked from old 0 old
-none_blanked from old = record
-    { width = refl; front = λ k h. refl; placed = λ j h. absurd (omega arith); rest = λ k h. refl }
-
 pub next_blanked : (from count next : ℕ) (old line : List Cell) (unread : Cell) → ArePlainFrom from old
-    → from + count < length line → count + 1 ≡ next → AreBlanked from old count line
+    → from + count < length old → count + 1 ≡ next → AreBlanked from old count line
     → AreBlanked from old next (set line (from + count) (record (get_or line (from + count) unread) { character = 32 }))
-next_blanked from count next old line unread plains inside more blanked =
-    let n : length (replicate count blank) ≡ count = length-replicate count blank in
-    let m : length (replicate next blank) ≡ next = length-replicate next blank in
-    let is : get_or line (from + count) unread ≡ narrow_cell (cell_at old (from + count)).character plain false =
-    unwritten from count old line unread plains inside (blanked.rest (from + count) (omega (arith, n))) in
-    let one : List Cell = set line (from + count) blank in
-    subst (λ (x : Cell). AreBlanked from old next (set line (from + count) x))
-    (sym (ap (λ (x : Cell). record x { character = 32 }) is))
-    (record {
-      width = length-set line (from + count) blank ∙ blanked.width;
-      front = λ k h. get_or-set_other line (from + count) k blank blank (omega arith) ∙ blanked.front k h;
-      placed = λ j h. let inside_next : j < next = rw (sym m) h in
-          ⊎_elim
-          (λ (e : j ≡ count). ap (λ i. cell_at one (from + i)) e
-          ∙ get_or-set_same line (from + count) blank blank inside
-          ∙ sym (get_or-replicate next j blank blank inside_next))
-          (λ (ne : j ≡ count → ⊥). let before : j < count = omega arith in
-          get_or-set_other line (from + count) (from + j) blank blank (omega arith) ∙ blanked.placed j (rw n before)
-          ∙ get_or-replicate count j blank blank before ∙ sym (get_or-replicate next j blank blank inside_next))
-          (cases_eq j count);
-      rest = λ k h. get_or-set_other line (from + count) k blank blank (omega (arith, m))
-          ∙ blanked.rest k (omega (arith, n, m));
-    })
+next_blanked from count next old line unread plains inside more blanked = subst
+    (λ (v : List Cell). IsPut from v old
+    (set line (from + count) (record (get_or line (from + count) unread) { character = 32 })))
+    (replicate-append-replicate count 1 blank ∙ ap (λ n. replicate n blank) more)
+    (next_put from count (replicate count blank) old line unread 32 plains (length-replicate count blank) inside
+    blanked)
+
+-- plain cells are no halves
+plains_paired : (cells : List Cell) → ArePlainFrom 0 cells → IsPaired cells
+plains_paired cells plains = record {
+  first = ap (λ (x : Cell). is_right x.shape) (plains 0 (omega arith));
+  next = λ k. ap (λ (x : Cell). is_left x.shape) (plains k (omega arith))
+      ∙ sym (ap (λ (x : Cell). is_right x.shape) (plains (suc k) (omega arith)));
+}
+
+pub plain_cells : (codes : List ℕ) → ArePlainFrom 0 (narrow_cells codes plain false)
+plain_cells codes k h = go codes k
+  where
+    go : (codes : List ℕ) (k : ℕ) → IsPlain (cell_at (narrow_cells codes plain false) k)
+    go [] k = refl
+    go (c ∷ codes) zero = refl
+    go (c ∷ codes) (suc k) = go codes k
+
+-- characters over plain cells tear no wide character
+pub put_over_plain : (at : ℕ) (codes : List ℕ) (cells line : List Cell) → at + length codes ≤ length cells
+    → IsPaired cells → ArePlainFrom at cells → IsPut at (narrow_cells codes plain false) cells line
+    → line ≡ cells_from (spliced at (narrow_cells codes plain false) (at + length codes) (length cells)) cells
+put_over_plain at codes cells line room paired plains put =
+    let fresh : List Cell = narrow_cells codes plain false in
+    let n : length fresh ≡ length codes = length-narrow_cells codes plain false in
+    put_plain at fresh cells line (rw n room) paired (plains_paired fresh (plain_cells codes))
+    (ap (λ (x : Cell). is_right x.shape) (plains at (omega arith)))
+    (ap (λ (x : Cell). is_right x.shape) (plains (at + length fresh) (omega arith)))
+    put.width put.front
+    (λ k past inside. let e : at + (k - at) ≡ k = omega arith in
+    ap (cell_at line) (sym e) ∙ put.placed (k - at) (omega arith))
+    (λ k past inside. put.rest k past)
+    ∙ ap (λ m. cells_from (spliced at fresh (at + m) (length cells)) cells) n
+
+pub first_over_plain : (at count : ℕ) (codes : List ℕ) (cells line : List Cell) → count ≤ length codes
+    → at + count ≤ length cells → IsPaired cells → ArePlainFrom at cells → AreWritten at codes cells count line
+    → line ≡ cells_from (spliced at (narrow_cells (take count codes) plain false) (at + count) (length cells)) cells
+first_over_plain at count codes cells line few room paired plains written =
+    let n : length (take count codes) ≡ count = length-take-le count codes few in
+    put_over_plain at (take count codes) cells line (omega (arith, n)) paired plains written
+    ∙ ap (λ m. cells_from (spliced at (narrow_cells (take count codes) plain false) (at + m) (length cells)) cells) n
 
 -- blanks in the used columns make the line blank
 pub cleared_plain : (used : ℕ) (cells line : List Cell) → used ≤ length cells → IsBlankFrom used cells
@@ -175,19 +165,6 @@ plain_spliced at fresh cells rest width new old k = go (ltb k at) (ltb k (at + l
     go false false true = old (k + rest - (at + length fresh)) (omega arith)
     go false false false = refl
 
-pub plain_cells : (codes : List ℕ) → ArePlainFrom 0 (narrow_cells codes plain false)
-plain_cells codes k h = ⊎_elim
-    (λ (inside : k < length (narrow_cells codes plain false)).
-    go codes k)
-    (λ (past : length (narrow_cells codes plain false) ≤ k). subst IsPlain
-    (sym (cell_at_past (narrow_cells codes plain false) k past)) refl)
-    (cases_lt k (length (narrow_cells codes plain false)))
-  where
-    go : (codes : List ℕ) (k : ℕ) → IsPlain (cell_at (narrow_cells codes plain false) k)
-    go [] k = refl
-    go (c ∷ codes) zero = refl
-    go (c ∷ codes) (suc k) = go codes k
-
 pub plain_blanks : (count : ℕ) → ArePlainFrom 0 (replicate count blank)
 plain_blanks count k h = ⊎_elim
     (λ (inside : k < count). subst IsPlain (sym (get_or-replicate count k blank blank inside)) refl)
@@ -203,56 +180,33 @@ blank_at width k = ⊎_elim
     (cases_lt k width)
 
 -- after a run in the first columns, the rest of the line is blanked
-module _ (codes : List ℕ) (used : ℕ) (cells put line : List Cell) (some : 0 < length codes)
-    (room : length codes ≤ length cells) (inside : used ≤ length cells) (paired : IsPaired cells)
-    (blanks : IsBlankFrom used cells) (plains : ArePlainFrom 0 cells)
-    (put_is : put ≡ with_run plain false 0 codes cells)
-    (is : IsPut (length codes) (replicate (used - length codes) blank) put line) where
-  run_room : 0 + length codes ≤ length cells
-  run_room = omega arith
-
-  put_behind : (k : ℕ) → 0 + length codes ≤ k → used ≤ k → cell_at put k ≡ blank
-  put_behind k past free = ⊎_elim
-      (λ (within : k < length cells).
-      ap (λ x. cell_at x k) put_is ∙ run_outside plain false 0 codes cells run_room some paired k (inr past) within
-      ∙ ap (λ x. cell_at x k) (uncut_twice 0 (0 + length codes) cells (omega arith) plains) ∙ blanks k free)
-      (λ (out : length cells ≤ k). let w : length put ≡ length cells = ap length put_is
-      ∙ length-cells_from (spliced 0 (narrow_cells codes plain false) (0 + length codes) (length cells)) cells in
-      cell_at_past put k (omega arith))
-      (cases_lt k (length cells))
-
-  behind_is : (k : ℕ) → 0 + length codes ≤ k → cell_at line k ≡ blank
-  behind_is k past =
-      let n : length (replicate (used - length codes) blank) ≡ used - length codes = length-replicate
-      (used - length codes) blank in
-      ⊎_elim
-      (λ (within : k < used). let e : length codes + (k - length codes) ≡ k = omega arith in
-      ap (cell_at line) (sym e) ∙ is.placed (k - length codes) (omega (arith, n))
-      ∙ blank_at (used - length codes) (k - length codes))
-      (λ (free : used ≤ k). is.rest k (omega (arith, n)) ∙ put_behind k past free)
-      (cases_lt k used)
-
-  pub cleared_behind : line ≡ cells_from
-      (spliced 0 (narrow_cells codes plain false) (length codes) (length (replicate (length cells) blank)))
-      (replicate (length cells) blank)
-  cleared_behind =
-      let width : ℕ = length cells in
-      let empty : List Cell = replicate width blank in
-      let w : length empty ≡ width = length-replicate width blank in
-      let whole : cut_of (0 + length codes) (cut_of 0 empty) ≡ empty = uncut_twice 0 (0 + length codes) empty
-      (omega arith) (plain_blanks width) in
-      let same : length line ≡ length empty = is.width ∙ ap length put_is
-      ∙ length-cells_from (spliced 0 (narrow_cells codes plain false) (0 + length codes) (length cells)) cells
-      ∙ sym w in
-      let written : AreWritten 0 codes empty (length codes) line = record {
-        outside = λ k h. ⊎_elim (λ a. absurd (omega arith)) (λ b. behind_is k b ∙ sym (blank_at width k)) h;
-        new = λ j h. is.front (0 + j) (omega arith) ∙ ap (λ x. cell_at x (0 + j)) put_is
-            ∙ run_inside plain false 0 codes cells run_room j h;
-      } in
-      let n : 0 + length codes ≡ length codes = omega arith in
-      run_is codes plain false 0 empty line (omega (arith, w)) some (IsPaired-blanks width) same
-      (subst (λ old. AreWritten 0 codes old (length codes) line) (sym whole) written)
-      ∙ ap (λ m. cells_from (spliced 0 (narrow_cells codes plain false) m (length empty)) empty) n
+pub cleared_behind : (codes : List ℕ) (used : ℕ) (cells put line : List Cell) → length codes ≤ length cells
+    → IsBlankFrom used cells → IsPut 0 (narrow_cells codes plain false) cells put
+    → IsPut (length codes) (replicate (used - length codes) blank) put line
+    → line ≡ cells_from
+    (spliced 0 (narrow_cells codes plain false) (length codes) (length (replicate (length cells) blank)))
+    (replicate (length cells) blank)
+cleared_behind codes used cells put line room blanks run is =
+    let width : ℕ = length cells in
+    let empty : List Cell = replicate width blank in
+    let w : length empty ≡ width = length-replicate width blank in
+    let n : length (narrow_cells codes plain false) ≡ length codes = length-narrow_cells codes plain false in
+    let m : length (replicate (used - length codes) blank) ≡ used - length codes = length-replicate
+    (used - length codes) blank in
+    let e : 0 + length codes ≡ length codes = omega arith in
+    put_over_plain 0 codes empty line (omega (arith, w)) (IsPaired-blanks width) (plain_blanks width)
+    (record {
+      width = is.width ∙ run.width ∙ sym w;
+      front = λ k h. absurd (omega arith);
+      placed = λ k h. is.front (0 + k) (omega (arith, n, h)) ∙ run.placed k h;
+      rest = λ k h. ⊎_elim
+          (λ (within : k < used). let f : length codes + (k - length codes) ≡ k = omega (arith, n, h) in
+          ap (cell_at line) (sym f) ∙ is.placed (k - length codes) (omega (arith, m, n, h))
+          ∙ blank_at (used - length codes) (k - length codes))
+          (λ (free : used ≤ k). is.rest k (omega (arith, m, n, h)) ∙ run.rest k h ∙ blanks k free)
+          (cases_lt k used) ∙ sym (blank_at width k);
+    })
+    ∙ ap (λ i. cells_from (spliced 0 (narrow_cells codes plain false) i (length empty)) empty) e
 
 -- the line after an edit is written back
 pub plain-stored : (source : ℕ → Source) (new old items : List Cell) (len : ℕ) → length new ≡ len
@@ -305,9 +259,7 @@ both false b h = absurd (cc)
 
 -- a line of plain cells, after a run in its first columns
 pub plain_behind : (codes : List ℕ) (cells put : List Cell) → ArePlainFrom 0 cells
-    → put ≡ with_run plain false 0 codes cells → ArePlainFrom (length codes) put
-plain_behind codes cells put plains is =
-    let fresh : List Cell = narrow_cells codes plain false in
-    λ k h. subst (ArePlainFrom 0) (sym is)
-    (plain-cells_from (spliced 0 fresh (0 + length codes) (length cells)) cells
-    (plain_spliced 0 fresh cells (0 + length codes) (length cells) (plain_cells codes) plains)) k (omega arith)
+    → IsPut 0 (narrow_cells codes plain false) cells put → ArePlainFrom (length codes) put
+plain_behind codes cells put plains is k h =
+    let n : length (narrow_cells codes plain false) ≡ length codes = length-narrow_cells codes plain false in
+    subst IsPlain (sym (is.rest k (omega (arith, n, h)))) (plains k (omega arith))

@@ -1,8 +1,9 @@
 -- New cells put over as many old ones.
-use Rattle.std.proofs.Common.{◌≡◌, ℕ, zero, suc, ◌+◌, ◌-◌, ◌<◌, ◌≤◌, min, Bool, false, ◌&&◌, List, length, set}
-use Rattle.std.proofs.Common.{replicate, refl, sym, ap, ◌∙◌, ◌⊎◌, inl, inr, subst, arith, ⊎_elim, get_or}
+use Rattle.std.proofs.Common.{◌≡◌, ℕ, zero, suc, ◌+◌, ◌-◌, ◌<◌, ◌≤◌, min, Bool, false, ◌&&◌, List, [], ◌∷◌, ◌++◌}
+use Rattle.std.proofs.Common.{length, set}
+use Rattle.std.proofs.Common.{replicate, refl, sym, ap, ◌∙◌, ◌⊎◌, inl, inr, arith, ⊎_elim}
 use Rattle.std.proofs.lemmas.List.{length-set, get_or-set_same, get_or-set_other, length-replicate, length-map}
-use Rattle.std.proofs.lemmas.List.{get_or-map}
+use Rattle.std.proofs.lemmas.List.{length-append, get_or_append_left, get_or-append_right}
 use Rattle.std.proofs.lemmas.Bool.{cases_lt, cases_eq}
 use Rattle.cells.specs.declared.cell.Cell.{Cell}
 use Rattle.cells.specs.declared.cell.Rendition.{Rendition}
@@ -224,6 +225,62 @@ put_next at fresh old count line so_far inside = record {
       (cases_eq j count);
 }
 
+-- one more new cell
+pub IsPut-more : (at : ℕ) (fresh old line : List Cell) (cell : Cell) → IsPut at fresh old line
+    → at + length fresh < length old
+    → IsPut at (fresh ++ cell ∷ []) old (set line (at + length fresh) cell)
+IsPut-more at fresh old line cell is room =
+    let n : length (fresh ++ cell ∷ []) ≡ length fresh + 1 = length-append fresh (cell ∷ []) in
+    let end : ℕ = at + length fresh in
+    let within : end < length line = rw is.width room in
+    record {
+      width = length-set line end cell ∙ is.width;
+      front = λ k h. get_or-set_other line end k cell blank (omega arith) ∙ is.front k h;
+      placed = λ k h. ⊎_elim
+          (λ (e : k ≡ length fresh). let z : length fresh - length fresh ≡ 0 = omega arith in
+          ap (λ i. cell_at (set line end cell) (at + i)) e ∙ get_or-set_same line end cell blank within
+          ∙ sym
+          (ap (cell_at (fresh ++ cell ∷ [])) e
+          ∙ get_or-append_right fresh (cell ∷ []) (length fresh) (length fresh) blank refl (omega arith)
+          ∙ ap (cell_at (cell ∷ [])) z))
+          (λ (ne : k ≡ length fresh → ⊥). let inside : k < length fresh = omega (arith, n, h) in
+          get_or-set_other line end (at + k) cell blank (omega arith) ∙ is.placed k inside
+          ∙ sym (get_or_append_left fresh (cell ∷ []) blank k inside))
+          (cases_eq k (length fresh));
+      rest = λ k h. get_or-set_other line end k cell blank (omega (arith, n, h)) ∙ is.rest k (omega (arith, n, h));
+    }
+
+pub IsPut-none : (at : ℕ) (old : List Cell) → IsPut at [] old old
+IsPut-none at old = record {
+  width = refl;
+  front = λ k h. refl;
+  placed = λ k h. absurd (omega arith);
+  rest = λ k h. refl;
+}
+
+-- one of the new cells takes another value
+pub IsPut-other : (at : ℕ) (fresh old line : List Cell) (last : ℕ) (cell : Cell) → IsPut at fresh old line
+    → last < length fresh → at + last < length old
+    → IsPut at (set fresh last cell) old (set line (at + last) cell)
+IsPut-other at fresh old line last cell is n room =
+    let m : length (set fresh last cell) ≡ length fresh = length-set fresh last cell in
+    let within : at + last < length line = rw is.width room in
+    record {
+      width = length-set line (at + last) cell ∙ is.width;
+      front = λ k h. get_or-set_other line (at + last) k cell blank (omega arith) ∙ is.front k h;
+      placed = λ k h. ⊎_elim
+          (λ (e : k ≡ last).
+          ap (λ i. cell_at (set line (at + last) cell) (at + i)) e ∙ get_or-set_same line (at + last) cell blank within
+          ∙ sym
+          (ap (cell_at (set fresh last cell)) e ∙ get_or-set_same fresh last cell blank (omega (arith, n))))
+          (λ (ne : k ≡ last → ⊥).
+          get_or-set_other line (at + last) (at + k) cell blank (omega arith) ∙ is.placed k (omega (arith, m, h))
+          ∙ sym (get_or-set_other fresh last k cell blank ne))
+          (cases_eq k last);
+      rest = λ k h. get_or-set_other line (at + last) k cell blank (omega (arith, n, m, h))
+          ∙ is.rest k (omega (arith, m, h));
+    }
+
 -- cells of width 1 need nothing beside them
 pub whole_narrow : (fresh : List Cell) (j : ℕ) → (cell_at fresh j).shape ≡ Narrow → fresh_at fresh j ≡ cell_at fresh j
 whole_narrow fresh j narrow = ap
@@ -259,27 +316,3 @@ IsPaired-set cells column cell same paired = IsPaired-shapes cells (set cells co
 module _ (codes : List ℕ) (rendition : Rendition) (is_protected : Bool) where
   pub length-narrow_cells : length (narrow_cells codes rendition is_protected) ≡ length codes
   length-narrow_cells = length-map codes (λ code. narrow_cell code rendition is_protected)
-
-  pub narrow_at : (j : ℕ) → j < length codes
-      → fresh_at (narrow_cells codes rendition is_protected) j ≡ narrow_cell (get_or codes j 0) rendition is_protected
-  narrow_at j h =
-      let is : cell_at (narrow_cells codes rendition is_protected) j ≡ narrow_cell (get_or codes j 0) rendition
-      is_protected =
-      get_or-map (λ code. narrow_cell code rendition is_protected) codes j 0 blank h in
-      ap (λ (x : Cell). kept x.shape x
-      (is_left x.shape && is_right (cell_at (narrow_cells codes rendition is_protected) (suc j)).shape)
-      (right_follows (narrow_cells codes rendition is_protected) j)) is
-
-  pub run_is : (at : ℕ) (cells line : List Cell) → at + length codes ≤ length cells → 0 < length codes → IsPaired cells
-      → length line ≡ length cells
-      → IsPutSoFar at (narrow_cells codes rendition is_protected) (cut_of (at + length codes) (cut_of at cells))
-      (length codes) line
-      → line ≡ cells_from (spliced at (narrow_cells codes rendition is_protected) (at + length codes) (length cells))
-      cells
-  run_is at cells line room some paired same so_far =
-      let fresh : List Cell = narrow_cells codes rendition is_protected in
-      let n : length fresh ≡ length codes = length-narrow_cells in
-      let far : IsPutSoFar at fresh (cut_of (at + length fresh) (cut_of at cells)) (length fresh) line =
-      subst (λ m. IsPutSoFar at fresh (cut_of (at + m) (cut_of at cells)) m line) (sym n) so_far in
-      put_is at fresh cells (rw n room) (rw n some) paired line same far.outside far.new
-      ∙ ap (λ m. cells_from (spliced at fresh (at + m) (length cells)) cells) n

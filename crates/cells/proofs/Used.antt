@@ -56,6 +56,16 @@ spliced_behind at fresh cells rest used k blanks past = ⊎_elim
     (at_end at fresh rest (length cells) k (omega arith) end))
     (cases_lt (k + rest) (at + length fresh + length cells))
 
+-- the line with new cells is written back
+pub IsUsed-spliced : (at : ℕ) (fresh : List Cell) (rest used next : ℕ) (new old items : List Cell) (len : ℕ)
+    → length new ≡ len → new ≡ cells_from (spliced at fresh rest (length old)) old → old ≡ items → IsUsed used items
+    → next ≤ length items → ((k : ℕ) → next ≤ k → k < length items → used - rest + (at + length fresh) ≤ k)
+    → IsUsed next (take len (new ++ drop (length new) items))
+IsUsed-spliced at fresh rest used next new old items len n is same used_is inside past =
+    IsUsed-stored (spliced at fresh rest (length old)) used next new old items len n is same used_is inside
+    (λ k h within. ap (λ m. taken items (spliced at fresh rest m k)) (ap length same)
+    ∙ spliced_behind at fresh items rest used k used_is.blank (past k h within))
+
 -- erased columns are blank
 pub erased_behind : (cells : List Cell) (from end used k : ℕ) → IsBlankFrom used cells → used ≤ k
     → taken cells (unprotected_erased cells from end k) ≡ blank

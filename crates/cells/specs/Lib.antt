@@ -6,5 +6,4 @@ pub mod Glyph
 pub mod Unlike
 pub mod Look
 pub mod Put
-pub mod Wide
-pub mod Letters
+pub mod Texts

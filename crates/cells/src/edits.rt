@@ -4,11 +4,11 @@ ghost use Rattle.std.specs.Prelude.{◌≡◌, ◌+◌, ◌*◌, ◌-◌, ◌<�
 ghost use Rattle.std.specs.Prelude.{IsTrue};
 ghost use Rattle.std.specs.List.{copy_within};
 ghost use Rattle.cells.specs.Line.{cells_from, cells_spliced, IsPaired, cut_of, blank};
-ghost use Rattle.cells.specs.Line.{unprotected_erased, fresh_at, narrow_cell, narrow_cells};
-ghost use Rattle.cells.specs.Line.{ArePlainFrom, plain, left_cell, right_cell};
+ghost use Rattle.cells.specs.Line.{unprotected_erased, fresh_at, narrow_cells};
+ghost use Rattle.cells.specs.Line.{ArePlainFrom, plain};
 ghost use Rattle.cells.specs.Put.{AreNarrow, AreNarrowIn, IsPut};
 
-use crate::cell::{Cell, Rendition, Shape};
+use crate::cell::{Cell, Shape};
 
 /// Blanks both halves of a wide character that the boundary before column `at` would cut.
 pub fn cut(cells: &mut [Cell], at: usize)
@@ -162,61 +162,14 @@ fn copy_over(cells: &mut [Cell], at: usize, fresh: &[Cell])
     cells[at..at + fresh.len()].copy_from_slice(fresh);
 }
 
-/// Puts characters of width 1 over as many old cells, from `at` on. `codes` has their code points.
-pub fn put_run(
-    cells: &mut [Cell],
-    at: usize,
-    codes: &[u8],
-    rendition: Rendition,
-    is_protected: bool,
-)
-    requires paired { IsPaired cells.old }
-    requires room { at + length codes.now ≤ length cells.old }
-    ensures { cells.new ≡ cells_spliced at
-        (narrow_cells codes.now rendition is_protected) (at + length codes.now) cells.old }
-{
-    if codes.is_empty() {
-        return;
-    }
-    if codes.len() == 1 {
-        let cell = Cell::narrow(codes[0] as char, rendition, is_protected);
-        put_narrow(cells, at, cell, at + 1);
-        return;
-    }
-    cut(cells, at);
-    cut(cells, at + codes.len());
-    let space = space_cell(rendition, is_protected);
-    for column in 0..codes.len() {
-        let character = codes[column] as char;
-        let mut cell = space;
-        cell.character = character;
-        cells[at + column] = cell;
-    }
-}
-
-/// The halves of a wide space. This function isn't inlined, for the reason given at `space_cell`.
-#[inline(never)]
-pub fn space_halves(rendition: Rendition, is_protected: bool) -> (Cell, Cell)
-    ensures left { result.0 ≡ left_cell 0x20 rendition is_protected }
-    ensures right { result.1 ≡ right_cell 0x20 rendition is_protected }
-{
-    let left = Cell::left(' ', rendition, is_protected);
-    (left, Cell::right(' ', rendition, is_protected))
-}
-
 /// Puts characters of width 1 without rendition or protection over as many cells, from `at` on.
 /// `codes` has their code points. All old cells from `at` on differ from blanks in their characters
 /// only, so only characters are written: eight at a time, which makes the loop itself cheap.
 pub fn put_run_over_plain(cells: &mut [Cell], at: usize, codes: &[u8])
-    requires paired { IsPaired cells.old }
     requires plain { ArePlainFrom at cells.old }
     requires room { at + length codes.now ≤ length cells.old }
-    ensures { cells.new ≡ cells_spliced at
-        (narrow_cells codes.now plain false) (at + length codes.now) cells.old }
+    ensures { IsPut at (narrow_cells codes.now plain false) cells.old cells.new }
 {
-    if codes.is_empty() {
-        return;
-    }
     let eights = codes.len() / 8;
     for eight in 0..eights {
         for place in 0..8 {
@@ -246,15 +199,6 @@ pub fn blank_plain(cells: &mut [Cell], from: usize, end: usize)
     for column in 8 * eights..count {
         cells[from + column].character = ' ';
     }
-}
-
-/// A space. This function isn't inlined, so that the cells of a run are copied from one in memory
-/// as a whole and not field by field.
-#[inline(never)]
-pub fn space_cell(rendition: Rendition, is_protected: bool) -> Cell
-    ensures { result ≡ narrow_cell 0x20 rendition is_protected }
-{
-    Cell::narrow(' ', rendition, is_protected)
 }
 
 /// Erases the unprotected cells from `from` up to but not including `end`.

@@ -1,13 +1,22 @@
 //! Characters whose width is known without looking it up.
 
 ghost use Rattle.std.specs.Prelude.{◌≡◌};
-ghost use Rattle.cells.specs.Letters.{is_known_wide, is_letter, is_mark};
+ghost use Rattle.charsets.specs.Units.{is_plain};
+ghost use Rattle.cells.specs.Texts.{is_known_wide, is_letter, is_mark};
 
 /// A character of width 0 among the letters.
 const SOFT_HYPHEN: char = '\u{AD}';
 
 /// A mark that isn't among the known ones.
 const OVERLAY: char = '\u{338}';
+
+/// Whether a byte is one of the characters 20 to 7E.
+#[inline(always)]
+pub fn is_plain(byte: u8) -> bool
+    ensures { result ≡ is_plain byte }
+{
+    0x1F < byte && byte < 0x7F
+}
 
 /// Whether a character is a letter of one column: one of 20 to 7E, of U+00A0 to U+02FF without the
 /// soft hyphen, a Greek, Cyrillic or Armenian one up to U+058F, or a Hebrew one.

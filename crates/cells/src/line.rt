@@ -1,18 +1,16 @@
 //! A line of cells.
 
-ghost use Rattle.std.specs.Prelude.{◌≡◌, ◌+◌, ◌*◌, ◌-◌, ◌<◌, ◌≤◌, min, [], ◌∷◌, length, replicate, IfOk};
-ghost use Rattle.std.specs.Prelude.{IsTrue, false, true, take};
-ghost use Rattle.std.specs.Prelude.{slice_set};
-ghost use Rattle.std.specs.List.{list_all};
-ghost use Rattle.charsets.specs.Text.{text, IsText};
-ghost use Rattle.cells.specs.Letters.{is_known_wide, is_lettered, letter_cells};
+ghost use Rattle.std.specs.Prelude.{◌≡◌, ◌+◌, ◌-◌, ◌<◌, ◌≤◌, min, [], ◌∷◌, length, replicate, IfOk};
+ghost use Rattle.std.specs.Prelude.{IsTrue, false, take, slice_set};
+ghost use Rattle.charsets.specs.Text.{text};
 ghost use Rattle.cells.specs.Line.{cells_from, cells_spliced, cell_at, marked, IsPaired};
-ghost use Rattle.cells.specs.Line.{IsBlankFrom, blank, unprotected_erased, narrow_cell};
-ghost use Rattle.cells.specs.Line.{narrow_cells, ArePlainFrom, plain};
-ghost use Rattle.cells.specs.Wide.{wide_cells};
+ghost use Rattle.cells.specs.Line.{IsBlankFrom, blank, unprotected_erased};
+ghost use Rattle.cells.specs.Line.{narrow_cell, narrow_cells, ArePlainFrom, plain};
+ghost use Rattle.cells.specs.Texts.{text_cells, PutsText};
 ghost use Rattle.cells.specs.Resizing.{line_resized};
 
 use crate::cell::{Cell, Rendition, Shape};
+use crate::letters::is_plain;
 use crate::put::Put;
 use crate::shifting::splice_used;
 use crate::{edits, texts};
@@ -58,11 +56,9 @@ fn clear_used(cells: &mut [Cell], used: usize, is_plain: bool)
 /// written.
 #[inline(always)]
 fn clear_behind_run(cells: &mut [Cell], used: usize, is_plain: bool, codes: &[u8])
-    requires paired { IsPaired cells.old }
     requires inside { used ≤ length cells.old }
     requires blank { IsBlankFrom used cells.old }
     requires plain { IsTrue is_plain → ArePlainFrom 0 cells.old }
-    requires some { 0 < length codes.now }
     requires room { length codes.now ≤ length cells.old }
     ensures { cells.new ≡ cells_spliced 0 (narrow_cells codes.now plain false)
         (length codes.now) (replicate (length cells.old) blank) }
@@ -73,24 +69,6 @@ fn clear_behind_run(cells: &mut [Cell], used: usize, is_plain: bool, codes: &[u8
     } else {
         clear_used(cells, used, false);
         edits::put_run_over_plain(cells, 0, codes);
-    }
-}
-
-/// Puts characters of width 1 over as many cells, from `at` on, each in a copy of a space. The
-/// cells from `plain_from` on differ from blanks in their characters only.
-fn put_run_behind(cells: &mut [Cell], plain_from: usize, at: usize, codes: &[u8], space: Cell)
-    requires paired { IsPaired cells.old }
-    requires plain { ArePlainFrom plain_from cells.old }
-    requires room { at + length codes.now ≤ length cells.old }
-    requires space { space ≡ narrow_cell 0x20 space.rendition space.is_protected }
-    ensures { cells.new ≡ cells_spliced at
-        (narrow_cells codes.now space.rendition space.is_protected)
-        (at + length codes.now) cells.old }
-{
-    if codes.len() > 1 && plain_from <= at && space.is_blank() {
-        edits::put_run_over_plain(cells, at, codes);
-    } else {
-        edits::put_run(cells, at, codes, space.rendition, space.is_protected);
     }
 }
 
@@ -262,31 +240,18 @@ impl Line {
         self.is_plain = false;
     }
 
-    /// A column from which on all cells are of width 1 without rendition, marks or protection.
-    fn plain_from(&self) -> usize
-        ensures { ArePlainFrom result self.now }
+    /// Whether a new character of width 1 in a column from `at` on differs from the old one in its
+    /// character only.
+    fn takes_plain(&self, at: usize, rendition: Rendition, is_protected: bool) -> bool
+        ensures old { IsTrue result → ArePlainFrom at self.now }
+        ensures new { IsTrue result → narrow_cell 0x20 rendition is_protected ≡ blank }
     {
-        if self.is_plain { 0 } else { self.used }
+        (self.is_plain || self.used <= at) && Cell::narrow(' ', rendition, is_protected).is_blank()
     }
 
-    /// Puts characters of width 1 over as many old cells, from `at` on. `codes` has their code
-    /// points. An old half that loses its other half becomes blank.
-    pub fn put_run(&mut self, at: usize, codes: &[u8], rendition: Rendition, is_protected: bool)
-        requires room { at + length codes.now ≤ length self.old }
-        ensures { self.new ≡ cells_spliced at
-            (narrow_cells codes.now rendition is_protected) (at + length codes.now) self.old }
-    {
-        let space = Cell::narrow(' ', rendition, is_protected);
-        let plain_from = self.plain_from();
-        put_run_behind(self.cells.as_mut_slice(), plain_from, at, codes, space);
-        self.used = self.used.max(at + codes.len());
-        self.is_plain = self.is_plain & space.is_blank();
-    }
-
-    /// Puts the letters of one column with which some bytes of UTF-8 begin, and the marks behind
-    /// them, over as many old cells as there are letters, from `at` on, as far as there is room. An
-    /// old half that loses its other half becomes blank. The result counts the columns.
-    pub fn put_letters(
+    /// Puts the text with which some bytes of UTF-8 begin over as many old cells as it takes columns,
+    /// from `at` on, as far as there is room. An old half that loses its other half becomes blank.
+    pub fn put_text(
         &mut self,
         at: usize,
         bytes: &[u8],
@@ -294,56 +259,26 @@ impl Line {
         is_protected: bool,
     ) -> Put
         requires inside { at ≤ length self.old }
-        ensures text { IsText (take result.read bytes.now) }
-        ensures letters { is_lettered (text (take result.read bytes.now)) ≡ true }
-        ensures count { length (letter_cells (text (take result.read bytes.now))
-            rendition is_protected) ≡ result.count }
-        ensures room { at + result.count ≤ length self.old }
-        ensures few { result.read ≤ length bytes.now }
+        ensures put { PutsText bytes.now rendition is_protected (length self.old - at) result }
         ensures cells { self.new ≡ cells_spliced at
-            (letter_cells (text (take result.read bytes.now)) rendition is_protected)
+            (text_cells (text (take result.read bytes.now)) rendition is_protected)
             (at + result.count) self.old }
     {
-        let put = texts::put_letters(
-            self.cells.as_mut_slice(),
-            at,
-            bytes,
-            rendition,
-            is_protected,
-        );
+        if !bytes.is_empty()
+            && is_plain(bytes[0])
+            && self.takes_plain(at, rendition, is_protected)
+        {
+            let count = texts::put_plain(self.cells.as_mut_slice(), at, bytes);
+            self.used = self.used.max(at + count);
+            return Put {
+                count,
+                last: 1,
+                read: count,
+            };
+        }
+        let cells = self.cells.as_mut_slice();
+        let put = texts::put_text(cells, at, bytes, rendition, is_protected);
         self.used = self.used.max(at + put.count);
-        self.is_plain = false;
-        put
-    }
-
-    /// Puts the characters of two columns with which some bytes of UTF-8 begin over twice as many
-    /// old cells, from `at` on, as far as there is room: those that `is_known_wide` knows. An old
-    /// half that loses its other half becomes blank.
-    pub fn put_wides(
-        &mut self,
-        at: usize,
-        bytes: &[u8],
-        rendition: Rendition,
-        is_protected: bool,
-    ) -> Put
-        requires inside { at ≤ length self.old }
-        ensures text { IsText (take result.read bytes.now) }
-        ensures wides { list_all is_known_wide (text (take result.read bytes.now)) ≡ true }
-        ensures count { length (text (take result.read bytes.now)) ≡ result.count }
-        ensures room { at + 2 * result.count ≤ length self.old }
-        ensures few { result.read ≤ length bytes.now }
-        ensures cells { self.new ≡ cells_spliced at
-            (wide_cells (text (take result.read bytes.now)) rendition is_protected)
-            (at + 2 * result.count) self.old }
-    {
-        let put = texts::put_wides(
-            self.cells.as_mut_slice(),
-            at,
-            bytes,
-            rendition,
-            is_protected,
-        );
-        self.used = self.used.max(at + 2 * put.count);
         self.is_plain = false;
         put
     }

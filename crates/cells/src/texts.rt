@@ -1,27 +1,24 @@
 //! Text in UTF-8 that is put into cells as it is decoded.
 
-ghost use Rattle.std.specs.Prelude.{◌≡◌, ◌+◌, ◌*◌, ◌<◌, ◌≤◌, [], ◌∷◌, true, length, take, IfSome, IsTrue};
-ghost use Rattle.std.specs.Prelude.{slice_set};
+ghost use Rattle.std.specs.Prelude.{◌≡◌, ◌+◌, ◌-◌, ◌<◌, ◌≤◌, false, true, length, take, IsTrue, slice_set};
 ghost use Rattle.std.specs.List.{list_all};
-ghost use Rattle.charsets.specs.Text.{text, IsText};
-ghost use Rattle.charsets.specs.Units.{is_character};
-ghost use Rattle.charsets.specs.Utf8.{codes};
-ghost use Rattle.cells.specs.Letters.{is_known_wide, is_lettered, letter_cells};
-ghost use Rattle.cells.specs.Line.{cell_at, cells_spliced, is_right, marked, IsPaired};
+ghost use Rattle.charsets.specs.Text.{text};
+ghost use Rattle.charsets.specs.Units.{is_plain};
+ghost use Rattle.cells.specs.Line.{cell_at, cells_spliced, is_right, marked, narrow_cell, narrow_cells, plain};
+ghost use Rattle.cells.specs.Line.{ArePlainFrom, IsPaired};
 ghost use Rattle.cells.specs.Put.{mended, IsPut};
-ghost use Rattle.cells.specs.Wide.{wide_cells};
+ghost use Rattle.cells.specs.Texts.{text_cells, PutsText};
 
-use crate::cell::{Cell, Rendition};
-use crate::edits::{space_cell, space_halves};
-use crate::letters::{is_known_wide, is_letter, is_mark};
+use crate::cell::{Cell, Rendition, Shape};
+use crate::letters::{is_known_wide, is_letter, is_mark, is_plain};
 use crate::put::Put;
 use charsets::first_character;
 
-/// Puts the letters of one column with which some bytes begin, and the marks behind them, over as
-/// many old cells as there are letters, from `at` on.
+/// Puts the text with which some bytes begin over as many old cells as it takes columns, from `at`
+/// on, as far as there is room.
 /// It isn't inlined, so that its loop stays tight.
 #[inline(never)]
-pub fn put_letters(
+pub fn put_text(
     cells: &mut [Cell],
     at: usize,
     bytes: &[u8],
@@ -30,51 +27,41 @@ pub fn put_letters(
 ) -> Put
     requires paired { IsPaired cells.old }
     requires inside { at ≤ length cells.old }
-    ensures text { IsText (take result.read bytes.now) }
-    ensures letters { is_lettered (text (take result.read bytes.now)) ≡ true }
-    ensures count { length (letter_cells (text (take result.read bytes.now))
-        rendition is_protected) ≡ result.count }
-    ensures room { at + result.count ≤ length cells.old }
-    ensures few { result.read ≤ length bytes.now }
+    ensures put { PutsText bytes.now rendition is_protected (length cells.old - at) result }
     ensures cells { cells.new ≡ cells_spliced at
-        (letter_cells (text (take result.read bytes.now)) rendition is_protected)
+        (text_cells (text (take result.read bytes.now)) rendition is_protected)
         (at + result.count) cells.old }
 {
     let is_cut = cuts_wide(cells, at);
-    let put = write_letters(cells, at, bytes, rendition, is_protected);
+    let put = write_text(cells, at, bytes, rendition, is_protected);
     if put.count > 0 {
         mend(cells, at, at + put.count, is_cut);
     }
     put
 }
 
-/// Puts the characters of two columns with which some bytes begin over twice as many old cells,
-/// from `at` on: those that `is_known_wide` knows.
+/// Writes the characters 20 to 7E with which some bytes begin into the cells from `at` on, as far as
+/// there is room. The old cells from `at` on differ from blanks in their characters only, so only
+/// characters are written. Returns how many there are.
 #[inline(never)]
-pub fn put_wides(
-    cells: &mut [Cell],
-    at: usize,
-    bytes: &[u8],
-    rendition: Rendition,
-    is_protected: bool,
-) -> Put
+pub fn put_plain(cells: &mut [Cell], at: usize, bytes: &[u8]) -> usize
     requires paired { IsPaired cells.old }
+    requires plain { ArePlainFrom at cells.old }
     requires inside { at ≤ length cells.old }
-    ensures text { IsText (take result.read bytes.now) }
-    ensures wides { list_all is_known_wide (text (take result.read bytes.now)) ≡ true }
-    ensures count { length (text (take result.read bytes.now)) ≡ result.count }
-    ensures room { at + 2 * result.count ≤ length cells.old }
-    ensures few { result.read ≤ length bytes.now }
+    ensures few { result ≤ length bytes.now }
+    ensures room { at + result ≤ length cells.old }
+    ensures codes { list_all is_plain (take result bytes.now) ≡ true }
     ensures cells { cells.new ≡ cells_spliced at
-        (wide_cells (text (take result.read bytes.now)) rendition is_protected)
-        (at + 2 * result.count) cells.old }
+        (narrow_cells (take result bytes.now) plain false) (at + result) cells.old }
 {
-    let is_cut = cuts_wide(cells, at);
-    let put = write_wides(cells, at, bytes, rendition, is_protected);
-    if put.count > 0 {
-        mend(cells, at, at + 2 * put.count, is_cut);
+    let room = bytes.len().min(cells.len() - at);
+    for count in 0..room {
+        if !is_plain(bytes[count]) {
+            return count;
+        }
+        cells[at + count].character = bytes[count] as char;
     }
-    put
+    room
 }
 
 /// Whether the boundary before column `at` cuts a wide character.
@@ -101,10 +88,9 @@ fn mend(cells: &mut [Cell], at: usize, end: usize, is_cut: bool)
     }
 }
 
-/// Writes the letters with which some bytes begin, and the marks behind them, into the cells from
-/// `at` on.
+/// Writes the text with which some bytes begin into the cells from `at` on, as far as there is room.
 #[inline(always)]
-fn write_letters(
+fn write_text(
     cells: &mut [Cell],
     at: usize,
     bytes: &[u8],
@@ -112,30 +98,31 @@ fn write_letters(
     is_protected: bool,
 ) -> Put
     requires { at ≤ length cells.old }
-    ensures text { IsText (take result.read bytes.now) }
-    ensures letters { is_lettered (text (take result.read bytes.now)) ≡ true }
-    ensures count { length (letter_cells (text (take result.read bytes.now))
-        rendition is_protected) ≡ result.count }
-    ensures room { at + result.count ≤ length cells.old }
-    ensures few { result.read ≤ length bytes.now }
+    ensures put { PutsText bytes.now rendition is_protected (length cells.old - at) result }
     ensures cells { IsPut at
-        (letter_cells (text (take result.read bytes.now)) rendition is_protected)
+        (text_cells (text (take result.read bytes.now)) rendition is_protected)
         cells.old cells.new }
 {
     let space = space_cell(rendition, is_protected);
     let mut column = at;
+    let mut last = 1;
     let mut read = 0;
     while column < cells.len() && read < bytes.len() {
-        let Some((character, size)) = first_short(&bytes[read..]) else {
+        let Some((character, size)) = first_character(&bytes[read..]) else {
             break;
         };
+        let mut cell = space;
+        cell.character = character;
         if is_letter(character) {
-            let mut cell = space;
-            cell.character = character;
             cells[column] = cell;
             column += 1;
+            last = 1;
         } else if at < column && is_mark(character) {
-            join_mark(cells, column - 1, character);
+            join_mark(cells, column - last, character);
+        } else if column + 1 < cells.len() && is_known_wide(character) {
+            write_halves(cells, column, cell);
+            column += 2;
+            last = 2;
         } else {
             break;
         }
@@ -143,6 +130,7 @@ fn write_letters(
     }
     Put {
         count: column - at,
+        last,
         read,
     }
 }
@@ -157,88 +145,26 @@ fn join_mark(cells: &mut [Cell], column: usize, mark: char)
     cells[column].marks = marks.joined(mark);
 }
 
-/// The character with which some bytes begin in UTF-8, and its number of bytes, one or two. None if
-/// they begin with anything else.
+/// Writes both halves of a wide character, each a copy of one cell but for its shape.
 #[inline(always)]
-fn first_short(bytes: &[u8]) -> Option<(char, usize)>
-    requires { 0 < length bytes.now }
-    ensures reads { IfSome result (λ c. codes (take c.1 bytes.now) ≡ (c.0 ∷ [], [])) }
-    ensures character { IfSome result (λ c. is_character c.0 ≡ true) }
-    ensures some { IfSome result (λ c. 0 < c.1) }
-    ensures few { IfSome result (λ c. c.1 ≤ length bytes.now) }
+fn write_halves(cells: &mut [Cell], column: usize, cell: Cell)
+    requires { column + 1 < length cells.old }
+    ensures { cells.new ≡ slice_set
+        (slice_set cells.old column (record cell { shape = Shape.Left }))
+        (column + 1) (record cell { shape = Shape.Right }) }
 {
-    let a = bytes[0];
-    if 0x1F < a && a < 0x7F {
-        return Some((a as char, 1));
-    }
-    if bytes.len() < 2 || a < 0xC2 || a > 0xDF {
-        return None;
-    }
-    first_character(bytes)
+    let mut half = cell;
+    half.shape = Shape::Left;
+    cells[column] = half;
+    half.shape = Shape::Right;
+    cells[column + 1] = half;
 }
 
-/// Writes the wide characters with which some bytes begin into the cells from `at` on.
-#[inline(always)]
-fn write_wides(
-    cells: &mut [Cell],
-    at: usize,
-    bytes: &[u8],
-    rendition: Rendition,
-    is_protected: bool,
-) -> Put
-    requires { at ≤ length cells.old }
-    ensures text { IsText (take result.read bytes.now) }
-    ensures wides { list_all is_known_wide (text (take result.read bytes.now)) ≡ true }
-    ensures count { length (text (take result.read bytes.now)) ≡ result.count }
-    ensures room { at + 2 * result.count ≤ length cells.old }
-    ensures few { result.read ≤ length bytes.now }
-    ensures cells { IsPut at
-        (wide_cells (text (take result.read bytes.now)) rendition is_protected)
-        cells.old cells.new }
+/// A space. This function isn't inlined, so that the cells of text are copied from one in memory as
+/// a whole and not field by field.
+#[inline(never)]
+fn space_cell(rendition: Rendition, is_protected: bool) -> Cell
+    ensures { result ≡ narrow_cell 0x20 rendition is_protected }
 {
-    let (left, right) = space_halves(rendition, is_protected);
-    let mut column = at;
-    let mut read = 0;
-    while column + 1 < cells.len() && read < bytes.len() {
-        let Some((character, size)) = first_known_wide(&bytes[read..]) else {
-            return Put {
-                count: (column - at) / 2,
-                read,
-            };
-        };
-        let (mut first, mut second) = (left, right);
-        first.character = character;
-        second.character = character;
-        cells[column] = first;
-        cells[column + 1] = second;
-        column += 2;
-        read += size;
-    }
-    Put {
-        count: (column - at) / 2,
-        read,
-    }
-}
-
-/// The wide character with which some bytes begin in UTF-8, and its number of bytes. None if they
-/// begin with anything else. The first byte of such a character is one of E3 to F0, so the others
-/// aren't decoded.
-#[inline(always)]
-fn first_known_wide(bytes: &[u8]) -> Option<(char, usize)>
-    requires { 0 < length bytes.now }
-    ensures reads { IfSome result (λ c. codes (take c.1 bytes.now) ≡ (c.0 ∷ [], [])) }
-    ensures character { IfSome result (λ c. is_character c.0 ≡ true) }
-    ensures wide { IfSome result (λ c. is_known_wide c.0 ≡ true) }
-    ensures few { IfSome result (λ c. c.1 ≤ length bytes.now) }
-{
-    let a = bytes[0];
-    if a < 0xE3 || 0xF0 < a {
-        return None;
-    }
-    let (character, size) = first_character(bytes)?;
-    if is_known_wide(character) {
-        Some((character, size))
-    } else {
-        None
-    }
+    Cell::narrow(' ', rendition, is_protected)
 }

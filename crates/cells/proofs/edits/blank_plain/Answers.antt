@@ -1,9 +1,10 @@
 use Rattle.std.proofs.Common.{◌≡◌, ◌+◌, ◌-◌, ◌*◌, ◌/◌, ℕ, refl, subst, arith}
-use Rattle.cells.proofs.OverPlain.{AreBlanked, none_blanked, next_blanked}
+use Rattle.cells.proofs.Putting.{IsPut-none}
+use Rattle.cells.proofs.OverPlain.{AreBlanked, next_blanked}
 use Rattle.cells.proofs.edits.blank_plain.Goals as goal
 
 pub loop-eight-init : goal.loop-eight-init
-loop-eight-init c = none_blanked c.args.from c.args.cells.now
+loop-eight-init c = IsPut-none c.args.from c.args.cells.now
 
 pub loop-place-init : goal.loop-place-init
 loop-place-init c = subst (λ n. AreBlanked c.args.from c.args.cells.now n c.loop-eight.cells) (omega arith)

@@ -1,14 +1,13 @@
-use Rattle.std.proofs.Common.{◌≡◌, ◌+◌, ◌*◌, ◌/◌, ◌∙◌, ℕ, length, refl, subst, arith}
-use Rattle.std.proofs.lemmas.Bool.Decides.{nat_tests}
-use Rattle.cells.proofs.OverPlain.{AreWritten, none_written, next_written, all_written, nothing_written}
+use Rattle.std.proofs.Common.{◌≡◌, ◌+◌, ◌*◌, ◌/◌, ℕ, false, length, refl, subst, arith}
+use Rattle.std.proofs.lemmas.List.{take_all}
+use Rattle.cells.specs.Line.{narrow_cells, plain}
+use Rattle.cells.specs.Put.{IsPut}
+use Rattle.cells.proofs.Putting.{IsPut-none}
+use Rattle.cells.proofs.OverPlain.{AreWritten, next_written}
 use Rattle.cells.proofs.edits.put_run_over_plain.Goals as goal
 
-pub returns-then-is_empty : goal.returns-then-is_empty
-returns-then-is_empty c = nothing_written c.args.at c.args.codes.now c.args.cells.now
-    (grind (arith, nat_tests, c.if-is_empty.true, c.is_empty.ensures)) c.requires.paired
-
 pub loop-eight-init : goal.loop-eight-init
-loop-eight-init c = none_written c.args.at c.args.codes.now c.args.cells.now
+loop-eight-init c = IsPut-none c.args.at c.args.cells.now
 
 pub loop-place-init : goal.loop-place-init
 loop-place-init c = subst (λ n. AreWritten c.args.at c.args.codes.now c.args.cells.now n c.loop-eight.cells)
@@ -18,8 +17,7 @@ pub loop-place-preserved : goal.loop-place-preserved
 loop-place-preserved c =
     let count : ℕ = 8 * c.loop-eight.eight + c.loop-place.place in
     next_written c.args.at count (8 * c.loop-eight.eight + (c.loop-place.place + 1)) c.args.codes.now c.args.cells.now
-    c.loop-place.cells _ c.requires.plain (omega (arith, c.loop-place.auto, c.loop-eight.auto, c.requires.room))
-    (omega arith) (omega arith)
+    c.loop-place.cells _ c.requires.plain (omega (arith, c.requires.room)) (omega arith) (omega arith)
     c.loop-place.invariant
 
 pub loop-eight-preserved : goal.loop-eight-preserved
@@ -35,15 +33,9 @@ loop-column-init c =
 pub loop-column-preserved : goal.loop-column-preserved
 loop-column-preserved c =
     next_written c.args.at c.loop-column.column (c.loop-column.column + 1) c.args.codes.now c.args.cells.now
-    c.loop-column.cells _ c.requires.plain (omega (arith, c.loop-column.auto, c.loop-eight.auto, c.requires.room))
+    c.loop-column.cells _ c.requires.plain (omega (arith, c.loop-column-test.true, c.requires.room))
     c.loop-column-test.true refl c.loop-column.invariant
 
 pub returns : goal.returns
-returns c =
-    let same : length c.loop-column.cells ≡ length c.args.cells.now = c.loop-column.auto.cells
-    ∙ c.loop-eight.auto.cells in
-    let all : c.loop-column.column ≡ length c.args.codes.now = omega arith in
-    all_written c.args.at c.args.codes.now c.args.cells.now c.loop-column.cells c.requires.room
-    (grind (arith, nat_tests, c.if-is_empty.false, c.is_empty.ensures)) c.requires.paired c.requires.plain same
-    (subst (λ n. AreWritten c.args.at c.args.codes.now c.args.cells.now n c.loop-column.cells) all
-    c.loop-column.invariant)
+returns c = subst (λ v. IsPut c.args.at (narrow_cells v plain false) c.args.cells.now c.loop-column.cells)
+    (take_all c.loop-column.column c.args.codes.now (omega arith)) c.loop-column.invariant

@@ -1,0 +1,9 @@
+use Rattle.std.proofs.Common.{◌≡◌, take, true}
+use Rattle.std.specs.List.{list_all}
+use Rattle.charsets.specs.Units.{is_plain}
+use Rattle.cells.proofs.OverPlain.{AreWritten}
+use Rattle.cells.proofs.texts.put_plain.Given as goal
+
+abbrev pub invariant-loop-count : goal.invariant-loop-count
+invariant-loop-count l = AreWritten l.at l.bytes l.fn.cells l.count l.cells
+    × (list_all is_plain (take l.count l.bytes) ≡ true)
