@@ -1,15 +1,17 @@
 -- Writing to a stored line writes to its line of the page.
-use Rattle.std.proofs.Common.{◌≡◌, ℕ, ◌<◌, List, [], length, get_or, set, refl, sym, ap, ◌∙◌, subst, ⊎_elim}
+use Rattle.std.proofs.Common.{◌≡◌, ℕ, ◌<◌, List, [], length, get_or, set, replicate, refl, sym, ap, ◌∙◌, subst, ⊎_elim}
 use Rattle.std.proofs.lemmas.List.{ext_get_or, get_or-map, length-map, length-set, get_or-set_same, get_or-set_other}
-use Rattle.std.proofs.lemmas.List.{get_or_default}
+use Rattle.std.proofs.lemmas.List.{get_or_default, length-replicate}
 use Rattle.std.proofs.lemmas.Bool.{cases_eq}
 use Rattle.cells.specs.declared.cell.Cell.{Cell}
-use Rattle.cells.specs.Line.{cell_at, marked, Source, cells_from}
-use Rattle.cells.specs.Page.{line_at, IsGrid, page_from, page_marked, edited}
-use Rattle.cells.proofs.Pages.{page_from-edited, IsGrid-page_from}
+use Rattle.cells.specs.Line.{blank, cell_at, marked, IsPaired, Source, cells_from, spliced, cells_spliced}
+use Rattle.cells.specs.Page.{line_at, IsGrid, page_from, page_spliced, page_marked, edited}
+use Rattle.cells.proofs.Pages.{page_from-edited}
 use Rattle.cells.proofs.Grids.{IsGrid-set}
 use Rattle.cells.proofs.Putting.{IsPaired-set}
-use Rattle.vt_screen_page.specs.Store.{lines_in_order, ArePlaces, IsStore}
+use Rattle.cells.proofs.Splicing.{IsPaired-blanks}
+use Rattle.cells.proofs.Settling.{length-cells_from, IsPaired-cells_from}
+use Rattle.vt_screen_page.specs.Store.{Placed, lines_in_order, ArePlaces, IsStore}
 
 pub length-lines_in_order : (stored : List (List Cell)) (places : List ℕ)
     → length (lines_in_order stored places) ≡ length places
@@ -53,60 +55,97 @@ pub IsStore-is : (stored : List (List Cell)) (places : List ℕ) (page : List (L
     → ArePlaces (length stored) places → lines_in_order stored places ≡ page → IsGrid page → IsStore stored places
 IsStore-is stored places page are is grid = record { places_apart = are; grid = subst IsGrid (sym is) grid }
 
-module _ (stored : List (List Cell)) (places : List ℕ) (store : IsStore stored places) (k place : ℕ)
-    (h : k < length (lines_in_order stored places)) (e : place ≡ get_or places k place) where
-  abbrev page : List (List Cell)
-  page = lines_in_order stored places
+-- the view of a page
+abbrev pub seen : List (List Cell) → List ℕ → Placed
+seen stored places = record { lines = lines_in_order stored places; places = places }
 
-  within : k < length places
-  within = rw (length-lines_in_order stored places) at h
+-- stored lines that make a page
+pub record Makes (stored : List (List Cell)) (places : List ℕ) (page : List (List Cell)) : Type 0 where
+  pub store : IsStore stored places
+  pub lines : lines_in_order stored places ≡ page
 
-  pub stored_place : place ≡ get_or places k 0
-  stored_place = e ∙ get_or_default places k place 0 within
+pub places_stay : {v w : Placed} → v ≡ w → v.places ≡ w.places
+places_stay view = ap (λ (v : Placed). v.places) view
 
-  pub place_inside : place < length stored
-  place_inside = rw stored_place (store.places_apart.inside k within)
+pub inside_places : (stored : List (List Cell)) (places : List ℕ) {v : Placed} {k : ℕ} → seen stored places ≡ v
+    → k < length v.lines → k < length places
+inside_places stored places {v = v} {k = k} view h = subst (λ n. k < n)
+    (ap (λ (v : Placed). length v.lines) (sym view) ∙ length-lines_in_order stored places) h
 
-  pub stored_line : (d : List Cell) → get_or stored place d ≡ line_at page k
-  stored_line d = get_or_default stored place d [] place_inside ∙ ap (line_at stored) stored_place
-      ∙ sym (line_at-lines_in_order stored places k within)
+-- a stored line is a line of the page
+pub stored_line : {stored : List (List Cell)} {places : List ℕ} {v : Placed} {k place : ℕ} {old : List Cell}
+    → seen stored places ≡ v → IsStore stored places → k < length v.lines → place ≡ get_or places k place
+    → old ≡ get_or stored place old → old ≡ line_at v.lines k
+stored_line {stored = stored} {places = places} {k = k} {place = place} {old = old} view store h e there =
+    let within : k < length places = inside_places stored places view h in
+    let p : place ≡ get_or places k 0 = e ∙ get_or_default places k place 0 within in
+    there ∙ get_or_default stored place old [] (rw p (store.places_apart.inside k within))
+    ∙ ap (line_at stored) p ∙ sym (line_at-lines_in_order stored places k within)
+    ∙ ap (λ (v : Placed). line_at v.lines k) view
 
-  pub stored_set : (line : List Cell) → lines_in_order (set stored place line) places ≡ set page k line
-  stored_set line = ap (λ p. lines_in_order (set stored p line) places) stored_place
-      ∙ lines_in_order-set stored places k line store.places_apart within
+pub view_grid : {stored : List (List Cell)} {places : List ℕ} {v : Placed} → seen stored places ≡ v
+    → IsStore stored places → IsGrid v.lines
+view_grid view store = subst (λ (v : Placed). IsGrid v.lines) view store.grid
 
-  places_kept : (line : List Cell) → ArePlaces (length (set stored place line)) places
-  places_kept line = subst (λ n. ArePlaces n places) (sym (length-set stored place line)) store.places_apart
+-- a new line in the place of line `k` makes another page
+pub replaced : {stored : List (List Cell)} {places : List ℕ} {v : Placed} {k place : ℕ} {new : List Cell}
+    (line : List Cell) → new ≡ line → length line ≡ length (line_at v.lines k) → IsPaired line
+    → seen stored places ≡ v → IsStore stored places → k < length v.lines → place ≡ get_or places k place
+    → Makes (set stored place new) places (set v.lines k line)
+replaced {stored = stored} {places = places} {v = v} {k = k} {place = place} {new = new} line is size paired view store
+    h e =
+    let same : lines_in_order stored places ≡ v.lines = ap (λ (v : Placed). v.lines) view in
+    let within : k < length places = inside_places stored places view h in
+    let done : lines_in_order (set stored place new) places ≡ set v.lines k line =
+    ap (λ q. lines_in_order (set stored q new) places) (e ∙ get_or_default places k place 0 within)
+    ∙ lines_in_order-set stored places k new store.places_apart within
+    ∙ ap (λ p. set p k new) same ∙ ap (set v.lines k) is in
+    record {
+      store = IsStore-is (set stored place new) places (set v.lines k line)
+          (subst (λ n. ArePlaces n places) (sym (length-set stored place new)) store.places_apart) done
+          (IsGrid-set v.lines k line (view_grid view store) h size paired);
+      lines = done;
+    }
 
-  -- an edit of a stored line is an edit of its line of the page
-  pub edited_page : (source : List Cell → ℕ → Source) (old new : List Cell) → old ≡ get_or stored place old
-      → new ≡ cells_from (source old) old
-      → lines_in_order (set stored place new) places ≡ page_from (edited k (source (line_at page k))) page
-  edited_page source old new is h' = stored_set new
-      ∙ ap (set page k) (h' ∙ ap (λ (line : List Cell). cells_from (source line) line) (is ∙ stored_line old))
-      ∙ sym
-      (page_from-edited k (source (line_at page k)) (length page) (length (line_at page 0)) page
-      store.grid.well_formed h)
+-- a line that is made of the old one, which is line `k` of the page
+abbrev pub Writes : List (List Cell) → List ℕ → Placed → ℕ → ℕ → List Cell → List Cell → List (List Cell) → Type 0
+Writes stored places v k place old new page = seen stored places ≡ v → IsStore stored places → k < length v.lines
+    → place ≡ get_or places k place → old ≡ get_or stored place old → Makes (set stored place new) places page
 
-  pub edited_store : (source : List Cell → ℕ → Source) (old new : List Cell) → old ≡ get_or stored place old
-      → new ≡ cells_from (source old) old → IsStore (set stored place new) places
-  edited_store source old new is h' = IsStore-is (set stored place new) places
-      (page_from (edited k (source (line_at page k))) page) (places_kept new) (edited_page source old new is h')
-      (IsGrid-page_from (edited k (source (line_at page k))) page store.grid)
+written : {stored : List (List Cell)} {places : List ℕ} {v : Placed} {k place : ℕ} {old new : List Cell}
+    (f : List Cell → List Cell) → new ≡ f old → ((line : List Cell) → length (f line) ≡ length line)
+    → ((line : List Cell) → IsPaired line → IsPaired (f line))
+    → Writes stored places v k place old new (set v.lines k (f (line_at v.lines k)))
+written {v = v} {k = k} f is size paired view store h e there = replaced (f (line_at v.lines k))
+    (is ∙ ap f (stored_line view store h e there)) (size (line_at v.lines k))
+    (paired (line_at v.lines k) ((view_grid view store).well_formed.paired k)) view store h e
 
-  pub marked_page : (column mark : ℕ) (old new : List Cell) → old ≡ get_or stored place old
-      → new ≡ set old column (marked (cell_at old column) mark)
-      → lines_in_order (set stored place new) places ≡ page_marked k column mark page
-  marked_page column mark old new is h' = stored_set new
-      ∙ ap (set page k)
-      (h' ∙ ap (λ (line : List Cell). set line column (marked (cell_at line column) mark)) (is ∙ stored_line old))
+pub cleared_line : {stored : List (List Cell)} {places : List ℕ} {v : Placed} {k place : ℕ} {old new : List Cell}
+    → new ≡ replicate (length old) blank
+    → Writes stored places v k place old new (set v.lines k (replicate (length (line_at v.lines k)) blank))
+cleared_line is = written (λ line. replicate (length line) blank) is (λ line. length-replicate (length line) blank)
+    (λ line p. IsPaired-blanks (length line))
 
-  pub marked_store : (column mark : ℕ) (old new : List Cell) → old ≡ get_or stored place old
-      → new ≡ set old column (marked (cell_at old column) mark) → IsStore (set stored place new) places
-  marked_store column mark old new is h' =
-      let line : List Cell = line_at page k in
-      IsStore-is (set stored place new) places (page_marked k column mark page) (places_kept new)
-      (marked_page column mark old new is h')
-      (IsGrid-set page k (set line column (marked (cell_at line column) mark)) store.grid h
-      (length-set line column (marked (cell_at line column) mark))
-      (IsPaired-set line column (marked (cell_at line column) mark) refl (store.grid.well_formed.paired k)))
+-- a line whose cells have sources
+pub edited_line : {stored : List (List Cell)} {places : List ℕ} {v : Placed} {k place : ℕ} {old new : List Cell}
+    (source : List Cell → ℕ → Source) → new ≡ cells_from (source old) old
+    → Writes stored places v k place old new (page_from (edited k (source (line_at v.lines k))) v.lines)
+edited_line {stored = stored} {places = places} {v = v} {k = k} {place = place} {new = new} source is view store h e
+    there = subst (Makes (set stored place new) places)
+    (sym
+    (page_from-edited k (source (line_at v.lines k)) (length v.lines) (length (line_at v.lines 0)) v.lines
+    (view_grid view store).well_formed h))
+    (written (λ line. cells_from (source line) line) is (λ line. length-cells_from (source line) line)
+    (λ line. IsPaired-cells_from (source line) line) view store h e there)
+
+pub spliced_line : {stored : List (List Cell)} {places : List ℕ} {v : Placed} {k place : ℕ} {old new : List Cell}
+    (at rest : ℕ) (fresh : List Cell) → new ≡ cells_spliced at fresh rest old
+    → Writes stored places v k place old new (page_spliced k at fresh rest v.lines)
+spliced_line at rest fresh is = edited_line (λ line. spliced at fresh rest (length line)) is
+
+pub marked_line : {stored : List (List Cell)} {places : List ℕ} {v : Placed} {k place : ℕ} {old new : List Cell}
+    (column mark : ℕ) → new ≡ set old column (marked (cell_at old column) mark)
+    → Writes stored places v k place old new (page_marked k column mark v.lines)
+marked_line column mark is = written (λ line. set line column (marked (cell_at line column) mark)) is
+    (λ line. length-set line column (marked (cell_at line column) mark))
+    (λ line. IsPaired-set line column (marked (cell_at line column) mark) refl)

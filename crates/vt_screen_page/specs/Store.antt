@@ -1,12 +1,10 @@
 -- The lines of a page are stored in any order. The places say which stored line is which line of
 -- the page.
-use Rattle.std.specs.Prelude.{◌≡◌, ◌≢◌, ℕ, ◌+◌, ◌-◌, ◌<◌, ◌≤◌, cond, nat_le, List, map, length}
-use Rattle.std.specs.Prelude.{replicate, slice_index}
+use Rattle.std.specs.Prelude.{◌≡◌, ℕ, ◌+◌, ◌-◌, ◌<◌, ◌≤◌, cond, nat_le, List, map, length, slice_index}
 use Rattle.std.specs.List.{range_with_len}
 use Rattle.cells.specs.declared.cell.Cell.{Cell}
 use Rattle.cells.specs.Moves.{is_between}
-use Rattle.cells.specs.Line.{blank}
-use Rattle.cells.specs.Page.{line_at, IsGrid}
+use Rattle.cells.specs.Page.{line_at, IsGrid, Origin, From}
 
 -- the stored lines in the order of the page
 abbrev pub lines_in_order : List (List Cell) → List ℕ → List (List Cell)
@@ -34,6 +32,10 @@ turned top bottom count places =
     map (λ line. slice_index places (turned_from top bottom count line))
     (range_with_len 0 (length places))
 
+-- the lines that are rotated so
+abbrev pub turned_lines : ℕ → ℕ → ℕ → ℕ → ℕ → Origin
+turned_lines top bottom count line column = From (turned_from top bottom count line) column
+
 -- numbers of stored lines, no two alike
 pub record ArePlaces (size : ℕ) (places : List ℕ) : Type 0 where
   pub inside : (k : ℕ) → k < length places → slice_index places k < size
@@ -54,13 +56,3 @@ pub record IsTurned (top bottom count : ℕ) (old new : List ℕ) : Type 0 where
   pub last : (k : ℕ) → top ≤ k → k ≤ bottom → bottom < k + count
       → slice_index new k ≡ slice_index old (k + count - (bottom + 1 - top))
   pub below : (k : ℕ) → bottom < k → slice_index new k ≡ slice_index old k
-
--- the stored lines at the places are blank, and the others stay
-pub record AreCleared (old new : List (List Cell)) (places : List ℕ) : Type 0 where
-  pub size : length new ≡ length old
-  pub width : (place : ℕ) → length (line_at new place) ≡ length (line_at old place)
-  pub cleared : (k : ℕ) → k < length places
-      → line_at new (slice_index places k)
-      ≡ replicate (length (line_at old (slice_index places k))) blank
-  pub others : (place : ℕ) → ((k : ℕ) → k < length places → slice_index places k ≢ place)
-      → line_at new place ≡ line_at old place

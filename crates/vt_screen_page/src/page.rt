@@ -1,18 +1,16 @@
 //! The page of a screen.
 
-ghost use Rattle.std.specs.Prelude.{◌≡◌, ℕ, ◌+◌, ◌*◌, ◌-◌, ◌<◌, ◌≤◌, ◌↔◌, [], ◌∷◌, length};
-ghost use Rattle.std.specs.Prelude.{replicate, IfOk, Err, true, false, slice_index, take};
-ghost use Rattle.std.specs.List.{list_all};
-ghost use Rattle.charsets.specs.Text.{text, IsText};
-ghost use Rattle.cells.specs.Letters.{is_known_wide, is_lettered, letter_cells};
+ghost use Rattle.std.specs.Prelude.{◌≡◌, ℕ, ◌+◌, ◌-◌, ◌<◌, ◌≤◌, ◌↔◌, [], ◌∷◌, length};
+ghost use Rattle.std.specs.Prelude.{replicate, IfOk, Err, false, slice_index, take};
+ghost use Rattle.charsets.specs.Text.{text};
 ghost use Rattle.cells.specs.Line.{blank, unprotected_erased, narrow_cells, plain};
-ghost use Rattle.cells.specs.Wide.{wide_cells};
+ghost use Rattle.cells.specs.Texts.{text_cells, PutsText};
 ghost use Rattle.cells.specs.Page.{IsGrid, IsGridSize, line_at, page_from, page_marked};
 ghost use Rattle.cells.specs.Page.{page_spliced, edited};
 ghost use Rattle.cells.specs.Moves.{scrolled_up, scrolled_down, erased_lines, filled};
 ghost use Rattle.cells.specs.Resizing.{page_resized};
 ghost use Rattle.scrollback.specs.Kept.{with_line, Continues};
-ghost use Rattle.vt_screen_page.specs.Store.{placed_in_order, turned};
+ghost use Rattle.vt_screen_page.specs.Store.{placed_in_order, turned, turned_lines};
 
 use crate::position::CellPosition;
 use crate::store;
@@ -152,30 +150,9 @@ impl Page {
         self.stored[place as usize].put_wide(at.column, left, right, rest);
     }
 
-    /// Puts characters of width 1 over as many old cells, from `at` on. `codes` has their code
-    /// points. An old half that loses its other half becomes blank.
-    pub fn put_run(
-        &mut self,
-        at: CellPosition,
-        codes: &[u8],
-        rendition: Rendition,
-        is_protected: bool,
-    )
-        requires line_inside { at.line < length self.old.lines }
-        requires room { at.column + length codes.now ≤ length (line_at self.old.lines at.line) }
-        ensures lines { self.new.lines
-            ≡ page_spliced at.line at.column (narrow_cells codes.now rendition is_protected)
-            (at.column + length codes.now) self.old.lines }
-        ensures places { self.new.places ≡ self.old.places }
-    {
-        let place = self.places[at.line];
-        self.stored[place as usize].put_run(at.column, codes, rendition, is_protected);
-    }
-
-    /// Puts the letters of one column with which some bytes of UTF-8 begin, and the marks behind
-    /// them, over as many old cells as there are letters, from `at` on, as far as there is room. An
-    /// old half that loses its other half becomes blank. The result counts the columns.
-    pub fn put_letters(
+    /// Puts the text with which some bytes of UTF-8 begin over as many old cells as it takes columns,
+    /// from `at` on, as far as there is room. An old half that loses its other half becomes blank.
+    pub fn put_text(
         &mut self,
         at: CellPosition,
         bytes: &[u8],
@@ -184,44 +161,15 @@ impl Page {
     ) -> Put
         requires line_inside { at.line < length self.old.lines }
         requires inside { at.column ≤ length (line_at self.old.lines at.line) }
-        ensures text { IsText (take result.read bytes.now) }
-        ensures letters { is_lettered (text (take result.read bytes.now)) ≡ true }
-        ensures count { length (letter_cells (text (take result.read bytes.now))
-            rendition is_protected) ≡ result.count }
-        ensures room { at.column + result.count ≤ length (line_at self.old.lines at.line) }
-        ensures few { result.read ≤ length bytes.now }
+        ensures put { PutsText bytes.now rendition is_protected
+            (length (line_at self.old.lines at.line) - at.column) result }
         ensures lines { self.new.lines ≡ page_spliced at.line at.column
-            (letter_cells (text (take result.read bytes.now)) rendition is_protected)
+            (text_cells (text (take result.read bytes.now)) rendition is_protected)
             (at.column + result.count) self.old.lines }
         ensures places { self.new.places ≡ self.old.places }
     {
         let place = self.places[at.line];
-        self.stored[place as usize].put_letters(at.column, bytes, rendition, is_protected)
-    }
-
-    /// Puts the characters of two columns with which some bytes of UTF-8 begin, as `put_letters`
-    /// puts letters: those that `is_known_wide` knows, each over two old cells.
-    pub fn put_wides(
-        &mut self,
-        at: CellPosition,
-        bytes: &[u8],
-        rendition: Rendition,
-        is_protected: bool,
-    ) -> Put
-        requires line_inside { at.line < length self.old.lines }
-        requires inside { at.column ≤ length (line_at self.old.lines at.line) }
-        ensures text { IsText (take result.read bytes.now) }
-        ensures wides { list_all is_known_wide (text (take result.read bytes.now)) ≡ true }
-        ensures count { length (text (take result.read bytes.now)) ≡ result.count }
-        ensures room { at.column + 2 * result.count ≤ length (line_at self.old.lines at.line) }
-        ensures few { result.read ≤ length bytes.now }
-        ensures lines { self.new.lines ≡ page_spliced at.line at.column
-            (wide_cells (text (take result.read bytes.now)) rendition is_protected)
-            (at.column + 2 * result.count) self.old.lines }
-        ensures places { self.new.places ≡ self.old.places }
-    {
-        let place = self.places[at.line];
-        self.stored[place as usize].put_wides(at.column, bytes, rendition, is_protected)
+        self.stored[place as usize].put_text(at.column, bytes, rendition, is_protected)
     }
 
     /// Erases the unprotected cells of a line from `from` up to but not including `end`.
@@ -255,12 +203,10 @@ impl Page {
         ensures lines { self.new.lines ≡ page_from (erased_lines first end) self.old.lines }
         ensures places { self.new.places ≡ self.old.places }
     {
-        store::erase_lines(
-            self.stored.as_mut_slice(),
-            self.places.as_slice(),
-            first,
-            end,
-        );
+        for line in first..end {
+            let place = self.places[line];
+            self.stored[place as usize].clear();
+        }
     }
 
     /// Blanks the whole page.
@@ -281,6 +227,18 @@ impl Page {
         store::fill_all(self.stored.as_mut_slice(), cell);
     }
 
+    /// Rotates the lines from `top` to `bottom`, so that the first `count` of them come last.
+    #[inline(always)]
+    fn turn(&mut self, top: usize, bottom: usize, count: usize)
+        requires order { top ≤ bottom }
+        requires inside { bottom < length self.old.lines }
+        requires room { count ≤ bottom + 1 - top }
+        ensures lines { self.new.lines ≡ page_from (turned_lines top bottom count) self.old.lines }
+        ensures places { self.new.places ≡ turned top bottom count self.old.places }
+    {
+        store::turn(self.places.as_mut_slice(), top, bottom, count);
+    }
+
     /// Moves the lines from `top` to `bottom` up by `count`. Lines that leave are lost, and blank
     /// ones come in at the bottom.
     pub fn scroll_up(&mut self, top: usize, bottom: usize, count: usize)
@@ -290,13 +248,9 @@ impl Page {
         ensures lines { self.new.lines ≡ page_from (scrolled_up top bottom count) self.old.lines }
         ensures places { self.new.places ≡ turned top bottom count self.old.places }
     {
-        store::scroll_up(
-            self.stored.as_mut_slice(),
-            self.places.as_mut_slice(),
-            top,
-            bottom,
-            count,
-        );
+        prove!(bottom < self.places.len()); // at most 200, so the sums below fit
+        self.erase_lines(top, top + count);
+        self.turn(top, bottom, count);
     }
 
     /// Moves the lines from `top` to `bottom` down by `count`. Lines that leave are lost, and blank
@@ -309,17 +263,14 @@ impl Page {
         ensures places { self.new.places
             ≡ turned top bottom (bottom + 1 - top - count) self.old.places }
     {
-        store::scroll_down(
-            self.stored.as_mut_slice(),
-            self.places.as_mut_slice(),
-            top,
-            bottom,
-            count,
-        );
+        prove!(bottom < self.places.len()); // at most 200, so the sums below fit
+        let kept = bottom + 1 - top - count;
+        self.erase_lines(top + kept, bottom + 1);
+        self.turn(top, bottom, kept);
     }
 
     /// Moves the lines from the first one to `bottom` up by one. The first line goes into the
-    /// scrollback, and a blank one comes in at the bottom.
+    /// scrollback, which returns a line for reuse as the blank one at the bottom.
     pub fn scroll_into(&mut self, ring: &mut Ring, bottom: usize)
         requires inside { bottom < length self.old.lines }
         requires width { ring.old.columns ≡ length (line_at self.old.lines 0) }
@@ -328,12 +279,11 @@ impl Page {
         ensures kept { ring.new ≡ with_line ring.old (line_at self.old.lines 0) }
         ensures stands { Continues ring.old ring.new (line_at self.old.lines 0) }
     {
-        store::scroll_into(
-            self.stored.as_mut_slice(),
-            self.places.as_mut_slice(),
-            ring,
-            bottom,
-        );
+        let place = self.places[0];
+        let line = &mut self.stored[place as usize];
+        ring.exchange(line);
+        line.clear();
+        self.turn(0, bottom, 1);
     }
 
     /// Moves the lines from the first one to `bottom` up by one. The first line goes into the
@@ -352,13 +302,11 @@ impl Page {
         ensures kept { ring.new ≡ with_line ring.old (line_at self.old.lines 0) }
         ensures stands { Continues ring.old ring.new (line_at self.old.lines 0) }
     {
-        store::scroll_in_run(
-            self.stored.as_mut_slice(),
-            self.places.as_mut_slice(),
-            ring,
-            bottom,
-            codes,
-        );
+        let place = self.places[0];
+        let line = &mut self.stored[place as usize];
+        ring.exchange(line);
+        line.clear_behind_run(codes);
+        self.turn(0, bottom, 1);
     }
 
     /// Copies the page in another size. It keeps the upper left part; new places are blank, and so

@@ -1,27 +1,20 @@
-use Rattle.std.proofs.Common.{◌≡◌, ℕ, List, ap, ◌∙◌, subst}
-use Rattle.cells.specs.declared.cell.Cell.{Cell}
-use Rattle.cells.specs.Page.{page_from}
-use Rattle.cells.specs.Moves.{erased_lines}
-use Rattle.vt_screen_page.specs.Store.{Placed, lines_in_order, IsStore}
-use Rattle.vt_screen_page.proofs.Sizes.{kept_store, kept_lines}
+use Rattle.std.proofs.Common.{ap, ◌∙◌, ◌<◌, length, arith}
+use Rattle.vt_screen_page.specs.Store.{Placed}
+use Rattle.vt_screen_page.proofs.Stored.{view_grid, places_stay}
+use Rattle.vt_screen_page.proofs.Turning.{erased_none, erased_more}
 use Rattle.vt_screen_page.proofs.page.Page.erase_lines.Goals as goal
 
-pub invariant_of-self : goal.invariant_of-self
-invariant_of-self c = kept_store c.erase_lines.new.stored c.self.inside.stored.items c.self.inside.stored.len
-    c.self.inside.places.items
-    (c.erase_lines.auto.stored ∙ c.as_mut_slice.ensures.len)
-    (subst (IsStore c.erase_lines.new.stored) c.as_slice.ensures.value c.erase_lines.ensures.store)
+pub loop-line-init : goal.loop-line-init
+loop-line-init c = record {
+  store = c.self.invariant;
+  lines = ap (λ (v : Placed). v.lines) c.self.view_is
+      ∙ erased_none c.args.first c.args.self.now.lines (view_grid c.self.view_is c.self.invariant);
+  places = places_stay c.self.view_is;
+}
 
-pub returns-clause-lines : goal.returns-clause-lines
-returns-clause-lines c = kept_lines c.erase_lines.new.stored c.self.inside.stored.items _ c.self.inside.stored.len
-    c.self.inside.places.items
-    (c.erase_lines.auto.stored ∙ c.as_mut_slice.ensures.len)
-    (subst
-    (λ (p : List ℕ). lines_in_order c.erase_lines.new.stored p ≡ page_from (erased_lines c.args.first c.args.end)
-    (lines_in_order c.as_mut_slice.result.now p)) c.as_slice.ensures.value c.erase_lines.ensures.page)
-    ∙ ap (λ (s : List (List Cell)). page_from (erased_lines c.args.first c.args.end)
-    (lines_in_order s c.self.inside.places.items)) c.as_mut_slice.ensures.value
-    ∙ ap (page_from (erased_lines c.args.first c.args.end)) (ap (λ (v : Placed). v.lines) c.self.view_is)
-
-pub returns-clause-places : goal.returns-clause-places
-returns-clause-places c = ap (λ (v : Placed). v.places) c.self.view_is
+pub loop-line-preserved : goal.loop-line-preserved
+loop-line-preserved c =
+    let inside : c.loop-line.line < length c.args.self.now.lines = omega arith in
+    let m = erased_more c.args.first c.loop-line.line c.args.self.now.lines c.loop-line.invariant.store
+    c.loop-line.invariant.lines (omega arith) inside c.index-place.ensures c.index_mut.ensures.value c.clear.ensures in
+    record { store = m.store; lines = m.lines; places = c.loop-line.invariant.places }

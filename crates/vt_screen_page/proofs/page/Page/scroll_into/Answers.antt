@@ -1,32 +1,26 @@
-use Rattle.std.proofs.lemmas.List.{take_at}
-use Rattle.std.proofs.Common.{length, drop, ℕ, List, ap, ◌∙◌}
-use Rattle.cells.specs.declared.cell.Cell.{Cell}
-use Rattle.cells.specs.Page.{page_from}
-use Rattle.cells.specs.Moves.{scrolled_up}
-use Rattle.vt_screen_page.specs.Store.{Placed, turned, lines_in_order}
-use Rattle.vt_screen_page.proofs.Sizes.{kept_both, kept_page}
+use Rattle.std.proofs.Common.{ap, ◌∙◌, length, replicate, arith}
+use Rattle.std.proofs.lemmas.List.{length-replicate}
+use Rattle.cells.specs.Line.{blank}
+use Rattle.cells.specs.Page.{line_at, page_from}
+use Rattle.cells.proofs.Splicing.{IsPaired-blanks}
+use Rattle.vt_screen_page.specs.Store.{turned_lines}
+use Rattle.vt_screen_page.proofs.Stored.{view_grid, replaced}
+use Rattle.vt_screen_page.proofs.Turning.{scrolled_in_is}
 use Rattle.vt_screen_page.proofs.page.Page.scroll_into.Goals as goal
 
 pub invariant_of-self : goal.invariant_of-self
-invariant_of-self c = kept_both c.scroll_into.new.stored c.self.inside.stored.items c.self.inside.stored.len
-    c.scroll_into.new.places c.self.inside.places.items c.self.inside.places.len
-    (c.scroll_into.auto.stored ∙ c.as_mut_slice.ensures.len) (c.scroll_into.auto.places ∙ c.as_mut_slice-2.ensures.len)
-    c.scroll_into.ensures.store
+invariant_of-self c = (replaced (replicate (length (line_at c.args.self.now.lines 0)) blank)
+    (c.clear.ensures ∙ ap (λ n. replicate n blank) (c.exchange.ensures.width ∙ c.requires.width))
+    (length-replicate (length (line_at c.args.self.now.lines 0)) blank)
+    (IsPaired-blanks (length (line_at c.args.self.now.lines 0))) c.self.view_is c.self.invariant (omega arith)
+    c.index-place.ensures).store
 
 pub returns-clause-lines : goal.returns-clause-lines
-returns-clause-lines c = kept_page c.scroll_into.new.stored c.self.inside.stored.items _ c.self.inside.stored.len
-    c.scroll_into.new.places c.self.inside.places.items c.self.inside.places.len
-    (c.scroll_into.auto.stored ∙ c.as_mut_slice.ensures.len) (c.scroll_into.auto.places ∙ c.as_mut_slice-2.ensures.len)
-    c.scroll_into.ensures.page
-    ∙ ap (λ (s : List (List Cell)). page_from (scrolled_up 0 c.args.bottom 1)
-    (lines_in_order s c.as_mut_slice-2.result.now)) c.as_mut_slice.ensures.value
-    ∙ ap (λ (p : List ℕ). page_from (scrolled_up 0 c.args.bottom 1) (lines_in_order c.self.inside.stored.items p))
-    c.as_mut_slice-2.ensures.value
-    ∙ ap (page_from (scrolled_up 0 c.args.bottom 1)) (ap (λ (v : Placed). v.lines) c.self.view_is)
-
-pub returns-clause-places : goal.returns-clause-places
-returns-clause-places c =
-    take_at c.scroll_into.new.places (drop (length c.scroll_into.new.places) c.self.inside.places.items)
-    c.self.inside.places.len (c.scroll_into.auto.places ∙ c.as_mut_slice-2.ensures.len)
-    ∙ c.scroll_into.ensures.places
-    ∙ ap (turned 0 c.args.bottom 1) (c.as_mut_slice-2.ensures.value ∙ ap (λ (v : Placed). v.places) c.self.view_is)
+returns-clause-lines c = c.turn.ensures.lines
+    ∙ ap (page_from (turned_lines 0 c.args.bottom 1))
+    (replaced (replicate (length (line_at c.args.self.now.lines 0)) blank)
+    (c.clear.ensures ∙ ap (λ n. replicate n blank) (c.exchange.ensures.width ∙ c.requires.width))
+    (length-replicate (length (line_at c.args.self.now.lines 0)) blank)
+    (IsPaired-blanks (length (line_at c.args.self.now.lines 0))) c.self.view_is c.self.invariant (omega arith)
+    c.index-place.ensures).lines
+    ∙ scrolled_in_is c.args.bottom c.args.self.now.lines (view_grid c.self.view_is c.self.invariant) c.requires.inside

@@ -1,33 +1,13 @@
-use Rattle.std.proofs.Common.{◌<◌, List, length, replicate, ap, ◌∙◌}
-use Rattle.cells.specs.declared.cell.Cell.{Cell}
-use Rattle.cells.specs.Line.{blank, spliced}
-use Rattle.cells.specs.Page.{line_at, page_from, edited}
-use Rattle.vt_screen_page.specs.Store.{Placed, lines_in_order}
-use Rattle.vt_screen_page.proofs.Stored.{edited_page, edited_store}
+use Rattle.vt_screen_page.proofs.Stored.{spliced_line, places_stay}
 use Rattle.vt_screen_page.proofs.page.Page.splice.Goals as goal
 
 pub invariant_of-self : goal.invariant_of-self
-invariant_of-self c =
-    let inside : c.args.line < length (lines_in_order c.self.inside.stored.items c.self.inside.places.items) = rw
-    (ap (λ (v : Placed). v.lines) c.self.view_is) c.requires.line_inside in
-    edited_store c.self.inside.stored.items c.self.inside.places.items c.self.invariant c.args.line
-    c.index-place.result.now inside c.index-place.ensures
-    (λ (line : List Cell). spliced c.args.at (replicate c.args.count blank) c.args.rest (length line))
-    c.index_mut.result.now c.splice.new.self c.index_mut.ensures.value c.splice.ensures
+invariant_of-self c = (spliced_line _ _ _ c.splice.ensures c.self.view_is c.self.invariant c.requires.line_inside
+    c.index-place.ensures c.index_mut.ensures.value).store
 
 pub returns-clause-lines : goal.returns-clause-lines
-returns-clause-lines c =
-    let inside : c.args.line < length (lines_in_order c.self.inside.stored.items c.self.inside.places.items) = rw
-    (ap (λ (v : Placed). v.lines) c.self.view_is) c.requires.line_inside in
-    edited_page c.self.inside.stored.items c.self.inside.places.items c.self.invariant c.args.line
-    c.index-place.result.now inside c.index-place.ensures
-    (λ (line : List Cell). spliced c.args.at (replicate c.args.count blank) c.args.rest (length line))
-    c.index_mut.result.now c.splice.new.self c.index_mut.ensures.value c.splice.ensures
-    ∙ ap (λ (g : List (List Cell)).
-    (page_from
-    (edited c.args.line
-    ((λ (line : List Cell). spliced c.args.at (replicate c.args.count blank) c.args.rest (length line))
-    (line_at g c.args.line))) g)) (ap (λ (v : Placed). v.lines) c.self.view_is)
+returns-clause-lines c = (spliced_line _ _ _ c.splice.ensures c.self.view_is c.self.invariant c.requires.line_inside
+    c.index-place.ensures c.index_mut.ensures.value).lines
 
 pub returns-clause-places : goal.returns-clause-places
-returns-clause-places c = ap (λ (v : Placed). v.places) c.self.view_is
+returns-clause-places c = places_stay c.self.view_is
