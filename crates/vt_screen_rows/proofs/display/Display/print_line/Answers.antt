@@ -1,60 +1,100 @@
-use Rattle.std.proofs.Common.{◌≡◌, ◌∷◌, take, drop, length, ◌-◌, ℕ, List, ap, ◌∙◌, arith}
-use Rattle.std.proofs.lemmas.List.{take_all}
-use Rattle.charsets.specs.Units.{is_plain}
+use Rattle.std.proofs.Common.{◌≡◌, ◌≤◌, ◌==◌, [], ◌∷◌, true, ℕ, List, length, length-take, min, take, refl, sym, ap}
+use Rattle.std.proofs.Common.{◌∙◌, arith, eq-eqb}
+use Rattle.cells.specs.Page.{line_at}
 use Rattle.terminal_model.specs.declared.action.Action.TheVariants.{CarriageReturn, LineFeed}
-use Rattle.terminal_model.specs.Screen.{Screen}
-use Rattle.terminal_model.specs.Table.{acted, all_acted}
+use Rattle.terminal_model.specs.declared.state.State.{State}
+use Rattle.terminal_model.specs.Screen.{with_state}
+use Rattle.terminal_model.specs.Table.{acted, acted_from}
+use Rattle.vt_screen_rows.specs.declared.display.Display.{Display}
 use Rattle.vt_screen_rows.specs.Displays.{screen_of}
-use Rattle.vt_screen_rows.specs.Places.{acted_places, all_acted_places}
-use Rattle.vt_screen_rows.specs.Runs.{prints}
-use Rattle.vt_screen_rows.proofs.LineRuns.{prints_after, places_after}
-use Rattle.vt_screen_rows.proofs.RunLemmas.{list_all-drop, list_all-take, rest_is}
+use Rattle.vt_screen_rows.specs.Places.{indexed_places}
+use Rattle.vt_screen_rows.specs.Runs.{ScrollsPlain, prints}
+use Rattle.vt_screen_rows.proofs.Acted.{all_acted_fit}
+use Rattle.vt_screen_rows.proofs.KeptLines.{reverse-with_line}
+use Rattle.vt_screen_rows.proofs.LineRuns.{front_few, front_plain, scrolled_places, scrolled_run}
 use Rattle.vt_screen_rows.proofs.display.Display.print_line.Goals as goal
 
-pub print_run-requires-clause-plain : goal.print_run-requires-clause-plain
-print_run-requires-clause-plain c = list_all-take is_plain (length c.args.codes.now - c.begin_line-printed.result)
-    (drop c.begin_line-printed.result c.args.codes.now)
-    (list_all-drop is_plain c.begin_line-printed.result c.args.codes.now c.requires.plain)
+-- the bytes of a run are as many as were counted, and have room
+module _ (count room columns : ℕ) (bytes : List ℕ) (few : count ≤ min room (length bytes))
+    (fits : room ≡ min (length bytes) columns) where
+  counted : count ≡ length (take count bytes)
+  counted = omega (arith, few, length-take count bytes)
 
-pub returns-then-printed-codes-clause-screen : goal.returns-then-printed-codes-clause-screen
-returns-then-printed-codes-clause-screen c =
-    let w : Screen = acted (acted (screen_of c.args.self.now) CarriageReturn) LineFeed in
-    let n : ℕ = c.begin_line-printed.result in
-    let rest : List ℕ = take (length c.args.codes.now - n) (drop n c.args.codes.now) in
-    c.print_run.ensures.screen
-    ∙ ap (λ (v : Screen). all_acted v (prints rest)) c.begin_line-printed.ensures.screen
-    ∙ ap (λ (v : List ℕ). all_acted (all_acted w (prints (take n c.args.codes.now))) (prints v))
-    (rest_is c.args.codes.now n)
-    ∙ prints_after w c.args.codes.now n
+  roomy : length (take count bytes) ≤ columns
+  roomy = omega (arith, few, fits, length-take count bytes)
 
-pub returns-then-printed-codes-clause-places : goal.returns-then-printed-codes-clause-places
-returns-then-printed-codes-clause-places c =
-    let x : Screen = screen_of c.args.self.now in
-    let w : Screen = acted (acted x CarriageReturn) LineFeed in
-    let begun : List ℕ = acted_places (acted x CarriageReturn).state LineFeed c.args.self.now.page.places in
-    let n : ℕ = c.begin_line-printed.result in
-    let rest : List ℕ = take (length c.args.codes.now - n) (drop n c.args.codes.now) in
-    c.print_run.ensures.places
-    ∙ ap (λ (v : Screen). all_acted_places v (prints rest) c.begin_line-printed.new.self.page.places)
-    c.begin_line-printed.ensures.screen
-    ∙ ap (λ (ps : List ℕ). all_acted_places (all_acted w (prints (take n c.args.codes.now))) (prints rest) ps)
-    c.begin_line-printed.ensures.places
-    ∙ ap (λ (v : List ℕ). all_acted_places (all_acted w (prints (take n c.args.codes.now))) (prints v)
-    (all_acted_places w (prints (take n c.args.codes.now)) begun)) (rest_is c.args.codes.now n)
-    ∙ places_after w c.args.codes.now n begun
+pub slice_bounds-scroll_in_run-end : goal.slice_bounds-scroll_in_run-end
+slice_bounds-scroll_in_run-end c = counted c.plain_run-count.result c.min-room.result c.args.self.now.state.columns
+    c.args.bytes.now (rw c.plain_run-count.ensures (front_few c.min-room.result c.args.bytes.now)) c.min-room.ensures
 
-pub returns-else-printed-codes-clause-screen : goal.returns-else-printed-codes-clause-screen
-returns-else-printed-codes-clause-screen c =
-    let all : take c.begin_line-printed.result c.args.codes.now ≡ c.args.codes.now = take_all
-    c.begin_line-printed.result c.args.codes.now (omega arith) in
-    c.begin_line-printed.ensures.screen
-    ∙ ap (λ (v : List ℕ). all_acted (screen_of c.args.self.now) (CarriageReturn ∷ LineFeed ∷ prints v)) all
+pub scroll_in_run-requires-clause-room : goal.scroll_in_run-requires-clause-room
+scroll_in_run-requires-clause-room c = rw c.requires.columns
+    (roomy c.plain_run-count.result c.min-room.result c.args.self.now.state.columns c.args.bytes.now
+    (rw c.plain_run-count.ensures (front_few c.min-room.result c.args.bytes.now)) c.min-room.ensures)
 
-pub returns-else-printed-codes-clause-places : goal.returns-else-printed-codes-clause-places
-returns-else-printed-codes-clause-places c =
-    let all : take c.begin_line-printed.result c.args.codes.now ≡ c.args.codes.now = take_all
-    c.begin_line-printed.result c.args.codes.now (omega arith) in
-    c.begin_line-printed.ensures.places
-    ∙ ap
-    (λ (v : List ℕ). all_acted_places (screen_of c.args.self.now) (CarriageReturn ∷ LineFeed ∷ prints v)
-    c.args.self.now.page.places) all
+pub advance-requires-clause-inside : goal.advance-requires-clause-inside
+advance-requires-clause-inside c =
+    let few : c.plain_run-count.result ≤ min c.min-room.result (length c.args.bytes.now) = rw c.plain_run-count.ensures
+    (front_few c.min-room.result c.args.bytes.now) in
+    omega (arith, few, c.min-room.ensures, c.if-count-gt0.true)
+
+pub returns-then-count-gt0-clause-plain : goal.returns-then-count-gt0-clause-plain
+returns-then-count-gt0-clause-plain c = rw c.plain_run-count.ensures (front_plain c.min-room.result c.args.bytes.now)
+
+pub returns-then-count-gt0-clause-few : goal.returns-then-count-gt0-clause-few
+returns-then-count-gt0-clause-few c =
+    let few : c.plain_run-count.result ≤ min c.min-room.result (length c.args.bytes.now) = rw c.plain_run-count.ensures
+    (front_few c.min-room.result c.args.bytes.now) in
+    omega (arith, few)
+
+pub returns-then-count-gt0-clause-screen : goal.returns-then-count-gt0-clause-screen
+returns-then-count-gt0-clause-screen c =
+    let d : Display = c.args.self.now in
+    let n : ℕ = c.plain_run-count.result in
+    let few : n ≤ min c.min-room.result (length c.args.bytes.now) = rw c.plain_run-count.ensures
+    (front_few c.min-room.result c.args.bytes.now) in
+    let e : n ≡ length (take n c.args.bytes.now) = counted n c.min-room.result d.state.columns c.args.bytes.now few
+    c.min-room.ensures in
+    rw (
+      c.advance.ensures,
+      c.scroll_in_run.ensures.lines,
+      c.scroll_in_run.ensures.kept,
+      reverse-with_line d.ring.keep d.ring.lines (line_at d.page.lines 0),
+    )
+    (sym
+    (scrolled_run (screen_of d) (take n c.args.bytes.now) (c.takes_runs.ensures.0 c.if-takes_runs.true)
+    c.requires.sound (returns-then-count-gt0-clause-plain c) (omega (arith, e, c.if-count-gt0.true))
+    (roomy n c.min-room.result d.state.columns c.args.bytes.now few c.min-room.ensures)
+    (c.scrolls_plain.ensures c.if-scrolls_plain.true) n e))
+
+pub returns-then-count-gt0-clause-fit : goal.returns-then-count-gt0-clause-fit
+returns-then-count-gt0-clause-fit c = all_acted_fit c.args.self.now _
+    (CarriageReturn ∷ LineFeed ∷ prints (take c.plain_run-count.result c.args.bytes.now)) c.requires
+    (returns-then-count-gt0-clause-screen c) (rw c.scroll_in_run.ensures.kept refl)
+
+pub returns-then-count-gt0-clause-places : goal.returns-then-count-gt0-clause-places
+returns-then-count-gt0-clause-places c =
+    let d : Display = c.args.self.now in
+    let s : State = d.state in
+    let n : ℕ = c.plain_run-count.result in
+    let few : n ≤ min c.min-room.result (length c.args.bytes.now) = rw c.plain_run-count.ensures
+    (front_few c.min-room.result c.args.bytes.now) in
+    let e : n ≡ length (take n c.args.bytes.now) = counted n c.min-room.result s.columns c.args.bytes.now few
+    c.min-room.ensures in
+    let scrolls : ScrollsPlain s = c.scrolls_plain.ensures c.if-scrolls_plain.true in
+    let is_last : (s.line == s.bottom) ≡ true = eq-eqb s.line s.bottom scrolls.last in
+    let moved : c.scroll_in_run.new.self.places ≡ indexed_places s d.page.places = rw (is_last, scrolls.first)
+    c.scroll_in_run.ensures.places in
+    moved
+    ∙ sym
+    (scrolled_places (screen_of d) (take n c.args.bytes.now) (c.takes_runs.ensures.0 c.if-takes_runs.true)
+    c.requires.sound (returns-then-count-gt0-clause-plain c) (omega (arith, e, c.if-count-gt0.true))
+    (roomy n c.min-room.result s.columns c.args.bytes.now few c.min-room.ensures) scrolls d.page.places)
+
+pub returns-clause-fit : goal.returns-clause-fit
+unfolding acted_from
+returns-clause-fit c =
+    all_acted_fit c.args.self.now c.feed_line.new.self (CarriageReturn ∷ LineFeed ∷ []) c.requires
+    (c.feed_line.ensures.screen
+    ∙ ap (λ (s : State). acted (with_state (screen_of c.args.self.now) s) LineFeed) c.go_to_first_column.ensures)
+    c.feed_line.ensures.lines.width
