@@ -1,0 +1,35 @@
+-- Actions in turn.
+use Rattle.std.proofs.Common.{◌≡◌, ℕ, List, [], ◌∷◌, ◌++◌, Option, Some, None, refl, sym, ap, ◌∙◌, subst, append-nil}
+use Rattle.charsets.specs.declared.unit.Unit.TheVariants.{Code}
+use Rattle.terminal_model.specs.declared.action.Action.{Action}
+use Rattle.terminal_model.specs.declared.action.Action.TheVariants.{Print}
+use Rattle.terminal_model.specs.Functions.{alone}
+use Rattle.terminal_model.specs.Screen.{Screen}
+use Rattle.terminal_model.specs.Reports.{all_answered}
+use Rattle.terminal_model.specs.Table.{acted, all_acted}
+use Rattle.vt_screen_rows.specs.Places.{all_acted_places}
+use Rattle.vt_screen_rows.specs.Runs.{prints}
+use Rattle.vt_screen.specs.Stored.{Stored, Performs}
+
+-- characters aren't answered
+pub answers-prints : (x : Screen) (codes : List ℕ) → all_answered x (prints codes) ≡ []
+answers-prints x [] = refl
+answers-prints x (c ∷ codes) = answers-prints (acted x (Print (Code c))) codes
+
+performed : (old new : Stored) (actions : List Action) → Performs old actions new → new ≡ record
+    { screen = all_acted old.screen actions; places = all_acted_places old.screen actions old.places }
+performed old new actions h =
+    ap (λ (x : Screen). record { screen = x; places = new.places }) h.screen
+    ∙ ap (λ (ps : List ℕ). record { screen = all_acted old.screen actions; places = ps }) h.places
+
+-- at most one action before others
+pub performs-on : (old mid new : Stored) (first : Option Action) (later : List Action) → Performs old (alone first) mid
+    → Performs mid later new → Performs old (alone first ++ later) new
+performs-on old mid new None later h k = subst (λ (x : Stored). Performs x later new) (performed old mid [] h) k
+performs-on old mid new (Some a) later h k =
+    let rest = subst (λ (x : Stored). Performs x later new) (performed old mid (a ∷ []) h) k in
+    record {
+      screen = rest.screen;
+      places = rest.places;
+      silent = ap (λ v. v ++ all_answered (acted old.screen a) later) (sym (append-nil _) ∙ h.silent) ∙ rest.silent;
+    }
