@@ -11,48 +11,26 @@ ghost use Rattle.vt_screen_rows.specs.Places.{indexed_places};
 ghost use Rattle.vt_screen_rows.specs.Runs.{ScrollsPlain, prints, run_placed};
 
 use crate::display::Display;
-use crate::runs::takes_runs;
 use cells::Cell;
 use terminal_model::State;
 use vt_screen_state::{advance, go_to_first_column};
 
 impl Display {
-    /// Performs CR and LF, and prints the characters 20 to 7E of `codes`.
-    pub fn print_line(&mut self, codes: &[u8])
-        requires fit { IsFit self.old }
-        requires plain { list_all is_plain codes.now ≡ true }
+    /// Performs CR and LF, and prints characters 20 to 7E with which some bytes begin: as many as
+    /// there is room for in a line, or none. Returns how many it printed.
+    pub fn print_line(&mut self, bytes: &[u8]) -> usize
+        requires { IsFit self.old }
+        ensures plain { list_all is_plain (take result bytes.now) ≡ true }
+        ensures few { result ≤ length bytes.now }
         ensures screen { ActsByAll self.old
-            (CarriageReturn ∷ LineFeed ∷ prints codes.now) self.new }
+            (CarriageReturn ∷ LineFeed ∷ prints (take result bytes.now)) self.new }
         ensures fit { IsFit self.new }
         ensures places { MovesLinesByAll self.old
-            (CarriageReturn ∷ LineFeed ∷ prints codes.now) self.new }
+            (CarriageReturn ∷ LineFeed ∷ prints (take result bytes.now)) self.new }
     {
-        let printed = self.begin_line(codes);
-        if printed < codes.len() {
-            self.print_run(&codes[printed..]);
-        }
-    }
-
-    /// Performs CR and LF, and prints as many of the characters 20 to 7E as there is room for in a
-    /// line, or none of them. Returns how many it printed.
-    fn begin_line(&mut self, codes: &[u8]) -> usize
-        requires fit { IsFit self.old }
-        requires plain { list_all is_plain codes.now ≡ true }
-        ensures screen { ActsByAll self.old
-            (CarriageReturn ∷ LineFeed ∷ prints (take result codes.now)) self.new }
-        ensures fit { IsFit self.new }
-        ensures places { MovesLinesByAll self.old
-            (CarriageReturn ∷ LineFeed ∷ prints (take result codes.now)) self.new }
-        ensures few { result ≤ length codes.now }
-    {
-        if codes.is_empty() || !takes_runs(&self.state) {
-            go_to_first_column(&mut self.state);
-            self.feed_line();
-            return 0;
-        }
-        let count = codes.len().min(self.state.columns);
-        self.place_run_below(&codes[..count]);
-        count
+        go_to_first_column(&mut self.state);
+        self.feed_line();
+        0
     }
 
     /// Goes to the next line, as a wrap does, and puts characters of width 1 at its start.

@@ -1,6 +1,6 @@
 //! Runs of characters.
 
-ghost use Rattle.std.specs.Prelude.{◌≡◌, ◌↔◌, ◌+◌, ◌<◌, ◌≤◌, true, length, take, IsTrue};
+ghost use Rattle.std.specs.Prelude.{◌≡◌, ◌↔◌, ◌+◌, ◌<◌, ◌≤◌, [], ◌∷◌, true, length, take, IsTrue};
 ghost use Rattle.std.specs.List.{list_all};
 ghost use Rattle.charsets.specs.Shifts.{set_at};
 ghost use Rattle.charsets.specs.Units.{is_plain};
@@ -15,6 +15,18 @@ use vt_screen_page::CellPosition;
 use vt_screen_state::advance;
 
 impl Display {
+    /// Prints one of the characters 20 to 7E by its code point.
+    #[inline(always)]
+    pub fn print_one(&mut self, code: u8)
+        requires fit { IsFit self.old }
+        requires plain { is_plain code ≡ true }
+        ensures screen { ActsByAll self.old (prints (code ∷ [])) self.new }
+        ensures fit { IsFit self.new }
+        ensures places { MovesLinesByAll self.old (prints (code ∷ [])) self.new }
+    {
+        self.print_code(code as char);
+    }
+
     /// Prints characters 20 to 7E, one after another: `codes` has their code points. Between two
     /// control functions there is mostly one, which is put in its cell at once.
     #[inline(always)]
