@@ -1,15 +1,14 @@
 //! Performs all the actions of a control function.
 
-ghost use Rattle.std.specs.Prelude.{◌≡◌, ◌≤◌, [], ◌∷◌, None, Some, false, length, IfSome, IsTrue};
+ghost use Rattle.std.specs.Prelude.{◌≡◌, ◌≤◌, [], ◌∷◌, None, false, length, IfSome};
 ghost use Rattle.control_parser.specs.declared.func.Func.TheVariants.{Control, Csi, Esc};
 ghost use Rattle.terminal_model.specs.Functions.{actions_of, alone, each, rendered, sequence_actions};
 ghost use Rattle.terminal_model.specs.Reports.{report};
-ghost use Rattle.terminal_model.specs.Table.{acted, effect};
+ghost use Rattle.terminal_model.specs.Table.{effect};
 ghost use Rattle.vt_screen_state.specs.Acting.{actions_in};
 ghost use Rattle.vt_screen_state.specs.Counted.{AreCounted, IsCounted};
-ghost use Rattle.vt_screen_state.specs.Meanings.{is_render, meaning};
+ghost use Rattle.vt_screen_state.specs.Meanings.{meaning};
 ghost use Rattle.vt_screen_state.specs.Silent.{IsSilent};
-ghost use Rattle.vt_screen_rows.specs.Places.{acted_places};
 ghost use Rattle.vt_screen.specs.Stored.{Performs, PerformsIf, effect_places};
 
 use crate::screen::Screen;

@@ -58,8 +58,30 @@ impl Screen {
         Ok(Screen { display })
     }
 
+    /// Prints one character 20 to 7E. It needs no memory.
+    #[inline(always)]
+    pub fn print_one(&mut self, code: u8)
+        requires { is_plain code ≡ true }
+        ensures { Performs self.old (prints (code ∷ [])) self.new }
+    {
+        self.display.print_one(code);
+    }
+
+    /// Performs CR and LF, and prints characters 20 to 7E with which some bytes begin: as many as
+    /// there is room for in a line, or none. Returns how many. It needs no memory.
+    #[tactic(auto, using(crate::proofs::Turns::answers_prints))]
+    pub fn print_line(&mut self, bytes: &[u8]) -> usize
+        ensures plain { list_all is_plain (take result bytes.now) ≡ true }
+        ensures few { result ≤ length bytes.now }
+        ensures performed { Performs self.old
+            (CarriageReturn ∷ LineFeed ∷ prints (take result bytes.now)) self.new }
+    {
+        self.display.print_line(bytes)
+    }
+
     /// Prints graphic characters with which some bytes of UTF-8 begin, and returns their number of
     /// bytes. It may stop early, and returns 0 if the bytes begin with none. It needs no memory.
+    #[tactic(auto, using(crate::proofs::Turns::answers_prints))]
     pub fn print_text(&mut self, bytes: &[u8]) -> usize
         ensures text { IsText (take result bytes.now) }
         ensures few { result ≤ length bytes.now }
