@@ -12,7 +12,7 @@ use Rattle.control_parser.proofs.Openings.{functions-opening}
 use Rattle.cells.specs.Page.{IsGridSize}
 use Rattle.terminal_model.specs.Screen.{Screen, IsSound}
 use Rattle.terminal_model.specs.Sizing.{resized}
-use Rattle.terminal_model.specs.Reading.{Terminal, Read, IsTerminal, ready, nothing_read, joined, read_unit, read_units}
+use Rattle.terminal_model.specs.Reading.{Terminal, Read, IsTerminal, ready, joined, read_unit, read_units}
 use Rattle.terminal_model.specs.Reading.{in_coding, read_byte, reads}
 use Rattle.terminal_model.specs.Writing.{Size, writes}
 use Rattle.terminal_model.proofs.Readings.{effects, reports_of, outcome, act_all-is, read_units-is, reads-append}

@@ -29,7 +29,7 @@ use Rattle.terminal_model.proofs.Codings.{effect-coding}
 use Rattle.terminal_model.proofs.Readings.{effects, reports_of, acts_of}
 use Rattle.terminal_model.proofs.Spellings.{Stays, begun, nothing-opened, reads-is}
 use Rattle.terminal_model.proofs.Terminals.{IsTerminal-reads}
-use Rattle.emulator.specs.Standing.{Parts, StandsFor, HasRead, HasTaken, TakesWhole, IsBetween}
+use Rattle.emulator.specs.Standing.{Parts, StandsFor, HasRead, TakesWhole, IsBetween}
 use Rattle.emulator.proofs.Feeding.{nothing-has-read, has-read-both}
 
 -- QUIET FUNCTIONS

@@ -1,6 +1,4 @@
-use Rattle.std.proofs.Common.{◌∷◌, [], ◌++◌, sym, ap, ◌∙◌, subst, List, ℕ}
-use Rattle.terminal_model.specs.Reading.{read_units}
-use Rattle.emulator.specs.Standing.{HasReadWithin}
+use Rattle.std.proofs.Common.{◌∷◌, []}
 use Rattle.emulator.proofs.Feeding.{units-none, units-one, units-more}
 use Rattle.emulator.proofs.emulator.Emulator.push_units.Goals as goal
 
