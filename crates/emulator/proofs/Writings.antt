@@ -1,5 +1,5 @@
 -- A terminal doesn't answer the commands clear, reset and encoding.
-use Rattle.std.proofs.Common.{◌≡◌, ℕ, ◌<◌, List, [], ◌∷◌, ◌++◌, map, None, refl, sym, ap, ◌∙◌, append_assoc, append-nil}
+use Rattle.std.proofs.Common.{◌≡◌, ℕ, ◌<◌, List, [], ◌∷◌, ◌++◌, get_or, map, None, refl, sym, ap, ◌∙◌, append_assoc, append-nil}
 use Rattle.std.proofs.Common.{arith}
 use Rattle.std.specs.List.{AllByRecursion}
 use Rattle.charsets.specs.declared.unit.Unit.TheVariants.{Code}
@@ -55,25 +55,19 @@ unfolding functions_behind grammar.piece grammar.text grammar.controls begun_by
 reset-functions = refl
 
 pub reset-quiet : (t : Terminal) → (writes t Reset).reports ≡ []
-reset-quiet t = low-reports t.screen reset_bytes (Esc [] 0x63 ∷ []) (omega arith, (omega arith, tt)) reset-functions refl
-
--- the last unit of ESC % G and ESC % @
-final_of : Coding → ℕ
-final_of Utf8 = 0x47
-final_of Ecma35 = 0x40
+reset-quiet t = low-reports t.screen reset_bytes _ (omega arith, (omega arith, tt)) reset-functions refl
 
 coding-functions : (c : Coding)
-    → functions (map (λ b. Code b) (coding_bytes c)) ≡ (Esc (0x25 ∷ []) (final_of c) ∷ [], nothing)
-unfolding functions_behind grammar.piece grammar.text grammar.controls begun_by final_of
+    → functions (map (λ b. Code b) (coding_bytes c)) ≡ (Esc (0x25 ∷ []) (get_or (coding_bytes c) 2 0) ∷ [], nothing)
+unfolding functions_behind grammar.piece grammar.text grammar.controls begun_by
 coding-functions Utf8 = refl
 coding-functions Ecma35 = refl
 
 pub coding-quiet : (t : Terminal) (c : Coding) → (writes t (Encoding c)).reports ≡ []
-unfolding final_of
-coding-quiet t Utf8 = low-reports t.screen (coding_bytes Utf8) (Esc (0x25 ∷ []) 0x47 ∷ [])
-    (omega arith, (omega arith, (omega arith, tt))) (coding-functions Utf8) refl
-coding-quiet t Ecma35 = low-reports t.screen (coding_bytes Ecma35) (Esc (0x25 ∷ []) 0x40 ∷ [])
-    (omega arith, (omega arith, (omega arith, tt))) (coding-functions Ecma35) refl
+coding-quiet t Utf8 = low-reports t.screen (coding_bytes Utf8) _ (omega arith, (omega arith, (omega arith, tt)))
+    (coding-functions Utf8) refl
+coding-quiet t Ecma35 = low-reports t.screen (coding_bytes Ecma35) _ (omega arith, (omega arith, (omega arith, tt)))
+    (coding-functions Ecma35) refl
 
 clear-functions : functions (map (λ b. Code b) clear_bytes)
     ≡ (Csi None (2 ∷ []) [] 0x4A ∷ Csi None (0 ∷ []) [] 0x48 ∷ [], nothing)
@@ -82,6 +76,6 @@ clear-functions = refl
 
 pub clear-quiet : (t : Terminal) → (writes t Clear).reports ≡ []
 unfolding plain_sequence
-clear-quiet t = low-reports t.screen clear_bytes (Csi None (2 ∷ []) [] 0x4A ∷ Csi None (0 ∷ []) [] 0x48 ∷ [])
+clear-quiet t = low-reports t.screen clear_bytes _
     (omega arith, (omega arith, (omega arith, (omega arith, (omega arith, (omega arith, (omega arith, tt)))))))
     clear-functions refl
