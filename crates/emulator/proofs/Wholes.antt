@@ -3,7 +3,9 @@ use Rattle.std.proofs.Common.{◌≡◌, ℕ, zero, suc, ◌+◌, ◌-◌, ◌<�
 use Rattle.std.proofs.Common.{get_or, map, if◌then◌else◌, refl, sym, ap, ◌∙◌, subst, append-nil, arith}
 use Rattle.std.specs.List.{list_all, prefix_len}
 use Rattle.std.proofs.lemmas.Bool.Decides.{nat_tests}
-use Rattle.std.proofs.lemmas.List.{take_all, take_more, take-take, length-take, length-drop}
+use Rattle.std.proofs.lemmas.List.{take_all, take_more, take-take, get_or-take, length-take, length-drop}
+use Rattle.std.proofs.lemmas.List.Elements.{All-weaker}
+use Rattle.std.proofs.lemmas.List.Sums.{AllPass-from_list_all, list_all-from_AllPass, prefix_len_passes}
 use Rattle.std.proofs.Math.Seq.{take-add}
 use Rattle.charsets.specs.declared.unit.Coding.{Coding}
 use Rattle.charsets.specs.declared.unit.Coding.TheVariants.{Utf8}
@@ -186,32 +188,22 @@ pub prints-are : (x : Screen) (codes : List ℕ)
 prints-are x [] = refl
 prints-are x (c ∷ codes) = prints-are (effect x (Print c)) codes
 
-both : (p q : Bool) → (p && q) ≡ true → (p ≡ true) × (q ≡ true)
-both true q h = (refl, h)
-both false q h = (h, absurd (cc))
-
-characters_graphic : (codes : List ℕ) → list_all is_character codes ≡ true → list_all is_graphic codes ≡ true
-characters_graphic [] h = refl
-characters_graphic (c ∷ codes) h =
-    let k = both (is_character c) (list_all is_character codes) h in
-    let is : is_character c ≡ true = k.0 in
-    let first : is_graphic c ≡ true = grind (arith, nat_tests) in
-    rw first (characters_graphic codes k.1)
+character-graphic : (c : ℕ) → is_character c ≡ true → is_graphic c ≡ true
+character-graphic c is = grind (arith, nat_tests)
 
 pub text-reads : (bytes : List ℕ) → IsText bytes → ReadsAs Utf8 bytes (map (λ code. Print code) (text bytes))
-text-reads bytes is = (is.whole, functions-graphic (text bytes) (characters_graphic (text bytes) is.graphic))
+text-reads bytes is =
+    let graphic : list_all is_graphic (text bytes) ≡ true = list_all-from_AllPass is_graphic (text bytes)
+    (All-weaker (λ c. is_character c ≡ true) (λ c. is_graphic c ≡ true) character-graphic (text bytes)
+    (AllPass-from_list_all is_character (text bytes) is.graphic)) in
+    (is.whole, functions-graphic (text bytes) graphic)
 
 -- some of the bytes 20 to 7E at the beginning
 plain-front : (n : ℕ) (bytes : List ℕ) → n ≤ prefix_len is_plain bytes → list_all is_plain (take n bytes) ≡ true
-plain-front zero bytes h = refl
-plain-front (suc n) [] h = refl
-plain-front (suc n) (b ∷ bytes) h = by (is_plain b) refl h (plain-front n bytes)
-  where
-    by : (q : Bool) → is_plain b ≡ q → suc n ≤ (if q then 1 + prefix_len is_plain bytes else 0)
-        → (n ≤ prefix_len is_plain bytes → list_all is_plain (take n bytes) ≡ true)
-        → list_all is_plain (b ∷ take n bytes) ≡ true
-    by true e h rest = rw e (rest (omega arith))
-    by false e h rest = absurd (omega arith)
+plain-front n bytes h =
+    list_all-from_AllPass is_plain (take n bytes)
+    (λ k d l. let before : k < n = omega (arith, l, length-take n bytes) in
+    ap is_plain (get_or-take n bytes k d before) ∙ prefix_len_passes is_plain bytes k d (omega (arith, before, h)))
 
 pub plain-reads : (c : Coding) (bytes : List ℕ) (n run : ℕ) → run ≡ prefix_len is_plain bytes
     → n ≤ length (take run bytes)

@@ -58,10 +58,10 @@ impl Emulator {
 
     /// Reads one complete function at the beginning of some bytes, or some characters, and returns
     /// its number of bytes. The function is a control, an escape sequence without intermediates, a
-    /// designation to G0, or a control sequence that isn't answered. Between two functions there is
-    /// mostly one character 20 to 7E, which is printed without a look at what follows. After a CR
-    /// and an LF it prints characters 20 to 7E too, which mostly are a whole line. Returns 0 if the
-    /// bytes begin with anything else.
+    /// designation to G0, or a control sequence that isn't answered. A single character 20 to 7E
+    /// before a control or a sequence has a path of its own, since most are such. CR and LF are read
+    /// with the characters 20 to 7E of the line after them. Returns 0 if the bytes begin with
+    /// anything else.
     #[inline(always)]
     fn read_piece(&mut self, bytes: &[u8]) -> usize
         requires some { 0 < length bytes.now }
