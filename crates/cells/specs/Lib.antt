@@ -8,3 +8,4 @@ pub mod Look
 pub mod Put
 pub mod Wide
 pub mod Letters
+pub mod Texts

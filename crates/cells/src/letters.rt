@@ -1,7 +1,7 @@
 //! Characters whose width is known without looking it up.
 
 ghost use Rattle.std.specs.Prelude.{◌≡◌};
-ghost use Rattle.cells.specs.Letters.{is_known_wide, is_letter, is_mark};
+ghost use Rattle.cells.specs.Texts.{is_known_wide, is_letter, is_mark};
 
 /// A character of width 0 among the letters.
 const SOFT_HYPHEN: char = '\u{AD}';

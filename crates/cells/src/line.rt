@@ -10,6 +10,7 @@ ghost use Rattle.cells.specs.Line.{cells_from, cells_spliced, cell_at, marked, I
 ghost use Rattle.cells.specs.Line.{IsBlankFrom, blank, unprotected_erased, narrow_cell};
 ghost use Rattle.cells.specs.Line.{narrow_cells, ArePlainFrom, plain};
 ghost use Rattle.cells.specs.Wide.{wide_cells};
+ghost use Rattle.cells.specs.Texts.{text_cells, PutsText};
 ghost use Rattle.cells.specs.Resizing.{line_resized};
 
 use crate::cell::{Cell, Rendition, Shape};
@@ -344,6 +345,28 @@ impl Line {
             is_protected,
         );
         self.used = self.used.max(at + 2 * put.count);
+        self.is_plain = false;
+        put
+    }
+
+    /// Puts the text with which some bytes of UTF-8 begin over as many old cells as it takes columns,
+    /// from `at` on, as far as there is room. An old half that loses its other half becomes blank.
+    pub fn put_text(
+        &mut self,
+        at: usize,
+        bytes: &[u8],
+        rendition: Rendition,
+        is_protected: bool,
+    ) -> Put
+        requires inside { at ≤ length self.old }
+        ensures put { PutsText bytes.now rendition is_protected (length self.old - at) result }
+        ensures cells { self.new ≡ cells_spliced at
+            (text_cells (text (take result.read bytes.now)) rendition is_protected)
+            (at + result.count) self.old }
+    {
+        let cells = self.cells.as_mut_slice();
+        let put = texts::put_text(cells, at, bytes, rendition, is_protected);
+        self.used = self.used.max(at + put.count);
         self.is_plain = false;
         put
     }

@@ -1,6 +1,10 @@
-/// How many columns or wide characters were put, and how many bytes they took.
+/// Text that was put.
 #[derive(Clone, Copy)]
 pub struct Put {
+    /// The columns that it takes.
     pub count: usize,
+    /// The columns of its last character.
+    pub last: usize,
+    /// The bytes that it took.
     pub read: usize,
 }

@@ -1,6 +1,6 @@
 //! Text in UTF-8 that is put into cells as it is decoded.
 
-ghost use Rattle.std.specs.Prelude.{◌≡◌, ◌+◌, ◌*◌, ◌<◌, ◌≤◌, [], ◌∷◌, true, length, take, IfSome, IsTrue};
+ghost use Rattle.std.specs.Prelude.{◌≡◌, ◌+◌, ◌*◌, ◌-◌, ◌<◌, ◌≤◌, [], ◌∷◌, true, length, take, IfSome, IsTrue};
 ghost use Rattle.std.specs.Prelude.{slice_set};
 ghost use Rattle.std.specs.List.{list_all};
 ghost use Rattle.charsets.specs.Text.{text, IsText};
@@ -10,6 +10,7 @@ ghost use Rattle.cells.specs.Letters.{is_known_wide, is_lettered, letter_cells};
 ghost use Rattle.cells.specs.Line.{cell_at, cells_spliced, is_right, marked, IsPaired};
 ghost use Rattle.cells.specs.Put.{mended, IsPut};
 ghost use Rattle.cells.specs.Wide.{wide_cells};
+ghost use Rattle.cells.specs.Texts.{text_cells, PutsText};
 
 use crate::cell::{Cell, Rendition};
 use crate::edits::{space_cell, space_halves};
@@ -75,6 +76,31 @@ pub fn put_wides(
         mend(cells, at, at + 2 * put.count, is_cut);
     }
     put
+}
+
+/// Puts the text with which some bytes begin over as many old cells as it takes columns, from `at`
+/// on, as far as there is room.
+/// It isn't inlined, so that its loop stays tight.
+#[inline(never)]
+pub fn put_text(
+    cells: &mut [Cell],
+    at: usize,
+    bytes: &[u8],
+    rendition: Rendition,
+    is_protected: bool,
+) -> Put
+    requires paired { IsPaired cells.old }
+    requires inside { at ≤ length cells.old }
+    ensures put { PutsText bytes.now rendition is_protected (length cells.old - at) result }
+    ensures cells { cells.new ≡ cells_spliced at
+        (text_cells (text (take result.read bytes.now)) rendition is_protected)
+        (at + result.count) cells.old }
+{
+    Put {
+        count: 0,
+        last: 1,
+        read: 0,
+    }
 }
 
 /// Whether the boundary before column `at` cuts a wide character.
@@ -143,6 +169,7 @@ fn write_letters(
     }
     Put {
         count: column - at,
+        last: 1,
         read,
     }
 }
@@ -203,6 +230,7 @@ fn write_wides(
         let Some((character, size)) = first_known_wide(&bytes[read..]) else {
             return Put {
                 count: (column - at) / 2,
+                last: 2,
                 read,
             };
         };
@@ -216,6 +244,7 @@ fn write_wides(
     }
     Put {
         count: (column - at) / 2,
+        last: 2,
         read,
     }
 }

@@ -6,6 +6,7 @@ ghost use Rattle.std.specs.List.{list_all};
 ghost use Rattle.charsets.specs.Text.{text, IsText};
 ghost use Rattle.cells.specs.Letters.{is_known_wide, is_lettered, letter_cells};
 ghost use Rattle.cells.specs.Line.{blank, unprotected_erased, narrow_cells, plain};
+ghost use Rattle.cells.specs.Texts.{text_cells, PutsText};
 ghost use Rattle.cells.specs.Wide.{wide_cells};
 ghost use Rattle.cells.specs.Page.{IsGrid, IsGridSize, line_at, page_from, page_marked};
 ghost use Rattle.cells.specs.Page.{page_spliced, edited};
@@ -222,6 +223,28 @@ impl Page {
     {
         let place = self.places[at.line];
         self.stored[place as usize].put_wides(at.column, bytes, rendition, is_protected)
+    }
+
+    /// Puts the text with which some bytes of UTF-8 begin over as many old cells as it takes columns,
+    /// from `at` on, as far as there is room. An old half that loses its other half becomes blank.
+    pub fn put_text(
+        &mut self,
+        at: CellPosition,
+        bytes: &[u8],
+        rendition: Rendition,
+        is_protected: bool,
+    ) -> Put
+        requires line_inside { at.line < length self.old.lines }
+        requires inside { at.column ≤ length (line_at self.old.lines at.line) }
+        ensures put { PutsText bytes.now rendition is_protected
+            (length (line_at self.old.lines at.line) - at.column) result }
+        ensures lines { self.new.lines ≡ page_spliced at.line at.column
+            (text_cells (text (take result.read bytes.now)) rendition is_protected)
+            (at.column + result.count) self.old.lines }
+        ensures places { self.new.places ≡ self.old.places }
+    {
+        let place = self.places[at.line];
+        self.stored[place as usize].put_text(at.column, bytes, rendition, is_protected)
     }
 
     /// Erases the unprotected cells of a line from `from` up to but not including `end`.

@@ -3,13 +3,9 @@ pub mod KeptLines
 pub mod Unprotected
 pub mod WideLemmas
 pub mod SizeLemmas
-pub mod RunLemmas
-pub mod RunPlaces
-pub mod Letters
-pub mod WideRuns
-pub mod KnownWidths
+pub mod Acted
+pub mod Known
+pub mod Overs
+pub mod TextRuns
 pub mod LineRuns
 pub mod Texts
-pub mod CellRuns
-pub mod Lettered
-pub mod LetterRuns

@@ -1,18 +1,16 @@
 -- The characters of bytes of UTF-8, printed one after another.
-use Rattle.std.proofs.Common.{◌≡◌, ℕ, ◌+◌, ◌*◌, ◌-◌, ◌<◌, ◌≤◌, Bool, true, false, List, [], ◌∷◌, ◌++◌, length, take}
+use Rattle.std.proofs.Common.{◌≡◌, ℕ, ◌+◌, ◌-◌, ◌<◌, ◌≤◌, true, false, List, [], ◌∷◌, ◌++◌, length, take}
 use Rattle.std.proofs.Common.{drop, set, refl, sym, ap, ◌∙◌, subst, arith}
-use Rattle.std.specs.List.{list_all}
 use Rattle.std.proofs.Math.Seq.{take-add}
-use Rattle.std.proofs.lemmas.List.{map-append, set-get_or}
+use Rattle.std.proofs.lemmas.List.{length-drop, map-append, set-get_or, take_all}
 use Rattle.charsets.specs.declared.unit.Unit.TheVariants.{Code}
 use Rattle.charsets.specs.Text.{text, IsText}
 use Rattle.charsets.specs.Units.{is_character}
 use Rattle.charsets.specs.Utf8.{codes}
 use Rattle.charsets.proofs.Texts.{text-append, text-none, IsText-append, IsText-none, IsText-one}
 use Rattle.cells.specs.declared.cell.Cell.{Cell}
-use Rattle.cells.specs.declared.cell.Rendition.{Rendition}
-use Rattle.cells.specs.Letters.{is_known_wide, is_lettered, letter_cells}
-use Rattle.cells.specs.Line.{narrow_cell, spliced}
+use Rattle.cells.specs.Texts.{is_based, text_cells}
+use Rattle.cells.specs.Line.{spliced}
 use Rattle.cells.specs.Page.{line_at, IsPage, page_spliced}
 use Rattle.cells.proofs.Pages.{page_from-edited}
 use Rattle.cells.proofs.PuttingWhole.{put_none}
@@ -27,10 +25,8 @@ use Rattle.vt_screen_rows.specs.Displays.{IsFit, screen_of}
 use Rattle.vt_screen_rows.specs.Places.{all_acted_places, places_after}
 use Rattle.vt_screen_rows.specs.Runs.{TakesRuns, prints}
 use Rattle.vt_screen_rows.specs.Texts.{PrintsText}
-use Rattle.vt_screen_rows.proofs.RunLemmas.{all_acted-append, all_acted_fit, rest_is}
-use Rattle.vt_screen_rows.proofs.RunPlaces.{all_acted_places-append}
-use Rattle.vt_screen_rows.proofs.Lettered.{cells_on-some, cells_placed, lettered_run, lettered_places}
-use Rattle.vt_screen_rows.proofs.WideRuns.{wides_placed, wides_run, wides_places}
+use Rattle.vt_screen_rows.proofs.Acted.{all_acted-append, all_acted_fit, all_acted_places-append}
+use Rattle.vt_screen_rows.proofs.TextRuns.{Makes, cells_placed, text_given, text_makes, text_none}
 
 -- characters that are no more than these
 printed_as : (d later : Display) (bytes characters : List ℕ) → IsText bytes → text bytes ≡ characters
@@ -55,36 +51,25 @@ page_kept rows columns line at page is inside =
     ∙ ap (λ (cells : List Cell). set page line cells) (sym (put_none at [] (line_at page line) refl (is.paired line)))
     ∙ set-get_or page line []
 
-pub nil : (cs : List ℕ) → length cs ≡ 0 → cs ≡ []
-nil [] e = refl
-nil (c ∷ cs) e = absurd (omega arith)
-
-pub no_cells : (cs : List ℕ) (r : Rendition) (p : Bool) → length (letter_cells cs r p) ≡ 0 → cs ≡ []
-no_cells [] r p e = refl
-no_cells (c ∷ cs) r p e =
-    let some : 0 < length (letter_cells (c ∷ cs) r p) = cells_on-some r p (narrow_cell c r p) cs in
-    absurd (omega (arith, e, some))
-
--- a text without characters was put there
-pub none_put : (d later : Display) (bytes : List ℕ) (cells : List ℕ → List Cell) (columns : ℕ → ℕ) (count : ℕ) → IsFit d
-    → IsText bytes → text bytes ≡ [] → count ≡ 0 → cells [] ≡ [] → columns 0 ≡ 0
+-- no text was put there
+pub none_put : (d later : Display) (bytes : List ℕ) (count : ℕ) → IsFit d → IsText bytes → count ≡ 0
+    → length (text_cells (text bytes) d.state.rendition d.state.is_protecting) ≡ count
     → screen_of later ≡ with_page (screen_of d) d.state
-    (page_spliced d.state.line d.state.column (cells (text bytes)) (d.state.column + columns count) d.page.lines)
+    (page_spliced d.state.line d.state.column (text_cells (text bytes) d.state.rendition d.state.is_protecting)
+    (d.state.column + count) d.page.lines)
     → KeepsLines d later → PrintsText d bytes later
-none_put d later bytes cells columns count fit is e none no_cells no_columns put lines =
+none_put d later bytes count fit is e counted put lines =
     let s : State = d.state in
     let page : List (List Cell) = d.page.lines in
-    let screen : screen_of later ≡ screen_of d =
-    put
+    let none : text bytes ≡ [] = text_none (text bytes) s.rendition s.is_protecting (counted ∙ e) in
+    let screen : screen_of later ≡ screen_of d = put
+    ∙ ap (λ (n : ℕ). with_page (screen_of d) s
+    (page_spliced s.line s.column (text_cells (text bytes) s.rendition s.is_protecting) (s.column + n) page)) e
     ∙ ap (λ (cs : List ℕ). with_page (screen_of d) s
-    (page_spliced s.line s.column (cells cs) (s.column + columns count) page)) e
-    ∙ ap (λ (fresh : List Cell). with_page (screen_of d) s
-    (page_spliced s.line s.column fresh (s.column + columns count) page)) no_cells
-    ∙ ap (λ (n : ℕ). with_page (screen_of d) s (page_spliced s.line s.column [] (s.column + columns n) page)) none
-    ∙ ap (λ (n : ℕ). with_page (screen_of d) s (page_spliced s.line s.column [] (s.column + n) page)) no_columns
+    (page_spliced s.line s.column (text_cells cs s.rendition s.is_protecting) (s.column + 0) page)) none
     ∙ ap (λ (p : List (List Cell)). with_page (screen_of d) s p)
     (page_kept s.rows s.columns s.line s.column page fit.sound.sized fit.sound.cursor.0) in
-    printed_as d later bytes [] is e screen (all_acted_fit d later [] fit screen lines.width) lines.places
+    printed_as d later bytes [] is none screen (all_acted_fit d later [] fit screen lines.width) lines.places
 
 pub one_printed : (d later : Display) (bytes : List ℕ) (c : ℕ) → codes bytes ≡ (c ∷ [], []) → is_character c ≡ true
     → screen_of later ≡ acted (screen_of d) (Print (Code c)) → IsFit later
@@ -118,6 +103,10 @@ more_printed a b c front later first second =
           ∙ ap (λ (as' : List Action). all_acted_places x as' a.page.places) (sym all);
     }
 
+-- the rest of some bytes
+rest_is : (bytes : List ℕ) (read : ℕ) → take (length bytes - read) (drop read bytes) ≡ drop read bytes
+rest_is bytes read = take_all (length bytes - read) (drop read bytes) (omega (arith, length-drop read bytes))
+
 -- the first bytes, and then some of the others
 pub rest_printed : (a b c : Display) (bytes : List ℕ) (read size : ℕ) → PrintsText a (take read bytes) b
     → PrintsText b (take size (take (length bytes - read) (drop read bytes))) c
@@ -129,34 +118,17 @@ rest_printed a b c bytes read size first second =
     (more_printed a b c (take read bytes) (take size (drop read bytes)) first
     (subst (λ (v : List ℕ). PrintsText b v c) rest second))
 
--- letters and marks that were put in the cursor's line; wide characters
-pub letters_printed : (d later : Display) (bytes : List ℕ) → IsFit d → TakesRuns d.state
-    → d.state.is_wrap_pending ≡ false → IsText bytes → is_lettered (text bytes) ≡ true
-    → 0 < length (letter_cells (text bytes) d.state.rendition d.state.is_protecting)
-    → d.state.column + length (letter_cells (text bytes) d.state.rendition d.state.is_protecting) ≤ d.state.columns
-    → screen_of later ≡ cells_placed (letter_cells (text bytes) d.state.rendition d.state.is_protecting) (screen_of d)
+-- text that was put in the cursor's line
+pub text_printed : (d later : Display) (bytes : List ℕ) → IsFit d → TakesRuns d.state
+    → d.state.is_wrap_pending ≡ false → IsText bytes → is_based (text bytes) ≡ true
+    → 0 < length (text_cells (text bytes) d.state.rendition d.state.is_protecting)
+    → d.state.column + length (text_cells (text bytes) d.state.rendition d.state.is_protecting) ≤ d.state.columns
+    → screen_of later ≡ cells_placed (text_cells (text bytes) d.state.rendition d.state.is_protecting) (screen_of d)
     → KeepsLines d later → PrintsText d bytes later
-letters_printed d later bytes fit takes settled is letters cells room placed lines =
+text_printed d later bytes fit takes settled is based cells room placed lines =
     let x : Screen = screen_of d in
-    let some : 0 < length (text bytes) = some_letters (text bytes) d.state.rendition d.state.is_protecting cells in
-    let screen : screen_of later ≡ all_acted x (prints (text bytes)) =
-    placed ∙ sym (lettered_run (text bytes) x takes settled fit.sound letters some room) in
+    let some : 0 < length (text bytes) = text_given (text bytes) d.state.rendition d.state.is_protecting cells in
+    let made : Makes x (prints (text bytes)) _ = text_makes (text bytes) x takes settled fit.sound based some room in
+    let screen : screen_of later ≡ all_acted x (prints (text bytes)) = placed ∙ sym made.screen in
     printed_as d later bytes (text bytes) is refl screen
-    (all_acted_fit d later (prints (text bytes)) fit screen lines.width)
-    (lines.places ∙ sym (lettered_places (text bytes) x d.page.places takes settled fit.sound letters room))
-  where
-    some_letters : (cs : List ℕ) (r : Rendition) (p : Bool) → 0 < length (letter_cells cs r p) → 0 < length cs
-    some_letters [] r p some = some
-    some_letters (c ∷ cs) r p some = omega arith
-
-pub wides_printed : (d later : Display) (bytes : List ℕ) → IsFit d → TakesRuns d.state
-    → d.state.is_wrap_pending ≡ false → IsText bytes → list_all is_known_wide (text bytes) ≡ true
-    → 0 < length (text bytes) → d.state.column + 2 * length (text bytes) ≤ d.state.columns
-    → screen_of later ≡ wides_placed (text bytes) (screen_of d) → KeepsLines d later → PrintsText d bytes later
-wides_printed d later bytes fit takes settled is wides some room placed lines =
-    let x : Screen = screen_of d in
-    let screen : screen_of later ≡ all_acted x (prints (text bytes)) =
-    placed ∙ sym (wides_run (text bytes) x takes settled fit.sound wides some room) in
-    printed_as d later bytes (text bytes) is refl screen
-    (all_acted_fit d later (prints (text bytes)) fit screen lines.width)
-    (lines.places ∙ sym (wides_places (text bytes) x d.page.places takes settled fit.sound wides room))
+    (all_acted_fit d later (prints (text bytes)) fit screen lines.width) (lines.places ∙ sym (made.places d.page.places))

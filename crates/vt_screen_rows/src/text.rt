@@ -36,7 +36,7 @@ impl Display {
         read
     }
 
-    /// Prints the first of some characters in UTF-8, or as many letters or wide ones as there is
+    /// Prints the first of some characters in UTF-8, or as many whose width is known as there is
     /// room for in the line. Returns their number of bytes; 0 if there is none.
     #[inline(always)]
     fn print_some_text(&mut self, bytes: &[u8]) -> usize
@@ -48,8 +48,9 @@ impl Display {
         let Some((character, size)) = first_character(bytes) else {
             return 0;
         };
-        if takes_runs(&self.state) && !self.state.is_wrap_pending {
-            let read = self.place_text(character, bytes);
+        let is_known = is_letter(character) || is_known_wide(character);
+        if is_known && takes_runs(&self.state) && !self.state.is_wrap_pending {
+            let read = self.place_text(bytes);
             if read > 0 {
                 return read;
             }
@@ -58,29 +59,9 @@ impl Display {
         size
     }
 
-    /// Puts the letters and their marks or the wide characters with which some bytes begin in the
-    /// cursor's line, over old cells, as many as there is room for. Returns their number of bytes; 0 if they begin
-    /// with another character, or there is no room. `first` is the first character.
-    #[inline(always)]
-    fn place_text(&mut self, first: char, bytes: &[u8]) -> usize
-        requires fit { IsFit self.old }
-        requires takes { TakesRuns self.old.state }
-        requires settled { self.old.state.is_wrap_pending ≡ false }
-        ensures prints { PrintsText self.old (take result bytes.now) self.new }
-        ensures few { result ≤ length bytes.now }
-    {
-        if is_letter(first) {
-            self.place_letters(bytes)
-        } else if is_known_wide(first) {
-            self.place_wides(bytes)
-        } else {
-            0
-        }
-    }
-
-    /// Puts the letters with which some bytes begin, and the marks behind them, in the cursor's
-    /// line, as `place_text` does.
-    fn place_letters(&mut self, bytes: &[u8]) -> usize
+    /// Puts the characters of known width with which some bytes begin in the cursor's line, over
+    /// the old cells, as far as there is room. Returns their number of bytes.
+    fn place_text(&mut self, bytes: &[u8]) -> usize
         requires fit { IsFit self.old }
         requires takes { TakesRuns self.old.state }
         requires settled { self.old.state.is_wrap_pending ≡ false }
@@ -92,35 +73,11 @@ impl Display {
             column: self.state.column,
         };
         let (rendition, is_protecting) = (self.state.rendition, self.state.is_protecting);
-        let put = self.page.put_letters(at, bytes, rendition, is_protecting);
-        if put.count == 0 {
-            return put.read;
+        let put = self.page.put_text(at, bytes, rendition, is_protecting);
+        if put.count > 0 {
+            self.state.column += put.count - put.last;
+            advance(&mut self.state, put.last);
         }
-        self.state.column += put.count - 1;
-        advance(&mut self.state, 1);
-        put.read
-    }
-
-    /// Puts the wide characters with which some bytes begin in the cursor's line, as `place_text`
-    /// does.
-    fn place_wides(&mut self, bytes: &[u8]) -> usize
-        requires fit { IsFit self.old }
-        requires takes { TakesRuns self.old.state }
-        requires settled { self.old.state.is_wrap_pending ≡ false }
-        ensures prints { PrintsText self.old (take result bytes.now) self.new }
-        ensures few { result ≤ length bytes.now }
-    {
-        let at = CellPosition {
-            line: self.state.line,
-            column: self.state.column,
-        };
-        let (rendition, is_protecting) = (self.state.rendition, self.state.is_protecting);
-        let put = self.page.put_wides(at, bytes, rendition, is_protecting);
-        if put.count == 0 {
-            return put.read;
-        }
-        self.state.column += 2 * put.count - 2;
-        advance(&mut self.state, 2);
         put.read
     }
 }

@@ -2,7 +2,7 @@ use Rattle.std.proofs.Common.{sym, ◌≤◌, ◌∙◌, arith}
 use Rattle.charsets.specs.declared.unit.Unit.TheVariants.{Code}
 use Rattle.terminal_model.specs.declared.action.Action.TheVariants.{Print}
 use Rattle.vt_screen_rows.specs.Displays.{screen_of}
-use Rattle.vt_screen_rows.proofs.Letters.{beyond_places, beyond_printed}
+use Rattle.vt_screen_rows.proofs.Known.{beyond_places, beyond_printed}
 use Rattle.vt_screen_rows.proofs.Widths.{acted_fit}
 use Rattle.vt_screen_rows.proofs.display.Display.print_code.Goals as goal
 
