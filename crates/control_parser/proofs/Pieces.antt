@@ -23,22 +23,18 @@ functions-none = refl
 behind_front : (pieces : List (List Unit)) (us : List Unit)
     → functions (us ++ flat_map (λ piece. piece) pieces) ≡ with_front (functions us).0
     (functions_of_pieces (functions us).1 pieces)
-behind_front [] us = ap functions (append-nil us)
-    ∙ ap (λ fs. (fs, (functions us).1)) (sym (append-nil (functions us).0))
+behind_front [] us = rw (append-nil us, append-nil (functions us).0) refl
 behind_front (piece ∷ pieces) us =
-    let given = (functions us).0 in
-    let here = functions (opening (functions us).1 ++ piece) in
-    let later = functions_of_pieces here.1 pieces in
-    ap functions (sym (append_assoc us piece (flat_map (λ piece. piece) pieces)))
-    ∙ behind_front pieces (us ++ piece)
-    ∙ ap (λ (x : List Func × Rest). with_front x.0 (functions_of_pieces x.1 pieces)) (functions-go_on us piece)
-    ∙ ap (λ fs. (fs, later.1)) (append_assoc given here.0 later.0)
+    rw (
+      ← append_assoc us piece (flat_map (λ piece. piece) pieces),
+      behind_front pieces (us ++ piece),
+      functions-go_on us piece,
+      append_assoc,
+    ) refl
 
 pub functions_of_pieces-whole : (pieces : List (List Unit))
     → functions_of_pieces nothing pieces ≡ functions (flat_map (λ piece. piece) pieces)
-functions_of_pieces-whole pieces =
-    sym (behind_front pieces []
-    ∙ ap (λ (x : List Func × Rest). with_front x.0 (functions_of_pieces x.1 pieces)) functions-none)
+functions_of_pieces-whole pieces = sym (rw functions-none at (behind_front pieces []))
 
 machine-graphic : (codes : List ℕ) → list_all is_graphic codes ≡ true
     → machine nothing (map (λ c. Code c) codes) ≡ (map (λ c. Print c) codes, nothing)
