@@ -6,7 +6,7 @@ use Rattle.charsets.specs.declared.unit.Coding.{Coding}
 use Rattle.charsets.specs.declared.unit.Coding.TheVariants.{Utf8, Ecma35}
 use Rattle.charsets.specs.declared.unit.Unit.TheVariants.{Code}
 use Rattle.charsets.specs.Utf8.{Piece, piece, cut, codes}
-use Rattle.charsets.specs.Units.{units}
+use Rattle.charsets.specs.Units.{units, unit_of_byte}
 use Rattle.charsets.proofs.Cuts.{cut-none, cut-some, codes-go_on}
 
 -- CAN breaks off a beginning, which then gives nothing
