@@ -1,5 +1,5 @@
 -- Digits that come one by one.
-use Rattle.std.proofs.Common.{◌≡◌, refl, ℕ, zero, suc, ◌-◌, ◌<◌, ◌≤◌, List, [], ◌∷◌, length, take, set, get_or, ap, ◌∙◌}
+use Rattle.std.proofs.Common.{◌≡◌, refl, ℕ, zero, suc, ◌-◌, ◌<◌, ◌≤◌, List, [], ◌∷◌, length, take, set, get_or, ap}
 use Rattle.std.proofs.Common.{arith}
 use Rattle.control_parser.specs.Text.{with_last, longer, digit_added}
 
