@@ -1,5 +1,5 @@
 -- Characters written in UTF-8 are read back.
-use Rattle.std.proofs.Common.{◌≡◌, ◌<◌, ℕ, true, List, [], ◌∷◌, map, ap, arith}
+use Rattle.std.proofs.Common.{◌≡◌, ◌<◌, ℕ, true, List, [], ◌∷◌, refl, arith}
 use Rattle.std.specs.Char.{encode_utf8}
 use Rattle.std.proofs.lemmas.Bool.Decides.{nat_tests}
 use lib.Utf8.{scalar}
@@ -17,4 +17,4 @@ unfolding encode_utf8 piece cut
 codes-encode c s = grind (arith, nat_tests)
 
 pub units-encode : (c : ℕ) → scalar c ≡ true → units Utf8 (encode_utf8 c) ≡ (Code c ∷ [], [])
-units-encode c s = ap (λ (p : List ℕ × List ℕ). (map (λ c. Code c) p.0, p.1)) (codes-encode c s)
+units-encode c s = rw (codes-encode c s) refl

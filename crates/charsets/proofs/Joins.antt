@@ -1,6 +1,5 @@
 -- Complete characters join, and CAN ends an incomplete one.
-use Rattle.std.proofs.Common.{◌≡◌, ℕ, zero, suc, List, [], ◌∷◌, ◌++◌, length, map, Option, Some, None, refl, ap, ◌∙◌}
-use Rattle.std.proofs.Common.{arith}
+use Rattle.std.proofs.Common.{◌≡◌, ℕ, zero, suc, List, [], ◌∷◌, ◌++◌, length, Option, Some, None, refl, ◌∙◌, arith}
 use Rattle.std.proofs.lemmas.Bool.Decides.{nat_tests}
 use Rattle.std.proofs.lemmas.List.{map-append}
 use Rattle.charsets.specs.declared.unit.Coding.{Coding}
@@ -55,11 +54,8 @@ pub units-go_on : (coding : Coding) (front later : List ℕ)
       (units coding front).0 ++ (units coding ((units coding front).1 ++ later)).0,
       (units coding ((units coding front).1 ++ later)).1,
     )
-units-go_on Utf8 front later =
-    ap (λ (p : List ℕ × List ℕ). (map (λ c. Code c) p.0, p.1)) (codes-go_on front later)
-    ∙ ap (λ us. (us, (codes ((codes front).1 ++ later)).1))
-    (map-append (λ c. Code c) (codes front).0 (codes ((codes front).1 ++ later)).0)
-units-go_on Ecma35 front later = ap (λ us. (us, [])) (map-append unit_of_byte front later)
+units-go_on Utf8 front later = rw (codes-go_on front later, map-append) refl
+units-go_on Ecma35 front later = rw (map-append unit_of_byte front later) refl
 
 pub units-append : (coding : Coding) (front later : List ℕ) → (units coding front).1 ≡ []
     → units coding (front ++ later) ≡ ((units coding front).0 ++ (units coding later).0, (units coding later).1)
@@ -71,6 +67,5 @@ units-can Utf8 bytes = rw (can_after (codes bytes).1 (rest_begun 0 bytes)) at (u
 units-can Ecma35 bytes = units-go_on Ecma35 bytes (0x18 ∷ [])
 
 pub units-rest : (coding : Coding) (bytes : List ℕ) → units coding (units coding bytes).1 ≡ ([], (units coding bytes).1)
-units-rest Utf8 bytes = ap (λ (p : List ℕ × List ℕ). (map (λ c. Code c) p.0, p.1))
-    (own_rest (codes bytes).1 (rest_begun 0 bytes))
+units-rest Utf8 bytes = rw (own_rest (codes bytes).1 (rest_begun 0 bytes)) refl
 units-rest Ecma35 bytes = refl

@@ -81,16 +81,11 @@ functions-push us u =
 
 pub stands-push : (old : State) (u : Unit) (us : List Unit) → StandsFor old us
     → StandsFor (step_of old u).1 (us ++ u ∷ [])
-stands-push old u us h =
-    ap (λ s. (step_of s u).1) h ∙ (step_tracks (functions us).1 u).rest
-    ∙ ap (λ (x : List Func × Rest). kept x.1) (sym (functions-push us u))
+stands-push old u us h = rw (h, functions-push us u) (step_tracks (functions us).1 u).rest
 
 pub gives-push : (old : State) (u : Unit) (us : List Unit) → StandsFor old us
     → (functions (us ++ u ∷ [])).0 ≡ (functions us).0 ++ option_to_list (step_of old u).0
-gives-push old u us h =
-    ap (λ (x : List Func × Rest). x.0) (functions-push us u)
-    ∙ ap (λ l. (functions us).0 ++ l)
-    (sym (step_tracks (functions us).1 u).funcs ∙ ap (λ s. option_to_list (step_of s u).0) (sym h))
+gives-push old u us h = rw (functions-push us u, h, (step_tracks (functions us).1 u).funcs) refl
 
 pub next-push : (old : State) (u : Unit) (rest : Rest) → functions (opening rest) ≡ ([], rest) → old ≡ kept rest
     → ((functions (opening rest ++ u ∷ [])).0 ≡ option_to_list (step_of old u).0)

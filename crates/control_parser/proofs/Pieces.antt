@@ -1,16 +1,15 @@
 -- Units in pieces, and units that are printed.
-use Rattle.std.proofs.Common.{◌≡◌, ℕ, true, List, [], ◌∷◌, ◌++◌, map, refl, sym, ap, ◌∙◌, arith, append_assoc}
+use Rattle.std.proofs.Common.{◌≡◌, ℕ, true, List, [], ◌∷◌, ◌++◌, map, refl, sym, ◌∙◌, arith, append_assoc}
 use Rattle.std.specs.List.{flat_map, list_all}
 use Rattle.std.proofs.lemmas.Bool.Decides.{nat_tests}
 use Rattle.std.proofs.lemmas.List.{append-nil}
 use Rattle.charsets.specs.Units.{is_plain}
 use Rattle.charsets.specs.declared.unit.Unit.{Unit}
 use Rattle.charsets.specs.declared.unit.Unit.TheVariants.{Code}
-use Rattle.control_parser.specs.declared.func.Func.{Func}
 use Rattle.control_parser.specs.declared.func.Func.TheVariants.{Print}
 use Rattle.control_parser.specs.declared.state.State.TheVariants as state
 use Rattle.control_parser.specs.Grammar.{Rest, nothing, is_graphic, with_front, functions, functions_behind}
-use Rattle.control_parser.specs.Kept.{kept, opening, functions_of_pieces}
+use Rattle.control_parser.specs.Kept.{kept, functions_of_pieces}
 use Rattle.control_parser.proofs.Machine.{machine, functions-machine}
 use Rattle.control_parser.proofs.Openings.{functions-go_on}
 use Rattle.control_parser.proofs.Spelled.{all_weaker, print_reads}
@@ -23,22 +22,18 @@ functions-none = refl
 behind_front : (pieces : List (List Unit)) (us : List Unit)
     → functions (us ++ flat_map (λ piece. piece) pieces) ≡ with_front (functions us).0
     (functions_of_pieces (functions us).1 pieces)
-behind_front [] us = ap functions (append-nil us)
-    ∙ ap (λ fs. (fs, (functions us).1)) (sym (append-nil (functions us).0))
+behind_front [] us = rw (append-nil us, append-nil (functions us).0) refl
 behind_front (piece ∷ pieces) us =
-    let given = (functions us).0 in
-    let here = functions (opening (functions us).1 ++ piece) in
-    let later = functions_of_pieces here.1 pieces in
-    ap functions (sym (append_assoc us piece (flat_map (λ piece. piece) pieces)))
-    ∙ behind_front pieces (us ++ piece)
-    ∙ ap (λ (x : List Func × Rest). with_front x.0 (functions_of_pieces x.1 pieces)) (functions-go_on us piece)
-    ∙ ap (λ fs. (fs, later.1)) (append_assoc given here.0 later.0)
+    rw (
+      ← append_assoc us piece (flat_map (λ piece. piece) pieces),
+      behind_front pieces (us ++ piece),
+      functions-go_on us piece,
+      append_assoc,
+    ) refl
 
 pub functions_of_pieces-whole : (pieces : List (List Unit))
     → functions_of_pieces nothing pieces ≡ functions (flat_map (λ piece. piece) pieces)
-functions_of_pieces-whole pieces =
-    sym (behind_front pieces []
-    ∙ ap (λ (x : List Func × Rest). with_front x.0 (functions_of_pieces x.1 pieces)) functions-none)
+functions_of_pieces-whole pieces = sym (rw functions-none at (behind_front pieces []))
 
 machine-graphic : (codes : List ℕ) → list_all is_graphic codes ≡ true
     → machine nothing (map (λ c. Code c) codes) ≡ (map (λ c. Print c) codes, nothing)
