@@ -43,11 +43,11 @@ pub first_stays : (line at rest width : ℕ) (fresh : List Cell) (page : Page) �
     → is_right (place (page_from (edited line (spliced at fresh rest width)) page) line at).shape ≡ false
 first_stays line at rest width fresh page some h =
     let origin : ℕ → Origin = edited line (spliced at fresh rest width) line in
+    let columns : ℕ = length (line_at page line) in
     item-built (λ (l : List Cell). is_right (cell_at l at).shape ≡ false) _ (length page) [] line
-    (λ inside. item-built (λ (c : Cell). is_right c.shape ≡ false) _ (length (line_at page line)) blank at
-    (λ within. no_right_settled (origin_before origin at) (origin at) (origin_after origin (length (line_at page line))
-    at)
-    origin_is) refl) refl
+    (λ inside. item-built (λ (c : Cell). is_right c.shape ≡ false) _ columns blank at
+    (λ within. no_right_settled (origin_before origin at) (origin at) (origin_after origin columns at) origin_is)
+    refl) refl
   where
     no_right_settled : (before here after : Origin) → here ≡ New (cell_at fresh 0)
         → is_right (settled_cell page before here after).shape ≡ false
@@ -57,8 +57,7 @@ first_stays line at rest width fresh page some h =
         ∙ ap (λ b. b && are_own_halves before (New (cell_at fresh 0))) h)
 
     origin_is : edited line (spliced at fresh rest width) line at ≡ New (cell_at fresh 0)
-    origin_is =
-        let none : at - at ≡ 0 = omega arith in grind (arith, nat_tests)
+    origin_is = let none : at - at ≡ 0 = omega arith in grind (arith, nat_tests)
 
 -- MARKS
 
@@ -77,8 +76,8 @@ marked_line cells at mark h none g = record {
 pub marked_drawable : (line column mark : ℕ) (page : Page) → AreDrawableLines page
     → is_right (place page line column).shape ≡ false → IsGlyph 0 mark
     → AreDrawableLines (page_marked line column mark page)
-marked_drawable line column mark page h none g =
-    λ n. item-set IsDrawableLine page line _ [] n (marked_line (line_at page line) column mark (h line) none g) (h n)
+marked_drawable line column mark page h none g n =
+    item-set IsDrawableLine page line _ [] n (marked_line (line_at page line) column mark (h line) none g) (h n)
     drawable_nil
 
 pub marked_stays : (line column mark : ℕ) (page : Page) → is_right (place page line column).shape ≡ false

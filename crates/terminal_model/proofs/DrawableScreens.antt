@@ -1,10 +1,9 @@
 -- Every effect of a function that units can give keeps a screen drawable.
-use Rattle.std.proofs.Common.{◌≡◌, ℕ, zero, suc, ◌<◌, ◌≤◌, Bool, true, false, ◌&&◌, cond, List, []}
+use Rattle.std.proofs.Common.{◌≡◌, ℕ, zero, suc, ◌<◌, ◌≤◌, Bool, true, false, ◌&&◌, List, []}
 use Rattle.std.proofs.Common.{◌∷◌, length, replicate, Option, Some, None, refl, sym, subst, arith}
-use Rattle.std.specs.Prelude.{IfSome, nat_lt, ◌==◌}
+use Rattle.std.specs.Prelude.{IfSome}
 use Rattle.std.specs.List.{AllByRecursion}
 use Rattle.std.proofs.lemmas.Bool.Decides.{nat_tests}
-use Rattle.charsets.specs.Shifts.{mapped, spent}
 use Rattle.cells.specs.declared.cell.Cell.{Cell}
 use Rattle.cells.specs.Line.{blank, plain, cell_at, is_right, unprotected_erased, narrow_cell}
 use Rattle.cells.specs.Line.{left_cell, right_cell}
@@ -22,7 +21,7 @@ use Rattle.terminal_model.specs.declared.action.Action.TheVariants.{InsertLines,
 use Rattle.terminal_model.specs.declared.action.Mode.TheVariants as modes
 use Rattle.terminal_model.specs.declared.state.Position.{Position}
 use Rattle.terminal_model.specs.declared.state.State.{State}
-use Rattle.terminal_model.specs.Screen.{Page, Screen, blank_page, starting, with_state}
+use Rattle.terminal_model.specs.Screen.{Page, Screen, blank_page, starting}
 use Rattle.terminal_model.specs.Functions.{actions_of}
 use Rattle.terminal_model.specs.Motion
 use Rattle.terminal_model.specs.Printing
@@ -49,8 +48,7 @@ unprotected_origin : (cells : List Cell) (from end line column : ℕ)
 unprotected_origin cells from end line column = grind arith
 
 filled_line : (line : ℕ) → AreDrawable (filled (narrow_cell 0x45 plain false) line)
-filled_line line = record
-    { cells = λ column. record { glyph = letter_e; marks = tt }; halves = λ column right left. absurd (cc) }
+filled_line line = grind (arith, letter_e)
 
 blank_lines : (rows columns : ℕ) → AreDrawableLines (blank_page rows columns)
 blank_lines rows columns line =
@@ -87,15 +85,10 @@ scrolled-kept false keep' page kept h k = k
 -- SCREENS
 
 drawable-indexed : (x : Screen) → IsDrawableScreen x → IsDrawableScreen (Motion.indexed x)
-drawable-indexed x h = record {
-  page = scrolled-page (x.state.line == x.state.bottom) x.state x.page h.page;
-  kept = scrolled-kept ((x.state.line == x.state.bottom) && (x.state.top == 0)) x.keep x.page x.kept h.page h.kept;
-  joined = tt;
-}
+drawable-indexed x h = search (scrolled-page, scrolled-kept)
 
 drawable-wrapped : (b : Bool) (x : Screen) → IsDrawableScreen x → IsDrawableScreen (Printing.wrapped b x)
-drawable-wrapped true x h = drawable-indexed (with_state x (Motion.moved_to x.state x.state.line 0))
-    (record { page = h.page; kept = h.kept; joined = tt })
+drawable-wrapped true x h = search (drawable-indexed)
 drawable-wrapped false x h = h
 
 drawable-placed : (fresh : List Cell) (x : Screen) → IsDrawableLine fresh → 0 < length fresh
@@ -148,13 +141,7 @@ drawable-printed_as (suc (suc more)) c x few g h =
 drawable-printed : (c : Option ℕ) (x : Screen) → IfSome c (λ d. IsGiven (funcs.Print d)) → IsDrawableScreen x
     → IsDrawableScreen (Printing.printed c x)
 drawable-printed None x g h = h
-drawable-printed (Some c) x g h = drawable-printed_as (Printing.columns_of c) (Printing.drawn c) x (columns_few c)
-    (drawn_glyph c g) h
-
-drawable-margins : (b : Bool) (top bottom : ℕ) (x : Screen) → IsDrawableScreen x
-    → IsDrawableScreen (with_state x (Motion.margins_or_none b top bottom x.state))
-drawable-margins true top bottom x h = record { page = h.page; kept = h.kept; joined = tt }
-drawable-margins false top bottom x h = record { page = h.page; kept = h.kept; joined = h.joined }
+drawable-printed (Some c) x g h = search (drawable-printed_as, columns_few, drawn_glyph)
 
 drawable-inserted : (b : Bool) (n : ℕ) (x : Screen) → IsDrawableScreen x
     → IsDrawableScreen (Erasing.lines_inserted b n x)
@@ -174,20 +161,12 @@ IsGivenAction _ = Prim.Unit {0}
 
 drawable-acted : (x : Screen) (a : Action) → IsGivenAction a → IsDrawableScreen x → IsDrawableScreen (Table.acted x a)
 unfolding Table.acted_from
-drawable-acted x (acts.Print u) g h =
-    drawable-printed (mapped x.state.shifts u) (with_state x (record x.state { shifts = spent x.state.shifts u }))
-    (mapped_given x.state.shifts u g) (record { page = h.page; kept = h.kept; joined = h.joined })
-drawable-acted x acts.LineFeed g h =
-    drawable-indexed
-    (with_state x (Motion.moved_to x.state x.state.line (cond x.state.modes.starts_lines 0 x.state.column)))
-    (record { page = h.page; kept = h.kept; joined = tt })
+drawable-acted x (acts.Print u) g h = search (drawable-printed, mapped_given)
+drawable-acted x acts.LineFeed g h = search (drawable-indexed)
 drawable-acted x acts.Index g h = drawable-indexed x h
 drawable-acted x acts.NextLine g h = drawable-wrapped true x h
-drawable-acted x acts.ReverseIndex g h = record
-    { page = lowered-page (x.state.line == x.state.top) x.state x.page h.page; kept = h.kept; joined = tt }
-drawable-acted x (acts.SetMargins top bottom) g h = drawable-margins (nat_lt top
-    (Motion.bottom_of x.state.rows bottom)) top
-    (Motion.bottom_of x.state.rows bottom) x h
+drawable-acted x acts.ReverseIndex g h = search (lowered-page)
+drawable-acted x (acts.SetMargins top bottom) g h = grind (arith, nat_tests)
 drawable-acted x (acts.InsertLines n) g h = drawable-inserted (Erasing.is_in_margins x.state) n x h
 drawable-acted x (acts.DeleteLines n) g h = drawable-deleted (Erasing.is_in_margins x.state) n x h
 drawable-acted x (acts.SetMode modes.Origin on) g h = record { page = h.page; kept = h.kept; joined = tt }
@@ -207,10 +186,7 @@ all_given [] h = tt
 all_given (a ∷ later) h = grind (arith, all_given later)
 
 func_given : (f : Func) → IsGiven f → AllByRecursion IsGivenAction (actions_of f)
-func_given (funcs.Print c) g = (g, tt)
-func_given (funcs.High b) g = (tt, tt)
-func_given (funcs.Esc (i ∷ []) last) g = grind (arith, nat_tests, between-ordinary i last, all_given)
-func_given f g = all_given (actions_of f) (func-ordinary f refl refl)
+func_given f h = grind (arith, between-ordinary, all_given, func-ordinary)
 
 pub drawable-effect : (x : Screen) (f : Func) → IsGiven f → IsDrawableScreen x → IsDrawableScreen (Table.effect x f)
 drawable-effect x f g h = drawable-all x (actions_of f) (func_given f g) h
@@ -221,8 +197,4 @@ drawable-starting rows columns keep' = record { page = blank_lines rows columns;
 pub drawable-resized : (rows columns : ℕ) (x : Screen) → IsDrawableScreen x
     → IsDrawableScreen (Sizing.resized rows columns x)
 unfolding Sizing.resized
-drawable-resized rows columns x h = record {
-  page = page_resized-drawable rows columns x.page h.page;
-  kept = kept_resized-drawable columns x.kept h.kept;
-  joined = tt;
-}
+drawable-resized rows columns x h = search (page_resized-drawable, kept_resized-drawable)

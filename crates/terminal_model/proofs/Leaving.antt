@@ -43,6 +43,7 @@ pushes_none x y few keep kept = grind (arith, common_steps)
 pushes_then : (x y z : Screen) (a b : Page) → Pushes x a y → Pushes y b z → Pushes x (a ++ b) z
 pushes_then x y z a b h k = grind (arith, common_steps, take_within, reverse-append)
 
+-- a character, printed with other shifts
 printed_pushes : (c : Option ℕ) (s : Shifts) (x : Screen) → length x.kept ≤ x.keep → 2 ≤ x.state.columns
     → Pushes x (printed_out c x) (printed c (with_state x (record x.state { shifts = s })))
 printed_pushes c s x few room = grind (arith, common_steps)

@@ -1,42 +1,33 @@
 -- Every effect keeps a screen sound.
-use Rattle.std.proofs.Common.{◌≡◌, ℕ, ◌<◌, Bool, true, false, List, [], ◌∷◌, length, map, replicate, Option}
-use Rattle.std.proofs.Common.{Some, None, refl, arith}
-use Rattle.std.specs.Prelude.{IfSome, option_map, nat_lt}
+use Rattle.std.proofs.Common.{◌≡◌, ℕ, ◌<◌, Bool, true, false, List, [], ◌∷◌, length, map, Option}
+use Rattle.std.proofs.Common.{arith}
+use Rattle.std.specs.Prelude.{IfSome, option_map}
 use Rattle.std.proofs.lemmas.List.FromFn.{length-map-range_with_len}
 use Rattle.std.proofs.lemmas.Grind.{common_steps}
 use Rattle.std.proofs.lemmas.List.{length-map, length-replicate, length-set}
 use Rattle.std.proofs.lemmas.Bool.Decides.{nat_tests}
-use Rattle.cells.specs.Line.{blank, IsPaired}
+use Rattle.cells.specs.Line.{IsPaired}
 use Rattle.cells.specs.Page.{line_at, IsPage, IsGridSize}
 use Rattle.cells.specs.Resizing.{line_resized}
 use Rattle.cells.proofs.Pages.{IsPage-page_from, IsPaired-nil}
-use Rattle.cells.proofs.Splicing.{IsPaired-blanks}
 use Rattle.cells.proofs.Resizing.{length-line_resized}
 use Rattle.control_parser.specs.declared.func.Func.{Func}
-use Rattle.charsets.specs.Shifts.{mapped, spent}
 use Rattle.terminal_model.specs.declared.action.Action.{Action}
 use Rattle.terminal_model.specs.declared.action.Action.TheVariants as acts
 use Rattle.terminal_model.specs.declared.action.Mode.TheVariants as modes
 use Rattle.terminal_model.specs.declared.state.Saved.{Saved}
 use Rattle.terminal_model.specs.Screen.{Page, Screen, blank_page, starting, starting_tabs, IsInside, AreKept, IsSound}
-use Rattle.terminal_model.specs.Screen.{with_state}
 use Rattle.terminal_model.specs.Functions.{actions_of}
-use Rattle.terminal_model.specs.Motion
 use Rattle.terminal_model.specs.Erasing
 use Rattle.terminal_model.specs.Sizing
 use Rattle.terminal_model.specs.Table
-use Rattle.terminal_model.proofs.Items.{item-replicated, item-mapped}
+use Rattle.terminal_model.proofs.Items.{item-mapped}
 use Rattle.terminal_model.proofs.Resizes.{IsPaired-line_resized, IsPage-page_resized}
-use Rattle.terminal_model.proofs.SoundPrinting.{Fits, with-page, IsSound-indexed, IsSound-reverse_indexed}
+use Rattle.terminal_model.proofs.SoundPrinting.{with-page, IsSound-indexed, IsSound-reverse_indexed}
 use Rattle.terminal_model.proofs.SoundPrinting.{wrapped-sound, printed-sound}
 
 pub IsPage-blank : (rows columns : ℕ) → IsPage rows columns (blank_page rows columns)
-IsPage-blank rows columns = record {
-  height = length-replicate rows (replicate columns blank);
-  width = λ line h. grind (arith, common_steps);
-  paired = λ line. item-replicated IsPaired rows (replicate columns blank) [] line (IsPaired-blanks columns)
-      IsPaired-nil;
-}
+IsPage-blank rows columns = grind (arith, common_steps)
 
 -- lines that come in or go out at the cursor
 inserted-sound : (b : Bool) (n : ℕ) (x : Screen) → IsSound x → IsSound (Erasing.lines_inserted b n x)
@@ -47,14 +38,6 @@ deleted-sound : (b : Bool) (n : ℕ) (x : Screen) → IsSound x → IsSound (Era
 deleted-sound true n x h = with-page x _ _ h (grind arith) (search (IsPage-page_from, h))
 deleted-sound false n x h = with-page x _ _ h (grind arith) h.sized
 
-margins-fit : (b : Bool) (top : ℕ) (last : Option ℕ) (x : Screen) → IsSound x
-    → nat_lt top (Motion.bottom_of x.state.rows last) ≡ b
-    → Fits x.state.rows x.state.columns
-    (Motion.margins_or_none b top (Motion.bottom_of x.state.rows last) x.state)
-margins-fit true top None x h e = grind (arith, nat_tests)
-margins-fit true top (Some last) x h e = grind (arith, nat_tests)
-margins-fit false top last x h e = grind arith
-
 pub tabs-start : (columns : ℕ) → length (starting_tabs columns) ≡ columns
 tabs-start columns = length-map-range_with_len _ 0 columns
 
@@ -62,9 +45,7 @@ ruleset pages = (IsPage-page_from)
 
 pub IsSound-acted : (x : Screen) (a : Action) → IsSound x → IsSound (Table.acted x a)
 unfolding Table.acted_from
-IsSound-acted x (acts.Print u) h =
-    printed-sound (mapped x.state.shifts u) (with_state x (record x.state { shifts = spent x.state.shifts u }))
-    (grind arith)
+IsSound-acted x (acts.Print u) h = grind (arith, printed-sound)
 IsSound-acted x acts.LineFeed h = IsSound-indexed _ (with-page x _ _ h (grind (arith, nat_tests)) h.sized)
 IsSound-acted x acts.Index h = IsSound-indexed x h
 IsSound-acted x acts.NextLine h = wrapped-sound true x h
@@ -73,12 +54,10 @@ IsSound-acted x acts.SetTab h = grind (arith, length-set)
 IsSound-acted x acts.ClearTab h = grind (arith, length-set)
 IsSound-acted x acts.ClearTabs h = grind (arith, length-replicate)
 IsSound-acted x acts.Save h = grind arith
-IsSound-acted x acts.Reset h =
-    grind (arith, IsPage-blank x.state.rows x.state.columns, tabs-start x.state.columns)
+IsSound-acted x acts.Reset h = grind (arith, common_steps, IsPage-blank, tabs-start)
 IsSound-acted x acts.SoftReset h = grind arith
 IsSound-acted x acts.BlankPage h = grind (arith, nat_tests, IsPage-blank x.state.rows x.state.columns)
-IsSound-acted x (acts.SetMargins top last) h =
-    with-page x _ _ h (margins-fit (nat_lt top (Motion.bottom_of x.state.rows last)) top last x h refl) h.sized
+IsSound-acted x (acts.SetMargins top last) h = grind (arith, nat_tests)
 IsSound-acted x (acts.InsertLines n) h = inserted-sound (Erasing.is_in_margins x.state) n x h
 IsSound-acted x (acts.DeleteLines n) h = deleted-sound (Erasing.is_in_margins x.state) n x h
 IsSound-acted x (acts.SetMode modes.Origin on) h = with-page x _ _ h (grind (arith, nat_tests)) h.sized
@@ -98,8 +77,7 @@ IsSound-starting rows columns keep g = grind (arith, IsPage-blank rows columns, 
 
 resized-saved : (rows columns : ℕ) (p : Option Saved) → 0 < rows → 0 < columns
     → IfSome (option_map (Sizing.saved_resized rows columns) p) (λ q. IsInside rows columns q.line q.column)
-resized-saved rows columns None r c = tt
-resized-saved rows columns (Some p) r c = (omega arith, omega arith)
+resized-saved rows columns p h k = grind (arith, nat_tests)
 
 resized-kept : (columns : ℕ) (kept : Page) → ((n : ℕ) → IsPaired (line_at kept n))
     → AreKept columns (map (line_resized columns) kept)

@@ -1,12 +1,12 @@
 -- Scrolling and printing keep a screen sound.
-use Rattle.std.proofs.Common.{◌≡◌, ℕ, zero, suc, ◌<◌, ◌≤◌, Bool, true, false, ◌&&◌, List, [], ◌∷◌, length}
+use Rattle.std.proofs.Common.{◌≡◌, ℕ, zero, suc, ◌<◌, ◌≤◌, Bool, true, false, ◌&&◌, List, [], length}
 use Rattle.std.proofs.Common.{set, Option, Some, None, refl, arith}
 use Rattle.std.specs.Prelude.{IfSome, ◌==◌}
 use Rattle.std.proofs.lemmas.Grind.{common_steps}
 use Rattle.std.proofs.lemmas.List.{length-take}
 use Rattle.std.proofs.lemmas.Bool.Decides.{nat_tests}
 use Rattle.cells.specs.declared.cell.Cell.{Cell}
-use Rattle.cells.specs.Line.{cell_at, IsPaired, marked, narrow_cell, left_cell, right_cell}
+use Rattle.cells.specs.Line.{cell_at, IsPaired, marked}
 use Rattle.cells.specs.Page.{line_at, IsPage, page_marked}
 use Rattle.cells.proofs.Pages.{IsPage-page_from, IsPaired-nil}
 use Rattle.cells.proofs.Putting.{IsPaired-set}
@@ -57,12 +57,7 @@ lowered-page false x h = h.sized
 scrolled-kept : (b : Bool) (x : Screen) → IsSound x
     → AreKept x.state.columns (Motion.scrolled_kept b x.keep x.page x.kept)
     × (length (Motion.scrolled_kept b x.keep x.page x.kept) ≤ x.keep)
-scrolled-kept true x h = (
-  kept-more x.state.columns x.keep (line_at x.page 0) x.kept (h.sized.width 0 (omega (arith, h.size.least_rows)))
-      (h.sized.paired 0) h.kept,
-  grind (arith, length-take),
-)
-scrolled-kept false x h = (h.kept, h.few)
+scrolled-kept b x h = grind (arith, kept-more, length-take)
 
 pub IsSound-indexed : (x : Screen) → IsSound x → IsSound (Motion.indexed x)
 IsSound-indexed x h =
@@ -84,9 +79,7 @@ placed-sound fresh x h = with-page x _ _ h (grind (arith, nat_tests)) (search (I
 
 wide-sound : (b : Bool) (c : ℕ) (x : Screen) → IsSound x → IsSound (Printing.wide_or_none b c x)
 wide-sound true c x h = with-page x _ _ h (grind arith) h.sized
-wide-sound false c x h = placed-sound
-    (left_cell c x.state.rendition x.state.is_protecting ∷ right_cell c x.state.rendition x.state.is_protecting ∷ []) x
-    h
+wide-sound false c x h = search (placed-sound)
 
 -- a mark changes no shape
 marked-page : (rows columns line column mark : ℕ) (page : Page) → IsPage rows columns page
@@ -104,21 +97,12 @@ marked-page rows columns line column mark page p =
 
 marked-sound : (q : Option Position) (c : ℕ) (x : Screen) → IsSound x → IsSound (Printing.marked_at q c x)
 marked-sound None c x h = h
-marked-sound (Some q) c x h = with-page x _ _ h (grind arith)
-    (marked-page x.state.rows x.state.columns q.line q.column c x.page h.sized)
+marked-sound (Some q) c x h = search (with-page, marked-page)
 
 printed_as-sound : (width c : ℕ) (x : Screen) → IsSound x → IsSound (Printing.printed_as width c x)
 printed_as-sound zero c x h = marked-sound x.state.joining c x h
-printed_as-sound (suc zero) c x h =
-    let w : Screen = Printing.wrapped x.state.is_wrap_pending x in
-    placed-sound (narrow_cell c w.state.rendition w.state.is_protecting ∷ []) w
-    (wrapped-sound x.state.is_wrap_pending x h)
-printed_as-sound (suc (suc more)) c x h =
-    let w : Screen = Printing.wrapped x.state.is_wrap_pending x in
-    let b : Bool = Printing.lacks_room w.state && w.state.modes.wraps in
-    wide-sound (Printing.lacks_room (Printing.wrapped b w).state) c (Printing.wrapped b w)
-    (wrapped-sound b w (wrapped-sound x.state.is_wrap_pending x h))
+printed_as-sound (suc zero) c x h = search (placed-sound, wrapped-sound)
+printed_as-sound (suc (suc more)) c x h = grind (arith, wide-sound, wrapped-sound)
 
 pub printed-sound : (c : Option ℕ) (x : Screen) → IsSound x → IsSound (Printing.printed c x)
-printed-sound None x h = h
-printed-sound (Some c) x h = printed_as-sound (Printing.columns_of c) (Printing.drawn c) x h
+printed-sound c x h = grind (arith, printed_as-sound)

@@ -2,7 +2,7 @@
 use Rattle.std.proofs.lemmas.Bool.Decides.{nat_tests}
 use Rattle.std.proofs.lemmas.Grind.{common_steps}
 use Rattle.std.proofs.Common.{arith}
-use Rattle.std.proofs.Common.{◌≡◌, ℕ, List, [], ◌∷◌, ◌++◌, refl, sym, ap, ◌∙◌, append_assoc, append-nil}
+use Rattle.std.proofs.Common.{◌≡◌, ℕ, List, [], ◌∷◌, ◌++◌, refl, sym, ap, ◌∙◌, append_assoc}
 use Rattle.std.proofs.lemmas.List.{map-append}
 use Rattle.std.specs.List.{AllByRecursion}
 use Rattle.charsets.specs.declared.unit.Unit.{Unit}
@@ -83,15 +83,11 @@ whole t (b ∷ later) h k =
     let keeps = front_keeps r.acts s.acts k in
     let one = step t b h in
     let coding = one.coding_is keeps.0 in
-    let rest = one.rest_is
-    ∙ rest_stays (units t.screen.state.coding (t.rest ++ b ∷ [])).1 t.screen.state.coding u.screen.state.coding
-    coding in
+    let rest : u.rest ≡ (units t.screen.state.coding (t.rest ++ b ∷ [])).1 = grind (arith, one, coding, rest_stays) in
     let next = whole u later (IsTerminal-read_byte t b h) keeps.1 in
     let all = further t u (b ∷ []) later coding rest one.unended_is in
     record {
-      functions_are = map-append (λ (a : Act). a.func) r.acts s.acts
-          ∙ ap (λ fs. fs ++ acted_functions s.acts) one.functions_are
-          ∙ ap (λ fs. (functions_of_bytes t (b ∷ [])).0 ++ fs) next.functions_are ∙ sym (ap (λ p. p.0) all);
+      functions_are = grind (arith, map-append, one.functions_are, next.functions_are, all);
       unended_is = next.unended_is ∙ sym (ap (λ p. p.1) all);
       rest_is = next.rest_is ∙ sym (further_rest t u (b ∷ []) later coding rest);
       coding_is = next.coding_is ∙ coding;
@@ -110,20 +106,10 @@ pub whole_piece : (t : Terminal) (bytes : List ℕ) (b : ℕ) → IsTerminal t
     × ((reads t (bytes ++ b ∷ [])).terminal.unended ≡ (functions_of_bytes t (bytes ++ b ∷ [])).1)
 whole_piece t bytes b h k =
     let w = whole t bytes h k in
-    let r : Read = reads t bytes in
-    let u : Terminal = r.terminal in
+    let u : Terminal = (reads t bytes).terminal in
     let one = step u b (IsTerminal-reads t bytes h) in
     let all = further t u bytes (b ∷ []) w.coding_is w.rest_is w.unended_is in
-    let is : reads t (bytes ++ b ∷ []) ≡ joined r
-    (joined (read_byte u b) (record { terminal = (read_byte u b).terminal; reports = []; acts = [] })) =
-    reads-append t bytes (b ∷ []) ∙ ap (joined r) (one_more u b) in (
-      ap (λ (z : Read). acted_functions z.acts) is
-          ∙ map-append (λ (a : Act). a.func) r.acts ((read_byte u b).acts ++ [])
-          ∙ ap (λ acts. acted_functions r.acts ++ acted_functions acts) (append-nil (read_byte u b).acts)
-          ∙ ap (λ fs. fs ++ acted_functions (read_byte u b).acts) w.functions_are
-          ∙ ap (λ fs. (functions_of_bytes t bytes).0 ++ fs) one.functions_are ∙ sym (ap (λ p. p.0) all),
-      ap (λ (z : Read). z.terminal.unended) is ∙ one.unended_is ∙ sym (ap (λ p. p.1) all),
-    )
+    grind (arith, common_steps, reads-append t bytes (b ∷ []), one_more u b, one, w, all)
 
 -- in another coding no character is incomplete
 changed_rest : (rest : List ℕ) (c d : Coding) → (d ≡ c → ⊥) → rest_in rest c d ≡ []
@@ -135,13 +121,6 @@ pub begins_anew : (t : Terminal) (bytes : List ℕ) (b : ℕ) → IsTerminal t
     → (reads t (bytes ++ b ∷ [])).terminal.rest ≡ []
 begins_anew t bytes b h k ne =
     let w = whole t bytes h k in
-    let r : Read = reads t bytes in
-    let u : Terminal = r.terminal in
+    let u : Terminal = (reads t bytes).terminal in
     let one = step u b (IsTerminal-reads t bytes h) in
-    let is : reads t (bytes ++ b ∷ []) ≡ joined r
-    (joined (read_byte u b) (record { terminal = (read_byte u b).terminal; reports = []; acts = [] })) =
-    reads-append t bytes (b ∷ []) ∙ ap (joined r) (one_more u b) in
-    ap (λ (z : Read). z.terminal.rest) is ∙ one.rest_is
-    ∙ changed_rest (units u.screen.state.coding (u.rest ++ b ∷ [])).1 u.screen.state.coding
-    (read_byte u b).terminal.screen.state.coding
-    (λ e. ne (ap (λ (z : Read). z.terminal.screen.state.coding) is ∙ e ∙ w.coding_is))
+    grind (arith, reads-append t bytes (b ∷ []), one_more u b, one, w, changed_rest)
