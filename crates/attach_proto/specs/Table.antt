@@ -1,5 +1,6 @@
--- The table of frames: a kind of frames is a row of `row_of`, and a line of `of_parts`.
-use Rattle.std.specs.Prelude.{ℕ, List, [], ◌∷◌, Option, Some}
+-- The table of frames: a kind of frames is a row of `row_of`, and a line of `of_parts`. A kind that clients heed has
+-- a line of what it tells or draws too.
+use Rattle.std.specs.Prelude.{◌≡◌, ℕ, true, false, if◌then◌else◌, List, [], ◌∷◌, Option, Some, None}
 use Rattle.attach_proto.specs.declared.side.Side.{Side}
 use Rattle.attach_proto.specs.declared.side.Side.TheVariants.{Server, Peer}
 use Rattle.attach_proto.specs.declared.kind.Kind.{Kind}
@@ -8,6 +9,7 @@ use Rattle.attach_proto.specs.declared.message.Message.{Message}
 use Rattle.attach_proto.specs.declared.message.Message.TheVariants.{Attach, Window, Command, Keys}
 use Rattle.attach_proto.specs.declared.message.Message.TheVariants.{Resize, Output, Detach, Welcome}
 use Rattle.attach_proto.specs.declared.message.Message.TheVariants.{Draw, Input, Say, Size, Gone}
+use Rattle.attach_proto.specs.declared.told.Told.{Told}
 use Rattle.attach_proto.specs.Fields.{Field, Number, Byte, WindowNumber, WhyNumber, Token, Name}
 use Rattle.attach_proto.specs.Fields.{Last, Nothing, Text, Bytes, NotEmpty}
 use Rattle.attach_proto.specs.Fields.{Value, LastValue, Values, read, read_last, ◌>>=◌}
@@ -100,3 +102,28 @@ read_by (f ∷ fs) l make bytes = read f bytes >>= λ x. read_by fs l (make x.0)
 
 abbrev pub read_in : Row → List ℕ → Option Message
 read_in (row code side fields last make) bytes = read_by fields last make bytes
+
+-- ---- what a message tells a client
+
+abbrev pub untold : Told
+untold = record { is_welcome = false; refusal = None; gone = None }
+
+-- A text says why the client isn't let in, unless it is. What the server says later is in the page's last row.
+abbrev pub refused : Told → List ℕ → Told
+refused t text = if t.is_welcome then t else (record t { refusal = Some text })
+
+abbrev pub noted : Told → Message → Told
+noted t (Welcome number) = record t { is_welcome = true }
+noted t (Say text) = refused t text
+noted t (Gone why) = record t { gone = Some why }
+noted t _ = t
+
+-- only a text that is noted takes memory
+abbrev pub TakesMemory : Told → Message → Type 0
+TakesMemory t (Say text) = t.is_welcome ≡ false
+TakesMemory t _ = ⊥
+
+-- the bytes for a client's terminal
+abbrev pub draw_in : Message → Option (List ℕ)
+draw_in (Draw bytes) = Some bytes
+draw_in _ = None

@@ -11,6 +11,7 @@ mod reader;
 mod reading;
 mod side;
 mod token;
+mod told;
 mod why;
 mod writing;
 
@@ -23,5 +24,6 @@ pub use reading::LONGEST;
 pub use side::Side;
 pub use strings::{Bytes, Text};
 pub use token::{TOKEN_LEN, Token};
+pub use told::Told;
 pub use why::Why;
 pub use writing::{head_of, write_message};

@@ -1,10 +1,11 @@
 //! The messages, and how the payload of each is read and written.
 
-ghost use Rattle.std.specs.Prelude.{◌≡◌, ◌++◌, ◌<◌, OnOk, true, false, length};
+ghost use Rattle.std.specs.Prelude.{◌≡◌, ◌++◌, ◌<◌, OnOk, OnErr, true, false, length, option_map};
 ghost use Rattle.attach_proto.specs.Fields.{named, two};
 ghost use Rattle.attach_proto.specs.Texts.{Gives};
 ghost use Rattle.attach_proto.specs.Spelling.{kind_of, payload, HasFields};
 ghost use Rattle.attach_proto.specs.Reading.{message_of};
+ghost use Rattle.attach_proto.specs.Table.{draw_in, noted, TakesMemory};
 ghost use Rattle.attach_proto.specs.declared.message.Message.TheVariants as message;
 
 use crate::fault::Unread;
@@ -15,6 +16,7 @@ use crate::fields::{
 };
 use crate::kind::Kind;
 use crate::token::Token;
+use crate::told::Told;
 use crate::why::Why;
 use std::alloc::{AllocError, Global};
 use strings::{Bytes, Text};
@@ -95,6 +97,35 @@ impl Message {
             Message::Size { .. } => Kind::Size,
             Message::Gone(_) => Kind::Gone,
         }
+    }
+
+    /// The bytes for a client's terminal, if it has any.
+    pub fn draw(&self) -> Option<&Bytes>
+        ensures { option_map (λ bytes. bytes.now) result ≡ draw_in self.now }
+    {
+        match self {
+            Message::Draw(bytes) => Some(bytes),
+            _ => None,
+        }
+    }
+}
+
+impl Told {
+    /// Notes what a message tells. A text is noted until the peer is let in.
+    pub fn note(&mut self, alloc: Global, message: &Message) -> Result<(), AllocError>
+        ensures ok { OnOk result (self.new ≡ noted self.old message.now) }
+        ensures err { OnErr result (self.new ≡ self.old) }
+        ensures memory { OnErr result (TakesMemory self.old message.now) }
+    {
+        match message {
+            Message::Welcome(_) => self.is_welcome = true,
+            Message::Say(text) if !self.is_welcome => {
+                self.refusal = Some(Text::of(alloc, text.as_str())?);
+            }
+            Message::Gone(why) => self.gone = Some(*why),
+            _ => {}
+        }
+        Ok(())
     }
 }
 

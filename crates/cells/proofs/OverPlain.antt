@@ -14,7 +14,7 @@ use Rattle.cells.specs.Put.{IsPut}
 use Rattle.cells.proofs.Settling.{settled_at, cell_at_past, cell_at-cells_from, length-cells_from, IsPaired-cells_from}
 use Rattle.cells.proofs.Used.{IsBlankFrom-cells_from, spliced_behind}
 use Rattle.cells.proofs.Splicing.{IsPaired-blanks}
-use Rattle.cells.proofs.Putting.{IsPut-more, length-narrow_cells}
+use Rattle.cells.proofs.Putting.{IsPaired-shapes, IsPut-more, length-narrow_cells, spliced_over}
 use Rattle.cells.proofs.PuttingWhole.{put_plain}
 
 -- one more character over a plain cell
@@ -107,6 +107,49 @@ first_over_plain at count codes cells line few room paired plains written =
     let n : length (take count codes) ≡ count = length-take-le count codes few in
     put_over_plain at (take count codes) cells line (omega (arith, n)) paired plains written
     ∙ ap (λ m. cells_from (spliced at (narrow_cells (take count codes) plain false) (at + m) (length cells)) cells) n
+
+pub put_paired : (at : ℕ) (codes : List ℕ) (cells line : List Cell) → (0 < length codes → ArePlainFrom at cells)
+    → IsPaired cells → IsPut at (narrow_cells codes plain false) cells line → IsPaired line
+put_paired at codes cells line plains paired put =
+    let n : length (narrow_cells codes plain false) ≡ length codes = length-narrow_cells codes plain false in
+    IsPaired-shapes cells line (λ k. ⊎_elim
+    (λ (front : k < at). sym (ap (λ (x : Cell). x.shape) (put.front k front)))
+    (λ (past : at ≤ k). ⊎_elim
+    (λ (new : k < at + length codes). let e : at + (k - at) ≡ k = omega arith in
+    ap (λ (x : Cell). x.shape) (plains (omega arith) k past)
+    ∙ sym
+    (ap (λ (x : Cell). x.shape)
+    (ap (cell_at line) (sym e) ∙ put.placed (k - at) (omega (arith, n, new))
+    ∙ plain_cells codes (k - at) (omega arith))))
+    (λ (behind : at + length codes ≤ k).
+    sym (ap (λ (x : Cell). x.shape) (put.rest k (omega (arith, n, behind)))))
+    (cases_lt k (at + length codes)))
+    (cases_lt k at)) paired
+
+-- the characters stand there, in copies of a space
+pub put_stands : (at : ℕ) (codes : List ℕ) (old line : List Cell) (space : Cell) → (0 < length codes → space ≡ blank)
+    → IsPut at (narrow_cells codes plain false) old line
+    → IsPut at (narrow_cells codes space.rendition space.is_protected) line line
+put_stands at codes old line space is put =
+    let n : length (narrow_cells codes plain false) ≡ length codes = length-narrow_cells codes plain false in
+    let m = length-narrow_cells codes space.rendition space.is_protected in
+    record {
+      width = refl;
+      front = λ k h. refl;
+      placed = λ k h. put.placed k (omega (arith, n, m, h))
+          ∙ sym
+          (ap (λ (x : Cell). cell_at (narrow_cells codes x.rendition x.is_protected) k) (is (omega (arith, m, h))));
+      rest = λ k h. refl;
+    }
+
+-- new cells over these characters
+pub over_written : (at count begun : ℕ) (codes : List ℕ) (fresh old line : List Cell) → begun ≤ length codes
+    → length fresh ≡ count → begun ≤ count → AreWritten at codes old begun line
+    → cells_from (spliced at fresh (at + count) (length line)) line ≡ cells_from
+    (spliced at fresh (at + count) (length old)) old
+over_written at count begun codes fresh old line few n more written =
+    spliced_over at count (narrow_cells (take begun codes) plain false) fresh old line n
+    (omega (arith, length-narrow_cells (take begun codes) plain false, length-take-le begun codes few, more)) written
 
 -- blanks in the used columns make the line blank
 pub cleared_plain : (used : ℕ) (cells line : List Cell) → used ≤ length cells → IsBlankFrom used cells

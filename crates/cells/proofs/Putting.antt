@@ -12,8 +12,8 @@ use Rattle.cells.specs.Line.{blank, cell_at, is_left, is_right, IsPaired, Source
 use Rattle.cells.specs.Line.{settled, source_before, source_after, cells_from, cut_of, spliced, fresh_at, right_follows}
 use Rattle.cells.specs.Line.{narrow_cell, narrow_cells}
 use Rattle.cells.specs.Put.{IsPut, AreNarrow}
-use Rattle.cells.proofs.Settling.{cell_at_past, settled_at, cells_from-is, after_inside, after_last, length-cut_of}
-use Rattle.cells.proofs.Settling.{cell_at-cells_from, and_false}
+use Rattle.cells.proofs.Settling.{cell_at_past, settled_at, cells_from-is, cells_from-agree, after_inside, after_last}
+use Rattle.cells.proofs.Settling.{length-cut_of, cell_at-cells_from, and_false}
 use Rattle.cells.proofs.Splicing.{cell_at-plain_from, at_front, at_fresh, at_rest, cells_from-spliced, cut_thrice}
 use Rattle.cells.proofs.Splicing.{length-cut_thrice, IsPaired-blanks}
 
@@ -280,6 +280,27 @@ IsPut-other at fresh old line last cell is n room =
       rest = λ k h. get_or-set_other line (at + last) k cell blank (omega (arith, n, m, h))
           ∙ is.rest k (omega (arith, m, h));
     }
+
+-- new cells over others that were put before
+pub spliced_over : (at count : ℕ) (begun fresh old line : List Cell) → length fresh ≡ count → length begun ≤ count
+    → IsPut at begun old line
+    → cells_from (spliced at fresh (at + count) (length line)) line ≡ cells_from
+    (spliced at fresh (at + count) (length old)) old
+spliced_over at count begun fresh old line n few put =
+    let source : ℕ → Source = spliced at fresh (at + count) (length old) in
+    ap (λ m. cells_from (spliced at fresh (at + count) m) line) put.width
+    ∙ cells_from-agree source line old put.width (λ k inside. ⊎_elim
+    (λ (front : k < at). let s = at_front at fresh (at + count) (length old) k front in
+    ap (taken line) s ∙ put.front k front ∙ sym (ap (taken old) s))
+    (λ (past : at ≤ k). ⊎_elim
+    (λ (new : k < at + length fresh). let s = at_fresh at fresh (at + count) (length old) k past new in
+    ap (taken line) s ∙ sym (ap (taken old) s))
+    (λ (behind : at + length fresh ≤ k).
+    let e : k + (at + count) - (at + length fresh) ≡ k = omega arith in
+    let s = at_rest at fresh (at + count) (length old) k behind (omega arith) ∙ ap Old e in
+    ap (taken line) s ∙ put.rest k (omega arith) ∙ sym (ap (taken old) s))
+    (cases_lt k (at + length fresh)))
+    (cases_lt k at))
 
 -- cells of width 1 need nothing beside them
 pub whole_narrow : (fresh : List Cell) (j : ℕ) → (cell_at fresh j).shape ≡ Narrow → fresh_at fresh j ≡ cell_at fresh j

@@ -137,6 +137,20 @@ cells_from-is source cells line h each = ext_get_or blank line (cells_from sourc
     (h ∙ sym (length-cells_from source cells)) (λ column inside.
     each column (rw h at inside) ∙ sym (cell_at-cells_from source cells column (rw h at inside)))
 
+-- lines that have the same cells at the sources
+pub cells_from-agree : (source : ℕ → Source) (line other : List Cell) → length line ≡ length other
+    → ((column : ℕ) → column < length other → taken line (source column) ≡ taken other (source column))
+    → cells_from source line ≡ cells_from source other
+unfolding settled_at
+cells_from-agree source line other same each =
+    cells_from-is source other (cells_from source line) (length-cells_from source line ∙ same) (λ column inside.
+    cell_at-cells_from source line column (rw same inside)
+    ∙ ap
+    (λ (x : Cell). kept x.shape x (are_halves (source column) (source_after source (length line) column))
+    (are_halves (source_before source column) (source column)))
+    (each column inside)
+    ∙ ap (λ n. settled other (source_before source column) (source column) (source_after source n column)) same)
+
 -- a cell stays if its other half comes along
 pub kept_is : (s : Shape) (cell : Cell) (p q : Bool) → (is_left s ≡ true → p ≡ true) → (is_right s ≡ true → q ≡ true)
     → kept s cell p q ≡ cell

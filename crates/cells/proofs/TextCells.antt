@@ -244,7 +244,8 @@ module _ (rendition : Rendition) (is_protected : Bool) where
       let known = both (is_plain c) (list_all is_plain cs) all in
       rw (plain_alone c known.0).0 (on_plain c cs known.1)
 
-  narrow_last : (codes : List ℕ) (k : ℕ) → is_right (cell_at (narrow_cells codes rendition is_protected) k).shape ≡ false
+  narrow_last : (codes : List ℕ) (k : ℕ)
+      → is_right (cell_at (narrow_cells codes rendition is_protected) k).shape ≡ false
   narrow_last [] k = refl
   narrow_last (c ∷ codes) zero = refl
   narrow_last (c ∷ codes) (suc k) = narrow_last codes k

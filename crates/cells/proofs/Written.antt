@@ -3,17 +3,19 @@ use Rattle.std.proofs.Common.{◌≡◌, ℕ, ◌+◌, ◌-◌, ◌<◌, ◌≤�
 use Rattle.std.proofs.Common.{drop, set, append_assoc, refl, sym, ap, ◌∙◌, subst, arith}
 use Rattle.std.proofs.Math.Seq.{set-append_seam, get_or-append_seam}
 use Rattle.std.proofs.lemmas.List.{length-append}
+use Rattle.std.specs.List.{list_all}
 use Rattle.charsets.specs.Text.{text}
-use Rattle.charsets.specs.Units.{is_character}
+use Rattle.charsets.specs.Units.{is_character, is_plain}
 use Rattle.charsets.specs.Utf8.{codes}
-use Rattle.charsets.proofs.Texts.{text-none, IsText-none, IsText-one, text-more, IsText-more}
+use Rattle.charsets.proofs.Texts.{IsText-one, text-more, IsText-more}
 use Rattle.cells.specs.declared.cell.Cell.{Cell}
 use Rattle.cells.specs.declared.cell.Rendition.{Rendition}
-use Rattle.cells.specs.Line.{blank, cell_at, left_cell, marked, narrow_cell, right_cell}
+use Rattle.cells.specs.Line.{blank, cell_at, left_cell, marked, narrow_cell, narrow_cells, right_cell}
 use Rattle.cells.specs.Put.{IsPut}
 use Rattle.cells.specs.Texts.{base_cell, is_base, is_based, is_known_wide, is_letter, is_mark, last_columns, text_cells}
 use Rattle.cells.specs.Texts.{whole, PutsText}
-use Rattle.cells.proofs.Putting.{IsPut-none, IsPut-more, IsPut-other}
+use Rattle.cells.proofs.Putting.{IsPut-more, IsPut-other}
+use Rattle.cells.proofs.TextCells.{cells_of-plain, plain_puts}
 use Rattle.cells.proofs.TextCells.{base_first, cells-base, is_based-base, is_based-mark, last_is, letter_alone, or_true}
 use Rattle.cells.proofs.TextCells.{some_characters, wide_alone, with_tip}
 
@@ -30,21 +32,22 @@ module _ (rendition : Rendition) (is_protected : Bool) (at : ℕ) (bytes : List 
   abbrev cells_of : List ℕ → List Cell
   cells_of characters = text_cells characters rendition is_protected
 
-  pub none_written : at ≤ length old → IsWritten rendition is_protected at bytes old old at 1 0
-  none_written inside =
-      let none : cells_of (text []) ≡ [] = ap cells_of text-none in
+  -- the first bytes are 20 to 7E, and stand there
+  pub begun_written : (begun : ℕ) → begun ≤ length bytes → at + begun ≤ length old
+      → list_all is_plain (take begun bytes) ≡ true
+      → IsPut at (narrow_cells (take begun bytes) rendition is_protected) old old
+      → IsWritten rendition is_protected at bytes old old (at + begun) 1 begun
+  begun_written begun few room codes put =
+      let e : begun ≡ at + begun - at = omega arith in
       record {
         past = omega arith;
-        inside = inside;
-        puts = record {
-          few = omega arith;
-          is_text = IsText-none;
-          based = ap is_based text-none;
-          count = ap length none ∙ omega arith;
-          last = ap last_columns none;
-          inside = omega arith;
-        };
-        put = subst (λ (v : List Cell). IsPut at v old old) (sym none) (IsPut-none at old);
+        inside = room;
+        puts = subst
+            (λ n. PutsText bytes rendition is_protected (length old - at)
+            (record { count = n; last = 1; read = begun }))
+            e (plain_puts rendition is_protected bytes (length old - at) begun few (omega (arith, room)) codes);
+        put = subst (λ (v : List Cell). IsPut at v old old)
+            (sym (cells_of-plain rendition is_protected (take begun bytes) codes)) put;
       }
 
   module _ (line : List Cell) (column last read : ℕ)
@@ -165,7 +168,8 @@ module _ (rendition : Rendition) (is_protected : Bool) (at : ℕ) (bytes : List 
           written_more (front ++ whole joined)
           (set line (column - last) (marked (cell_at line (column - last)) character)) column last
           (tip.marks character is_mark) (omega (arith, m, n, e)) so_far.inside
-          (is_based-mark read_so_far character (some_characters rendition is_protected read_so_far (omega (arith, e, some))) so_far.puts.based
+          (is_based-mark read_so_far character
+          (some_characters rendition is_protected read_so_far (omega (arith, e, some))) so_far.puts.based
           is_mark)
           (last_is front joined tip.first ∙ l)
           (subst

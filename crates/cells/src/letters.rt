@@ -29,9 +29,10 @@ pub fn is_letter(character: char) -> bool
     } else if character < '\u{300}' {
         '\u{A0}' <= character && character != SOFT_HYPHEN
     } else {
-        ('\u{370}' <= character && character < '\u{483}')
-            || ('\u{48A}' <= character && character < '\u{590}')
-            || ('\u{5D0}' <= character && character < '\u{5EB}')
+        character < '\u{5EB}'
+            && (('\u{370}' <= character && character < '\u{483}')
+                || ('\u{48A}' <= character && character < '\u{590}')
+                || '\u{5D0}' <= character)
     }
 }
 
@@ -41,8 +42,9 @@ pub fn is_letter(character: char) -> bool
 pub fn is_mark(character: char) -> bool
     ensures { result ≡ is_mark character }
 {
-    ('\u{300}' <= character && character < '\u{370}' && character != OVERLAY)
-        || ('\u{591}' <= character && character < '\u{5BE}')
+    character < '\u{5BE}'
+        && (('\u{300}' <= character && character < '\u{370}' && character != OVERLAY)
+            || '\u{591}' <= character)
 }
 
 /// Whether a character is an ideograph, a kana, a Hangul syllable or an emoticon, which take two

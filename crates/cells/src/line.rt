@@ -5,12 +5,11 @@ ghost use Rattle.std.specs.Prelude.{IsTrue, false, take, slice_set};
 ghost use Rattle.charsets.specs.Text.{text};
 ghost use Rattle.cells.specs.Line.{cells_from, cells_spliced, cell_at, marked, IsPaired};
 ghost use Rattle.cells.specs.Line.{IsBlankFrom, blank, unprotected_erased};
-ghost use Rattle.cells.specs.Line.{narrow_cell, narrow_cells, ArePlainFrom, plain};
+ghost use Rattle.cells.specs.Line.{narrow_cells, ArePlainFrom, plain};
 ghost use Rattle.cells.specs.Texts.{text_cells, PutsText};
 ghost use Rattle.cells.specs.Resizing.{line_resized};
 
 use crate::cell::{Cell, Rendition, Shape};
-use crate::letters::is_plain;
 use crate::put::Put;
 use crate::shifting::splice_used;
 use crate::{edits, texts};
@@ -240,13 +239,11 @@ impl Line {
         self.is_plain = false;
     }
 
-    /// Whether a new character of width 1 in a column from `at` on differs from the old one in its
-    /// character only.
-    fn takes_plain(&self, at: usize, rendition: Rendition, is_protected: bool) -> bool
-        ensures old { IsTrue result → ArePlainFrom at self.now }
-        ensures new { IsTrue result → narrow_cell 0x20 rendition is_protected ≡ blank }
+    /// A column from which on all cells are of width 1 without rendition, marks or protection.
+    fn plain_from(&self) -> usize
+        ensures { ArePlainFrom result self.now }
     {
-        (self.is_plain || self.used <= at) && Cell::narrow(' ', rendition, is_protected).is_blank()
+        if self.is_plain { 0 } else { self.used }
     }
 
     /// Puts the text with which some bytes of UTF-8 begin over as many old cells as it takes columns,
@@ -264,20 +261,20 @@ impl Line {
             (text_cells (text (take result.read bytes.now)) rendition is_protected)
             (at + result.count) self.old }
     {
-        if !bytes.is_empty()
-            && is_plain(bytes[0])
-            && self.takes_plain(at, rendition, is_protected)
-        {
-            let count = texts::put_plain(self.cells.as_mut_slice(), at, bytes);
-            self.used = self.used.max(at + count);
+        let space = Cell::narrow(' ', rendition, is_protected);
+        let plain_from = self.plain_from();
+        let cells = self.cells.as_mut_slice();
+        let begun = texts::put_plain(cells, plain_from, at, bytes, &space);
+        let is_all = begun == bytes.len() || bytes[begun] < 0x80 || at + begun == cells.len();
+        if begun > 0 && is_all {
+            self.used = self.used.max(at + begun);
             return Put {
-                count,
+                count: begun,
                 last: 1,
-                read: count,
+                read: begun,
             };
         }
-        let cells = self.cells.as_mut_slice();
-        let put = texts::put_text(cells, at, bytes, rendition, is_protected);
+        let put = texts::put_text(cells, at, begun, bytes, &space);
         self.used = self.used.max(at + put.count);
         self.is_plain = false;
         put

@@ -4,56 +4,41 @@ ghost use Rattle.std.specs.Prelude.{◌≡◌, ◌+◌, ◌-◌, ◌<◌, ◌≤
 ghost use Rattle.std.specs.List.{list_all};
 ghost use Rattle.charsets.specs.Text.{text};
 ghost use Rattle.charsets.specs.Units.{is_plain};
-ghost use Rattle.cells.specs.Line.{cell_at, cells_spliced, is_right, marked, narrow_cell, narrow_cells, plain};
-ghost use Rattle.cells.specs.Line.{ArePlainFrom, IsPaired};
+ghost use Rattle.cells.specs.Line.{blank, cell_at, cells_spliced, is_right, marked, narrow_cell, narrow_cells};
+ghost use Rattle.cells.specs.Line.{plain, ArePlainFrom, IsPaired};
 ghost use Rattle.cells.specs.Put.{mended, IsPut};
 ghost use Rattle.cells.specs.Texts.{text_cells, PutsText};
 
-use crate::cell::{Cell, Rendition, Shape};
+use crate::cell::{Cell, Shape};
 use crate::letters::{is_known_wide, is_letter, is_mark, is_plain};
 use crate::put::Put;
 use charsets::first_character;
 
-/// Puts the text with which some bytes begin over as many old cells as it takes columns, from `at`
-/// on, as far as there is room.
-/// It isn't inlined, so that its loop stays tight.
-#[inline(never)]
-pub fn put_text(
+/// Puts the characters 20 to 7E with which some bytes begin over as many old cells, from `at` on, as
+/// far as there is room, if they are put without rendition or protection over such cells. The old
+/// cells from `plain_from` on differ from blanks in their characters only, so only characters are
+/// written. Returns how many there are.
+#[inline(always)]
+pub fn put_plain(
     cells: &mut [Cell],
+    plain_from: usize,
     at: usize,
     bytes: &[u8],
-    rendition: Rendition,
-    is_protected: bool,
-) -> Put
-    requires paired { IsPaired cells.old }
-    requires inside { at ≤ length cells.old }
-    ensures put { PutsText bytes.now rendition is_protected (length cells.old - at) result }
-    ensures cells { cells.new ≡ cells_spliced at
-        (text_cells (text (take result.read bytes.now)) rendition is_protected)
-        (at + result.count) cells.old }
-{
-    let is_cut = cuts_wide(cells, at);
-    let put = write_text(cells, at, bytes, rendition, is_protected);
-    if put.count > 0 {
-        mend(cells, at, at + put.count, is_cut);
-    }
-    put
-}
-
-/// Writes the characters 20 to 7E with which some bytes begin into the cells from `at` on, as far as
-/// there is room. The old cells from `at` on differ from blanks in their characters only, so only
-/// characters are written. Returns how many there are.
-#[inline(never)]
-pub fn put_plain(cells: &mut [Cell], at: usize, bytes: &[u8]) -> usize
-    requires paired { IsPaired cells.old }
-    requires plain { ArePlainFrom at cells.old }
+    space: &Cell,
+) -> usize
+    requires plain { ArePlainFrom plain_from cells.old }
     requires inside { at ≤ length cells.old }
     ensures few { result ≤ length bytes.now }
     ensures room { at + result ≤ length cells.old }
     ensures codes { list_all is_plain (take result bytes.now) ≡ true }
-    ensures cells { cells.new ≡ cells_spliced at
-        (narrow_cells (take result bytes.now) plain false) (at + result) cells.old }
+    ensures old { 0 < result → ArePlainFrom at cells.old }
+    ensures new { 0 < result → space.now ≡ blank }
+    ensures cells { IsPut at (narrow_cells (take result bytes.now) plain false)
+        cells.old cells.new }
 {
+    if at < plain_from || !space.is_blank() {
+        return 0;
+    }
     let room = bytes.len().min(cells.len() - at);
     for count in 0..room {
         if !is_plain(bytes[count]) {
@@ -62,6 +47,58 @@ pub fn put_plain(cells: &mut [Cell], at: usize, bytes: &[u8]) -> usize
         cells[at + count].character = bytes[count] as char;
     }
     room
+}
+
+/// Puts the text with which some bytes begin over as many old cells as it takes columns, from `at`
+/// on, as far as there is room, each in a copy of a space. The first `begun` bytes are characters
+/// 20 to 7E that stand there already.
+/// It isn't inlined, so that its loop stays tight.
+#[inline(never)]
+pub fn put_text(cells: &mut [Cell], at: usize, begun: usize, bytes: &[u8], space: &Cell) -> Put
+    requires paired { IsPaired cells.old }
+    requires space { space.now ≡ narrow_cell 0x20 space.now.rendition space.now.is_protected }
+    requires few { begun ≤ length bytes.now }
+    requires room { at + begun ≤ length cells.old }
+    requires codes { list_all is_plain (take begun bytes.now) ≡ true }
+    requires begun { IsPut at (narrow_cells (take begun bytes.now)
+        space.now.rendition space.now.is_protected) cells.old cells.old }
+    ensures more { begun ≤ result.count }
+    ensures put { PutsText bytes.now space.now.rendition space.now.is_protected
+        (length cells.old - at) result }
+    ensures cells { cells.new ≡ cells_spliced at
+        (text_cells (text (take result.read bytes.now)) space.now.rendition
+        space.now.is_protected) (at + result.count) cells.old }
+{
+    let is_cut = cuts_wide(cells, at);
+    let mut column = at + begun;
+    let mut last = 1;
+    let mut read = begun;
+    while column < cells.len() && read < bytes.len() {
+        let Some((character, size)) = first_character(&bytes[read..]) else {
+            break;
+        };
+        let mut cell = *space;
+        cell.character = character;
+        if is_letter(character) {
+            cells[column] = cell;
+            column += 1;
+            last = 1;
+        } else if at < column && is_mark(character) {
+            join_mark(cells, column - last, character);
+        } else if column + 1 < cells.len() && is_known_wide(character) {
+            write_halves(cells, column, cell);
+            column += 2;
+            last = 2;
+        } else {
+            break;
+        }
+        read += size;
+    }
+    let count = column - at;
+    if count > 0 {
+        mend(cells, at, at + count, is_cut);
+    }
+    Put { count, last, read }
 }
 
 /// Whether the boundary before column `at` cuts a wide character.
@@ -88,53 +125,6 @@ fn mend(cells: &mut [Cell], at: usize, end: usize, is_cut: bool)
     }
 }
 
-/// Writes the text with which some bytes begin into the cells from `at` on, as far as there is room.
-#[inline(always)]
-fn write_text(
-    cells: &mut [Cell],
-    at: usize,
-    bytes: &[u8],
-    rendition: Rendition,
-    is_protected: bool,
-) -> Put
-    requires { at ≤ length cells.old }
-    ensures put { PutsText bytes.now rendition is_protected (length cells.old - at) result }
-    ensures cells { IsPut at
-        (text_cells (text (take result.read bytes.now)) rendition is_protected)
-        cells.old cells.new }
-{
-    let space = space_cell(rendition, is_protected);
-    let mut column = at;
-    let mut last = 1;
-    let mut read = 0;
-    while column < cells.len() && read < bytes.len() {
-        let Some((character, size)) = first_character(&bytes[read..]) else {
-            break;
-        };
-        let mut cell = space;
-        cell.character = character;
-        if is_letter(character) {
-            cells[column] = cell;
-            column += 1;
-            last = 1;
-        } else if at < column && is_mark(character) {
-            join_mark(cells, column - last, character);
-        } else if column + 1 < cells.len() && is_known_wide(character) {
-            write_halves(cells, column, cell);
-            column += 2;
-            last = 2;
-        } else {
-            break;
-        }
-        read += size;
-    }
-    Put {
-        count: column - at,
-        last,
-        read,
-    }
-}
-
 /// Adds a mark to a cell. A cell with two marks drops it.
 #[inline(always)]
 fn join_mark(cells: &mut [Cell], column: usize, mark: char)
@@ -158,13 +148,4 @@ fn write_halves(cells: &mut [Cell], column: usize, cell: Cell)
     cells[column] = half;
     half.shape = Shape::Right;
     cells[column + 1] = half;
-}
-
-/// A space. This function isn't inlined, so that the cells of text are copied from one in memory as
-/// a whole and not field by field.
-#[inline(never)]
-fn space_cell(rendition: Rendition, is_protected: bool) -> Cell
-    ensures { result ≡ narrow_cell 0x20 rendition is_protected }
-{
-    Cell::narrow(' ', rendition, is_protected)
 }

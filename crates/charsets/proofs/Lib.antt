@@ -2,10 +2,9 @@ pub mod Cuts
 pub mod Pushes
 pub mod Encoded
 pub mod Joins
-pub mod Tables
 pub mod Pieces
 pub mod Shifted
 pub mod Scalars
-pub mod Fronts
 pub mod Characters
 pub mod Texts
+pub mod Proved

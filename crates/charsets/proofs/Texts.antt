@@ -8,12 +8,11 @@ use Rattle.std.proofs.lemmas.List.Folds.{list_all-append}
 use Rattle.charsets.specs.Utf8.{cut, codes, with_front}
 use Rattle.charsets.specs.Units.{is_character}
 use Rattle.charsets.specs.Text.{text, IsText}
-use Rattle.charsets.proofs.Cuts.{cut-append}
+use Rattle.charsets.proofs.Cuts.{codes-go_on}
 
 pub codes-append : (front later : List ℕ) → (codes front).1 ≡ []
     → codes (front ++ later) ≡ with_front (codes front).0 (codes later)
-codes-append front later h =
-    cut-append 0 front later (omega arith) ∙ ap (λ r. with_front (codes front).0 (codes (r ++ later))) h
+codes-append front later h = rw h at (codes-go_on front later)
 
 pub text-append : (front later : List ℕ) → IsText front → text (front ++ later) ≡ text front ++ text later
 text-append front later is = ap (λ (p : List ℕ × List ℕ). p.0) (codes-append front later is.whole)

@@ -30,6 +30,7 @@ impl Decoder {
     ghost use Rattle.charsets.specs.Units.{Decoding, units, StandsFor, HasGiven};
     ghost use Rattle.charsets.specs.declared.unit.Coding.TheVariants.{Utf8};
 
+    #[tactic(auto, unfolding(crate::specs::Utf8::cut))]
     /// A decoder for UTF-8 that has read nothing.
     pub fn new() -> Decoder
         ensures starts { result ≡ record { coding = Utf8; rest = [] } }
@@ -41,6 +42,7 @@ impl Decoder {
         }
     }
 
+    #[tactic(auto, unfolding(crate::specs::Utf8::cut))]
     /// Reads in this coding from here on. The bytes of an incomplete character are dropped.
     pub fn set_coding(&mut self, coding: Coding)
         ensures starts { self.new ≡ record { coding = coding; rest = [] } }
@@ -64,6 +66,7 @@ impl Decoder {
         matches!(self.partial, Partial::Empty)
     }
 
+    #[tactic(auto, using(crate::proofs::Pushes::goes_on))]
     /// Reads one byte and returns the units that it completes, at most two.
     pub fn push(&mut self, byte: u8) -> Units
         ensures coding { self.new.coding ≡ self.old.coding }

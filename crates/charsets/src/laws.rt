@@ -1,4 +1,5 @@
 //! Laws of the definitions, for the crates above.
+#![tactic(auto, using(crate::proofs::Proved::laws))]
 
 ghost use Rattle.std.specs.Prelude.{◌≡◌, ℕ, List, [], ◌∷◌, ◌++◌, map, true, Some, None};
 ghost use Rattle.std.specs.Char.{encode_utf8, IsScalar};

@@ -27,19 +27,19 @@ const REPLACEMENT: char = '\u{FFFD}';
 
 const CAN: u8 = 0x18;
 
-fn can_lead(a: u8) -> bool
+fn is_lead(a: u8) -> bool
     ensures { result ≡ is_lead a }
 {
     0xC1 < a && a < 0xF5
 }
 
-pub fn can_continue(b: u8) -> bool
+pub fn continues(b: u8) -> bool
     ensures { result ≡ continues b }
 {
     0x7F < b && b < 0xC0
 }
 
-pub fn can_follow(a: u8, b: u8) -> bool
+pub fn follows(a: u8, b: u8) -> bool
     ensures { result ≡ follows a b }
 {
     match a {
@@ -47,7 +47,7 @@ pub fn can_follow(a: u8, b: u8) -> bool
         0xED => 0x7F < b && b < 0xA0,
         0xF0 => 0x8F < b && b < 0xC0,
         0xF4 => 0x7F < b && b < 0x90,
-        _ => can_continue(b),
+        _ => continues(b),
     }
 }
 
@@ -93,7 +93,7 @@ fn start(byte: u8) -> (Option<char>, Partial)
 {
     if byte < 0x80 {
         (Some(byte as char), Partial::Empty)
-    } else if can_lead(byte) {
+    } else if is_lead(byte) {
         (None, Partial::One(byte))
     } else {
         (Some(REPLACEMENT), Partial::Empty)
@@ -132,7 +132,7 @@ pub fn step(partial: Partial, byte: u8) -> (Chars, Partial)
             (anew.map_or(Chars::Nothing, Chars::One), partial)
         }
         Partial::One(a) => {
-            if !can_follow(a, byte) {
+            if !follows(a, byte) {
                 broken(byte)
             } else if a < 0xE0 {
                 (Chars::One(char_of_2(a, byte)), Partial::Empty)
@@ -141,7 +141,7 @@ pub fn step(partial: Partial, byte: u8) -> (Chars, Partial)
             }
         }
         Partial::Two(a, b) => {
-            if !can_continue(byte) {
+            if !continues(byte) {
                 broken(byte)
             } else if a < 0xF0 {
                 (Chars::One(char_of_3(a, b, byte)), Partial::Empty)
@@ -150,7 +150,7 @@ pub fn step(partial: Partial, byte: u8) -> (Chars, Partial)
             }
         }
         Partial::Three(a, b, c) => {
-            if !can_continue(byte) {
+            if !continues(byte) {
                 broken(byte)
             } else {
                 (Chars::One(char_of_4(a, b, c, byte)), Partial::Empty)

@@ -1,7 +1,7 @@
 //! Sorts the messages that come from the server.
 
 use crate::standing::Standing;
-use attach_proto::{Message, ProtoFault, Reader, Why};
+use attach_proto::{Message, ProtoFault, Reader, Told, Why};
 use client_words::{Fault, Way, put_visible};
 use std::alloc::Global;
 use std::io::Write;
@@ -40,9 +40,6 @@ impl Standing {
     // A text for a command is its output. Once a client is let in, its status line has the texts. The
     // last text before that is the reason if the peer isn't let in.
     fn hear(&mut self, alloc: Global, text: &str) -> Result<(), Fault> {
-        if self.is_welcome {
-            return Ok(());
-        }
         if self.way.is_command() {
             self.put_line(text)?;
         }
@@ -62,20 +59,32 @@ impl Standing {
         Ok(())
     }
 
-    // Sorts one message. Returns the reason if it is GONE.
-    fn take(&mut self, alloc: Global, message: &Message) -> Result<Option<Why>, Fault> {
-        let taken = match message {
-            Message::Welcome(_) => self.welcome(),
-            Message::Draw(bytes) | Message::Input(bytes) => self.put(bytes.as_slice()),
+    // Puts down what a message has for the files that the peer writes to.
+    fn put_message(&mut self, message: &Message) -> Result<(), Fault> {
+        match message {
+            Message::Input(bytes) => self.put(bytes.as_slice()),
             Message::Size { rows, columns } => self.put_size(*rows, *columns),
-            Message::Say(text) => self.hear(alloc, text.as_str()),
-            Message::Gone(why) => return Ok(Some(*why)),
-            _ => Ok(()),
-        };
-        match taken {
-            Ok(()) => Ok(None),
-            Err(fault) => Err(fault),
+            _ => match message.draw() {
+                Some(bytes) => self.put(bytes.as_slice()),
+                None => Ok(()),
+            },
         }
+    }
+
+    // Sorts one message. Returns why the server lets the peer go, if it does.
+    fn take(&mut self, alloc: Global, message: &Message) -> Result<Option<Why>, Fault> {
+        self.put_message(message)?;
+        // A command is never let in here, so it hears each text.
+        let mut told = Told::new();
+        told.is_welcome = self.is_welcome;
+        told.note(alloc, message)?;
+        if told.is_welcome {
+            self.welcome()?;
+        }
+        if let Some(text) = &told.refusal {
+            self.hear(alloc, text.as_str())?;
+        }
+        Ok(told.gone)
     }
 
     // Sorts the messages of a read, after which there may be a fault.

@@ -4,10 +4,6 @@ use Rattle.std.proofs.Common.{arith, ap, ◌∙◌, sym, set}
 use Rattle.std.proofs.lemmas.List.{drop-set-lt, drop-replicate, length-set, drop-drop}
 use Rattle.control_parser.specs.Arrays.{IsFront}
 
-pub front_set : (room count i x : ℕ) (array : List ℕ) → IsFront room count array → i < count
-    → IsFront room count (set array i x)
-front_set room count i x array h k = (h.0, length-set array i x ∙ h.1, drop-set-lt count array i x k ∙ h.2)
-
 pub front_pushed : (room count x : ℕ) (array : List ℕ) → IsFront room count array → count < room
     → IsFront room (count + 1) (set array count x)
 front_pushed room count x array h k = (

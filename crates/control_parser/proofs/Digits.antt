@@ -1,7 +1,7 @@
 -- Digits that come one by one.
-use Rattle.std.proofs.Common.{◌≡◌, refl, ℕ, zero, suc, ◌-◌, ◌<◌, ◌≤◌, List, [], ◌∷◌, length, take, set, get_or, ap, ◌∙◌}
+use Rattle.std.proofs.Common.{◌≡◌, refl, ℕ, zero, suc, ◌-◌, ◌<◌, ◌≤◌, List, [], ◌∷◌, length, take, set, get_or, ap}
 use Rattle.std.proofs.Common.{arith}
-use Rattle.control_parser.specs.Text.{last_value, with_last, longer, digit_added}
+use Rattle.control_parser.specs.Text.{with_last, longer, digit_added}
 
 -- the last of the first n + 1 values changes
 pub digit_packed : (n d y : ℕ) (xs : List ℕ) → n < length xs → y ≡ longer (get_or xs n 0) d
@@ -17,8 +17,7 @@ pub digit_added-packed : (count d y : ℕ) (xs now : List ℕ) → 0 < count →
 digit_added-packed zero d y xs now p q h e = absurd (omega arith)
 digit_added-packed (suc n) d y xs now p q h e =
     let less : suc n - 1 ≡ n = omega arith in
-    let e' : y ≡ longer (get_or xs n 0) d = e ∙ ap (λ k. longer (get_or xs k 0) d) less in
-    ap (λ k. take (suc n) (set xs k y)) less ∙ digit_packed n d y xs (omega arith) e' ∙ ap (λ l. digit_added l d) h
+    rw (less, digit_packed n d y xs (omega arith) (rw less at e), h) refl
 
 pub digit-last : (values : List ℕ) (value d : ℕ)
     → digit_added (with_last values value) d ≡ with_last values (longer value d)
@@ -26,8 +25,3 @@ digit-last [] value d = refl
 digit-last (n ∷ []) value d = refl
 digit-last (n ∷ m ∷ []) value d = refl
 digit-last (n ∷ m ∷ k ∷ ns) value d = ap (λ l. n ∷ l) (digit-last (m ∷ k ∷ ns) value d)
-
-pub last-stays : (values : List ℕ) → with_last values (last_value values) ≡ values
-last-stays [] = refl
-last-stays (n ∷ []) = refl
-last-stays (n ∷ m ∷ ns) = ap (λ l. n ∷ l) (last-stays (m ∷ ns))

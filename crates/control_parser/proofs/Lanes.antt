@@ -1,6 +1,6 @@
 -- A run of bytes that pass a test, read a vector at a time through the mask of those that fail it.
-use Rattle.std.proofs.Common.{◌≡◌, ℕ, ◌+◌, ◌*◌, ◌-◌, ◌%◌, ◌^◌, ◌<◌, ◌≤◌, leb, Bool, true, false, not, cond, eqb, List}
-use Rattle.std.proofs.Common.{[], ◌∷◌, map, length, drop, replicate, refl, sym, ap, ap₂, ◌∙◌, arith, w8, Fits}
+use Rattle.std.proofs.Common.{◌≡◌, ℕ, ◌+◌, ◌-◌, ◌%◌, ◌^◌, ◌<◌, ◌≤◌, leb, not, cond, eqb, List, [], ◌∷◌, map, length}
+use Rattle.std.proofs.Common.{drop, replicate, refl, sym, ap, ap₂, ◌∙◌, arith, w8, Fits}
 use Rattle.std.specs.List.{prefix_len}
 use Rattle.std.proofs.lemmas.Simd.{zip2_splat, map-map, mask_l-mod, chunk-drop, length-chunk, leading_from_mask_l}
 use Rattle.std.proofs.lemmas.Simd.{trailing_mask_l}
@@ -53,22 +53,13 @@ stops-masked v long fits =
 
 -- LOAD AFTER LOAD
 
-none_fails : (b : Bool) (n l m : ℕ) → n ≤ l → cond (not b) (1 + n) 0 ≡ 1 + l → (n ≡ l → m ≡ 0) → cond b 1 0 + 2 * m ≡ 0
-none_fails true n l m le e ih = let no : ⊥ = omega arith in absurd no
-none_fails false n l m le e ih = let z = ih (omega arith) in omega arith
-
-not-not : (b : Bool) → b ≡ not (not b)
-not-not true = refl
-not-not false = refl
-
 same_run : (xs : List ℕ) → prefix_len is_plain xs ≡ prefix_len (λ x. not (is_no_plain x)) xs
 same_run [] = refl
-same_run (x ∷ xs) = ap₂ (λ b n. cond b (1 + n) 0) (not-not (is_plain x)) (same_run xs)
+same_run (x ∷ xs) = grind (arith, same_run xs)
 
 all_pass : (xs : List ℕ) → prefix_len (λ x. not (is_no_plain x)) xs ≡ length xs → mask_l (map is_no_plain xs) ≡ 0
 all_pass [] e = refl
-all_pass (x ∷ xs) e = none_fails (is_no_plain x) _ (length xs) _ (prefix_len-le-length (λ y. not (is_no_plain y)) xs)
-    (omega arith) (all_pass xs)
+all_pass (x ∷ xs) e = grind (arith, prefix_len-le-length (λ y. not (is_no_plain y)) xs, all_pass xs)
 
 split : (d : List ℕ) (i n : ℕ)
     → prefix_len is_plain (drop i d) ≡ cond (eqb (prefix_len is_plain (chunk i n d)) (length (chunk i n d)))

@@ -1,24 +1,18 @@
 -- Units in pieces, and units that are printed.
-use Rattle.std.proofs.Common.{◌≡◌, ◌↔◌, ℕ, Bool, true, false, cond, List, [], ◌∷◌, ◌++◌, length, map, Option, Some}
-use Rattle.std.proofs.Common.{None, refl, sym, ap, ◌∙◌, arith, append_assoc}
-use Rattle.std.specs.Prelude.{nat_le}
+use Rattle.std.proofs.Common.{◌≡◌, ℕ, true, List, [], ◌∷◌, ◌++◌, map, refl, sym, ◌∙◌, arith, append_assoc}
 use Rattle.std.specs.List.{flat_map, list_all}
 use Rattle.std.proofs.lemmas.Bool.Decides.{nat_tests}
 use Rattle.std.proofs.lemmas.List.{append-nil}
 use Rattle.charsets.specs.Units.{is_plain}
 use Rattle.charsets.specs.declared.unit.Unit.{Unit}
 use Rattle.charsets.specs.declared.unit.Unit.TheVariants.{Code}
-use Rattle.control_parser.specs.declared.func.Func.{Func}
 use Rattle.control_parser.specs.declared.func.Func.TheVariants.{Print}
-use Rattle.control_parser.specs.declared.state.State.{State}
 use Rattle.control_parser.specs.declared.state.State.TheVariants as state
-use Rattle.control_parser.specs.declared.state.SequenceText.{SequenceText}
-use Rattle.control_parser.specs.Grammar.{Rest, nothing, escape, control, string, osc, is_graphic, with_front, functions}
-use Rattle.control_parser.specs.Grammar.{functions_behind}
-use Rattle.control_parser.specs.Kept.{kept, kept_text, parts, opening, functions_of_pieces, StandsFor}
-use Rattle.control_parser.proofs.Machine.{machine, functions_behind-machine}
+use Rattle.control_parser.specs.Grammar.{Rest, nothing, is_graphic, with_front, functions, functions_behind}
+use Rattle.control_parser.specs.Kept.{kept, functions_of_pieces}
+use Rattle.control_parser.proofs.Machine.{machine, functions-machine}
 use Rattle.control_parser.proofs.Openings.{functions-go_on}
-use Rattle.control_parser.proofs.Spelled.{both, all_more, print_reads}
+use Rattle.control_parser.proofs.Spelled.{all_weaker, print_reads}
 
 pub functions-none : functions [] ≡ ([], nothing)
 unfolding functions_behind
@@ -28,65 +22,35 @@ functions-none = refl
 behind_front : (pieces : List (List Unit)) (us : List Unit)
     → functions (us ++ flat_map (λ piece. piece) pieces) ≡ with_front (functions us).0
     (functions_of_pieces (functions us).1 pieces)
-behind_front [] us = ap functions (append-nil us)
-    ∙ ap (λ fs. (fs, (functions us).1)) (sym (append-nil (functions us).0))
+behind_front [] us = rw (append-nil us, append-nil (functions us).0) refl
 behind_front (piece ∷ pieces) us =
-    let given = (functions us).0 in
-    let here = functions (opening (functions us).1 ++ piece) in
-    let later = functions_of_pieces here.1 pieces in
-    ap functions (sym (append_assoc us piece (flat_map (λ piece. piece) pieces)))
-    ∙ behind_front pieces (us ++ piece)
-    ∙ ap (λ (x : List Func × Rest). with_front x.0 (functions_of_pieces x.1 pieces)) (functions-go_on us piece)
-    ∙ ap (λ fs. (fs, later.1)) (append_assoc given here.0 later.0)
+    rw (
+      ← append_assoc us piece (flat_map (λ piece. piece) pieces),
+      behind_front pieces (us ++ piece),
+      functions-go_on us piece,
+      append_assoc,
+    ) refl
 
 pub functions_of_pieces-whole : (pieces : List (List Unit))
     → functions_of_pieces nothing pieces ≡ functions (flat_map (λ piece. piece) pieces)
-functions_of_pieces-whole pieces =
-    sym (behind_front pieces []
-    ∙ ap (λ (x : List Func × Rest). with_front x.0 (functions_of_pieces x.1 pieces)) functions-none)
+functions_of_pieces-whole pieces = sym (rw functions-none at (behind_front pieces []))
 
 machine-graphic : (codes : List ℕ) → list_all is_graphic codes ≡ true
     → machine nothing (map (λ c. Code c) codes) ≡ (map (λ c. Print c) codes, nothing)
 unfolding machine
 machine-graphic [] h = refl
-machine-graphic (c ∷ codes) h =
-    let p = both (is_graphic c) (list_all is_graphic codes) h in
-    ap (λ (x : List Func × Rest). with_front x.0 (machine x.1 (map (λ c. Code c) codes))) (print_reads c p.0)
-    ∙ ap (with_front (Print c ∷ [])) (machine-graphic codes p.1)
+machine-graphic (c ∷ codes) h = rw (print_reads c (grind arith), machine-graphic codes (grind arith)) refl
 
 pub functions-graphic : (codes : List ℕ) → list_all is_graphic codes ≡ true
     → functions (map (λ c. Code c) codes) ≡ (map (λ c. Print c) codes, nothing)
-functions-graphic codes h = functions_behind-machine 0 (map (λ c. Code c) codes) ∙ machine-graphic codes h
-
-plain_graphic : (codes : List ℕ) → list_all is_plain codes ≡ true → list_all is_graphic codes ≡ true
-plain_graphic [] h = refl
-plain_graphic (c ∷ codes) h =
-    let p = both (is_plain c) (list_all is_plain codes) h in
-    let low : is_plain c ≡ true = p.0 in
-    all_more is_graphic c codes (grind (arith, nat_tests)) (plain_graphic codes p.1)
+functions-graphic codes h = functions-machine (map (λ c. Code c) codes) ∙ machine-graphic codes h
 
 pub functions-plain : (codes : List ℕ) → list_all is_plain codes ≡ true
     → functions (map (λ c. Code c) codes) ≡ (map (λ c. Print c) codes, nothing)
-functions-plain codes h = functions-graphic codes (plain_graphic codes h)
+functions-plain codes h =
+    functions-graphic codes (all_weaker is_plain is_graphic (λ c p. grind (arith, nat_tests)) codes h)
 
 -- only `nothing` is kept as Ground
 pub kept-ground : (r : Rest) → kept r ≡ state.Ground → r ≡ nothing
 unfolding kept
-kept-ground nothing h = refl
-kept-ground (escape t) h = by (nat_le (length t) 2) h
-  where
-    by : (b : Bool) → cond b (state.Escape t) state.EscapeIgnored ≡ state.Ground → escape t ≡ nothing
-    by true h = absurd (cc)
-    by false h = absurd (cc)
-kept-ground (control t) h = by (parts t) h
-  where
-    by : (o : Option SequenceText) → kept_text o ≡ state.Ground → control t ≡ nothing
-    by None h = absurd (cc)
-    by (Some x) h = absurd (cc)
-kept-ground string h = absurd (cc)
-kept-ground osc h = absurd (cc)
-
-pub idle-whole : (old : State) (units : List Unit) → StandsFor old units
-    → (old ≡ state.Ground) ↔ ((functions units).1 ≡ nothing)
-unfolding kept
-idle-whole old units h = (λ e. kept-ground (functions units).1 (sym h ∙ e), λ e. h ∙ ap kept e)
+kept-ground r h = grind (arith, nat_tests)

@@ -1,7 +1,7 @@
 -- Spelled functions, one after another.
-use Rattle.std.proofs.Common.{◌≡◌, ℕ, List, [], ◌∷◌, ◌++◌, map, true, ap, ◌∙◌, subst}
+use Rattle.std.proofs.Common.{◌≡◌, ℕ, List, [], ◌∷◌, ◌++◌, map, true, ap, ◌∙◌, subst, arith}
 use Rattle.std.specs.List.{AllByRecursion, flat_map, list_all}
-use Rattle.charsets.specs.Units.{units, is_plain}
+use Rattle.charsets.specs.Units.{is_plain}
 use Rattle.charsets.specs.declared.unit.Coding.{Coding}
 use Rattle.charsets.specs.declared.unit.Coding.TheVariants.{Utf8}
 use Rattle.charsets.specs.declared.unit.Unit.{Unit}
@@ -10,7 +10,7 @@ use Rattle.charsets.proofs.Pieces.{units-plain}
 use Rattle.charsets.proofs.Pushes.{units-none}
 use Rattle.control_parser.specs.declared.func.Func.{Func}
 use Rattle.control_parser.specs.declared.func.Func.TheVariants.{Print}
-use Rattle.control_parser.specs.Grammar.{Rest, with_front, functions}
+use Rattle.control_parser.specs.Grammar.{functions}
 use Rattle.control_parser.specs.Spelling.{spelling, IsGivenInUtf8, ReadsAs}
 use Rattle.control_parser.proofs.Keeping.{functions-append}
 use Rattle.control_parser.proofs.Pieces.{functions-none, functions-plain}
@@ -19,16 +19,7 @@ use Rattle.control_parser.proofs.Spelled.{spelled_reads}
 pub reads-append : (coding : Coding) (front later : List ℕ) (fs gs : List Func) → ReadsAs coding front fs
     → ReadsAs coding later gs
     → ReadsAs coding (front ++ later) (fs ++ gs)
-reads-append coding front later fs gs h k =
-    let us = (units coding front).0 in
-    let vs = (units coding later).0 in
-    let e = units-append coding front later h.0 in (
-      ap (λ (x : List Unit × List ℕ). x.1) e ∙ k.0,
-      ap (λ (x : List Unit × List ℕ). functions x.0) e
-          ∙ functions-append us vs (ap (λ (x : List Func × Rest). x.1) h.1)
-          ∙ ap (λ (x : List Func × Rest). with_front x.0 (functions vs)) h.1
-          ∙ ap (with_front fs) k.1,
-    )
+reads-append coding front later fs gs h k = grind (arith, units-append, functions-append)
 
 pub reads-spelled : (fs : List Func) → AllByRecursion IsGivenInUtf8 fs → ReadsAs Utf8 (flat_map spelling fs) fs
 reads-spelled [] h =

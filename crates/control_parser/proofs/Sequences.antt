@@ -1,24 +1,23 @@
 -- A complete control sequence.
-use Rattle.std.proofs.Common.{◌≡◌, ℕ, zero, suc, ◌+◌, ◌-◌, ◌<◌, ◌≤◌, Bool, true, false, cond, arith, List, [], ◌∷◌}
-use Rattle.std.proofs.Common.{◌++◌, length, take, get_or, Some, refl, sym, ap, ◌∙◌, subst, lt-ltb}
+use Rattle.std.proofs.Common.{◌≡◌, ℕ, zero, suc, ◌+◌, ◌-◌, ◌<◌, ◌≤◌, Bool, true, arith, List, [], ◌∷◌, ◌++◌, length}
+use Rattle.std.proofs.Common.{take, get_or, Some, refl, sym, ap, ◌∙◌, subst}
 use Rattle.std.specs.List.{list_all}
 use Rattle.std.proofs.lemmas.List.{take_more}
+use Rattle.std.proofs.lemmas.List.Folds.{list_all_more}
 use Rattle.charsets.specs.declared.unit.Coding.TheVariants.{Utf8}
 use Rattle.control_parser.specs.declared.func.Func.TheVariants.{Csi}
 use Rattle.control_parser.specs.declared.state.SequenceText.{SequenceText}
-use Rattle.control_parser.specs.Grammar.{is_sequence_text, nothing}
+use Rattle.control_parser.specs.Grammar.{is_sequence_text}
 use Rattle.control_parser.specs.Steps.{text_grown, no_text, valued, TakesDigits}
 use Rattle.control_parser.specs.Kept.{parts}
 use Rattle.control_parser.specs.Spelling.{ReadsAs}
-use Rattle.control_parser.specs.Text.{fields, is_intermediate, is_digit, longer, value_of, last_value, with_last}
-use Rattle.control_parser.specs.Text.{digit_added}
-use Rattle.std.specs.Prelude.{◌==◌}
+use Rattle.control_parser.specs.Text.{fields, is_digit, longer, value_of, with_last}
 use Rattle.std.proofs.lemmas.Bool.Decides.{nat_tests}
-use Rattle.control_parser.proofs.Digits.{digit-last, last-stays}
+use Rattle.control_parser.proofs.Digits.{digit-last}
 use Rattle.control_parser.proofs.Machine.{machine}
 use Rattle.control_parser.proofs.Texts.{grown, parts-push}
 use Rattle.control_parser.proofs.Keeping.{control_of-parts}
-use Rattle.control_parser.proofs.Spelled.{all_more, all-append, control_run, last_low, reads_low}
+use Rattle.control_parser.proofs.Spelled.{control_run, last_low, reads_low}
 
 pub no-text : parts [] ≡ Some no_text
 unfolding parts fields
@@ -34,10 +33,7 @@ text-more bytes at text next l h g =
 
 pub inside-more : (bytes : List ℕ) (at : ℕ) → at < length bytes → list_all is_sequence_text (take at bytes) ≡ true
     → is_sequence_text (get_or bytes at 0) ≡ true → list_all is_sequence_text (take (at + 1) bytes) ≡ true
-inside-more bytes at l h g =
-    ap (list_all is_sequence_text) (take_more bytes at 0 l)
-    ∙ all-append is_sequence_text (take at bytes) (get_or bytes at 0 ∷ []) h
-    (all_more is_sequence_text (get_or bytes at 0) [] g refl)
+inside-more bytes at l h g = rw (list_all_more is_sequence_text bytes at 0 l, h, g) refl
 
 -- the text and a final
 whole-text : (text : List ℕ) (t : SequenceText) (last : ℕ) → list_all is_sequence_text text ≡ true → parts text ≡ Some t
@@ -47,7 +43,7 @@ unfolding machine
 whole-text text t last h p above below =
     reads_low (0x1B ∷ 0x5B ∷ (text ++ last ∷ [])) (Csi t.mark t.params t.intermediates last ∷ [])
     (last_low text last h below)
-    (control_run [] text last h above below ∙ ap (λ l. (l, nothing)) (control_of-parts text last (Some t) p))
+    (control_run text last h above below ∙ rw (control_of-parts text last, p) refl)
 
 pub sequence-whole : (bytes : List ℕ) (at : ℕ) (t : SequenceText) → at < length bytes
     → list_all is_sequence_text (take at bytes) ≡ true → parts (take at bytes) ≡ Some t
@@ -60,22 +56,9 @@ sequence-whole bytes at t l h p above below =
     (whole-text (take at bytes) t (get_or bytes at 0) h p above below)
 
 -- the text with one more digit, which isn't written down yet
-pub digit-grown : (t : SequenceText) (value c : ℕ) → TakesDigits t → is_digit c ≡ true
+digit-grown : (t : SequenceText) (value c : ℕ) → TakesDigits t → is_digit c ≡ true
     → text_grown (valued t value) c ≡ Some (valued (record t { begun = true }) (longer value (c - 0x30)))
-digit-grown t value c takes d =
-    let a : is_intermediate c ≡ false = grind (arith, nat_tests) in
-    let e : (length t.intermediates == 0) ≡ true = ap (λ (v : List ℕ). length v == 0) takes.inside in
-    rw (a, e, d)
-    (ap (λ (b : Bool). Some
-    (record t {
-      begun = true;
-      params = cond b (with_last t.params value) (digit_added (with_last t.params value) (c - 0x30));
-    })) takes.few
-    ∙ ap (λ (v : List ℕ). Some (record t { begun = true; params = v })) (digit-last t.params value (c - 0x30)))
-
--- the text whose last parameter is written down
-pub valued-stays : (t : SequenceText) → Some (valued t (last_value t.params)) ≡ Some t
-valued-stays t = ap (λ (v : List ℕ). Some (record t { params = v })) (last-stays t.params)
+digit-grown t value c takes d = grind (arith, nat_tests, digit-last t.params value (c - 0x30))
 
 pub no-digits : TakesDigits no_text
 no-digits = record { few = refl; inside = refl }
@@ -86,58 +69,27 @@ pub record IsRead (bytes : List ℕ) (at : ℕ) (t : SequenceText) (value : ℕ)
   pub text : parts (take at bytes) ≡ Some (valued t value)
   pub digits : takes_digits ≡ true → TakesDigits t
 
-pub digit-read : (bytes : List ℕ) (at : ℕ) (t : SequenceText) (value next : ℕ) (takes : Bool) → at < length bytes
-    → IsRead bytes at t value takes → takes ≡ true
-    → is_digit (get_or bytes at 0) ≡ true → next ≡ longer value (get_or bytes at 0 - 0x30)
-    → IsRead bytes (at + 1) (record t { begun = true }) next takes
-digit-read bytes at t value next takes l r on d n =
-    let c : ℕ = get_or bytes at 0 in
-    let is : is_sequence_text c ≡ true = grind (arith, nat_tests) in
-    let k = r.digits on in
-    record {
-      inside = inside-more bytes at l r.inside is;
-      text = text-more bytes at (valued t value) _ l r.text (digit-grown t value c k d)
-          ∙ ap (λ (v : ℕ). Some (valued (record t { begun = true }) v)) (sym n);
-      digits = λ y. record { few = k.few; inside = k.inside };
-    }
-
-pub other-read : (bytes : List ℕ) (at : ℕ) (t whole grown-text : SequenceText) (value next : ℕ) (takes takes' : Bool)
-    → at < length bytes → IsRead bytes at t value takes
-    → is_sequence_text (get_or bytes at 0) ≡ true → whole ≡ valued t value
-    → text_grown whole (get_or bytes at 0) ≡ Some grown-text → next ≡ last_value grown-text.params
-    → (takes' ≡ true → TakesDigits grown-text) → IsRead bytes (at + 1) grown-text next takes'
-other-read bytes at t whole grown-text value next takes takes' l r is w g n y = record {
-  inside = inside-more bytes at l r.inside is;
-  text = text-more bytes at (valued t value) grown-text l r.text
-      (ap (λ (v : SequenceText). text_grown v (get_or bytes at 0)) (sym w) ∙ g)
-      ∙ sym (valued-stays grown-text) ∙ ap (λ (v : ℕ). Some (valued grown-text v)) (sym n);
-  digits = y;
-}
-
--- the text whose last parameter is written down, and a new parameter after a semicolon
-last_pushed : (values : List ℕ) → last_value (values ++ 0 ∷ []) ≡ 0
-last_pushed [] = refl
-last_pushed (n ∷ []) = refl
-last_pushed (n ∷ m ∷ ns) = last_pushed (m ∷ ns)
-
-pub length-with_last : (values : List ℕ) (value : ℕ) → length (with_last values value) ≡ length values
-length-with_last [] value = refl
-length-with_last (n ∷ []) value = refl
-length-with_last (n ∷ m ∷ ns) value = ap suc (length-with_last (m ∷ ns) value)
-
 -- the bytes up to here are digits and semicolons; that something has begun is not written down
 pub record IsNumerals (bytes : List ℕ) (at : ℕ) (t : SequenceText) (value : ℕ) : Type 0 where
   pub begun : Bool
   pub read : IsRead bytes at (record t { begun = begun }) value true
 
-pub number-read : (bytes : List ℕ) (at : ℕ) (t : SequenceText) (value next : ℕ) → at < length bytes
+number-read : (bytes : List ℕ) (at : ℕ) (t : SequenceText) (value next : ℕ) → at < length bytes
     → IsNumerals bytes at t value
     → is_digit (get_or bytes at 0) ≡ true → next ≡ longer value (get_or bytes at 0 - 0x30)
     → IsNumerals bytes (at + 1) t next
-number-read bytes at t value next l r d n = record {
-  begun = true;
-  read = digit-read bytes at (record t { begun = r.begun }) value next true l r.read refl d n;
-}
+number-read bytes at t value next l r d n =
+    let now : SequenceText = record t { begun = r.begun } in
+    let k = r.read.digits refl in
+    record {
+      begun = true;
+      read = record {
+        inside = inside-more bytes at l r.read.inside (grind (arith, nat_tests));
+        text = rw n
+            (text-more bytes at (valued now value) _ l r.read.text (digit-grown now value (get_or bytes at 0) k d));
+        digits = λ y. record { few = k.few; inside = k.inside };
+      };
+    }
 
 -- after the next `count` digits: `rest` has the bytes from there on
 pub value-read : (bytes rest : List ℕ) (at count : ℕ) (t : SequenceText) → at + count ≤ length bytes
@@ -152,11 +104,15 @@ value-read bytes rest at (suc count) t room same r digits =
     (ap is_digit (sym here) ∙ digits count (omega arith))
     (ap (λ d. longer (value_of rest count) (d - 0x30)) here))
 
+-- a new parameter after a semicolon
 next-grown : (t : SequenceText) → TakesDigits t → length t.params < 16
     → text_grown t 0x3B ≡ Some (record t { begun = true; params = t.params ++ 0 ∷ [] })
-next-grown t takes few =
-    let e : (length t.intermediates == 0) ≡ true = ap (λ (v : List ℕ). length v == 0) takes.inside in
-    rw (e, lt-ltb (length t.params) 16 few) refl
+next-grown t takes few = grind (arith, nat_tests)
+
+last-pushed : (values : List ℕ) → with_last (values ++ 0 ∷ []) 0 ≡ values ++ 0 ∷ []
+last-pushed [] = refl
+last-pushed (n ∷ []) = refl
+last-pushed (n ∷ m ∷ ns) = ap (λ l. n ∷ l) (last-pushed (m ∷ ns))
 
 pub next-read : (bytes : List ℕ) (at : ℕ) (t : SequenceText) (value : ℕ) (params : List ℕ) → at < length bytes
     → IsNumerals bytes at t value
@@ -167,9 +123,11 @@ next-read bytes at t value params l r c p few =
     let whole : SequenceText = record t { begun = r.begun; params = params } in
     record {
       begun = true;
-      read = other-read bytes at (record t { begun = r.begun }) whole
-          (record whole { begun = true; params = params ++ 0 ∷ [] }) value 0 true true l r.read (rw c refl)
-          (ap (λ (v : List ℕ). record t { begun = r.begun; params = v }) p)
-          (ap (text_grown whole) c ∙ next-grown whole (record { few = k.few; inside = k.inside }) few)
-          (sym (last_pushed params)) (λ y. record { few = k.few; inside = k.inside });
+      read = record {
+        inside = inside-more bytes at l r.read.inside (rw c refl);
+        text = rw (last-pushed params)
+            (text-more bytes at whole _ l (rw p r.read.text)
+            (rw c (next-grown whole (record { few = k.few; inside = k.inside }) few)));
+        digits = λ y. record { few = k.few; inside = k.inside };
+      };
     }

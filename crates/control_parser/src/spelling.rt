@@ -132,6 +132,7 @@ fn spelled(func: &Func) -> Room
     room
 }
 
+#[tactic(auto, using(crate::proofs::Spelled::spelled_reads))]
 /// Appends the 7-bit spelling of a function (ECMA-48, 5.3 and 5.4). A parameter 0 is spelled as an
 /// empty one, so that SGR 0 is `CSI m`. `NoMemory` if `out` can't grow.
 pub fn spell(func: &Func, out: &mut Vec<u8>) -> Result<(), NoMemory>

@@ -2,9 +2,8 @@
 
 ghost use Rattle.std.specs.Prelude.{◌≡◌, ◌==◌, true, false, Some, None, IsTrue};
 ghost use Rattle.control_parser.specs.Text.{is_intermediate};
-ghost use Rattle.control_parser.specs.Steps.{TakesDigits, no_text, text_grown, begun_step};
-ghost use Rattle.control_parser.specs.Steps.{broken_step, escape_step, breaks_string};
-ghost use Rattle.control_parser.specs.Steps.{step_of, alone_of};
+ghost use Rattle.control_parser.specs.Steps.{no_text, text_grown, begun_step, broken_step};
+ghost use Rattle.control_parser.specs.Steps.{escape_step, step_of, alone_of};
 ghost use Rattle.control_parser.specs.Grammar.{code, is_control, is_c1};
 
 use crate::func::Func;
@@ -76,12 +75,6 @@ fn is_intermediate(c: u32) -> bool
     0x1F < c && c < 0x30
 }
 
-fn ends_string(c: u32) -> bool
-    ensures { result ≡ breaks_string c }
-{
-    c == CAN || c == SUB || c == ESC || is_c1(c)
-}
-
 impl SequenceText {
     /// The empty text of a control sequence.
     pub fn empty() -> SequenceText
@@ -93,18 +86,6 @@ impl SequenceText {
             params: Params::absent(),
             over: false,
             intermediates: Intermediates::none(),
-        }
-    }
-
-    // The control sequence with this text and this final byte.
-    fn ended(&self, last: u8) -> Func
-        ensures { result ≡ Func.Csi self.now.mark self.now.params self.now.intermediates last }
-    {
-        Func::Csi {
-            mark: self.mark,
-            params: self.params,
-            intermediates: self.intermediates,
-            last,
         }
     }
 
@@ -217,7 +198,9 @@ impl State {
         match self {
             State::Ground => return self.break_off(unit, false),
             State::Osc if c == BEL => *self = State::Ground,
-            State::String | State::Osc if ends_string(c) => return self.break_off(unit, true),
+            State::String | State::Osc if c == CAN || c == SUB || c == ESC || is_c1(c) => {
+                return self.break_off(unit, true);
+            }
             State::String | State::Osc => {}
             _ if is_executed(c) => return Some(Func::Control(c as u8)),
             _ if c == DEL => {}
@@ -233,7 +216,12 @@ impl State {
                 }
             }
             State::Control(text) if 0x3F < c && c < 0x7F => {
-                let func = text.ended(c as u8);
+                let func = Func::Csi {
+                    mark: text.mark,
+                    params: text.params,
+                    intermediates: text.intermediates,
+                    last: c as u8,
+                };
                 *self = State::Ground;
                 return Some(func);
             }

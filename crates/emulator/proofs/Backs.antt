@@ -1,10 +1,10 @@
 -- A page that is moved back, line by line.
-use Rattle.std.proofs.Common.{◌≡◌, ℕ, ◌+◌, ◌-◌, ◌<◌, ◌≤◌, min, List, [], ◌++◌, length, take, reverse, get_or, sym, ap}
+use Rattle.std.proofs.Common.{◌≡◌, ℕ, ◌+◌, ◌-◌, ◌<◌, ◌≤◌, List, [], ◌++◌, length, take, reverse, get_or, sym, ap}
 use Rattle.std.proofs.Common.{◌∙◌, subst, arith, ⊎_elim, length-append, Bor, Option, None, Some}
 use Rattle.std.specs.Prelude.{option_copied, slice_get, unwrap_or}
 use Rattle.std.proofs.lemmas.Option.{slice_get-get_or}
 use Rattle.std.proofs.lemmas.List.{length-take-le, get_or-take, get_or_append_left, get_or-append_right, get_or-reverse}
-use Rattle.std.proofs.lemmas.List.{get_or_past, take_all, take_min, length-reverse}
+use Rattle.std.proofs.lemmas.List.{get_or_past, take_all, length-reverse}
 use Rattle.std.proofs.lemmas.Bool.{cases_lt}
 use Rattle.cells.specs.declared.cell.Cell.{Cell}
 use Rattle.cells.specs.Line.{IsPaired}
@@ -52,6 +52,16 @@ pub kept-line : (found : Option (Bor (List Cell))) (lent default : Bor (List Cel
 kept-line None lent default lines n l e u = let s = slice_get-get_or lines n [] l in absurd (cc)
 kept-line (Some line) lent default lines n l e u = let s = slice_get-get_or lines n [] l in cc
 
+-- what holds of each line that is kept and of each line of the page
+moved-all : (P : List Cell → Type 0) (back line : ℕ) (x : Screen) → back ≤ length x.kept
+    → ((n : ℕ) → n < length x.kept → P (line_at x.kept n)) → ((n : ℕ) → n < length x.page → P (line_at x.page n))
+    → line < length x.page → P (line_at (moved_back back x) line)
+moved-all P back line x h kept page l =
+    ⊎_elim
+    (λ (a : line < back). subst P (sym (moved-above back line x h a l)) (kept (back - 1 - line) (omega arith)))
+    (λ (b : back ≤ line). subst P (sym (moved-below back line x h b l)) (page (line - back) (omega arith)))
+    (cases_lt line back)
+
 -- it is a page of the screen's size
 pub moved-sized : (back : ℕ) (x : Screen) → IsSound x → back ≤ length x.kept
     → IsPage x.state.rows x.state.columns (moved_back back x)
@@ -59,28 +69,15 @@ moved-sized back x s h =
     let n : length x.page ≡ x.state.rows = s.sized.height in
     record {
       height = length-moved back x ∙ n;
-      width = λ line l.
-          ⊎_elim
-          (λ (a : line < back). ap length (moved-above back line x h a (omega arith))
-          ∙ s.kept.width (back - 1 - line) (omega arith))
-          (λ (b : back ≤ line). ap length (moved-below back line x h b (omega arith))
-          ∙ s.sized.width (line - back) (omega arith))
-          (cases_lt line back);
+      width = λ line l. moved-all (λ cells. length cells ≡ x.state.columns) back line x h s.kept.width
+          (λ k m. s.sized.width k (omega arith)) (omega arith);
       paired = λ line.
           ⊎_elim
-          (λ (l : line < length x.page).
-          ⊎_elim
-          (λ (a : line < back). subst IsPaired (sym (moved-above back line x h a l)) (s.kept.paired (back - 1 - line)))
-          (λ (b : back ≤ line). subst IsPaired (sym (moved-below back line x h b l)) (s.sized.paired (line - back)))
-          (cases_lt line back))
+          (moved-all IsPaired back line x h (λ k m. s.kept.paired k) (λ k m. s.sized.paired k))
           (λ (l : length x.page ≤ line). let m : length (moved_back back x) ≡ length x.page = length-moved back x in
           subst IsPaired (sym (get_or_past (moved_back back x) line [] (omega arith))) IsPaired-nil)
           (cases_lt line (length x.page));
     }
-
--- all lines of the scrollback, if they are fewer
-pub moved-fewer : (offset : ℕ) (x : Screen) → moved_back (min offset (length x.kept)) x ≡ moved_back offset x
-moved-fewer offset x = ap (λ (lines : Page). take (length x.page) (reverse lines ++ x.page)) (take_min offset x.kept)
 
 -- no line of the scrollback
 pub moved-none : (x : Screen) → moved_back 0 x ≡ x.page

@@ -56,29 +56,36 @@ with_last-pushed [] value = refl
 with_last-pushed (n ∷ []) value = refl
 with_last-pushed (n ∷ m ∷ ns) value = ap (λ l. n ∷ l) (with_last-pushed (m ∷ ns) value)
 
--- After `count` digits from `at` on: `rest` has the bytes from there on, and the parameters before them stand in an
--- array.
-pub numeral-read : (bytes : List ℕ) (at behind value : ℕ) (mark : Option ℕ) (params : List ℕ)
+-- The byte before `next` is this one, and the bytes before it are parameters, the last of which has this value.
+pub record IsBehind (bytes : List ℕ) (next : ℕ) (mark : Option ℕ) (params : List ℕ) (value last : ℕ) : Type 0 where
+  pub some : 0 < next
+  pub inside : next ≤ length bytes
+  pub read : IsNumerals bytes (next - 1) (record no_text { mark = mark; params = params ++ 0 ∷ [] }) value
+  pub here : last ≡ get_or bytes (next - 1) 0
+
+-- after a parameter's digits from `at` on, which a list reads that has the bytes from there on
+pub numeral-behind : (bytes : List ℕ) (at behind value last : ℕ) (mark : Option ℕ) (params : List ℕ)
     → at + behind ≤ length bytes → 0 < behind
     → IsNumerals bytes at (record no_text { mark = mark; params = params ++ 0 ∷ [] }) 0
     → value ≡ value_of (take (length bytes - at) (drop at bytes)) (behind - 1)
     → ((k : ℕ) → k < behind - 1 → is_digit (get_or (take (length bytes - at) (drop at bytes)) k 0) ≡ true)
-    → IsNumerals bytes (at + behind - 1) (record no_text { mark = mark; params = params ++ 0 ∷ [] }) value
-numeral-read bytes at behind value mark params room some read is digits =
+    → last ≡ get_or (take (length bytes - at) (drop at bytes)) (behind - 1) 0
+    → IsBehind bytes (at + behind) mark params value last
+numeral-behind bytes at behind value last mark params room some read is digits c =
     let rest : List ℕ = take (length bytes - at) (drop at bytes) in
     let t : SequenceText = record no_text { mark = mark; params = params ++ 0 ∷ [] } in
-    let same : (k : ℕ) → k < behind - 1 → get_or rest k 0 ≡ get_or bytes (at + k) 0 = λ k h.
-    get_or-take (length bytes - at) (drop at bytes) k 0 (omega (arith, h, room)) ∙ get_or-drop at bytes k 0 in
-    subst (λ n. IsNumerals bytes n t value) (omega (arith, some))
-    (subst (λ v. IsNumerals bytes (at + (behind - 1)) t v) (sym is)
-    (value-read bytes rest at (behind - 1) t (omega (arith, room)) same read digits))
-
-pub numeral-last : (bytes : List ℕ) (at behind c : ℕ) → at + behind ≤ length bytes → 0 < behind
-    → c ≡ get_or (take (length bytes - at) (drop at bytes)) (behind - 1) 0 → c ≡ get_or bytes (at + behind - 1) 0
-numeral-last bytes at behind c room some is =
     let place : at + (behind - 1) ≡ at + behind - 1 = omega (arith, some) in
-    is ∙ get_or-take (length bytes - at) (drop at bytes) (behind - 1) 0 (omega (arith, some, room))
-    ∙ get_or-drop at bytes (behind - 1) 0 ∙ ap (λ n. get_or bytes n 0) place
+    let same : (k : ℕ) → k < behind → get_or rest k 0 ≡ get_or bytes (at + k) 0 = λ k h.
+    get_or-take (length bytes - at) (drop at bytes) k 0 (omega (arith, h, room)) ∙ get_or-drop at bytes k 0 in
+    record {
+      some = omega (arith, some);
+      inside = room;
+      read = subst (λ n. IsNumerals bytes n t value) place
+          (subst (λ v. IsNumerals bytes (at + (behind - 1)) t v) (sym is)
+          (value-read bytes rest at (behind - 1) t (omega (arith, room)) (λ k h. same k (omega (arith, h))) read
+          digits));
+      here = c ∙ same (behind - 1) (omega (arith, some)) ∙ ap (λ n. get_or bytes n 0) place;
+    }
 
 -- the parameters, with one more at their end
 params-more : (params : List ℕ) (count value : ℕ) → count < length params
@@ -87,32 +94,27 @@ params-more params count value few =
     with_last-pushed (take count params) value ∙ sym (take_more_set params count value few)
 
 -- a semicolon after a parameter
-pub parameter-read : (bytes : List ℕ) (at count value : ℕ) (mark : Option ℕ) (params : List ℕ) → at < length bytes
-    → IsNumerals bytes at (record no_text { mark = mark; params = take count params ++ 0 ∷ [] }) value
-    → get_or bytes at 0 ≡ 0x3B → count < 15 → count < length params
-    → IsNumerals bytes (at + 1)
+pub parameter-read : (bytes : List ℕ) (next count value last : ℕ) (mark : Option ℕ) (params : List ℕ)
+    → IsBehind bytes next mark (take count params) value last → last ≡ 0x3B → count < 15 → count < length params
+    → IsNumerals bytes next
     (record no_text { mark = mark; params = take (count + 1) (set params count value) ++ 0 ∷ [] }) 0
-parameter-read bytes at count value mark params room read c few inside =
-    let t : SequenceText = record no_text { mark = mark; params = take count params ++ 0 ∷ [] } in
-    next-read bytes at t value (take (count + 1) (set params count value)) room read c
-    (sym (params-more params count value inside))
-    (omega (
-      arith,
-      few,
-      length-take-le (count + 1) (set params count value)
-          (omega (arith, inside, length-set params count value)),
-    ))
+parameter-read bytes next count value last mark params h c few inside =
+    let now : List ℕ = take (count + 1) (set params count value) in
+    let n : length now ≡ count + 1 = length-take-le (count + 1) (set params count value)
+    (omega (arith, inside, length-set params count value)) in
+    subst (λ k. IsNumerals bytes k (record no_text { mark = mark; params = now ++ 0 ∷ [] }) 0) (omega (arith, h.some))
+    (next-read bytes (next - 1) (record no_text { mark = mark; params = take count params ++ 0 ∷ [] }) value now
+    (omega (arith, h.some, h.inside)) h.read (sym h.here ∙ c) (sym (params-more params count value inside))
+    (omega (arith, few, n)))
 
 -- a final byte after a parameter
-pub final-read : (bytes : List ℕ) (at count value : ℕ) (mark : Option ℕ) (params : List ℕ) → at < length bytes
-    → IsNumerals bytes at (record no_text { mark = mark; params = take count params ++ 0 ∷ [] }) value
-    → 0x3F < get_or bytes at 0 → get_or bytes at 0 < 0x7F → count < length params
-    → ReadsAs Utf8 (0x1B ∷ 0x5B ∷ take (at + 1) bytes)
-    (Csi mark (take (count + 1) (set params count value)) [] (get_or bytes at 0) ∷ [])
-final-read bytes at count value mark params room read above below inside =
+pub final-read : (bytes : List ℕ) (next count value last : ℕ) (mark : Option ℕ) (params : List ℕ)
+    → IsBehind bytes next mark (take count params) value last → 0x3F < last → last < 0x7F → count < length params
+    → ReadsAs Utf8 (0x1B ∷ 0x5B ∷ take next bytes) (Csi mark (take (count + 1) (set params count value)) [] last ∷ [])
+final-read bytes next count value last mark params h above below inside =
     let t : SequenceText = record no_text
-    { begun = read.begun; mark = mark; params = take count params ++ 0 ∷ [] } in
-    subst
-    (λ (v : List ℕ). ReadsAs Utf8 (0x1B ∷ 0x5B ∷ take (at + 1) bytes) (Csi mark v [] (get_or bytes at 0) ∷ []))
-    (params-more params count value inside)
-    (sequence-whole bytes at (valued t value) room read.read.inside read.read.text above below)
+    { begun = h.read.begun; mark = mark; params = take count params ++ 0 ∷ [] } in
+    let place : next - 1 + 1 ≡ next = omega (arith, h.some) in
+    let whole = sequence-whole bytes (next - 1) (valued t value) (omega (arith, h.some, h.inside)) h.read.read.inside
+    h.read.read.text (omega (arith, above, h.here)) (omega (arith, below, h.here)) in
+    rw (sym place, sym (params-more params count value inside), h.here) whole

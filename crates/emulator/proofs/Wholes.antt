@@ -1,156 +1,231 @@
 -- Complete functions at the beginning of some bytes, performed at once.
-use Rattle.std.proofs.Common.{◌≡◌, ℕ, suc, ◌+◌, ◌-◌, ◌<◌, ◌≤◌, List, [], ◌∷◌, ◌++◌, length, take, drop, get_or, refl}
-use Rattle.std.proofs.Common.{sym, ap, ◌∙◌, subst, append-nil, true, arith}
-use Rattle.std.proofs.lemmas.List.{take_all, length-drop}
+use Rattle.std.proofs.Common.{◌≡◌, ℕ, zero, suc, ◌+◌, ◌-◌, ◌<◌, ◌≤◌, ◌&&◌, Bool, true, false, List, [], ◌∷◌, ◌++◌, length, take, drop}
+use Rattle.std.proofs.Common.{get_or, map, if◌then◌else◌, refl, sym, ap, ◌∙◌, subst, append-nil, arith}
+use Rattle.std.specs.List.{list_all, prefix_len}
+use Rattle.std.proofs.lemmas.Bool.Decides.{nat_tests}
+use Rattle.std.proofs.lemmas.List.{take_all, take_more, take-take, get_or-take, length-take, length-drop}
+use Rattle.std.proofs.lemmas.List.Elements.{All-weaker}
+use Rattle.std.proofs.lemmas.List.Sums.{AllPass-from_list_all, list_all-from_AllPass, prefix_len_passes}
+use Rattle.std.proofs.Math.Seq.{take-add}
 use Rattle.charsets.specs.declared.unit.Coding.{Coding}
 use Rattle.charsets.specs.declared.unit.Coding.TheVariants.{Utf8}
-use Rattle.charsets.specs.declared.unit.Unit.TheVariants as codes
-use Rattle.charsets.specs.Units.{Decoding, units}
+use Rattle.charsets.specs.declared.unit.Unit.TheVariants as units
+use Rattle.charsets.specs.Text.{text, IsText}
+use Rattle.charsets.specs.Units as whole
+use Rattle.charsets.specs.Units.{Decoding, is_plain, is_character}
+use Rattle.charsets.proofs.Pieces.{codes-plain}
 use Rattle.control_parser.specs.declared.func.Func.{Func}
-use Rattle.control_parser.specs.declared.func.Func.TheVariants.{Print}
-use Rattle.control_parser.specs.Grammar.{is_graphic, nothing, functions}
+use Rattle.control_parser.specs.declared.func.Func.TheVariants.{Print, Control}
+use Rattle.control_parser.specs.declared.state.State.{State}
+use Rattle.control_parser.specs.Grammar.{Rest, is_graphic, nothing, functions}
 use Rattle.control_parser.specs.Kept.{kept}
-use Rattle.control_parser.specs.Spelling.{ReadsAs, ReadsBehindCsi}
-use Rattle.control_parser.proofs.Pieces.{functions-graphic}
+use Rattle.control_parser.specs.Spelling.{ReadsAs}
+use Rattle.control_parser.proofs.Pieces.{functions-graphic, kept-ground}
+use Rattle.control_parser.proofs.Readings as spelled
+use Rattle.terminal_model.specs.declared.action.Action.TheVariants as actions
 use Rattle.terminal_model.specs.Screen.{Screen}
-use Rattle.terminal_model.specs.Table.{effect}
+use Rattle.terminal_model.specs.Table.{effect, all_acted}
 use Rattle.terminal_model.specs.Reports.{report}
 use Rattle.terminal_model.specs.Reading.{Terminal, Read, IsTerminal, ready, reads}
-use Rattle.terminal_model.proofs.Readings.{effects, outcome}
+use Rattle.terminal_model.proofs.Codings.{effect-coding}
+use Rattle.terminal_model.proofs.Readings.{effects, reports_of, acts_of}
 use Rattle.terminal_model.proofs.Spellings.{Stays, begun, nothing-opened, reads-is}
 use Rattle.terminal_model.proofs.Terminals.{IsTerminal-reads}
-use Rattle.emulator.specs.Standing.{Parts, StandsFor, HasRead, HasTaken, TakesWhole, IsBetween}
-use Rattle.emulator.proofs.Feeding.{nothing-has-read}
-use Rattle.emulator.proofs.RunLemmas.{ready-is}
+use Rattle.emulator.specs.Standing.{Parts, StandsFor, HasRead, TakesWhole, IsBetween}
+use Rattle.emulator.proofs.Feeding.{nothing-has-read, has-read-both}
 
--- the function doesn't change the coding
-abbrev pub KeepsCoding : Screen → Func → Type 0
-KeepsCoding x f = (effect x f).state.coding ≡ x.state.coding
+-- QUIET FUNCTIONS
 
-stays-one : (c : Coding) (x : Screen) (f : Func) → x.state.coding ≡ c → KeepsCoding x f → Stays c x (f ∷ [])
-stays-one c x f h k = record { coding = λ before after e. stays-at before after e }
-  where
-    stays-at : (before after : List Func) → f ∷ [] ≡ before ++ after → (effects x before).state.coding ≡ c
-    stays-at [] after e = h
-    stays-at (g ∷ []) after e = let same : g ≡ f = cc in rw same (k ∙ h)
-    stays-at (g ∷ g' ∷ more) after e = absurd (cc)
+-- functions that change no coding and aren't answered
+abbrev pub AreQuiet : Screen → List Func → Type 0
+AreQuiet x [] = Unit {0}
+AreQuiet x (f ∷ later) =
+    ((effect x f).state.coding ≡ x.state.coding) × (report x f ≡ []) × AreQuiet (effect x f) later
 
--- bytes that are read as one function
-reads-whole : (x : Screen) (bytes : List ℕ) (f : Func) → x.state.coding ≡ Utf8 → KeepsCoding x f
-    → ReadsAs Utf8 bytes (f ∷ [])
-    → reads (ready x) bytes ≡ outcome x (f ∷ []) [] nothing
-reads-whole x bytes f h k w =
-    let given : functions (units Utf8 bytes).0 ≡ (f ∷ [], nothing) = w.1 in
-    let stays : Stays Utf8 x (functions (units Utf8 bytes).0).0 = rw given (stays-one Utf8 x f h k) in
-    reads-is bytes x Utf8 [] nothing (begun Utf8) nothing-opened stays ∙ rw (given, w.0) refl
+pub quiet-prints : (x : Screen) (codes : List ℕ) → AreQuiet x (map (λ code. Print code) codes)
+quiet-prints x [] = tt
+quiet-prints x (c ∷ codes) = (effect-coding x (Print c) refl, refl, quiet-prints (effect x (Print c)) codes)
 
-pub whole-has-read : (old new : Parts) (t : Terminal) (bytes before answered : List ℕ) (f : Func) → IsBetween old
-    → old.decoding.coding ≡ Utf8
-    → KeepsCoding old.screen f → ReadsAs Utf8 bytes (f ∷ [])
-    → new.screen ≡ effect old.screen f → new.decoding ≡ old.decoding → new.parsing ≡ old.parsing
-    → answered ≡ before ++ report old.screen f
-    → StandsFor old t → HasRead t bytes before new answered
-whole-has-read old new t bytes before answered f b utf8 kept_coding w s d p a h =
-    let keeps : KeepsCoding t.screen f = subst (λ (x : Screen). KeepsCoding x f) h.screen kept_coding in
-    let e : t ≡ ready t.screen = ready-is old t h b.whole b.idle in
-    let coding : t.screen.state.coding ≡ Utf8 = sym (ap (λ (v : Decoding). v.coding) h.decoding) ∙ utf8 in
-    let r : reads t bytes ≡ outcome t.screen (f ∷ []) [] nothing = ap (λ (u : Terminal). reads u bytes) e
-    ∙ reads-whole t.screen bytes f coding keeps w in
+quiet-stays : (c : Coding) (x : Screen) (fs before after : List Func) → AreQuiet x fs → x.state.coding ≡ c
+    → fs ≡ before ++ after → (effects x before).state.coding ≡ c
+quiet-stays c x fs [] after q h e = h
+quiet-stays c x [] (g ∷ before) after q h e = absurd (cc)
+quiet-stays c x (f ∷ fs) (g ∷ before) after q h e =
+    let same : g ≡ f = cc in
+    let later : fs ≡ before ++ after = cc in
+    rw same (quiet-stays c (effect x f) fs before after q.2 (q.0 ∙ h) later)
+
+quiet-coding : (x : Screen) (fs : List Func) → AreQuiet x fs → (effects x fs).state.coding ≡ x.state.coding
+quiet-coding x [] q = refl
+quiet-coding x (f ∷ fs) q = quiet-coding (effect x f) fs q.2 ∙ q.0
+
+quiet-reports : (x : Screen) (fs : List Func) → AreQuiet x fs → reports_of x fs ≡ []
+quiet-reports x [] q = refl
+quiet-reports x (f ∷ fs) q = rw (q.1, quiet-reports (effect x f) fs q.2) refl
+
+-- bytes that are read as quiet functions
+reads-quiet : (c : Coding) (x : Screen) (bytes : List ℕ) (fs : List Func) → x.state.coding ≡ c → ReadsAs c bytes fs
+    → AreQuiet x fs
+    → reads (ready x) bytes ≡ record { terminal = ready (effects x fs); reports = []; acts = acts_of x fs }
+reads-quiet c x bytes fs h w q =
+    let stays : Stays c x (functions (whole.units c bytes).0).0 = rw w.1
+    (record { coding = λ before after e. quiet-stays c x fs before after q h e }) in
+    reads-is bytes x c [] nothing (begun c) nothing-opened stays ∙ rw (w.1, w.0)
+    (ap (λ r. record { terminal = ready (effects x fs); reports = r; acts = acts_of x fs }) (quiet-reports x fs q))
+
+-- a terminal between characters, sequences and strings
+ready-is : (c : Coding) (e : Parts) (t : Terminal) → StandsFor e t → IsBetween c e → t ≡ ready t.screen
+ready-is c e t h b =
+    let none : t.rest ≡ [] = sym (ap (λ (d : Decoding). d.rest) h.decoding) ∙ b.whole in
+    let ended : t.unended ≡ nothing = kept-ground t.unended (sym h.parsing ∙ b.idle) in
+    ap (λ (r : List ℕ). record { screen = t.screen; rest = r; unended = t.unended }) none
+    ∙ ap (λ (u : Rest). record { screen = t.screen; rest = []; unended = u }) ended
+
+quiet-has-read : (c : Coding) (e : Parts) (x : Screen) (t : Terminal) (bytes before : List ℕ) (fs : List Func)
+    → IsBetween c e → ReadsAs c bytes fs → AreQuiet e.screen fs → x ≡ effects e.screen fs
+    → StandsFor e t → HasRead t bytes before (record e { screen = x }) before
+quiet-has-read c e x t bytes before fs b w q s h =
+    let is : t ≡ ready t.screen = ready-is c e t h b in
+    let coding : t.screen.state.coding ≡ c = sym (ap (λ (v : Decoding). v.coding) h.decoding) ∙ b.coding in
+    let quiet : AreQuiet t.screen fs = subst (λ (y : Screen). AreQuiet y fs) h.screen q in
+    let r = ap (λ (u : Terminal). reads u bytes) is ∙ reads-quiet c t.screen bytes fs coding w quiet in
     record {
-      stands = subst (λ (v : Read). StandsFor new v.terminal) (sym r)
+      stands = subst (λ (v : Read). StandsFor (record e { screen = x }) v.terminal) (sym r)
           (record {
             terminal = subst (λ (v : Read). IsTerminal v.terminal) r (IsTerminal-reads t bytes h.terminal);
-            screen = s ∙ ap (λ (y : Screen). effect y f) h.screen;
+            screen = s ∙ ap (λ (y : Screen). effects y fs) h.screen;
             decoding =
-                d ∙ h.decoding
-                ∙ ap (λ (u : List ℕ). record { coding = t.screen.state.coding; rest = u })
-                (ap (λ (u : Terminal). u.rest) e)
-                ∙ ap (λ (c : Coding). record { coding = c; rest = [] }) (sym keeps);
-            parsing = p ∙ h.parsing ∙ ap (λ (u : Terminal). kept u.unended) e;
+                h.decoding
+                ∙ ap (λ (u : Terminal). record { coding = t.screen.state.coding; rest = u.rest }) is
+                ∙ ap (λ (d : Coding). record { coding = d; rest = [] }) (sym (quiet-coding t.screen fs quiet));
+            parsing = h.parsing ∙ ap (λ (u : Terminal). kept u.unended) is;
           });
-      reports =
-          a ∙ ap (λ (x : Screen). before ++ report x f) h.screen
-          ∙ ap (λ (v : List ℕ). before ++ v) (sym (append-nil (report t.screen f)))
-          ∙ ap (λ (v : Read). before ++ v.reports) (sym r);
+      reports = sym (append-nil before) ∙ ap (λ (v : Read). before ++ v.reports) (sym r);
     }
 
--- bytes that are read as one function without an answer
-pub quiet-has-read : (old new : Parts) (t : Terminal) (bytes before : List ℕ) (f : Func) → IsBetween old
-    → old.decoding.coding ≡ Utf8
-    → KeepsCoding old.screen f → ReadsAs Utf8 bytes (f ∷ [])
-    → new.screen ≡ effect old.screen f → new.decoding ≡ old.decoding → new.parsing ≡ old.parsing
-    → report old.screen f ≡ []
-    → StandsFor old t → HasRead t bytes before new before
-quiet-has-read old new t bytes before f b utf8 keeps w s d p a h =
-    whole-has-read old new t bytes before before f b utf8 keeps w s d p
-    (sym (ap (λ (v : List ℕ). before ++ v) a ∙ append-nil before)) h
+-- WHAT AN EMULATOR TAKES
 
--- a character
-pub character-reads : (bytes : List ℕ) (c : ℕ) → units Utf8 bytes ≡ (codes.Code c ∷ [], []) → is_graphic c ≡ true
-    → ReadsAs Utf8 bytes (Print c ∷ [])
-character-reads bytes c u g = (ap (λ v. v.1) u, ap (λ v. functions v.0) u ∙ functions-graphic (c ∷ []) (rw g refl))
+-- its screen has performed quiet functions that the first bytes are read as
+pub quiet-taken : (c : Coding) (x y : Screen) (d : Decoding) (p : State) (old : Parts) (bytes : List ℕ) (count : ℕ)
+    (fs : List Func) → record { screen = x; decoding = d; parsing = p } ≡ old → IsBetween c old → count ≤ length bytes
+    → ReadsAs c (take count bytes) fs → AreQuiet x fs → y ≡ effects x fs
+    → TakesWhole old bytes count (record { screen = y; decoding = d; parsing = p })
+quiet-taken c x y d p old bytes count fs e b few w q s =
+    subst
+    (λ (v : Parts). IsBetween c v → TakesWhole v bytes count (record { screen = y; decoding = d; parsing = p })) e
+    (λ k. record {
+      taken = λ said t h.
+          quiet-has-read c (record { screen = x; decoding = d; parsing = p }) y t (take count bytes) said fs k w q s h;
+      few = few;
+      decoding = refl;
+      parsing = refl;
+    })
+    b
 
--- nothing
-pub nothing-taken : (e : Parts) (bytes before : List ℕ) → HasTaken e bytes 0 before e before
-nothing-taken e bytes before = λ t h. nothing-has-read t e before h
+-- one function
+pub one-taken : (c : Coding) (x y : Screen) (d : Decoding) (p : State) (old : Parts) (bytes front : List ℕ) (count : ℕ)
+    (f : Func) → record { screen = x; decoding = d; parsing = p } ≡ old → IsBetween c old → count ≤ length bytes
+    → take count bytes ≡ front → ReadsAs c front (f ∷ []) → (effect x f).state.coding ≡ x.state.coding
+    → report x f ≡ [] → y ≡ effect x f
+    → TakesWhole old bytes count (record { screen = y; decoding = d; parsing = p })
+one-taken c x y d p old bytes front count f e b few is w k a s =
+    quiet-taken c x y d p old bytes count (f ∷ []) e b few (subst (λ (v : List ℕ). ReadsAs c v (f ∷ [])) (sym is) w)
+    (k, a, tt) s
 
 pub nothing-whole : (e : Parts) (bytes : List ℕ) → TakesWhole e bytes 0 e
-nothing-whole e bytes = record { taken = nothing-taken e bytes; few = omega arith; decoding = refl; parsing = refl }
+nothing-whole e bytes = record
+    { taken = λ said t h. nothing-has-read t e said h; few = omega arith; decoding = refl; parsing = refl }
 
--- bytes by their first ones
-pub begun-some : (bytes : List ℕ) (a : ℕ) → take 1 bytes ≡ a ∷ [] → 1 ≤ length bytes
-begun-some [] a e = absurd (cc e)
-begun-some (b ∷ bytes) a e = omega arith
+-- the bytes after the first ones
+rest-lent : (bytes : List ℕ) (i : ℕ) → take (length bytes - i) (drop i bytes) ≡ drop i bytes
+rest-lent bytes i = take_all (length bytes - i) (drop i bytes) (omega (arith, length-drop i bytes))
 
-pub front-one : (bytes : List ℕ) (a : ℕ) → 0 < length bytes → get_or bytes 0 0 ≡ a → take 1 bytes ≡ a ∷ []
-front-one [] a l e = absurd (omega arith)
-front-one (b ∷ bytes) a l e = ap (λ v. v ∷ []) e
+pub has-read-on : (t : Terminal) (bytes : List ℕ) (i n : ℕ) (before answered next : List ℕ) (e e' : Parts)
+    → HasRead t (take i bytes) before e answered
+    → HasRead (reads t (take i bytes)).terminal (take n (take (length bytes - i) (drop i bytes))) answered e' next
+    → HasRead t (take (i + n) bytes) before e' next
+has-read-on t bytes i n before answered next e e' h k =
+    subst (λ (v : List ℕ). HasRead t v before e' next) (sym (take-add i n bytes))
+    (has-read-both t (take i bytes) (take n (drop i bytes)) before answered next e e' h
+    (subst (λ (v : List ℕ). HasRead (reads t (take i bytes)).terminal (take n v) answered e' next) (rest-lent bytes i)
+    k))
+
+-- more functions after those before
+pub both-taken : (old mid new : Parts) (bytes : List ℕ) (i n : ℕ) → i ≤ length bytes → TakesWhole old bytes i mid
+    → TakesWhole mid (take (length bytes - i) (drop i bytes)) n new → TakesWhole old bytes (i + n) new
+both-taken old mid new bytes i n l h k =
+    record {
+      taken = λ said t s. let first = h.taken said t s in
+          has-read-on t bytes i n said said said mid new first (k.taken said _ first.stands);
+      few = omega (arith, k.few, ap length (rest-lent bytes i), length-drop i bytes);
+      decoding = k.decoding ∙ h.decoding;
+      parsing = k.parsing ∙ h.parsing;
+    }
+
+pub still-between : (c : Coding) (old new : Parts) (bytes : List ℕ) (n : ℕ) → IsBetween c old
+    → TakesWhole old bytes n new → IsBetween c new
+still-between c old new bytes n b h = record {
+  whole = ap (λ (d : Decoding). d.rest) h.decoding ∙ b.whole;
+  idle = h.parsing ∙ b.idle;
+  coding = ap (λ (d : Decoding). d.coding) h.decoding ∙ b.coding;
+}
+
+-- BYTES
 
 pub front-two : (bytes : List ℕ) (a b : ℕ) → 1 < length bytes → take 1 bytes ≡ a ∷ [] → get_or bytes 1 0 ≡ b
     → take 2 bytes ≡ a ∷ b ∷ []
-front-two [] a b l h e = absurd (omega arith)
-front-two (x ∷ []) a b l h e = absurd (omega arith)
-front-two (x ∷ y ∷ bytes) a b l h e = let p : x ≡ a = cc in let q : y ≡ b = e in cc
-
-pub front-three : (bytes : List ℕ) (a b c : ℕ) → 2 < length bytes → take 2 bytes ≡ a ∷ b ∷ [] → get_or bytes 2 0 ≡ c
-    → take 3 bytes ≡ a ∷ b ∷ c ∷ []
-front-three [] a b c l h e = absurd (omega arith)
-front-three (x ∷ []) a b c l h e = absurd (omega arith)
-front-three (x ∷ y ∷ []) a b c l h e = absurd (omega arith)
-front-three (x ∷ y ∷ z ∷ bytes) a b c l h e = let p : x ≡ a = cc in let q : y ≡ b = cc in let r : z ≡ c = e in cc
+front-two bytes a b l h e = take_more bytes 1 0 l ∙ ap (λ (v : List ℕ). v ++ get_or bytes 1 0 ∷ []) h
+    ∙ ap (λ (c : ℕ). a ∷ c ∷ []) e
 
 pub front-more : (bytes : List ℕ) (a b n : ℕ) → take 2 bytes ≡ a ∷ b ∷ []
-    → take (n + 2) bytes ≡ a ∷ b ∷ take n (drop 2 bytes)
-front-more [] a b n h = absurd (cc)
-front-more (x ∷ []) a b n h = absurd (cc)
-front-more (x ∷ y ∷ bytes) a b n h =
-    let p : x ≡ a = cc in let q : y ≡ b = cc in
-    let e : n + 2 ≡ suc (suc n) = omega arith in
-    ap (λ k. take k (x ∷ y ∷ bytes)) e ∙ ap (λ (v : ℕ). v ∷ y ∷ take n bytes) p ∙ ap (λ (v : ℕ). a ∷ v ∷ take n bytes) q
+    → take (2 + n) bytes ≡ a ∷ b ∷ take n (take (length bytes - 2) (drop 2 bytes))
+front-more bytes a b n h =
+    take-add 2 n bytes ∙ ap (λ (v : List ℕ). v ++ take n (drop 2 bytes)) h
+    ∙ ap (λ (v : List ℕ). a ∷ b ∷ take n v) (sym (rest-lent bytes 2))
 
--- the bytes after the first ones
-pub rest-lent : (bytes : List ℕ) (i : ℕ) → take (length bytes - i) (drop i bytes) ≡ drop i bytes
-rest-lent bytes i = take_all (length bytes - i) (drop i bytes) (omega (arith, length-drop i bytes))
+pub prints-are : (x : Screen) (codes : List ℕ)
+    → all_acted x (map (λ c. actions.Print (units.Code c)) codes) ≡ effects x (map (λ code. Print code) codes)
+prints-are x [] = refl
+prints-are x (c ∷ codes) = prints-are (effect x (Print c)) codes
 
--- a control sequence
-pub sequence-taken : (old new : Parts) (x y : Screen) (bytes : List ℕ) (n : ℕ) (f : Func)
-    → ReadsBehindCsi n (take (length bytes - 2) (drop 2 bytes)) f
-    → y ≡ effect x f → y.state.coding ≡ x.state.coding → report x f ≡ []
-    → old.screen ≡ x → new.screen ≡ y → new.decoding ≡ old.decoding → new.parsing ≡ old.parsing
-    → take 2 bytes ≡ 0x1B ∷ 0x5B ∷ [] → IsBetween old → old.decoding.coding ≡ Utf8
-    → 0 < n → n + 2 ≤ length bytes → TakesWhole old bytes (n + 2) new
-sequence-taken old new x y bytes n f read e k r s s' d p begins between coding some room =
-    let whole : take (n + 2) bytes ≡ 0x1B ∷ 0x5B ∷ take n (take (length bytes - 2) (drop 2 bytes)) =
-    front-more bytes 0x1B 0x5B n begins ∙ ap (λ (v : List ℕ). 0x1B ∷ 0x5B ∷ take n v) (sym (rest-lent bytes 2)) in
-    let reads : ReadsAs Utf8 (take (n + 2) bytes) (f ∷ []) = subst (λ (v : List ℕ). ReadsAs Utf8 v (f ∷ [])) (sym whole)
-    (read some) in
-    let keeps : KeepsCoding old.screen f = subst (λ (z : Screen). KeepsCoding z f) (sym s)
-    (ap (λ (z : Screen). z.state.coding) (sym e) ∙ k) in
-    record {
-      taken = λ said t h.
-          quiet-has-read old new t (take (n + 2) bytes) said f between coding keeps reads
-          (s' ∙ e ∙ ap (λ (z : Screen). effect z f) (sym s)) d p (ap (λ (z : Screen). report z f) s ∙ r) h;
-      few = room;
-      decoding = d;
-      parsing = p;
-    }
+character-graphic : (c : ℕ) → is_character c ≡ true → is_graphic c ≡ true
+character-graphic c is = grind (arith, nat_tests)
+
+pub text-reads : (bytes : List ℕ) → IsText bytes → ReadsAs Utf8 bytes (map (λ code. Print code) (text bytes))
+text-reads bytes is =
+    let graphic : list_all is_graphic (text bytes) ≡ true = list_all-from_AllPass is_graphic (text bytes)
+    (All-weaker (λ c. is_character c ≡ true) (λ c. is_graphic c ≡ true) character-graphic (text bytes)
+    (AllPass-from_list_all is_character (text bytes) is.graphic)) in
+    (is.whole, functions-graphic (text bytes) graphic)
+
+-- some of the bytes 20 to 7E at the beginning
+plain-front : (n : ℕ) (bytes : List ℕ) → n ≤ prefix_len is_plain bytes → list_all is_plain (take n bytes) ≡ true
+plain-front n bytes h =
+    list_all-from_AllPass is_plain (take n bytes)
+    (λ k d l. let before : k < n = omega (arith, l, length-take n bytes) in
+    ap is_plain (get_or-take n bytes k d before) ∙ prefix_len_passes is_plain bytes k d (omega (arith, before, h)))
+
+pub plain-reads : (c : Coding) (bytes : List ℕ) (n run : ℕ) → run ≡ prefix_len is_plain bytes
+    → n ≤ length (take run bytes)
+    → ReadsAs c (take n bytes) (map (λ code. Print code) (text (take n (take run bytes))))
+plain-reads c bytes n run r l =
+    let few : n ≤ run = omega (arith, length-take run bytes) in
+    let plain : list_all is_plain (take n bytes) ≡ true = plain-front n bytes (omega arith) in
+    let same : text (take n (take run bytes)) ≡ take n bytes = ap text (take-take n run bytes few)
+    ∙ ap (λ v. v.0) (codes-plain (take n bytes) plain) in
+    rw same (spelled.reads-plain c (take n bytes) plain)
+
+-- CR, LF and bytes 20 to 7E
+pub line-reads : (codes : List ℕ) → list_all is_plain codes ≡ true
+    → ReadsAs Utf8 (0x0D ∷ 0x0A ∷ codes) (Control 0x0D ∷ Control 0x0A ∷ map (λ code. Print code) codes)
+line-reads codes plain =
+    spelled.reads-append Utf8 (0x0D ∷ 0x0A ∷ []) codes (Control 0x0D ∷ Control 0x0A ∷ []) (map (λ code. Print code) codes)
+    (spelled.reads-spelled (Control 0x0D ∷ Control 0x0A ∷ []) ((refl, refl), ((refl, refl), tt)))
+    (spelled.reads-plain Utf8 codes plain)
+
+pub quiet-line : (x : Screen) (codes : List ℕ)
+    → AreQuiet x (Control 0x0D ∷ Control 0x0A ∷ map (λ code. Print code) codes)
+quiet-line x codes =
+    let y : Screen = effect x (Control 0x0D) in
+    let later = quiet-prints (effect y (Control 0x0A)) codes in
+    (effect-coding x (Control 0x0D) refl, refl, (effect-coding y (Control 0x0A) refl, refl, later))

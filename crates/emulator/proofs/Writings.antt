@@ -1,105 +1,81 @@
 -- A terminal doesn't answer the commands clear, reset and encoding.
-use Rattle.std.proofs.Common.{◌≡◌, ℕ, [], ◌∷◌, ◌++◌, None, refl, ap, ◌∙◌, arith}
-use Rattle.charsets.specs.declared.unit.Unit.TheVariants as codes
+use Rattle.std.proofs.Common.{◌≡◌, ℕ, ◌<◌, List, [], ◌∷◌, ◌++◌, get_or, map, None, refl, sym, ap, ◌∙◌, append_assoc, append-nil}
+use Rattle.std.proofs.Common.{arith}
+use Rattle.std.specs.List.{AllByRecursion}
+use Rattle.charsets.specs.declared.unit.Unit.TheVariants.{Code}
 use Rattle.charsets.specs.declared.unit.Coding.{Coding}
 use Rattle.charsets.specs.declared.unit.Coding.TheVariants.{Utf8, Ecma35}
+use Rattle.control_parser.specs.declared.func.Func.{Func}
 use Rattle.control_parser.specs.declared.func.Func.TheVariants.{Esc, Csi}
 use Rattle.control_parser.specs.Text.{fields}
-use Rattle.control_parser.specs.Grammar.{nothing, escape, control, functions, functions_behind, begun_by}
+use Rattle.control_parser.specs.Grammar.{Rest, nothing, functions, functions_behind, begun_by, with_front}
 use Rattle.control_parser.specs.Grammar as grammar
 use Rattle.control_parser.specs.Kept.{opening}
+use Rattle.control_parser.proofs.Openings.{functions-go_on, functions-opening}
 use Rattle.terminal_model.specs.Screen.{Screen}
 use Rattle.terminal_model.specs.Functions.{plain_sequence}
-use Rattle.terminal_model.specs.Table.{effect}
-use Rattle.terminal_model.specs.Reports.{report}
-use Rattle.terminal_model.specs.Reading.{Terminal, Read, ready, nothing_read, joined, reads}
+use Rattle.terminal_model.specs.Reading.{Terminal, Read, joined, in_coding, read_units, read_byte, reads}
 use Rattle.terminal_model.specs.Writing.{Clear, Reset, Encoding, clear_bytes, reset_bytes, coding_bytes, writes}
-use Rattle.terminal_model.proofs.Spellings.{done, silent, ending, escape-opens, percent-goes_on}
+use Rattle.terminal_model.proofs.Readings.{effects, reports_of, outcome, outcome-append, read_units-is}
+use Rattle.terminal_model.proofs.Spellings.{at, ascii-units, nothing-opened}
 
-reset-ends : functions (opening (escape []) ++ codes.Code 0x63 ∷ []) ≡ (Esc [] 0x63 ∷ [], nothing)
+-- bytes below 80 are read as the same functions in each coding
+low-reads : (bytes : List ℕ) (x : Screen) (u : Rest) → AllByRecursion (λ b. b < 0x80) bytes
+    → functions (opening u) ≡ ([], u)
+    → reads (at x u) bytes ≡ outcome x (functions (opening u ++ map (λ b. Code b) bytes)).0 []
+    (functions (opening u ++ map (λ b. Code b) bytes)).1
+unfolding reads read_byte
+low-reads [] x u low h = rw (append-nil (opening u), h) refl
+low-reads (b ∷ bytes) x u low h =
+    let later = map (λ c. Code c) bytes in
+    let first = functions (opening u ++ Code b ∷ []) in
+    let second = functions (opening first.1 ++ later) in
+    let fs : functions (opening u ++ Code b ∷ later) ≡ with_front first.0 second =
+    ap functions (sym (append_assoc (opening u) (Code b ∷ []) later)) ∙ functions-go_on (opening u ++ Code b ∷ []) later
+    in
+    let c : Coding = x.state.coding in
+    let byte : read_byte (at x u) b ≡ outcome x first.0 [] first.1 =
+    ap (λ v. in_coding c (read_units (record { screen = x; rest = v.1; unended = u }) v.0)) (ascii-units c b low.0)
+    ∙ ap (in_coding c) (read_units-is x [] u (Code b ∷ []) h) in
+    ap (λ (v : Read). joined v (reads v.terminal bytes)) byte
+    ∙ ap (joined (outcome x first.0 [] first.1))
+    (low-reads bytes (effects x first.0) first.1 low.1 (functions-opening (opening u ++ Code b ∷ [])))
+    ∙ sym (outcome-append x first.0 second.0 [] [] first.1 second.1)
+    ∙ ap (λ v. outcome x v.0 [] v.1) (sym fs)
+
+low-reports : (x : Screen) (bytes : List ℕ) (fs : List Func) → AllByRecursion (λ b. b < 0x80) bytes
+    → functions (map (λ b. Code b) bytes) ≡ (fs, nothing) → reports_of x fs ≡ []
+    → (reads (at x nothing) bytes).reports ≡ []
+low-reports x bytes fs low is quiet =
+    ap (λ (r : Read). r.reports) (low-reads bytes x nothing low nothing-opened)
+    ∙ ap (λ v. reports_of x v.0) is ∙ quiet
+
+reset-functions : functions (map (λ b. Code b) reset_bytes) ≡ (Esc [] 0x63 ∷ [], nothing)
 unfolding functions_behind grammar.piece grammar.text grammar.controls begun_by
-reset-ends = refl
-
-utf8-ends : functions (opening (escape (0x25 ∷ [])) ++ codes.Code 0x47 ∷ []) ≡ (Esc (0x25 ∷ []) 0x47 ∷ [], nothing)
-unfolding functions_behind grammar.piece grammar.text grammar.controls begun_by
-utf8-ends = refl
-
-ecma-ends : functions (opening (escape (0x25 ∷ [])) ++ codes.Code 0x40 ∷ []) ≡ (Esc (0x25 ∷ []) 0x40 ∷ [], nothing)
-unfolding functions_behind grammar.piece grammar.text grammar.controls begun_by
-ecma-ends = refl
-
-bracket-opens : functions (opening (escape []) ++ codes.Code 0x5B ∷ []) ≡ ([], control [])
-unfolding functions_behind grammar.piece grammar.text grammar.controls begun_by
-bracket-opens = refl
-
-two-goes_on : functions (opening (control []) ++ codes.Code 0x32 ∷ []) ≡ ([], control (0x32 ∷ []))
-unfolding functions_behind grammar.piece grammar.text grammar.controls begun_by
-two-goes_on = refl
-
-erasure-ends : functions (opening (control (0x32 ∷ [])) ++ codes.Code 0x4A ∷ []) ≡
-    (Csi None (2 ∷ []) [] 0x4A ∷ [], nothing)
-unfolding functions_behind grammar.piece grammar.text grammar.controls begun_by fields
-erasure-ends = refl
-
-home-ends : functions (opening (control []) ++ codes.Code 0x48 ∷ []) ≡ (Csi None (0 ∷ []) [] 0x48 ∷ [], nothing)
-unfolding functions_behind grammar.piece grammar.text grammar.controls begun_by fields
-home-ends = refl
-
-reset-reads : (x : Screen)
-    → reads (ready x) reset_bytes ≡ joined (done x (Esc [] 0x63)) (nothing_read (ready (effect x (Esc [] 0x63))))
-unfolding reads
-reset-reads x =
-    silent x nothing (escape []) 0x1B (0x63 ∷ []) (omega arith) escape-opens
-    ∙ ending x (escape []) (Esc [] 0x63) 0x63 [] (omega arith) reset-ends
+reset-functions = refl
 
 pub reset-quiet : (t : Terminal) → (writes t Reset).reports ≡ []
-reset-quiet t = ap (λ (r : Read). r.reports) (reset-reads t.screen)
+reset-quiet t = low-reports t.screen reset_bytes _ (omega arith, (omega arith, tt)) reset-functions refl
 
--- the last unit of ESC % G and ESC % @
-final_of : Coding → ℕ
-final_of Utf8 = 0x47
-final_of Ecma35 = 0x40
-
-coding-reads : (c : Coding) (x : Screen)
-    → reads (ready x) (coding_bytes c) ≡ joined (done x (Esc (0x25 ∷ []) (final_of c)))
-    (nothing_read (ready (effect x (Esc (0x25 ∷ []) (final_of c)))))
-unfolding reads final_of
-coding-reads Utf8 x =
-    silent x nothing (escape []) 0x1B (0x25 ∷ 0x47 ∷ []) (omega arith) escape-opens
-    ∙ silent x (escape []) (escape (0x25 ∷ [])) 0x25 (0x47 ∷ []) (omega arith) percent-goes_on
-    ∙ ending x (escape (0x25 ∷ [])) (Esc (0x25 ∷ []) 0x47) 0x47 [] (omega arith) utf8-ends
-coding-reads Ecma35 x =
-    silent x nothing (escape []) 0x1B (0x25 ∷ 0x40 ∷ []) (omega arith) escape-opens
-    ∙ silent x (escape []) (escape (0x25 ∷ [])) 0x25 (0x40 ∷ []) (omega arith) percent-goes_on
-    ∙ ending x (escape (0x25 ∷ [])) (Esc (0x25 ∷ []) 0x40) 0x40 [] (omega arith) ecma-ends
-
-coding-report : (c : Coding) (x : Screen) → report x (Esc (0x25 ∷ []) (final_of c)) ≡ []
-unfolding final_of
-coding-report Utf8 x = refl
-coding-report Ecma35 x = refl
+coding-functions : (c : Coding)
+    → functions (map (λ b. Code b) (coding_bytes c)) ≡ (Esc (0x25 ∷ []) (get_or (coding_bytes c) 2 0) ∷ [], nothing)
+unfolding functions_behind grammar.piece grammar.text grammar.controls begun_by
+coding-functions Utf8 = refl
+coding-functions Ecma35 = refl
 
 pub coding-quiet : (t : Terminal) (c : Coding) → (writes t (Encoding c)).reports ≡ []
-coding-quiet t c = ap (λ (r : Read). r.reports) (coding-reads c t.screen) ∙ rw (coding-report c t.screen) refl
+coding-quiet t Utf8 = low-reports t.screen (coding_bytes Utf8) _ (omega arith, (omega arith, (omega arith, tt)))
+    (coding-functions Utf8) refl
+coding-quiet t Ecma35 = low-reports t.screen (coding_bytes Ecma35) _ (omega arith, (omega arith, (omega arith, tt)))
+    (coding-functions Ecma35) refl
 
-clear-reads : (x : Screen) → reads (ready x) clear_bytes
-    ≡ joined (done x (Csi None (2 ∷ []) [] 0x4A))
-    (joined (done (effect x (Csi None (2 ∷ []) [] 0x4A)) (Csi None (0 ∷ []) [] 0x48))
-    (nothing_read (ready (effect (effect x (Csi None (2 ∷ []) [] 0x4A)) (Csi None (0 ∷ []) [] 0x48)))))
-unfolding reads
-clear-reads x =
-    silent x nothing (escape []) 0x1B (0x5B ∷ 0x32 ∷ 0x4A ∷ 0x1B ∷ 0x5B ∷ 0x48 ∷ []) (omega arith) escape-opens
-    ∙ silent x (escape []) (control []) 0x5B (0x32 ∷ 0x4A ∷ 0x1B ∷ 0x5B ∷ 0x48 ∷ []) (omega arith) bracket-opens
-    ∙ silent x (control []) (control (0x32 ∷ [])) 0x32 (0x4A ∷ 0x1B ∷ 0x5B ∷ 0x48 ∷ []) (omega arith) two-goes_on
-    ∙ ending x (control (0x32 ∷ [])) (Csi None (2 ∷ []) [] 0x4A) 0x4A (0x1B ∷ 0x5B ∷ 0x48 ∷ []) (omega arith)
-    erasure-ends
-    ∙ ap (joined (done x (Csi None (2 ∷ []) [] 0x4A)))
-    (silent (effect x (Csi None (2 ∷ []) [] 0x4A)) nothing (escape []) 0x1B (0x5B ∷ 0x48 ∷ []) (omega arith)
-    escape-opens
-    ∙ silent (effect x (Csi None (2 ∷ []) [] 0x4A)) (escape []) (control []) 0x5B (0x48 ∷ []) (omega arith)
-    bracket-opens
-    ∙ ending (effect x (Csi None (2 ∷ []) [] 0x4A)) (control []) (Csi None (0 ∷ []) [] 0x48) 0x48 [] (omega arith)
-    home-ends)
+clear-functions : functions (map (λ b. Code b) clear_bytes)
+    ≡ (Csi None (2 ∷ []) [] 0x4A ∷ Csi None (0 ∷ []) [] 0x48 ∷ [], nothing)
+unfolding functions_behind grammar.piece grammar.text grammar.controls begun_by fields
+clear-functions = refl
 
 pub clear-quiet : (t : Terminal) → (writes t Clear).reports ≡ []
 unfolding plain_sequence
-clear-quiet t = ap (λ (r : Read). r.reports) (clear-reads t.screen)
+clear-quiet t = low-reports t.screen clear_bytes _
+    (omega arith, (omega arith, (omega arith, (omega arith, (omega arith, (omega arith, (omega arith, tt)))))))
+    clear-functions refl

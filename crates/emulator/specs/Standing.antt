@@ -1,11 +1,12 @@
 -- The parts of an emulator, and the terminals that it stands for.
 use Rattle.std.specs.Prelude.{◌≡◌, ◌≤◌, ℕ, List, [], ◌++◌, take, length}
+use Rattle.charsets.specs.declared.unit.Coding.{Coding}
 use Rattle.charsets.specs.Units.{Decoding}
 use Rattle.control_parser.specs.declared.state.State.{State}
 use Rattle.control_parser.specs.Grammar.{functions}
 use Rattle.control_parser.specs.Kept.{kept, opening, IsIdle}
 use Rattle.terminal_model.specs.Screen.{Screen}
-use Rattle.terminal_model.specs.Reading.{Terminal, IsTerminal, rest_in, reads}
+use Rattle.terminal_model.specs.Reading.{Terminal, Read, IsTerminal, rest_in, reads}
 use Rattle.terminal_model.specs.Writing.{Writing, writes}
 
 -- its screen, what its decoder keeps of an incomplete character, and what its parser keeps of an
@@ -39,6 +40,16 @@ in_screen_coding e =
       rest = rest_in e.decoding.rest e.decoding.coding e.screen.state.coding;
     }
 
+-- it has read within a byte, as the terminal has, with these answers
+pub record HasReadWithin (r : Read) (e : Parts) (answered : List ℕ) : Type 0 where
+  pub stands : StandsWithin e r.terminal
+  pub reports : answered ≡ r.reports
+
+-- it has read a byte, as the terminal has, with these answers
+pub record HasReadByte (r : Read) (e : Parts) (answered : List ℕ) : Type 0 where
+  pub stands : StandsFor e r.terminal
+  pub reports : answered ≡ r.reports
+
 -- From this terminal on it has read the bytes, and has appended the terminal's answers to what was
 -- there before.
 pub record HasRead (t : Terminal) (bytes : List ℕ) (before : List ℕ) (e : Parts) (answered : List ℕ)
@@ -63,7 +74,8 @@ pub record TakesWhole (old : Parts) (bytes : List ℕ) (count : ℕ) (new : Part
 abbrev pub TakesWriting : Parts → Writing → Parts → Type 0
 TakesWriting old w new = (t : Terminal) → StandsFor old t → StandsFor new (writes t w).terminal
 
--- no character, sequence or string is incomplete
-pub record IsBetween (e : Parts) : Type 0 where
+-- no character, sequence or string is incomplete, and it reads in this coding
+pub record IsBetween (c : Coding) (e : Parts) : Type 0 where
   pub whole : e.decoding.rest ≡ []
   pub idle : IsIdle e.parsing
+  pub coding : e.decoding.coding ≡ c

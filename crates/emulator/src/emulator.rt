@@ -10,8 +10,8 @@ ghost use Rattle.terminal_model.specs.Reading.{Terminal, ready, read_unit, read_
 ghost use Rattle.terminal_model.specs.Reading.{reads};
 ghost use Rattle.terminal_model.specs.Writing.{Size, Clear, Reset, Encoding, reads_anew};
 ghost use Rattle.vt_screen.specs.Sizes.{IsScreenSize};
-ghost use Rattle.emulator.specs.Standing.{StandsFor, StandsWithin, HasRead, HasTaken};
-ghost use Rattle.emulator.specs.Standing.{TakesWriting, in_screen_coding};
+ghost use Rattle.emulator.specs.Standing.{StandsFor, StandsWithin, HasRead, HasReadWithin};
+ghost use Rattle.emulator.specs.Standing.{HasReadByte, HasTaken, TakesWriting, in_screen_coding};
 ghost use Rattle.terminal_model.specs.Scrollback.{moved_back};
 
 use crate::moved_page::MovedPage;
@@ -81,10 +81,8 @@ impl Emulator {
 
     /// Reads one byte and returns the answer, at most 24 bytes.
     pub fn feed(&mut self, byte: u8) -> Report
-        ensures stands { (t : Terminal) → StandsFor self.old t
-            → StandsFor self.new (read_byte t byte).terminal }
-        ensures reports { (t : Terminal) → StandsFor self.old t
-            → result ≡ (read_byte t byte).reports }
+        ensures read { (t : Terminal) → StandsFor self.old t
+            → HasReadByte (read_byte t byte) self.new result }
         ensures few { length result ≤ 24 }
     {
         let units = self.decoder.push(byte);
@@ -141,10 +139,8 @@ impl Emulator {
 
     /// Reads the units that one byte completes, and returns the answer.
     fn push_units(&mut self, units: Units) -> Report
-        ensures stands { (t : Terminal) → StandsWithin self.old t
-            → StandsWithin self.new (read_units t (unit_list units)).terminal }
-        ensures reports { (t : Terminal) → StandsWithin self.old t
-            → result ≡ (read_units t (unit_list units)).reports }
+        ensures read { (t : Terminal) → StandsWithin self.old t
+            → HasReadWithin (read_units t (unit_list units)) self.new result }
         ensures decoding { self.new.decoding ≡ self.old.decoding }
         ensures few { length result ≤ 24 }
     {
@@ -162,10 +158,8 @@ impl Emulator {
 
     /// Reads one unit and returns the answer.
     fn push_unit(&mut self, unit: Unit) -> Report
-        ensures stands { (t : Terminal) → StandsWithin self.old t
-            → StandsWithin self.new (read_unit t unit).terminal }
-        ensures reports { (t : Terminal) → StandsWithin self.old t
-            → result ≡ (read_unit t unit).reports }
+        ensures read { (t : Terminal) → StandsWithin self.old t
+            → HasReadWithin (read_unit t unit) self.new result }
         ensures decoding { self.new.decoding ≡ self.old.decoding }
         ensures few { length result ≤ 12 }
     {
@@ -196,7 +190,8 @@ impl Emulator {
         ensures err { OnErr result (self.new ≡ self.old) }
         ensures bad_size { (result ≡ Err GridFault.BadSize) ↔ (¬ IsGridSize rows columns) }
     {
-        self.screen.resized(rows, columns)
+        self.screen.resized(rows, columns)?;
+        Ok(())
     }
 
     /// Lends the lines of the page, moved back by `offset` lines of the scrollback, or by all of
@@ -271,14 +266,6 @@ impl Emulator {
     {
         self.decoder.set_coding(self.screen.coding());
         self.parser = Parser::new();
-        self.feed_each(bytes);
-    }
-
-    /// Reads bytes and drops the answers.
-    fn feed_each(&mut self, bytes: &[u8])
-        ensures { (t : Terminal) → StandsFor self.old t
-            → StandsFor self.new (reads t bytes.now).terminal }
-    {
         'bytes: for byte in bytes {
             self.feed(*byte);
         }

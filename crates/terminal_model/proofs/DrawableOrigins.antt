@@ -1,18 +1,18 @@
 -- Lines and pages of drawable lines are drawable.
-use Rattle.std.proofs.Common.{◌≡◌, ℕ, suc, ◌<◌, ◌≤◌, Bool, true, false, ◌&&◌, cond, eqb, List, []}
-use Rattle.std.proofs.Common.{length, refl, sym, ap, subst, arith, ⊎_elim, eq-eqb}
+use Rattle.std.proofs.Common.{◌≡◌, ℕ, suc, ◌<◌, ◌≤◌, Bool, true, false, cond, List, []}
+use Rattle.std.proofs.Common.{length, arith, ⊎_elim, eq-eqb}
 use Rattle.std.proofs.lemmas.List.FromFn.{get_or-map-range_with_len}
-use Rattle.std.proofs.lemmas.List.{get_or_past}
-use Rattle.std.proofs.lemmas.Bool.{cases_lt, eqb-true, ne_eqb}
+use Rattle.std.proofs.lemmas.Bool.{cases_lt, ne_eqb}
+use Rattle.std.proofs.lemmas.Bool.Decides.{nat_tests}
+use Rattle.terminal_model.proofs.Items.{item-built}
 use Rattle.cells.specs.declared.cell.Cell.{Cell}
 use Rattle.cells.specs.declared.cell.Shape.{Shape}
-use Rattle.cells.specs.declared.cell.Shape.TheVariants.{Narrow, Left, Right}
 use Rattle.cells.specs.Line.{blank, cell_at, is_left, is_right, kept, unprotected}
 use Rattle.cells.specs.Line.{right_cell, Source}
 use Rattle.cells.specs.Page.{line_at, Origin, New, From, cell_from, are_own_halves, settled_cell, origin_before}
 use Rattle.cells.specs.Page.{origin_after, line_from, page_from, on_line, edited}
 use Rattle.cells.proofs.Settling.{cell_at_past}
-use Rattle.cells.proofs.Pages.{length-line_from, length-page_from, line_at-page_from}
+use Rattle.cells.proofs.Pages.{length-line_from}
 use Rattle.terminal_model.specs.Screen.{Page}
 use Rattle.terminal_model.specs.Drawable.{IsDrawableCell, IsDrawableLine, AreDrawableLines}
 use Rattle.terminal_model.proofs.DrawableGlyphs.{space}
@@ -23,33 +23,19 @@ pub drawable_blank : IsDrawableCell blank
 drawable_blank = record { glyph = space; marks = tt }
 
 pub cell_drawable : (cells : List Cell) → IsDrawableLine cells → (column : ℕ) → IsDrawableCell (cell_at cells column)
-cell_drawable cells h column = ⊎_elim
-    (λ (inside : column < length cells). h.printed column inside)
-    (λ (past : length cells ≤ column). subst IsDrawableCell (sym (cell_at_past cells column past)) drawable_blank)
-    (cases_lt column (length cells))
+cell_drawable cells h column = grind (arith, cell_at_past, drawable_blank)
 
 -- the cell after a left half is its right half
 abbrev pub Follows : Cell → Cell → Type 0
 Follows left right = is_left left.shape ≡ true → unprotected right ≡ right_cell left.character left.rendition false
 
 kept_drawable : (s : Shape) (cell : Cell) (p q : Bool) → IsDrawableCell cell → IsDrawableCell (kept s cell p q)
-kept_drawable Narrow cell p q h = h
-kept_drawable Left cell true q h = h
-kept_drawable Left cell false q h = drawable_blank
-kept_drawable Right cell p true h = h
-kept_drawable Right cell p false h = drawable_blank
+kept_drawable s cell p q h = grind (arith, nat_tests, drawable_blank)
 
 -- both halves come along, or neither
 kept_follow : (s t : Shape) (l r : Cell) (w q p : Bool) → l.shape ≡ s → r.shape ≡ t → (w ≡ true → Follows l r)
     → Follows (kept s l w q) (kept t r p w)
-kept_follow Narrow t l r w q p e f h = λ left. absurd (cc)
-kept_follow Right t l r w true p e f h = λ left. absurd (cc)
-kept_follow Right t l r w false p e f h = λ left. absurd (cc)
-kept_follow Left t l r false q p e f h = λ left. absurd (cc)
-kept_follow Left Narrow l r true q p e f h = h refl
-kept_follow Left Right l r true q p e f h = h refl
-kept_follow Left Left l r true q p e f h = λ left. let same : unprotected r ≡ right_cell l.character l.rendition false =
-    h refl left in let shape : r.shape ≡ Right = ap (λ (c : Cell). c.shape) same in absurd (cc)
+kept_follow s t l r w q p h k m = grind (arith, nat_tests)
 
 -- LINES FROM ORIGINS
 
@@ -72,96 +58,43 @@ origin_drawable : (page : Page) → AreDrawableLines page → (o : Origin) → I
 origin_drawable page h (New cell) k = k
 origin_drawable page h (From line column) k = cell_drawable (line_at page line) (h line) column
 
-both : (p q : Bool) → (p && q) ≡ true → (p ≡ true) × (q ≡ true)
-both true q h = (refl, h)
-both false q h = absurd (cc)
-
 own_follow : (page : Page) → AreDrawableLines page → (a b : Origin) → Pairs a b → are_own_halves a b ≡ true
     → Follows (cell_from page a) (cell_from page b)
-own_follow page h (New l) (New r) k w = k (both (is_left l.shape) (is_right r.shape) w).1
+own_follow page h (New l) (New r) k w = grind (arith, k)
 own_follow page h (New l) (From m d) k w = absurd (cc)
 own_follow page h (From n c) (New r) k w = absurd (cc)
-own_follow page h (From n c) (From m d) k w =
-    let p = both (eqb n m) (eqb (suc c) d) w in
-    let same : n ≡ m = eqb-true n m p.0 in
-    let next : suc c ≡ d = eqb-true (suc c) d p.1 in
-    let halves : Follows (cell_at (line_at page n) c) (cell_at (line_at page n) (suc c)) = (h n).halves c in
-    subst (λ (k : ℕ). Follows (cell_at (line_at page n) c) (cell_at (line_at page k) d)) same
-    (subst (λ (k : ℕ). Follows (cell_at (line_at page n) c) (cell_at (line_at page n) k)) next halves)
+own_follow page h (From n c) (From m d) k w = grind (arith, nat_tests, (h n).halves c)
 
 settled_drawable : (page : Page) → AreDrawableLines page → (before here after : Origin) → IsDrawableOrigin here
     → IsDrawableCell (settled_cell page before here after)
-settled_drawable page h before here after k =
-    kept_drawable (cell_from page here).shape (cell_from page here) (are_own_halves here after)
-    (are_own_halves before here) (origin_drawable page h here k)
+settled_drawable page h before here after k = search (kept_drawable, origin_drawable)
 
 settled_follow : (page : Page) → AreDrawableLines page → (before a b after : Origin) → Pairs a b
     → Follows (settled_cell page before a b) (settled_cell page a b after)
-settled_follow page h before a b after k =
-    kept_follow (cell_from page a).shape (cell_from page b).shape (cell_from page a) (cell_from page b)
-    (are_own_halves a b) (are_own_halves before a) (are_own_halves b after) refl refl (own_follow page h a b k)
+settled_follow page h before a b after k = grind (arith, kept_follow, own_follow)
 
-pub cell_at-line_from : (origin : ℕ → Origin) (width : ℕ) (page : Page) (column : ℕ) → column < width
-    → cell_at (line_from origin width page) column ≡ settled_cell page (origin_before origin column) (origin column)
-    (origin_after origin width column)
-cell_at-line_from origin width page column h = get_or-map-range_with_len _ 0 width column column blank h (omega arith)
-
-pub line_past : (origin : ℕ → Origin) (width : ℕ) (page : Page) (column : ℕ) → width ≤ column
-    → cell_at (line_from origin width page) column ≡ blank
-line_past origin width page column h = cell_at_past (line_from origin width page) column
-    (rw (length-line_from origin width page) h)
-
-pairs_after : (origin : ℕ → Origin) (width column : ℕ) → AreDrawable origin
-    → Pairs (origin column) (origin_after origin width column)
-pairs_after origin width column k = by (eqb (suc column) width) (origin column) (k.halves column)
-  where
-    by : (b : Bool) (o : Origin) → Pairs o (origin (suc column)) → Pairs o (cond b (New blank) (origin (suc column)))
-    by false o h = h
-    by true (New l) h = λ right. absurd (cc)
-    by true (From n c) h = tt
+pairs_blank : (o : Origin) → Pairs o (New blank)
+pairs_blank o = grind (arith, nat_tests)
 
 pub line_from-drawable : (origin : ℕ → Origin) (width : ℕ) (page : Page) → AreDrawableLines page → AreDrawable origin
     → IsDrawableLine (line_from origin width page)
 line_from-drawable origin width page h k = record {
-  printed = λ column inside.
-      let within : column < width = rw (length-line_from origin width page) at inside in
-      subst IsDrawableCell (sym (cell_at-line_from origin width page column within))
-      (settled_drawable page h (origin_before origin column) (origin column) (origin_after origin width column)
-      (k.cells column));
-  halves = λ column. ⊎_elim
-      (λ (within : column < width).
-      let here : cell_at (line_from origin width page) column ≡ settled_cell page (origin_before origin column)
-      (origin column) (origin_after origin width column) = cell_at-line_from origin width page column within in
-      let pairs : Pairs (origin column) (origin_after origin width column) = pairs_after origin width column k in
-      subst (λ (c : Cell). Follows c (cell_at (line_from origin width page) (suc column))) (sym here)
-      (⊎_elim
-      (λ (inside : suc column < width).
-      let next : origin_after origin width column ≡ origin (suc column) = rw (ne_eqb (suc column) width (omega arith))
-      refl in
-      subst
-      (λ (c : Cell). Follows
-      (settled_cell page (origin_before origin column) (origin column) (origin_after origin width column)) c)
-      (sym (cell_at-line_from origin width page (suc column) inside))
-      (subst
-      (λ (o : Origin). Follows (settled_cell page (origin_before origin column) (origin column) o)
-      (settled_cell page (origin column) (origin (suc column)) (origin_after origin width (suc column)))) (sym next)
-      (settled_follow page h (origin_before origin column) (origin column) (origin (suc column))
-      (origin_after origin width (suc column)) (k.halves column))))
-      (λ (past : width ≤ suc column).
-      let last : origin_after origin width column ≡ New blank = rw (eq-eqb (suc column) width (omega arith)) refl in
-      subst
-      (λ (c : Cell). Follows
-      (settled_cell page (origin_before origin column) (origin column) (origin_after origin width column)) c)
-      (sym (line_past origin width page (suc column) past))
-      (subst (λ (o : Origin). Follows (settled_cell page (origin_before origin column) (origin column) o) blank)
-      (sym last)
-      (settled_follow page h (origin_before origin column) (origin column) (New blank) (New blank)
-      (subst (λ (o : Origin). Pairs (origin column) o) last pairs))))
-      (cases_lt (suc column) width)))
-      (λ (past : width ≤ column).
-      subst (λ (c : Cell). Follows c (cell_at (line_from origin width page) (suc column)))
-      (sym (line_past origin width page column past)) (λ left. absurd (cc)))
-      (cases_lt column width);
+  printed = λ n inside. item-built IsDrawableCell _ width blank n
+      (λ less. settled_drawable page h (origin_before origin n) (origin n) (origin_after origin width n) (k.cells n))
+      drawable_blank;
+  halves = λ n. item-built (λ (c : Cell). Follows c (cell_at (line_from origin width page) (suc n))) _ width blank n
+      (λ less. ⊎_elim
+      (λ (inside : suc n < width).
+      rw (get_or-map-range_with_len _ 0 width (suc n) (suc n) blank inside (omega arith))
+      (rw (ne_eqb (suc n) width (omega arith))
+      (settled_follow page h (origin_before origin n) (origin n) (origin (suc n)) (origin_after origin width (suc n))
+      (k.halves n))))
+      (λ (past : width ≤ suc n).
+      rw (cell_at_past (line_from origin width page) (suc n) (rw (length-line_from origin width page) past))
+      (rw (eq-eqb (suc n) width (omega arith))
+      (settled_follow page h (origin_before origin n) (origin n) (New blank) (New blank) (pairs_blank (origin n)))))
+      (cases_lt (suc n) width))
+      (λ left. absurd (cc));
 }
 
 pub drawable_nil : IsDrawableLine []
@@ -169,12 +102,8 @@ drawable_nil = record { printed = λ column h. absurd (omega arith); halves = λ
 
 pub page_from-drawable : (origin : ℕ → ℕ → Origin) (page : Page) → AreDrawableLines page
     → ((line : ℕ) → AreDrawable (origin line)) → AreDrawableLines (page_from origin page)
-page_from-drawable origin page h k line = ⊎_elim
-    (λ (inside : line < length page). subst IsDrawableLine (sym (line_at-page_from origin page line inside))
-    (line_from-drawable (origin line) (length (line_at page line)) page h (k line)))
-    (λ (past : length page ≤ line). subst IsDrawableLine
-    (sym (get_or_past (page_from origin page) line [] (rw (length-page_from origin page) past))) drawable_nil)
-    (cases_lt line (length page))
+page_from-drawable origin page h k line = item-built IsDrawableLine _ (length page) [] line
+    (λ inside. line_from-drawable (origin line) (length (line_at page line)) page h (k line)) drawable_nil
 
 -- ORIGINS
 
@@ -187,33 +116,17 @@ IsOldOrBlank (New cell) = cell ≡ blank
 IsOldOrBlank (From line column) = Prim.Unit {0}
 
 pub old_or_blank : (origin : ℕ → Origin) → ((column : ℕ) → IsOldOrBlank (origin column)) → AreDrawable origin
-old_or_blank origin h = record {
-  cells = λ column. cells (origin column) (h column);
-  halves = λ column. halves (origin column)
-      (origin (suc column)) (h (suc column));
-}
-  where
-    cells : (o : Origin) → IsOldOrBlank o → IsDrawableOrigin o
-    cells (New cell) e = subst IsDrawableCell (sym e) drawable_blank
-    cells (From line column) e = tt
-
-    halves : (a b : Origin) → IsOldOrBlank b → Pairs a b
-    halves (New l) (New r) e = λ right. absurd (cc)
-    halves (New l) (From line column) e = tt
-    halves (From line column) b e = tt
+old_or_blank origin h = grind (arith, drawable_blank)
 
 pub old_or_blank_if : (b : Bool) (x y : Origin) → IsOldOrBlank x → IsOldOrBlank y → IsOldOrBlank (cond b x y)
-old_or_blank_if true x y h k = h
-old_or_blank_if false x y h k = k
+old_or_blank_if b x y h k = grind (arith, nat_tests)
 
 pub drawable_if : (b : Bool) (f g : ℕ → Origin) → AreDrawable f → AreDrawable g
     → AreDrawable (λ column. cond b (f column) (g column))
-drawable_if true f g h k = record { cells = h.cells; halves = h.halves }
-drawable_if false f g h k = record { cells = k.cells; halves = k.halves }
+drawable_if b f g h k = grind (arith, nat_tests)
 
 -- one line is edited
 pub edited_drawable : (at : ℕ) (source : ℕ → Source)
     → ((line : ℕ) → AreDrawable (λ column. on_line line (source column))) → (line : ℕ)
     → AreDrawable (edited at source line)
-edited_drawable at source h line = drawable_if (eqb line at) (λ column. on_line line (source column)) (From line)
-    (h line) (from_drawable line)
+edited_drawable at source h line = search (drawable_if, from_drawable)

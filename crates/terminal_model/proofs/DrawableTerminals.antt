@@ -1,9 +1,10 @@
 -- Reading and writing keep a terminal's screen drawable.
+use Rattle.std.proofs.lemmas.Grind.{common_steps}
+use Rattle.std.proofs.Common.{arith}
 use Rattle.std.proofs.Common.{◌≡◌, ℕ, List, [], ◌∷◌, ◌++◌, sym, ap, subst}
 use Rattle.std.specs.List.{AllByRecursion}
 use Rattle.charsets.specs.declared.unit.Unit.{Unit}
-use Rattle.charsets.specs.declared.unit.Coding.{Coding}
-use Rattle.charsets.specs.Units.{units, IsUnit}
+use Rattle.charsets.specs.Units.{IsUnit}
 use Rattle.charsets.proofs.Scalars.{units-are}
 use Rattle.control_parser.specs.declared.func.Func.{Func}
 use Rattle.control_parser.specs.Grammar.{Rest, functions}
@@ -27,8 +28,7 @@ drawable-effects x (f ∷ later) g h = drawable-effects (effect x f) later g.1 (
 
 all-append : (us vs : List Unit) → AllByRecursion IsUnit us → AllByRecursion IsUnit vs
     → AllByRecursion IsUnit (us ++ vs)
-all-append [] vs h k = k
-all-append (u ∷ us) vs h k = (h.0, all-append us vs h.1 k)
+all-append us vs h k = grind (arith, common_steps)
 
 drawable-units : (t : Terminal) (us : List Unit) → AllByRecursion IsUnit us
     → functions (opening t.unended) ≡ ([], t.unended) → IsDrawableScreen t.screen
@@ -45,10 +45,7 @@ drawable-units t us g k h =
 drawable-read_byte : (t : Terminal) (b : ℕ) → IsTerminal t → IsDrawableScreen t.screen
     → IsDrawableScreen (read_byte t b).terminal.screen
 unfolding read_byte
-drawable-read_byte t b k h =
-    let c : Coding = t.screen.state.coding in
-    let given = units c (t.rest ++ b ∷ []) in
-    drawable-units (record t { rest = given.1 }) given.0 (units-are c (t.rest ++ b ∷ [])) k.opened h
+drawable-read_byte t b k h = search (drawable-units, units-are)
 
 pub drawable-reads : (t : Terminal) (bytes : List ℕ) → IsTerminal t → IsDrawableScreen t.screen
     → IsDrawableScreen (reads t bytes).terminal.screen

@@ -1,12 +1,13 @@
 -- The effects of the functions that frames are made of.
+use Rattle.std.proofs.lemmas.Bool.Decides.{nat_tests}
+use Rattle.std.proofs.lemmas.Grind.{common_steps}
 use Rattle.std.proofs.Common.{◌≡◌, ℕ, ◌+◌, ◌-◌, ◌<◌, ◌≤◌, min, max, Bool, true, false, ◌&&◌, cond, eqb, List, [], ◌∷◌}
 use Rattle.std.proofs.Common.{◌++◌, length, replicate, Option, Some, None, refl, sym, ap, ◌∙◌, subst, arith}
-use Rattle.std.proofs.Common.{append_assoc}
 use Rattle.std.specs.Prelude.{option_to_list}
 use Rattle.std.proofs.lemmas.List.{length-replicate}
 use Rattle.std.proofs.lemmas.Bool.{ne_eqb}
 use Rattle.charsets.specs.declared.unit.Unit.TheVariants.{Code}
-use Rattle.charsets.specs.Shifts.{is_graphic, spent}
+use Rattle.charsets.specs.Shifts.{is_graphic}
 use Rattle.charsets.proofs.Shifted.{mapped-ascii, spent-none}
 use Rattle.cells.specs.declared.cell.Cell.{Cell}
 use Rattle.cells.specs.Line.{blank, IsPaired, narrow_cell, left_cell, right_cell, spliced}
@@ -17,12 +18,12 @@ use Rattle.terminal_model.specs.declared.action.Action.{Action}
 use Rattle.terminal_model.specs.declared.action.Action.TheVariants.{Render, SetMode}
 use Rattle.terminal_model.specs.declared.action.Attribute.{Attribute}
 use Rattle.terminal_model.specs.declared.action.Mode.{Mode}
-use Rattle.terminal_model.specs.Reports.{report, all_answered}
+use Rattle.terminal_model.specs.Reports.{report}
 use Rattle.terminal_model.specs.declared.state.Position.{Position}
 use Rattle.terminal_model.specs.Screen.{Screen, IsSound, with_state, with_page}
 use Rattle.terminal_model.specs.Functions.{each, plain_sequence, private_sequence, rendered, private_mode_set}
-use Rattle.terminal_model.specs.Motion.{unpending, unjoined, moved_to, line_named}
-use Rattle.terminal_model.specs.Printing.{printed, printed_as, placed, placed_narrow, placed_wide, wrapped}
+use Rattle.terminal_model.specs.Motion.{unpending, unjoined, moved_to}
+use Rattle.terminal_model.specs.Printing.{printed_as, placed, placed_narrow, placed_wide, wrapped}
 use Rattle.terminal_model.specs.Printing.{wide_printed, wide_or_none, lacks_room, marked_at, advanced, columns_of}
 use Rattle.terminal_model.specs.Printing.{drawn}
 use Rattle.terminal_model.specs.Erasing.{line_erased}
@@ -36,11 +37,7 @@ use Rattle.terminal_model.proofs.Places.{over-at, marked-at}
 prints : (x : Screen) (c : ℕ) → IsPlain x → is_graphic (Code c) ≡ true
     → effect x (Print c) ≡ printed_as (columns_of c) (drawn c) x
 unfolding acted_from
-prints x c h g =
-    ap (λ m. printed m (with_state x (record x.state { shifts = spent x.state.shifts (Code c) })))
-    (mapped-ascii x.state.shifts c h.ascii h.none_shifted g)
-    ∙ ap (λ s. printed (Some c) (with_state x (record x.state { shifts = s })))
-    (spent-none x.state.shifts c h.none_shifted)
+prints x c h g = search (mapped-ascii, spent-none)
 
 prints-narrow : (x : Screen) (c : ℕ) → IsPlain x → is_graphic (Code c) ≡ true → columns_of c ≡ 1
     → effect x (Print c) ≡ placed_narrow (drawn c) x
@@ -150,18 +147,7 @@ pub cursor-moved : (x : Screen) (line column : ℕ) → x.state.modes.counts_fro
     → column < x.state.columns
     → effect x (Csi None ((line + 1) ∷ (column + 1) ∷ []) [] 0x48) ≡ with_state x (moved_to x.state line column)
 unfolding acted_from plain_sequence
-cursor-moved x line column m l c =
-    let a : line + 1 - 1 ≡ line = omega arith in
-    let b : column + 1 - 1 ≡ column = omega arith in
-    let d : min line (x.state.rows - 1) ≡ line = omega arith in
-    let e : min column (x.state.columns - 1) ≡ column = omega arith in
-    ap (λ k. with_state x (moved_to x.state (line_named x.state k) (min (column + 1 - 1) (x.state.columns - 1)))) a
-    ∙ ap (λ k. with_state x (moved_to x.state (line_named x.state line) (min k (x.state.columns - 1)))) b
-    ∙ ap (λ k. with_state x
-    (moved_to x.state (cond k (min (x.state.top + line) x.state.bottom) (min line (x.state.rows - 1)))
-    (min column (x.state.columns - 1)))) m
-    ∙ ap (λ k. with_state x (moved_to x.state k (min column (x.state.columns - 1)))) d
-    ∙ ap (λ k. with_state x (moved_to x.state line k)) e
+cursor-moved x line column m l c = grind (arith, nat_tests)
 
 -- values in turn
 pub all_acted-append : (x : Screen) (a b : List Action) → all_acted x (a ++ b) ≡ all_acted (all_acted x a) b
@@ -170,15 +156,12 @@ all_acted-append x (f ∷ a) b = all_acted-append (acted x f) a b
 
 pub each-append : (meaning : ℕ → Option Action) (a b : List ℕ)
     → each meaning (a ++ b) ≡ each meaning a ++ each meaning b
-each-append meaning [] b = refl
-each-append meaning (n ∷ a) b = ap (λ v. option_to_list (meaning n) ++ v) (each-append meaning a b)
-    ∙ sym (append_assoc (option_to_list (meaning n)) (each meaning a) (each meaning b))
+each-append meaning a b = grind (arith, common_steps)
 
 pub rendered-in-turn : (x : Screen) (a b : List ℕ)
     → effect x (Csi None (a ++ b) [] 0x6D) ≡ effect (effect x (Csi None a [] 0x6D)) (Csi None b [] 0x6D)
 unfolding plain_sequence
-rendered-in-turn x a b = ap (all_acted x) (each-append rendered a b)
-    ∙ all_acted-append x (each rendered a) (each rendered b)
+rendered-in-turn x a b = grind (arith, each-append, all_acted-append)
 
 -- one value of SGR, of DECSM or DECRM, and the keypad
 pub rendered-one : (x : Screen) (n : ℕ) (a : Attribute) → rendered n ≡ Some (Render a)
@@ -191,15 +174,13 @@ pub mode-set : (x : Screen) (on : Bool) (n : ℕ) (m : Mode) → private_mode_se
     → effect x (Csi (Some 0x3F) (n ∷ []) [] (mode_final on)) ≡ with_state x
     (homed m (record x.state { modes = modes_with x.state.modes m on }))
 unfolding acted_from private_sequence
-mode-set x true n m h = ap (λ v. all_acted x (option_to_list v ++ [])) h
-mode-set x false n m h = ap (λ v. all_acted x (option_to_list v ++ [])) h
+mode-set x on n m h = grind (arith, nat_tests)
 
 pub keypad-set : (x : Screen) (on : Bool)
     → effect x (Esc [] (keypad_final on)) ≡ with_state x
     (unpending (record x.state { modes = record x.state.modes { has_application_keypad = on } }))
 unfolding acted_from
-keypad-set x true = refl
-keypad-set x false = refl
+keypad-set x on = grind (arith, nat_tests)
 
 -- none of these functions is answered
 pub printed-quiet : (x : Screen) (c : ℕ) → report x (Print c) ≡ []
@@ -220,9 +201,7 @@ line-quiet x = refl
 pub mode-quiet : (x : Screen) (on : Bool) (n : ℕ) (m : Mode) → private_mode_set on n ≡ Some (SetMode m on)
     → report x (Csi (Some 0x3F) (n ∷ []) [] (mode_final on)) ≡ []
 unfolding private_sequence
-mode-quiet x true n m h = ap (λ v. all_answered x (option_to_list v ++ [])) h
-mode-quiet x false n m h = ap (λ v. all_answered x (option_to_list v ++ [])) h
+mode-quiet x on n m h = grind (arith, nat_tests)
 
 pub keypad-quiet : (x : Screen) (on : Bool) → report x (Esc [] (keypad_final on)) ≡ []
-keypad-quiet x true = refl
-keypad-quiet x false = refl
+keypad-quiet x on = grind (arith, nat_tests)

@@ -1,8 +1,9 @@
 -- The cell at each place after new cells were put over a line.
+use Rattle.std.proofs.Common.{get_or}
+use Rattle.std.proofs.lemmas.Grind.{common_steps}
 use Rattle.std.proofs.Common.{◌≡◌, ℕ, zero, suc, ◌+◌, ◌-◌, ◌<◌, ◌≤◌, Bool, true, false, ◌&&◌, eqb, ltb, leb, List, []}
-use Rattle.std.proofs.Common.{length, set, replicate, refl, sym, ap, ◌∙◌, arith, ⊎_elim, eq-eqb}
+use Rattle.std.proofs.Common.{length, set, refl, sym, ap, ◌∙◌, arith, ⊎_elim, eq-eqb}
 use Rattle.std.specs.Prelude.{if◌then◌else◌, ◌==◌}
-use Rattle.std.proofs.lemmas.List.{get_or_past, get_or-set_same, get_or-set_other, length-replicate, get_or-replicate}
 use Rattle.std.proofs.lemmas.Bool.{cases_lt, cases_eq, cases_Bool, ne_eqb}
 use Rattle.std.proofs.lemmas.Bool.Decides.{nat_tests}
 use Rattle.cells.specs.declared.cell.Cell.{Cell}
@@ -200,15 +201,7 @@ pub edited-at : (rows columns at : ℕ) (source : ℕ → Source) (page : Page) 
     → place (page_from (edited at source) page) line column ≡
     (if line == at then cell_at (cells_from source (line_at page at)) column else place page line column)
 edited-at rows columns at source page p h line column =
-    ap (λ q. place q line column) (page_from-edited at source rows columns page p h)
-    ∙ ⊎_elim
-    (λ (e : line ≡ at). ap (λ l. cell_at (line_at (set page at (cells_from source (line_at page at))) l) column) e
-    ∙ ap (λ l. cell_at l column) (get_or-set_same page at (cells_from source (line_at page at)) [] (rw p.height h))
-    ∙ sym (rw (eq-eqb line at e) refl))
-    (λ (ne : line ≡ at → ⊥). ap (λ l. cell_at l column)
-    (get_or-set_other page at line (cells_from source (line_at page at)) [] ne)
-    ∙ sym (rw (ne_eqb line at ne) refl))
-    (cases_eq line at)
+    rw (page_from-edited at source rows columns page p h) (grind (arith, common_steps, p.height))
 
 -- new cells over a line of a page
 pub over-at : (rows columns at from rest : ℕ) (fresh : List Cell) (page : Page) → IsPage rows columns page → at < rows
@@ -219,13 +212,12 @@ pub over-at : (rows columns at from rest : ℕ) (fresh : List Cell) (page : Page
 over-at rows columns at from rest fresh page p h pairs some room e line column =
     let wide : length (line_at page at) ≡ columns = p.width at h in
     edited-at rows columns at (spliced from fresh rest columns) page p h line column
-    ∙ ap (λ (n : ℕ). if line == at then cell_at (cells_from (spliced from fresh n columns) (line_at page at)) column
-    else place page line column) e
-    ∙ ap (λ (n : ℕ). if line == at then cell_at
-    (cells_from (spliced from fresh (from + length fresh) n) (line_at page at)) column else place page line column)
-    (sym wide)
     ∙ ap (λ (c : Cell). if line == at then c else place page line column)
-    (over-is fresh (line_at page at) from (p.paired at) pairs some (rw wide room) column)
+    (rw (e, ← wide) (over-is fresh (line_at page at) from (p.paired at) pairs some (rw wide room) column))
+
+set-is : {A : Type 0} (xs : List A) (at : ℕ) (new d : A) (k : ℕ) → at < length xs
+    → get_or (set xs at new) k d ≡ (if k == at then new else get_or xs k d)
+set-is xs at new d k h = grind (arith, common_steps)
 
 -- a mark
 pub marked-at : (rows columns at from mark : ℕ) (page : Page) → IsPage rows columns page → at < rows → from < columns
@@ -233,33 +225,10 @@ pub marked-at : (rows columns at from mark : ℕ) (page : Page) → IsPage rows 
     → place (page_marked at from mark page) line column ≡ with_mark at from mark page line column
 marked-at rows columns at from mark page p h w line column =
     let old : List Cell = line_at page at in
-    let new : List Cell = set old from (marked (cell_at old from) mark) in
-    let wide : length old ≡ columns = p.width at h in
-    ⊎_elim
-    (λ (e : line ≡ at). ap (λ l. cell_at (line_at (set page at new) l) column) e
-    ∙ ap (λ l. cell_at l column) (get_or-set_same page at new [] (rw p.height h))
-    ∙ ⊎_elim
-    (λ (f : column ≡ from). ap (λ c. cell_at new c) f
-    ∙ get_or-set_same old from (marked (cell_at old from) mark) blank (rw wide w)
-    ∙ sym (rw (eq-eqb line at e, eq-eqb column from f, e, f) refl))
-    (λ (nf : column ≡ from → ⊥). get_or-set_other old from column (marked (cell_at old from) mark) blank nf
-    ∙ sym (rw (eq-eqb line at e, ne_eqb column from nf, e) refl))
-    (cases_eq column from))
-    (λ (ne : line ≡ at → ⊥). ap (λ l. cell_at l column) (get_or-set_other page at line new [] ne)
-    ∙ sym (rw (ne_eqb line at ne) refl))
-    (cases_eq line at)
+    let cell : Cell = marked (cell_at old from) mark in
+    rw (set-is page at (set old from cell) [] line (rw p.height h))
+    (grind (arith, nat_tests, set-is old from cell blank column, p.width at h))
 
 -- a blank page
 pub blank-at : (rows columns line column : ℕ) → place (blank_page rows columns) line column ≡ blank
-blank-at rows columns line column = ⊎_elim
-    (λ (h : line < rows). ap (λ l. cell_at l column) (get_or-replicate rows line (replicate columns blank) [] h)
-    ∙ blanks columns column)
-    (λ (h : rows ≤ line). ap (λ l. cell_at l column)
-    (get_or_past (blank_page rows columns) line [] (rw (length-replicate rows (replicate columns blank)) h)))
-    (cases_lt line rows)
-  where
-    blanks : (n k : ℕ) → cell_at (replicate n blank) k ≡ blank
-    blanks n k = ⊎_elim
-        (λ (h : k < n). get_or-replicate n k blank blank h)
-        (λ (h : n ≤ k). get_or_past (replicate n blank) k blank (rw (length-replicate n blank) h))
-        (cases_lt k n)
+blank-at rows columns line column = grind (arith, common_steps)

@@ -28,8 +28,7 @@ unfolding drawn
 drawn-plain c h = ap (λ (w : Option ℕ). drawn_as w c) (width-plain c h)
 
 both : (p q : Bool) → (p && q) ≡ true → (p ≡ true) × (q ≡ true)
-both true q h = (refl, h)
-both false q h = (h, absurd (cc))
+both p q h = grind (arith, nat_tests)
 
 -- a terminal between characters, sequences and strings that has read bytes 20 to 7E; it answers
 -- nothing

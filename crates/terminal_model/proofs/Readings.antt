@@ -1,4 +1,6 @@
 -- Reading goes on, and the functions of the bytes are those that act.
+use Rattle.std.proofs.lemmas.Grind.{common_steps}
+use Rattle.std.proofs.Common.{arith}
 use Rattle.std.proofs.Common.{◌≡◌, ℕ, List, [], ◌∷◌, ◌++◌, refl, sym, ap, ◌∙◌, append_assoc, append-nil}
 use Rattle.charsets.specs.declared.unit.Unit.{Unit}
 use Rattle.control_parser.specs.declared.func.Func.{Func}
@@ -19,31 +21,20 @@ joined_assoc r s u = simp append_assoc
 pub reads-append : (t : Terminal) (a b : List ℕ) → reads t (a ++ b) ≡ joined (reads t a) (reads (reads t a).terminal b)
 unfolding reads
 reads-append t [] b = refl
-reads-append t (x ∷ a) b =
-    ap (joined (read_byte t x)) (reads-append (read_byte t x).terminal a b)
-    ∙ sym
-    (joined_assoc (read_byte t x) (reads (read_byte t x).terminal a)
-    (reads (reads (read_byte t x).terminal a).terminal b))
+reads-append t (x ∷ a) b = grind (arith, common_steps, reads-append (read_byte t x).terminal a b)
 
 -- a window's writing in two pieces is its writing at once
 pub writes_all-append : (t : Terminal) (a b : List Writing)
     → writes_all t (a ++ b) ≡ joined (writes_all t a) (writes_all (writes_all t a).terminal b)
 unfolding writes_all
 writes_all-append t [] b = refl
-writes_all-append t (w ∷ a) b =
-    ap (joined (writes t w)) (writes_all-append (writes t w).terminal a b)
-    ∙ sym
-    (joined_assoc (writes t w) (writes_all (writes t w).terminal a)
-    (writes_all (writes_all (writes t w).terminal a).terminal b))
+writes_all-append t (w ∷ a) b = grind (arith, common_steps, writes_all-append (writes t w).terminal a b)
 
 -- output that comes in two pieces is one output
 pub writes_all-output : (t : Terminal) (a b : List ℕ) (later : List Writing)
     → writes_all t (Output a ∷ Output b ∷ later) ≡ writes_all t (Output (a ++ b) ∷ later)
 unfolding writes_all
-writes_all-output t a b later =
-    rw (reads-append t a b)
-    (sym (joined_assoc (reads t a) (reads (reads t a).terminal b)
-    (writes_all (reads (reads t a).terminal b).terminal later)))
+writes_all-output t a b later = grind (arith, reads-append, joined_assoc)
 
 -- functions that act on a screen, one after another
 abbrev pub effects : Screen → List Func → Screen
@@ -74,8 +65,7 @@ effects-append x (f ∷ a) b = effects-append (effect x f) a b
 reports_of-append : (x : Screen) (a b : List Func)
     → reports_of x (a ++ b) ≡ reports_of x a ++ reports_of (effects x a) b
 reports_of-append x [] b = refl
-reports_of-append x (f ∷ a) b = ap (λ r. report x f ++ r) (reports_of-append (effect x f) a b)
-    ∙ sym (append_assoc (report x f) (reports_of (effect x f) a) (reports_of (effects (effect x f) a) b))
+reports_of-append x (f ∷ a) b = grind (arith, common_steps, reports_of-append (effect x f) a b)
 
 acts_of-append : (x : Screen) (a b : List Func) → acts_of x (a ++ b) ≡ acts_of x a ++ acts_of (effects x a) b
 acts_of-append x [] b = refl

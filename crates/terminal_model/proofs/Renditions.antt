@@ -1,10 +1,12 @@
 -- SGR sets a rendition from any other one, and answers nothing.
-use Rattle.std.proofs.Common.{◌≡◌, ℕ, ◌<◌, Bool, true, false, ◌&&◌, List, [], ◌∷◌, ◌++◌, length, Option, Some, None}
+use Rattle.std.proofs.lemmas.Grind.{common_steps}
+use Rattle.std.proofs.lemmas.Bool.Decides.{nat_tests}
+use Rattle.std.proofs.Common.{◌≡◌, ℕ, Bool, true, List, [], ◌∷◌, ◌++◌, Option, Some, None}
 use Rattle.std.proofs.Common.{refl, ap, ◌∙◌, arith}
 use Rattle.std.specs.Prelude.{if◌then◌else◌, option_to_list, is_some}
 use Rattle.std.specs.List.{list_all}
 use Rattle.cells.specs.declared.cell.Colour.{Colour}
-use Rattle.cells.specs.declared.cell.Colour.TheVariants.{Default, Black, Red, Green, Yellow, Blue, Magenta, Cyan, White}
+use Rattle.cells.specs.declared.cell.Colour.TheVariants.{Default}
 use Rattle.cells.specs.declared.cell.Rendition.{Rendition}
 use Rattle.control_parser.specs.declared.func.Func.TheVariants.{Csi}
 use Rattle.terminal_model.specs.declared.action.Action.{Action}
@@ -31,50 +33,19 @@ begun : (x : Screen) (b u k v : Bool) (later : List ℕ)
     (record { is_bold = b; is_underlined = u; is_blinking = k; is_reversed = v; fore = Default; back = Default }))
     (each rendered later)
 unfolding acted_from plain_sequence
-begun x true true true true later = refl
-begun x true true true false later = refl
-begun x true true false true later = refl
-begun x true true false false later = refl
-begun x true false true true later = refl
-begun x true false true false later = refl
-begun x true false false true later = refl
-begun x true false false false later = refl
-begun x false true true true later = refl
-begun x false true true false later = refl
-begun x false true false true later = refl
-begun x false true false false later = refl
-begun x false false true true later = refl
-begun x false false true false later = refl
-begun x false false false true later = refl
-begun x false false false false later = refl
+begun x b u k v later = grind arith
 
 fore-set : (x : Screen) (r : Rendition) (c : Colour)
     → all_acted (with_rendition x (record r { fore = Default })) (each rendered (value_of_colour 30 c)) ≡ with_rendition
     x (record r { fore = c })
 unfolding acted_from
-fore-set x r Default = refl
-fore-set x r Black = refl
-fore-set x r Red = refl
-fore-set x r Green = refl
-fore-set x r Yellow = refl
-fore-set x r Blue = refl
-fore-set x r Magenta = refl
-fore-set x r Cyan = refl
-fore-set x r White = refl
+fore-set x r c = grind (arith, nat_tests)
 
 back-set : (x : Screen) (r : Rendition) (c : Colour)
     → all_acted (with_rendition x (record r { back = Default })) (each rendered (value_of_colour 40 c)) ≡ with_rendition
     x (record r { back = c })
 unfolding acted_from
-back-set x r Default = refl
-back-set x r Black = refl
-back-set x r Red = refl
-back-set x r Green = refl
-back-set x r Yellow = refl
-back-set x r Blue = refl
-back-set x r Magenta = refl
-back-set x r Cyan = refl
-back-set x r White = refl
+back-set x r c = grind (arith, nat_tests)
 
 colours-set : (x : Screen) (r : Rendition)
     → all_acted (with_rendition x (record r { fore = Default; back = Default })) (each rendered (colour_values r)) ≡
@@ -92,68 +63,29 @@ pub rendition-is : (x : Screen) (r : Rendition)
 rendition-is x r = begun x r.is_bold r.is_underlined r.is_blinking r.is_reversed (colour_values r) ∙ colours-set x r
 
 -- VALUES THAT ARE KNOWN
-both-more : (p q r : Bool) → p && q ≡ true → (q ≡ true → r ≡ true) → p && r ≡ true
-both-more true q r h f = f h
-both-more false q r h f = h
-
-all-append : (p : ℕ → Bool) (a b : List ℕ) → list_all p a ≡ true → list_all p b ≡ true → list_all p (a ++ b) ≡ true
-all-append p [] b h k = k
-all-append p (n ∷ a) b h k = both-more (p n) (list_all p a) (list_all p (a ++ b)) h (λ more. all-append p a b more k)
-
 abbrev pub is_named : ℕ → Bool
 is_named n = is_some (rendered n)
 
+all-append : (p : ℕ → Bool) (a b : List ℕ) → list_all p a ≡ true → list_all p b ≡ true → list_all p (a ++ b) ≡ true
+all-append p a b h k = grind (arith, common_steps)
+
 value-named : (b : Bool) (n : ℕ) → is_named n ≡ true → list_all is_named (value_if b n) ≡ true
-value-named true n h = rw h refl
-value-named false n h = refl
+value-named b n h = grind arith
 
 fore-named : (c : Colour) → list_all is_named (value_of_colour 30 c) ≡ true
-fore-named Default = refl
-fore-named Black = refl
-fore-named Red = refl
-fore-named Green = refl
-fore-named Yellow = refl
-fore-named Blue = refl
-fore-named Magenta = refl
-fore-named Cyan = refl
-fore-named White = refl
+fore-named c = grind arith
 
 back-named : (c : Colour) → list_all is_named (value_of_colour 40 c) ≡ true
-back-named Default = refl
-back-named Black = refl
-back-named Red = refl
-back-named Green = refl
-back-named Yellow = refl
-back-named Blue = refl
-back-named Magenta = refl
-back-named Cyan = refl
-back-named White = refl
+back-named c = grind arith
 
 values-named : (r : Rendition) → list_all is_named (rendition_values r) ≡ true
-values-named r =
-    all-append is_named (value_if r.is_bold 1) _ (value-named r.is_bold 1 refl) (
-    all-append is_named (value_if r.is_underlined 4) _ (value-named r.is_underlined 4 refl) (
-    all-append is_named (value_if r.is_blinking 5) _ (value-named r.is_blinking 5 refl) (
-    all-append is_named (value_if r.is_reversed 7) _ (value-named r.is_reversed 7 refl) (
-    all-append is_named (value_of_colour 30 r.fore) _ (fore-named r.fore) (back-named r.back)))))
-
-and-left : (p q : Bool) → p && q ≡ true → p ≡ true
-and-left true q h = refl
-and-left false q h = h
+values-named r = grind (arith, all-append, value-named, fore-named, back-named)
 
 -- a list of values that begins with a known one
 pub named-listed : (rows n : ℕ) (values : List ℕ) → list_all is_named (n ∷ values) ≡ true
     → IsListed rows (Csi None (n ∷ values) [] 0x6D)
 unfolding plain_sequence
-named-listed rows n values h = record {
-  acts = some (rendered n) (and-left (is_named n) (list_all is_named values) h);
-  named = ap (λ b. b && true) h;
-  in_order = refl;
-}
-  where
-    some : (o : Option Action) → is_some o ≡ true → 0 < length (option_to_list o ++ each rendered values)
-    some None e = cc
-    some (Some a) e = omega arith
+named-listed rows n values h = grind arith
 
 pub values-listed : (rows : ℕ) (r : Rendition) → IsListed rows (Csi None (rendition_values r) [] 0x6D)
 values-listed rows r = named-listed rows 0 _ (values-named r)
@@ -165,8 +97,7 @@ record IsRendering (o : Option Action) : Type 0 where
       (elim o as (λ w. Screen) [ None ↦ x | Some a ↦ acted x a ]) later
 
 if_rendering : (b : Bool) (o p : Option Action) → IsRendering o → IsRendering p → IsRendering (if b then o else p)
-if_rendering true o p h k = h
-if_rendering false o p h k = k
+if_rendering b o p h k = grind arith
 
 none_rendering : IsRendering None
 none_rendering = record { quiet = λ x later. refl }

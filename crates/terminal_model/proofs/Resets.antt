@@ -1,5 +1,5 @@
 -- The beginning of a first frame brings every terminal of a size to one screen.
-use Rattle.std.proofs.Common.{◌≡◌, ℕ, List, [], ◌∷◌, ◌++◌, Some, refl, ap, ◌∙◌, arith, append-nil}
+use Rattle.std.proofs.Common.{◌≡◌, ℕ, List, [], ◌∷◌, ◌++◌, Some, refl, ap, ◌∙◌, arith}
 use Rattle.charsets.specs.declared.unit.Unit.TheVariants as codes
 use Rattle.charsets.specs.declared.unit.Coding.{Coding}
 use Rattle.charsets.specs.Units.{units}
@@ -107,8 +107,4 @@ pub frame-terminal : (t : Terminal) → IsTerminal t → (reads t frame_bytes).t
 frame-terminal t h = ap (λ v. v.terminal) (cancel-reads t _ h ∙ frame-reads t.screen) ∙ ap ready (frame-screen t.screen)
 
 pub frame-reports : (t : Terminal) → IsTerminal t → (reads t frame_bytes).reports ≡ []
-frame-reports t h = ap (λ v. v.reports) (cancel-reads t _ h ∙ frame-reads t.screen)
-    ∙ append-nil
-    (report t.screen (Esc [] 0x63) ++
-    (report (reset-screen t.screen) (Esc (0x25 ∷ []) 0x47) ++ report (coded-screen t.screen)
-    (Csi (Some 0x3F) (7 ∷ []) [] 0x6C))) ∙ frame-quiet t.screen
+frame-reports t h = search (cancel-reads, frame-reads, frame-quiet)

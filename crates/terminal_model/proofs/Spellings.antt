@@ -1,7 +1,7 @@
 -- The spelling of a function is read as this function only.
-use Rattle.std.proofs.Common.{◌≡◌, ℕ, ◌<◌, true, ltb, ⊎_elim, List, [], ◌∷◌, ◌++◌, map, refl, sym, ap, ◌∙◌, subst}
+use Rattle.std.proofs.lemmas.Grind.{common_steps}
+use Rattle.std.proofs.Common.{◌≡◌, ℕ, ◌<◌, ⊎_elim, List, [], ◌∷◌, ◌++◌, ◌⊎◌, refl, sym, ap, ◌∙◌}
 use Rattle.std.proofs.Common.{arith, append_assoc, append-nil}
-use Rattle.std.proofs.lemmas.Bool.{cases_eq, ne_eqb}
 use Rattle.std.proofs.lemmas.Bool.Decides.{nat_tests}
 use Rattle.charsets.specs.declared.unit.Unit.TheVariants as codes
 use Rattle.charsets.specs.declared.unit.Coding.{Coding}
@@ -11,7 +11,7 @@ use Rattle.charsets.specs.Utf8.{cut}
 use Rattle.charsets.proofs.Joins.{units-go_on, units-rest}
 use Rattle.charsets.proofs.Encoded.{one_byte}
 use Rattle.control_parser.specs.declared.func.Func.{Func}
-use Rattle.control_parser.specs.declared.func.Func.TheVariants.{Print, High, Control, Esc, Csi}
+use Rattle.control_parser.specs.declared.func.Func.TheVariants.{Esc}
 use Rattle.control_parser.specs.Grammar.{Rest, nothing, escape, control, functions, functions_behind, begun_by}
 use Rattle.control_parser.specs.Grammar.{with_front}
 use Rattle.control_parser.specs.Grammar as grammar
@@ -32,9 +32,7 @@ pub record Stays (c : Coding) (x : Screen) (fs : List Func) : Type 0 where
   pub coding : (before after : List Func) → fs ≡ before ++ after → (effects x before).state.coding ≡ c
 
 rest-stays : (r : List ℕ) (c : Coding) → rest_in r c c ≡ r
-rest-stays [] c = refl
-rest-stays (b ∷ r) Utf8 = refl
-rest-stays (b ∷ r) Ecma35 = refl
+rest-stays r c = grind arith
 
 -- bytes in a coding that stays: their functions are those that act
 pub reads-is : (bs : List ℕ) (x : Screen) (c : Coding) (r : List ℕ) (u : Rest) → units c r ≡ ([], r)
@@ -107,10 +105,8 @@ nothing-opened = refl
 
 one-acts : (c : Coding) (x : Screen) (bytes : List ℕ) (f : Func) → x.state.coding ≡ c → (effect x f).state.coding ≡ c
     → ReadsAs c bytes (f ∷ []) → ActsAlone x bytes f
-one-acts c x bytes f h k w =
-    let given : functions (units c bytes).0 ≡ (f ∷ [], nothing) = w.1 in
-    let stays : Stays c x (functions (units c bytes).0).0 = rw given (stays-one c x f h k) in
-    reads-is bytes x c [] nothing (begun c) nothing-opened stays ∙ rw (given, w.0) (simp append-nil)
+one-acts c x bytes f h k w = grind
+    (arith, common_steps, stays-one, reads-is bytes x c [] nothing (begun c) nothing-opened)
 
 -- BYTES BELOW 80, BETWEEN CHARACTERS
 
@@ -119,8 +115,7 @@ at x u = record { screen = x; rest = []; unended = u }
 
 pub ascii-units : (c : Coding) (b : ℕ) → b < 128 → units c (b ∷ []) ≡ (codes.Code b ∷ [], [])
 unfolding cut
-ascii-units Utf8 b h = ap (λ (v : List ℕ × List ℕ). (map (λ c. codes.Code c) v.0, v.1)) (one_byte b h [])
-ascii-units Ecma35 b h = let e : ltb b 0xA0 ≡ true = grind (arith, nat_tests) in rw e refl
+ascii-units c b h = grind (arith, nat_tests, one_byte b h [])
 
 -- a byte that completes no function
 pub silent : (x : Screen) (u v : Rest) (b : ℕ) (bs : List ℕ) → b < 128
@@ -159,46 +154,12 @@ ecma-acts x =
 -- a terminal between characters and functions, in the coding of a function, reads its spelling as
 -- this function
 pub spelled-acts : (x : Screen) (f : Func) → IsGiven f → x.state.coding ≡ coding_of f → ActsAlone x (spelling f) f
-spelled-acts x (Print c) g h = one-acts Utf8 x (spelling (Print c)) (Print c) h (effect-coding x (Print c) refl ∙ h)
-    (spelled_reads (Print c) g)
-spelled-acts x (High b) g h = one-acts Ecma35 x (spelling (High b)) (High b) h (effect-coding x (High b) refl ∙ h)
-    (spelled_reads (High b) g)
-spelled-acts x (Control c) g h = one-acts Utf8 x (spelling (Control c)) (Control c) h
-    (effect-coding x (Control c) refl ∙ h) (spelled_reads (Control c) g)
-spelled-acts x (Csi mark params is last) g h =
-    one-acts Utf8 x (spelling (Csi mark params is last)) (Csi mark params is last) h
-    (effect-coding x (Csi mark params is last) refl ∙ h) (spelled_reads (Csi mark params is last) g)
-spelled-acts x (Esc [] last) g h = one-acts Utf8 x (spelling (Esc [] last)) (Esc [] last) h
-    (effect-coding x (Esc [] last) refl ∙ h) (spelled_reads (Esc [] last) g)
-spelled-acts x (Esc (i ∷ j ∷ more) last) g h =
-    one-acts Utf8 x (spelling (Esc (i ∷ j ∷ more) last)) (Esc (i ∷ j ∷ more) last) h
-    (effect-coding x (Esc (i ∷ j ∷ more) last) refl ∙ h) (spelled_reads (Esc (i ∷ j ∷ more) last) g)
-spelled-acts x (Esc (i ∷ []) last) g h =
-    ⊎_elim
-    (λ (e : i ≡ 0x25). subst
-    (λ (n : ℕ). IsGiven (Esc (n ∷ []) last) → ActsAlone x (spelling (Esc (n ∷ []) last)) (Esc (n ∷ []) last))
-    (sym e) (percent x last h) g)
-    (λ (d : i ≡ 0x25 → ⊥). one-acts Utf8 x (spelling (Esc (i ∷ []) last)) (Esc (i ∷ []) last) h
-    (escape-coding x i last (ne_eqb i 0x25 d) ∙ h) (spelled_reads (Esc (i ∷ []) last) g))
-    (cases_eq i 0x25)
+spelled-acts x (Esc (i ∷ []) last) g h = ⊎_elim
+    (λ (k : (effect x (Esc (i ∷ []) last)).state.coding ≡ Utf8).
+    one-acts Utf8 x (spelling (Esc (i ∷ []) last)) (Esc (i ∷ []) last) h k (spelled_reads (Esc (i ∷ []) last) g))
+    (λ (e : (i ≡ 0x25) × (last ≡ 0x40)). rw (e.0, e.1) (ecma-acts x))
+    stays
   where
-    percent : (y : Screen) (final : ℕ) → y.state.coding ≡ Utf8 → IsGiven (Esc (0x25 ∷ []) final)
-        → ActsAlone y (spelling (Esc (0x25 ∷ []) final)) (Esc (0x25 ∷ []) final)
-    percent y final k w =
-        ⊎_elim
-        (λ (e : final ≡ 0x40). subst (λ (n : ℕ). ActsAlone y (spelling (Esc (0x25 ∷ []) n)) (Esc (0x25 ∷ []) n)) (sym e)
-        (ecma-acts y))
-        (λ (d : final ≡ 0x40 → ⊥). ⊎_elim
-        (λ (e : final ≡ 0x47). subst
-        (λ (n : ℕ). IsGiven (Esc (0x25 ∷ []) n) → ActsAlone y (spelling (Esc (0x25 ∷ []) n)) (Esc (0x25 ∷ []) n))
-        (sym e) (λ v. utf8 y k v) w)
-        (λ (d' : final ≡ 0x47 → ⊥). one-acts Utf8 y (spelling (Esc (0x25 ∷ []) final)) (Esc (0x25 ∷ []) final) k
-        (other-coding y final (ne_eqb final 0x47 d') (ne_eqb final 0x40 d) ∙ k)
-        (spelled_reads (Esc (0x25 ∷ []) final) w))
-        (cases_eq final 0x47))
-        (cases_eq final 0x40)
-      where
-        utf8 : (z : Screen) → z.state.coding ≡ Utf8 → IsGiven (Esc (0x25 ∷ []) 0x47)
-            → ActsAlone z (spelling (Esc (0x25 ∷ []) 0x47)) (Esc (0x25 ∷ []) 0x47)
-        utf8 z m v = one-acts Utf8 z (spelling (Esc (0x25 ∷ []) 0x47)) (Esc (0x25 ∷ []) 0x47) m (utf8-coding z)
-            (spelled_reads (Esc (0x25 ∷ []) 0x47) v)
+    stays : ((effect x (Esc (i ∷ []) last)).state.coding ≡ Utf8) ⊎ ((i ≡ 0x25) × (last ≡ 0x40))
+    stays = grind (arith, nat_tests, escape-coding, other-coding, utf8-coding)
+spelled-acts x f g h = one-acts (coding_of f) x (spelling f) f h (effect-coding x f refl ∙ h) (spelled_reads f g)

@@ -1,9 +1,9 @@
 -- Reading and writing keep a terminal.
-use Rattle.std.proofs.Common.{◌≡◌, ℕ, List, [], ◌∷◌, ◌++◌, refl, sym, ◌∙◌, subst}
+use Rattle.std.proofs.Common.{arith}
+use Rattle.std.proofs.Common.{◌≡◌, ℕ, List, [], ◌∷◌, ◌++◌, refl, ◌∙◌}
 use Rattle.std.specs.List.{AllByRecursion}
 use Rattle.charsets.specs.declared.unit.Unit.{Unit}
 use Rattle.charsets.specs.declared.unit.Coding.{Coding}
-use Rattle.charsets.specs.declared.unit.Coding.TheVariants.{Utf8, Ecma35}
 use Rattle.charsets.specs.Units.{units}
 use Rattle.charsets.proofs.Joins.{units-rest}
 use Rattle.cells.specs.Page.{IsGridSize}
@@ -15,7 +15,7 @@ use Rattle.terminal_model.specs.Screen.{Screen, IsSound}
 use Rattle.terminal_model.specs.Sizing.{resized}
 use Rattle.terminal_model.specs.Reading.{Terminal, IsTerminal, ready, act, act_all, read_unit, read_units, rest_in}
 use Rattle.terminal_model.specs.Reading.{read_byte, reads}
-use Rattle.terminal_model.specs.Writing.{Writing, Output, Size, Clear, Reset, Encoding, IsWriting, writes, writes_all}
+use Rattle.terminal_model.specs.Writing.{Writing, IsWriting, writes, writes_all}
 use Rattle.terminal_model.proofs.Sound.{IsSound-effect, IsSound-resized}
 use Rattle.terminal_model.proofs.Spellings.{begun, nothing-opened}
 
@@ -48,26 +48,11 @@ all-units t (u ∷ later) h k =
 
 rest-begun : (rest : List ℕ) (c d : Coding) → units c rest ≡ ([], rest)
     → units d (rest_in rest c d) ≡ ([], rest_in rest c d)
-rest-begun [] c d h = begun d
-rest-begun (b ∷ rest) Utf8 Utf8 h = h
-rest-begun (b ∷ rest) Ecma35 Ecma35 h = h
-rest-begun (b ∷ rest) Utf8 Ecma35 h = begun Ecma35
-rest-begun (b ∷ rest) Ecma35 Utf8 h = begun Utf8
+rest-begun rest c d h = grind (arith, begun)
 
 pub IsTerminal-read_byte : (t : Terminal) (b : ℕ) → IsTerminal t → IsTerminal (read_byte t b).terminal
 unfolding read_byte
-IsTerminal-read_byte t b h =
-    let c : Coding = t.screen.state.coding in
-    let given = units c (t.rest ++ b ∷ []) in
-    let r : Reads (record t { rest = given.1 }) (read_units (record t { rest = given.1 }) given.0).terminal = all-units
-    (record t { rest = given.1 }) given.0 h.sound h.opened in
-    let u : Terminal = (read_units (record t { rest = given.1 }) given.0).terminal in
-    record {
-      sound = r.sound;
-      begun = rest-begun u.rest c u.screen.state.coding
-          (subst (λ (v : List ℕ). units c v ≡ ([], v)) (sym r.same) (units-rest c (t.rest ++ b ∷ [])));
-      opened = r.opened;
-    }
+IsTerminal-read_byte t b h = grind (arith, all-units, begun, rest-begun, units-rest)
 
 pub IsTerminal-reads : (t : Terminal) (bytes : List ℕ) → IsTerminal t → IsTerminal (reads t bytes).terminal
 unfolding reads
@@ -84,11 +69,7 @@ IsTerminal-resized rows columns t g h = record
     { sound = IsSound-resized rows columns t.screen g h.sound; begun = h.begun; opened = h.opened }
 
 pub IsTerminal-writes : (t : Terminal) (w : Writing) → IsWriting w → IsTerminal t → IsTerminal (writes t w).terminal
-IsTerminal-writes t (Output bytes) g h = IsTerminal-reads t bytes h
-IsTerminal-writes t (Size rows columns) g h = IsTerminal-resized rows columns t g h
-IsTerminal-writes t Clear g h = IsTerminal-reads (ready t.screen) _ (IsTerminal-ready t.screen h.sound)
-IsTerminal-writes t Reset g h = IsTerminal-reads (ready t.screen) _ (IsTerminal-ready t.screen h.sound)
-IsTerminal-writes t (Encoding coding) g h = IsTerminal-reads (ready t.screen) _ (IsTerminal-ready t.screen h.sound)
+IsTerminal-writes t w h k = grind (arith, IsTerminal-reads, IsTerminal-resized, IsTerminal-ready)
 
 pub IsTerminal-writes_all : (t : Terminal) (ws : List Writing) → AllByRecursion IsWriting ws → IsTerminal t
     → IsTerminal (writes_all t ws).terminal

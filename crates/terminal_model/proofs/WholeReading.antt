@@ -1,10 +1,12 @@
 -- The functions that act are those of all units of all bytes.
-use Rattle.std.proofs.Common.{◌≡◌, ℕ, List, [], ◌∷◌, ◌++◌, refl, sym, ap, ◌∙◌, subst, append_assoc, append-nil}
+use Rattle.std.proofs.lemmas.Bool.Decides.{nat_tests}
+use Rattle.std.proofs.lemmas.Grind.{common_steps}
+use Rattle.std.proofs.Common.{arith}
+use Rattle.std.proofs.Common.{◌≡◌, ℕ, List, [], ◌∷◌, ◌++◌, refl, sym, ap, ◌∙◌, append_assoc}
 use Rattle.std.proofs.lemmas.List.{map-append}
 use Rattle.std.specs.List.{AllByRecursion}
 use Rattle.charsets.specs.declared.unit.Unit.{Unit}
 use Rattle.charsets.specs.declared.unit.Coding.{Coding}
-use Rattle.charsets.specs.declared.unit.Coding.TheVariants.{Utf8, Ecma35}
 use Rattle.charsets.specs.Units.{units}
 use Rattle.charsets.proofs.Joins.{units-go_on}
 use Rattle.control_parser.specs.declared.func.Func.{Func}
@@ -13,7 +15,7 @@ use Rattle.control_parser.specs.Kept.{opening}
 use Rattle.control_parser.proofs.Openings.{functions-go_on}
 use Rattle.terminal_model.specs.Screen.{Screen}
 use Rattle.terminal_model.specs.Table.{effect}
-use Rattle.terminal_model.specs.Reading.{Terminal, IsTerminal, Act, Read, joined, rest_in, read_units, read_byte, reads}
+use Rattle.terminal_model.specs.Reading.{Terminal, IsTerminal, Act, Read, joined, rest_in, read_byte, reads}
 use Rattle.terminal_model.specs.Whole.{functions_of_bytes, acted_functions, KeepsCoding, IsWhole}
 use Rattle.terminal_model.proofs.Readings.{effects, acts_of, read_units-is, reads-append}
 use Rattle.terminal_model.proofs.Terminals.{IsTerminal-read_byte, IsTerminal-reads}
@@ -33,12 +35,7 @@ front_keeps [] b k = (tt, k)
 front_keeps (x ∷ a) b k = let l = front_keeps a b k.1 in ((k.0, l.0), l.1)
 
 rest_stays : (rest : List ℕ) (c d : Coding) → d ≡ c → rest_in rest c d ≡ rest
-rest_stays rest c d same = ap (rest_in rest c) same ∙ by_case rest c
-  where
-    by_case : (rest : List ℕ) (c : Coding) → rest_in rest c c ≡ rest
-    by_case [] c = refl
-    by_case (b ∷ rest) Utf8 = refl
-    by_case (b ∷ rest) Ecma35 = refl
+rest_stays rest c d same = grind (arith, nat_tests)
 
 -- what one byte gives
 record IsStep (t : Terminal) (b : ℕ) : Type 0 where
@@ -51,19 +48,7 @@ record IsStep (t : Terminal) (b : ℕ) : Type 0 where
 
 step : (t : Terminal) (b : ℕ) → IsTerminal t → IsStep t b
 unfolding read_byte
-step t b h =
-    let c : Coding = t.screen.state.coding in
-    let given = units c (t.rest ++ b ∷ []) in
-    let fs : List Func = (functions (opening t.unended ++ given.0)).0 in
-    let is = read_units-is t.screen given.1 t.unended given.0 h.opened in
-    let read : Read = read_units (record t { rest = given.1 }) given.0 in
-    record {
-      functions_are = ap (λ (r : Read). acted_functions r.acts) is ∙ acted_are t.screen fs;
-      unended_is = ap (λ (r : Read). r.terminal.unended) is;
-      rest_is = ap (λ rest. rest_in rest c read.terminal.screen.state.coding) (ap (λ (r : Read). r.terminal.rest) is);
-      coding_is = λ k. ap (λ (r : Read). r.terminal.screen.state.coding) is
-          ∙ same_coding t.screen fs (subst (λ (r : Read). AllByRecursion KeepsCoding r.acts) is k);
-    }
+step t b h = grind (arith, read_units-is, acted_are, same_coding)
 
 -- the functions of bytes after others
 further : (t u : Terminal) (front later : List ℕ) → u.screen.state.coding ≡ t.screen.state.coding
@@ -85,20 +70,12 @@ further t u front later coding rest unended =
 further_rest : (t u : Terminal) (front later : List ℕ) → u.screen.state.coding ≡ t.screen.state.coding
     → u.rest ≡ (units t.screen.state.coding (t.rest ++ front)).1
     → (units t.screen.state.coding (t.rest ++ (front ++ later))).1 ≡ (units u.screen.state.coding (u.rest ++ later)).1
-further_rest t u front later coding rest =
-    let c : Coding = t.screen.state.coding in
-    ap (λ bs. (units c bs).1) (sym (append_assoc t.rest front later))
-    ∙ ap (λ p. p.1) (units-go_on c (t.rest ++ front) later) ∙ rw (coding, rest) refl
+further_rest t u front later coding rest = grind (arith, common_steps, units-go_on)
 
 pub whole : (t : Terminal) (bytes : List ℕ) → IsTerminal t → AllByRecursion KeepsCoding (reads t bytes).acts
     → IsWhole t bytes
 unfolding reads
-whole t [] h k = record {
-  functions_are = rw (append-nil t.rest, h.begun, append-nil (opening t.unended), h.opened) refl;
-  unended_is = rw (append-nil t.rest, h.begun, append-nil (opening t.unended), h.opened) refl;
-  rest_is = rw (append-nil t.rest, h.begun) refl;
-  coding_is = refl;
-}
+whole t [] h k = grind (arith, common_steps)
 whole t (b ∷ later) h k =
     let r : Read = read_byte t b in
     let u : Terminal = r.terminal in
@@ -106,15 +83,11 @@ whole t (b ∷ later) h k =
     let keeps = front_keeps r.acts s.acts k in
     let one = step t b h in
     let coding = one.coding_is keeps.0 in
-    let rest = one.rest_is
-    ∙ rest_stays (units t.screen.state.coding (t.rest ++ b ∷ [])).1 t.screen.state.coding u.screen.state.coding
-    coding in
+    let rest : u.rest ≡ (units t.screen.state.coding (t.rest ++ b ∷ [])).1 = grind (arith, one, coding, rest_stays) in
     let next = whole u later (IsTerminal-read_byte t b h) keeps.1 in
     let all = further t u (b ∷ []) later coding rest one.unended_is in
     record {
-      functions_are = map-append (λ (a : Act). a.func) r.acts s.acts
-          ∙ ap (λ fs. fs ++ acted_functions s.acts) one.functions_are
-          ∙ ap (λ fs. (functions_of_bytes t (b ∷ [])).0 ++ fs) next.functions_are ∙ sym (ap (λ p. p.0) all);
+      functions_are = grind (arith, map-append, one.functions_are, next.functions_are, all);
       unended_is = next.unended_is ∙ sym (ap (λ p. p.1) all);
       rest_is = next.rest_is ∙ sym (further_rest t u (b ∷ []) later coding rest);
       coding_is = next.coding_is ∙ coding;
@@ -133,28 +106,14 @@ pub whole_piece : (t : Terminal) (bytes : List ℕ) (b : ℕ) → IsTerminal t
     × ((reads t (bytes ++ b ∷ [])).terminal.unended ≡ (functions_of_bytes t (bytes ++ b ∷ [])).1)
 whole_piece t bytes b h k =
     let w = whole t bytes h k in
-    let r : Read = reads t bytes in
-    let u : Terminal = r.terminal in
+    let u : Terminal = (reads t bytes).terminal in
     let one = step u b (IsTerminal-reads t bytes h) in
     let all = further t u bytes (b ∷ []) w.coding_is w.rest_is w.unended_is in
-    let is : reads t (bytes ++ b ∷ []) ≡ joined r
-    (joined (read_byte u b) (record { terminal = (read_byte u b).terminal; reports = []; acts = [] })) =
-    reads-append t bytes (b ∷ []) ∙ ap (joined r) (one_more u b) in (
-      ap (λ (z : Read). acted_functions z.acts) is
-          ∙ map-append (λ (a : Act). a.func) r.acts ((read_byte u b).acts ++ [])
-          ∙ ap (λ acts. acted_functions r.acts ++ acted_functions acts) (append-nil (read_byte u b).acts)
-          ∙ ap (λ fs. fs ++ acted_functions (read_byte u b).acts) w.functions_are
-          ∙ ap (λ fs. (functions_of_bytes t bytes).0 ++ fs) one.functions_are ∙ sym (ap (λ p. p.0) all),
-      ap (λ (z : Read). z.terminal.unended) is ∙ one.unended_is ∙ sym (ap (λ p. p.1) all),
-    )
+    grind (arith, common_steps, reads-append t bytes (b ∷ []), one_more u b, one, w, all)
 
 -- in another coding no character is incomplete
 changed_rest : (rest : List ℕ) (c d : Coding) → (d ≡ c → ⊥) → rest_in rest c d ≡ []
-changed_rest [] c d ne = refl
-changed_rest (b ∷ rest) Utf8 Utf8 ne = absurd (ne refl)
-changed_rest (b ∷ rest) Ecma35 Ecma35 ne = absurd (ne refl)
-changed_rest (b ∷ rest) Utf8 Ecma35 ne = refl
-changed_rest (b ∷ rest) Ecma35 Utf8 ne = refl
+changed_rest rest c d h = grind (arith, nat_tests)
 
 pub begins_anew : (t : Terminal) (bytes : List ℕ) (b : ℕ) → IsTerminal t
     → AllByRecursion KeepsCoding (reads t bytes).acts
@@ -162,13 +121,6 @@ pub begins_anew : (t : Terminal) (bytes : List ℕ) (b : ℕ) → IsTerminal t
     → (reads t (bytes ++ b ∷ [])).terminal.rest ≡ []
 begins_anew t bytes b h k ne =
     let w = whole t bytes h k in
-    let r : Read = reads t bytes in
-    let u : Terminal = r.terminal in
+    let u : Terminal = (reads t bytes).terminal in
     let one = step u b (IsTerminal-reads t bytes h) in
-    let is : reads t (bytes ++ b ∷ []) ≡ joined r
-    (joined (read_byte u b) (record { terminal = (read_byte u b).terminal; reports = []; acts = [] })) =
-    reads-append t bytes (b ∷ []) ∙ ap (joined r) (one_more u b) in
-    ap (λ (z : Read). z.terminal.rest) is ∙ one.rest_is
-    ∙ changed_rest (units u.screen.state.coding (u.rest ++ b ∷ [])).1 u.screen.state.coding
-    (read_byte u b).terminal.screen.state.coding
-    (λ e. ne (ap (λ (z : Read). z.terminal.screen.state.coding) is ∙ e ∙ w.coding_is))
+    grind (arith, reads-append t bytes (b ∷ []), one_more u b, one, w, changed_rest)

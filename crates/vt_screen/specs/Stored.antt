@@ -1,9 +1,11 @@
 -- A screen, and the places where its lines are stored.
-use Rattle.std.specs.Prelude.{◌≡◌, ℕ, List, [], ◌∷◌}
+use Rattle.std.specs.Prelude.{◌≡◌, ℕ, Bool, false, IsTrue, List, []}
 use Rattle.control_parser.specs.declared.func.Func.{Func}
+use Rattle.terminal_model.specs.declared.action.Action.{Action}
 use Rattle.terminal_model.specs.Screen.{Screen}
 use Rattle.terminal_model.specs.Functions.{actions_of}
-use Rattle.terminal_model.specs.Table.{effect}
+use Rattle.terminal_model.specs.Reports.{all_answered}
+use Rattle.terminal_model.specs.Table.{all_acted}
 use Rattle.vt_screen_rows.specs.Places.{all_acted_places}
 
 -- a screen, and for each line of its page the number of its stored line
@@ -16,11 +18,14 @@ pub record Stored : Type 0 where
 abbrev pub effect_places : Screen → Func → List ℕ → List ℕ
 effect_places x f places = all_acted_places x (actions_of f) places
 
--- a control function changed the places in this way
-abbrev pub MovesPlaces : Stored → Func → Stored → Type 0
-MovesPlaces old f new = new.places ≡ effect_places old.screen f old.places
+-- the screen has performed these actions, in turn, none of which is answered
+pub record Performs (old : Stored) (actions : List Action) (new : Stored) : Type 0 where
+  pub screen : new.screen ≡ all_acted old.screen actions
+  pub places : new.places ≡ all_acted_places old.screen actions old.places
+  pub silent : all_answered old.screen actions ≡ []
 
--- the places after functions, one after another
-abbrev pub effects_places : Screen → List Func → List ℕ → List ℕ
-effects_places x [] places = places
-effects_places x (f ∷ later) places = effects_places (effect x f) later (effect_places x f places)
+-- it has performed them if it says so; else it is as before
+pub record PerformsIf (is_done : Bool) (old : Stored) (actions : List Action) (new : Stored)
+    : Type 0 where
+  pub performed : IsTrue is_done → Performs old actions new
+  pub undone : is_done ≡ false → new ≡ old

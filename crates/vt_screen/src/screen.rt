@@ -1,31 +1,25 @@
 //! The screen of a VT220.
 
-ghost use Rattle.std.specs.Prelude.{◌≡◌, ℕ, ◌<◌, ◌≤◌, ◌↔◌, true, Err, IfOk, OnOk, OnErr, [], ◌∷◌, false};
-ghost use Rattle.std.specs.Prelude.{IsTrue, length, map, option_copied, slice_get, slice_index, take};
+ghost use Rattle.std.specs.Prelude.{◌≡◌, ℕ, ◌<◌, ◌≤◌, ◌↔◌, true, Err, IfOk, OnOk, OnErr, ◌∷◌, []};
+ghost use Rattle.std.specs.Prelude.{length, option_copied, slice_get, slice_index, take};
 ghost use Rattle.std.specs.List.{list_all, range_with_len};
 ghost use Rattle.charsets.specs.Text.{IsText, text};
 ghost use Rattle.charsets.specs.Units.{is_plain};
-ghost use Rattle.control_parser.specs.declared.func.Func.TheVariants.{Control, Csi, Esc, Print};
 ghost use Rattle.cells.specs.Page.{IsGridSize, line_at};
 ghost use Rattle.cells.specs.Line.{cell_at};
 ghost use Rattle.terminal_model.specs.Screen.{IsSound, starting};
 ghost use Rattle.terminal_model.specs.Sizing.{resized};
-ghost use Rattle.terminal_model.specs.Table.{effect};
-ghost use Rattle.terminal_model.specs.Reports.{report};
-ghost use Rattle.vt_screen_rows.specs.Runs.{PrintsAscii};
-ghost use Rattle.vt_screen.specs.Effects.{effects, line_of};
-ghost use Rattle.vt_screen.specs.Stored.{MovesPlaces, effects_places};
+ghost use Rattle.terminal_model.specs.declared.action.Action.TheVariants.{CarriageReturn, LineFeed};
+ghost use Rattle.vt_screen_rows.specs.Runs.{prints};
+ghost use Rattle.vt_screen.specs.Stored.{Performs};
 ghost use Rattle.vt_screen.specs.Sizes.{IsScreenSize};
 
-use crate::performing::{perform, perform_control, perform_sequence, perform_silently};
 use cells::{Cell, GridFault};
 use charsets::Coding;
-use control_parser::Func;
 use std::alloc::Global;
 use std::marker::Model;
-use terminal_model::{MAX_KEEP, Modes, Report};
-use vt_screen_rows::{Display, prints_ascii};
-use vt_screen_state::{acts_of, escape_action, plain_escape_action};
+use terminal_model::{MAX_KEEP, Modes};
+use vt_screen_rows::Display;
 
 // Wraps `Display`, whose rows are methods of another crate: an invariant there would have to be
 // shown after each field that a row sets.
@@ -33,7 +27,7 @@ use vt_screen_state::{acts_of, escape_action, plain_escape_action};
 /// scrollback. Lines and columns count from 0. Only `new` and changes of size need memory.
 #[derive(Drop)]
 pub struct Screen {
-    display: Display,
+    pub(crate) display: Display,
 }
 
 impl Model for Screen {
@@ -64,106 +58,36 @@ impl Screen {
         Ok(Screen { display })
     }
 
-    /// Performs a control function, as the screen table says, and returns the answer. It needs no
-    /// memory.
-    pub fn apply(&mut self, func: &Func) -> Report
-        ensures effect { self.new.screen ≡ effect self.old.screen func.now }
-        ensures places { MovesPlaces self.old func.now self.new }
-        ensures report { result ≡ report self.old.screen func.now }
-        ensures few { length result ≤ 12 }
-    {
-        perform(&mut self.display, acts_of(func))
-    }
-
-    /// Whether characters 20 to 7E are printed as themselves: GL is ASCII, and no single shift is
-    /// pending.
-    pub fn prints_ascii(&self) -> bool
-        ensures { IsTrue result ↔ PrintsAscii self.now.screen.state }
-    {
-        prints_ascii(&self.display.state)
-    }
-
-    /// Prints characters 20 to 7E, one after another: `codes` has their code points. It needs no
-    /// memory.
+    /// Prints one character 20 to 7E. It needs no memory.
     #[inline(always)]
-    pub fn print_run(&mut self, codes: &[u8])
-        requires { list_all is_plain codes.now ≡ true }
-        ensures effect { self.new.screen
-            ≡ effects self.old.screen (map (λ code. Print code) codes.now) }
-        ensures places { self.new.places
-            ≡ effects_places self.old.screen (map (λ code. Print code) codes.now) self.old.places }
+    pub fn print_one(&mut self, code: u8)
+        requires { is_plain code ≡ true }
+        ensures { Performs self.old (prints (code ∷ [])) self.new }
     {
-        self.display.print_run(codes);
+        self.display.print_one(code);
     }
 
-    /// Performs CR and LF, and then prints characters 20 to 7E, one after another: `codes` has
-    /// their code points. It needs no memory.
-    pub fn print_line(&mut self, codes: &[u8])
-        requires { list_all is_plain codes.now ≡ true }
-        ensures effect { self.new.screen ≡ effects self.old.screen (line_of codes.now) }
-        ensures places { self.new.places
-            ≡ effects_places self.old.screen (line_of codes.now) self.old.places }
+    /// Performs CR and LF, and prints characters 20 to 7E with which some bytes begin: as many as
+    /// there is room for in a line, or none. Returns how many. It needs no memory.
+    #[tactic(auto, using(crate::proofs::Turns::answers_prints))]
+    pub fn print_line(&mut self, bytes: &[u8]) -> usize
+        ensures plain { list_all is_plain (take result bytes.now) ≡ true }
+        ensures few { result ≤ length bytes.now }
+        ensures performed { Performs self.old
+            (CarriageReturn ∷ LineFeed ∷ prints (take result bytes.now)) self.new }
     {
-        self.display.print_line(codes);
+        self.display.print_line(bytes)
     }
 
     /// Prints graphic characters with which some bytes of UTF-8 begin, and returns their number of
     /// bytes. It may stop early, and returns 0 if the bytes begin with none. It needs no memory.
+    #[tactic(auto, using(crate::proofs::Turns::answers_prints))]
     pub fn print_text(&mut self, bytes: &[u8]) -> usize
         ensures text { IsText (take result bytes.now) }
         ensures few { result ≤ length bytes.now }
-        ensures effect { self.new.screen ≡ effects self.old.screen
-            (map (λ code. Print code) (text (take result bytes.now))) }
-        ensures places { self.new.places ≡ effects_places self.old.screen
-            (map (λ code. Print code) (text (take result bytes.now))) self.old.places }
+        ensures performed { Performs self.old (prints (text (take result bytes.now))) self.new }
     {
         self.display.print_text(bytes)
-    }
-
-    /// Performs a C0 control, as `apply` does. It isn't answered.
-    pub fn control(&mut self, control: u8)
-        ensures effect { self.new.screen ≡ effect self.old.screen (Control control) }
-        ensures places { MovesPlaces self.old (Control control) self.new }
-        ensures silent { report self.old.screen (Control control) ≡ [] }
-    {
-        perform_control(&mut self.display, control);
-    }
-
-    /// Performs the escape sequence without intermediates that has this final byte, as `apply`
-    /// does. It isn't answered.
-    pub fn escape(&mut self, last: u8)
-        ensures effect { self.new.screen ≡ effect self.old.screen (Esc [] last) }
-        ensures places { MovesPlaces self.old (Esc [] last) self.new }
-        ensures silent { report self.old.screen (Esc [] last) ≡ [] }
-    {
-        perform_silently(&mut self.display, plain_escape_action(last));
-    }
-
-    /// Designates a set to G0, by its final byte: performs ESC ( and this byte, as `apply` does. It
-    /// isn't answered.
-    pub fn designate(&mut self, last: u8)
-        ensures effect { self.new.screen ≡ effect self.old.screen (Esc (0x28 ∷ []) last) }
-        ensures places { MovesPlaces self.old (Esc (0x28 ∷ []) last) self.new }
-        ensures silent { report self.old.screen (Esc (0x28 ∷ []) last) ≡ [] }
-    {
-        perform_silently(&mut self.display, escape_action(b"(", last));
-    }
-
-    /// Performs a control sequence without intermediates, as `apply` does. If the sequence is
-    /// answered, it does nothing and returns false.
-    #[inline(always)]
-    pub fn sequence(&mut self, mark: Option<u8>, params: &[u16], last: u8) -> bool
-        ensures effect { IsTrue result
-            → self.new.screen ≡ effect self.old.screen (Csi mark params.now [] last) }
-        ensures places { IsTrue result
-            → MovesPlaces self.old (Csi mark params.now [] last) self.new }
-        ensures silent { IsTrue result
-            → report self.old.screen (Csi mark params.now [] last) ≡ [] }
-        ensures coding { IsTrue result
-            → self.new.screen.state.coding ≡ self.old.screen.state.coding }
-        ensures undone { result ≡ false → self.new ≡ self.old }
-    {
-        perform_sequence(&mut self.display, mark, params, last)
     }
 
     /// Changes the size. The upper left part stays, of the kept lines too; the cursor and the saved

@@ -1,17 +1,15 @@
 //! C0 controls and escape sequences.
 
 ghost use Rattle.std.specs.Prelude.{◌≡◌, IfSome};
-ghost use Rattle.terminal_model.specs.Functions.{alone, control_action, designated_set};
-ghost use Rattle.terminal_model.specs.Functions.{designation, escape_action, escape_actions};
-ghost use Rattle.terminal_model.specs.Functions.{intermediate_action};
+ghost use Rattle.terminal_model.specs.Functions.{alone, control_action, designated_set, designation, escape_action};
+ghost use Rattle.terminal_model.specs.Functions.{escape_actions, intermediate_action};
 ghost use Rattle.vt_screen_state.specs.Counted.{IsCounted};
 ghost use Rattle.vt_screen_state.specs.Silent.{IsSilent};
 
 use charsets::{CharacterSet, Coding, Place, Shift};
 use terminal_model::Action;
 
-/// The action of a C0 control (ECMA-48, 8.3; VT220 Programmer Reference Manual, chapter 2). None if
-/// it is ignored.
+/// The action of a C0 control (ECMA-48, 8.3; VT220 Programmer Reference Manual, chapter 2). None if it is ignored.
 #[inline(always)]
 pub fn control_action(control: u8) -> Option<Action>
     ensures value { result ≡ control_action control }
@@ -42,8 +40,8 @@ pub fn escape_action(intermediates: &[u8], last: u8) -> Option<Action>
     }
 }
 
-/// The action of ESC and a final byte (ECMA-48, 8.3; VT220 Programmer Reference Manual, chapter 4).
-/// None if it is ignored.
+/// The action of ESC and a final byte (ECMA-48, 8.3; VT220 Programmer Reference Manual, chapter 4). None if it is
+/// ignored.
 #[inline(always)]
 pub fn plain_escape_action(last: u8) -> Option<Action>
     ensures value { result ≡ escape_action last }
@@ -74,8 +72,6 @@ pub fn plain_escape_action(last: u8) -> Option<Action>
 /// The action of ESC, one intermediate and a final byte. None if it is ignored.
 fn intermediate_action(intermediate: u8, last: u8) -> Option<Action>
     ensures value { result ≡ intermediate_action intermediate last }
-    ensures counted { IfSome result IsCounted }
-    ensures silent { IfSome result IsSilent }
 {
     match (intermediate, last) {
         (b' ', b'F') => Some(Action::SetEightBitReports(false)),
@@ -91,12 +87,10 @@ fn intermediate_action(intermediate: u8, last: u8) -> Option<Action>
     }
 }
 
-/// The designation of a set to a place, by its final byte (ECMA-35; VT220 Programmer Reference
-/// Manual, SCS). None if no set has this byte.
+/// The designation of a set to a place, by its final byte (ECMA-35; VT220 Programmer Reference Manual, SCS). None if no
+/// set has this byte.
 fn designation(place: Place, last: u8) -> Option<Action>
     ensures value { result ≡ designation (Some place) (designated_set last) }
-    ensures counted { IfSome result IsCounted }
-    ensures silent { IfSome result IsSilent }
 {
     match last {
         b'B' => Some(Action::Designate(place, CharacterSet::Ascii)),

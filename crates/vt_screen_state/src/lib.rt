@@ -1,5 +1,5 @@
-//! The state of a terminal beside its page, the actions of control functions, and how they change that
-//! state. Lines and columns count from 0.
+//! The state of a terminal beside its page, the actions of control functions, and how they change that state. Lines and
+//! columns count from 0.
 #![tactic(auto)]
 
 mod acts;

@@ -6,22 +6,18 @@ ghost use Rattle.terminal_model.specs.Motion.{bottom_of, margins_or_none, whole_
 ghost use Rattle.terminal_model.specs.Erasing.{is_in_margins};
 ghost use Rattle.vt_screen_state.specs.Fitted.{fitted};
 
-use crate::cursor::go_home;
+use crate::cursor::{go_home, settle};
 use terminal_model::State;
 
-/// DECSTBM (VT220 Programmer Reference Manual): makes the lines from `top` to `bottom` the margins
-/// and moves the cursor home. Without `bottom` the last line is the page's. If the margins have
-/// fewer than two lines, nothing changes.
+/// DECSTBM (VT220 Programmer Reference Manual): makes the lines from `top` to `bottom` the margins and moves the cursor
+/// home. Without `bottom` the last line is the page's. If the margins have fewer than two lines, nothing changes.
 pub fn set_margins(state: &mut State, top: usize, bottom: Option<usize>)
     requires { state.old.line < state.old.rows }
     ensures { state.new ≡ margins_or_none (nat_lt top (bottom_of state.old.rows bottom)) top
         (bottom_of state.old.rows bottom) state.old }
 {
     let last = state.rows - 1;
-    let bottom = match bottom {
-        Some(bottom) => bottom.min(last),
-        None => last,
-    };
+    let bottom = bottom.unwrap_or(last).min(last);
     if top < bottom {
         state.top = top;
         state.bottom = bottom;
@@ -45,8 +41,8 @@ pub fn is_in_margins(state: &State) -> bool
     state.top <= state.line && state.line <= state.bottom
 }
 
-/// Fits the state to a page of another size: the cursor goes to the nearest place, no wrap is
-/// pending, the joining of marks ends, and the whole page is the margins.
+/// Fits the state to a page of another size: the cursor goes to the nearest place, no wrap is pending, the joining of
+/// marks ends, and the whole page is the margins.
 pub fn fit(state: &mut State, rows: usize, columns: usize)
     requires { IsGridSize rows columns }
     ensures { state.new ≡ fitted rows columns state.old }
@@ -55,8 +51,6 @@ pub fn fit(state: &mut State, rows: usize, columns: usize)
     state.columns = columns;
     state.line = state.line.min(rows - 1);
     state.column = state.column.min(columns - 1);
-    state.is_wrap_pending = false;
-    state.top = 0;
-    state.bottom = rows - 1;
-    state.joining = None;
+    use_whole_page(state);
+    settle(state);
 }

@@ -52,11 +52,10 @@ pub fn starting_state(rows: usize, columns: usize, coding: Coding) -> State
     }
 }
 
-/// SM, RM, DECSM or DECRM of a mode (ECMA-48, 7.2; VT220 Programmer Reference Manual, chapter 4).
-/// ?6 also moves the cursor home.
+/// SM, RM, DECSM or DECRM of a mode (ECMA-48, 7.2; VT220 Programmer Reference Manual, chapter 4). ?6 also moves the
+/// cursor home.
 pub fn set_mode(state: &mut State, mode: Mode, is_set: bool)
-    ensures { state.new
-        ≡ homed mode (record state.old { modes = modes_with state.old.modes mode is_set }) }
+    ensures { state.new ≡ homed mode (record state.old { modes = modes_with state.old.modes mode is_set }) }
 {
     match mode {
         Mode::Insert => state.modes.inserts = is_set,
@@ -90,8 +89,7 @@ fn change_rendition(rendition: &mut Rendition, attribute: Attribute)
 
 /// Changes the rendition of new characters by one value of SGR (ECMA-48, 8.3.117).
 pub fn render(state: &mut State, attribute: Attribute)
-    ensures { state.new
-        ≡ unjoined (record state.old { rendition = rendition_with state.old.rendition attribute }) }
+    ensures { state.new ≡ unjoined (record state.old { rendition = rendition_with state.old.rendition attribute }) }
 {
     change_rendition(&mut state.rendition, attribute);
     separate(state);
@@ -107,8 +105,7 @@ pub fn shift(state: &mut State, shift: Shift)
 
 /// Designates a set to a place (ECMA-35; VT220 Programmer Reference Manual, SCS).
 pub fn designate(state: &mut State, place: Place, set: CharacterSet)
-    ensures { state.new
-        ≡ unjoined (record state.old { shifts = designated state.old.shifts place set }) }
+    ensures { state.new ≡ unjoined (record state.old { shifts = designated state.old.shifts place set }) }
 {
     state.shifts.designate(place, set);
     separate(state);
@@ -139,8 +136,8 @@ pub fn set_application_keypad(state: &mut State, is_set: bool)
     settle(state);
 }
 
-/// DECSCA (VT220 Programmer Reference Manual, character attributes): whether new characters are
-/// protected from selective erasing.
+/// DECSCA (VT220 Programmer Reference Manual, character attributes): whether new characters are protected from
+/// selective erasing.
 pub fn protect(state: &mut State, is_set: bool)
     ensures { state.new ≡ unpending (record state.old { is_protecting = is_set }) }
 {
@@ -148,8 +145,8 @@ pub fn protect(state: &mut State, is_set: bool)
     settle(state);
 }
 
-/// DECSTR without its effect on the saved place (VT220 Programmer Reference Manual, terminal
-/// reset): the cursor, LNM, ?5, the coding and the form of reports stay.
+/// DECSTR without its effect on the saved place (VT220 Programmer Reference Manual, terminal reset): the cursor, LNM,
+/// ?5, the coding and the form of reports stay.
 pub fn soft_reset(state: &mut State)
     requires { state.old.line < state.old.rows }
     ensures { state.new ≡ softly_reset state.old }

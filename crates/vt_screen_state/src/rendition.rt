@@ -1,5 +1,5 @@
-//! SGR of one value. Which value it is can't be foreseen, so that each part of the rendition is chosen
-//! without a branch.
+//! SGR of one value. Which value it is can't be foreseen, so that each part of the rendition is chosen without a
+//! branch.
 
 ghost use Rattle.std.specs.Prelude.{◌≡◌, ◌<◌, ◌≤◌};
 ghost use Rattle.terminal_model.specs.Functions.{rendered};

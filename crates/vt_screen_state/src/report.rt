@@ -49,8 +49,7 @@ fn answer(state: &State, bytes: &[u8]) -> Report
     report
 }
 
-/// CPR: the line and the column of the cursor, counted from 1. With ?6 set the line counts from the
-/// top margin.
+/// CPR: the line and the column of the cursor, counted from 1. With ?6 set the line counts from the top margin.
 fn place_report(state: &State) -> Report
     requires line_inside { state.now.line < 200 }
     requires column_inside { state.now.column < 300 }

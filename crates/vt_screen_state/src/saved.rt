@@ -2,12 +2,10 @@
 
 ghost use Rattle.std.specs.Prelude.{◌≡◌, ◌-◌, ◌<◌, option_map};
 ghost use Rattle.cells.specs.Page.{IsGridSize};
-ghost use Rattle.terminal_model.specs.Saving.{never_saved, restored, restored_line, saved_of};
-ghost use Rattle.terminal_model.specs.Saving.{saved_or_none};
+ghost use Rattle.terminal_model.specs.Saving.{restored, restored_line, saved_of, saved_or_none};
 ghost use Rattle.terminal_model.specs.Sizing.{saved_resized};
 
-use cells::Rendition;
-use charsets::Shifts;
+use crate::modes::starting_state;
 use terminal_model::{Saved, State};
 
 /// What DECSC saves: the cursor, and the settings for new characters.
@@ -25,40 +23,15 @@ pub fn saved_of(state: &State) -> Saved
     }
 }
 
-/// What DECRC restores if nothing was saved.
-fn never_saved() -> Saved
-    ensures { result ≡ never_saved }
-{
-    Saved {
-        line: 0,
-        column: 0,
-        is_wrap_pending: false,
-        rendition: Rendition::PLAIN,
-        is_protecting: false,
-        shifts: Shifts::new(),
-        counts_from_margin: false,
-    }
-}
-
-/// DECRC: restores what was saved, or the starting values if nothing was. The cursor goes to the
-/// nearest place of the page, and with ?6 set of the margins.
+/// DECRC: restores what was saved, or the starting values if nothing was. The cursor goes to the nearest place of the
+/// page, and with ?6 set of the margins.
 pub fn restore(state: &mut State, saved: Option<Saved>)
     requires line_inside { state.old.line < state.old.rows }
     requires column_inside { state.old.column < state.old.columns }
     ensures { state.new ≡ restored state.old (saved_or_none saved) }
 {
-    let saved = match saved {
-        Some(saved) => saved,
-        None => never_saved(),
-    };
-    restore_from(state, saved);
-}
-
-fn restore_from(state: &mut State, saved: Saved)
-    requires line_inside { state.old.line < state.old.rows }
-    requires column_inside { state.old.column < state.old.columns }
-    ensures { state.new ≡ restored state.old saved }
-{
+    let starting = saved_of(&starting_state(state.rows, state.columns, state.coding));
+    let saved = saved.unwrap_or(starting);
     let last = state.columns - 1;
     state.line = restored_line(state, saved);
     state.column = saved.column.min(last);

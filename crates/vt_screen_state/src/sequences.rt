@@ -1,10 +1,8 @@
 //! Control sequences.
 
 ghost use Rattle.std.specs.Prelude.{◌≡◌, ◌-◌, IfSome, slice_index_or};
-ghost use Rattle.terminal_model.specs.Functions.{alone, between_sequence, count, last_line};
-ghost use Rattle.terminal_model.specs.Functions.{part_of, plain_sequence, private_sequence};
-ghost use Rattle.terminal_model.specs.Functions.{protection, sequence_actions, status_reported};
-ghost use Rattle.terminal_model.specs.Functions.{tab_cleared};
+ghost use Rattle.terminal_model.specs.Functions.{alone, between_sequence, count, part_of, plain_sequence};
+ghost use Rattle.terminal_model.specs.Functions.{private_sequence, sequence_actions};
 ghost use Rattle.vt_screen_state.specs.Acting.{actions_in};
 ghost use Rattle.vt_screen_state.specs.Counted.{AreCounted, IsCounted};
 
@@ -23,19 +21,13 @@ pub fn sequence_acts<'a>(
     ensures value { actions_in result ≡ sequence_actions mark params.now intermediates.now last }
     ensures counted { AreCounted result }
 {
-    match intermediates {
-        [] => match mark {
-            None => plain_acts(params, last),
-            Some(b'?') => private_acts(params, last),
-            Some(b'>') if last == b'c' && value(params, 0) == 0 => {
-                Acts::One(Action::ReportSecondaryAttributes)
-            }
-            Some(_) => Acts::Nothing,
-        },
-        [intermediate] => match mark {
-            None => Acts::of(intermediate_action(params, *intermediate, last)),
-            Some(_) => Acts::Nothing,
-        },
+    match (mark, intermediates) {
+        (None, []) => plain_acts(params, last),
+        (Some(b'?'), []) => private_acts(params, last),
+        (Some(b'>'), []) if last == b'c' && value(params, 0) == 0 => {
+            Acts::One(Action::ReportSecondaryAttributes)
+        }
+        (None, [intermediate]) => Acts::of(intermediate_action(params, *intermediate, last)),
         _ => Acts::Nothing,
     }
 }
@@ -45,15 +37,16 @@ fn intermediate_action(params: &[u16], intermediate: u8, last: u8) -> Option<Act
     ensures value { alone result ≡ between_sequence params.now intermediate last }
     ensures counted { IfSome result IsCounted }
 {
-    match (intermediate, last) {
-        (b'!', b'p') => Some(Action::SoftReset),
-        (b'"', b'q') => protection(value(params, 0)),
+    match (intermediate, last, value(params, 0)) {
+        (b'!', b'p', _) => Some(Action::SoftReset),
+        (b'"', b'q', 0 | 2) => Some(Action::Protect(false)),
+        (b'"', b'q', 1) => Some(Action::Protect(true)),
         _ => None,
     }
 }
 
-/// The actions of CSI, parameters and a final byte (ECMA-48, 8.3; VT220 Programmer Reference
-/// Manual, chapter 4).
+/// The actions of CSI, parameters and a final byte (ECMA-48, 8.3; VT220 Programmer Reference Manual, chapter 4).
+/// DECSTBM takes the last line of the page if its second parameter is absent or 0.
 #[inline(always)]
 #[tactic(auto, unfolding(terminal_model::specs::Functions::plain_sequence))]
 fn plain_acts(params: &[u16], last: u8) -> Acts<'_>
@@ -74,18 +67,22 @@ fn plain_acts(params: &[u16], last: u8) -> Acts<'_>
         b'P' => Acts::One(Action::DeleteCells(count(params))),
         b'X' => Acts::One(Action::EraseCells(count(params))),
         b'c' if value(params, 0) == 0 => Acts::One(Action::ReportAttributes),
-        b'g' => Acts::of(tabs(value(params, 0))),
+        b'g' if value(params, 0) == 0 => Acts::One(Action::ClearTab),
+        b'g' if value(params, 0) == 3 => Acts::One(Action::ClearTabs),
         b'h' => Acts::Each(Setting::Mode(true), params),
         b'l' => Acts::Each(Setting::Mode(false), params),
         b'm' => Acts::Each(Setting::Rendition, params),
-        b'n' => Acts::of(status(value(params, 0))),
-        b'r' => Acts::One(margins(params)),
+        b'n' if value(params, 0) == 5 => Acts::One(Action::ReportStatus),
+        b'n' if value(params, 0) == 6 => Acts::One(Action::ReportPlace),
+        b'r' => {
+            let bottom = usize::from(value(params, 1)).checked_sub(1);
+            Acts::One(Action::SetMargins(place(params, 0), bottom))
+        }
         _ => Acts::Nothing,
     }
 }
 
-/// The actions of CSI ?, parameters and a final byte (VT220 Programmer Reference Manual, chapter
-/// 4).
+/// The actions of CSI ?, parameters and a final byte (VT220 Programmer Reference Manual, chapter 4).
 #[tactic(auto, unfolding(terminal_model::specs::Functions::private_sequence))]
 fn private_acts(params: &[u16], last: u8) -> Acts<'_>
     ensures value { actions_in result ≡ private_sequence params.now last }
@@ -133,55 +130,6 @@ fn part(params: &[u16]) -> Option<Part>
         0 => Some(Part::ToEnd),
         1 => Some(Part::ToStart),
         2 => Some(Part::All),
-        _ => None,
-    }
-}
-
-/// DECSTBM (VT220 Programmer Reference Manual): if a parameter is absent or 0, it is the first or
-/// the last line of the page.
-fn margins(params: &[u16]) -> Action
-    ensures { result ≡ Action.SetMargins (slice_index_or params.now 0 0 - 1)
-        (last_line (slice_index_or params.now 1 0)) }
-{
-    let bottom = match value(params, 1) {
-        0 => None,
-        bottom => Some(usize::from(bottom) - 1),
-    };
-    Action::SetMargins(place(params, 0), bottom)
-}
-
-/// DSR by its parameter (ECMA-48, 8.3.35). None if the value is ignored.
-fn status(value: u16) -> Option<Action>
-    ensures value { result ≡ status_reported value }
-    ensures counted { IfSome result IsCounted }
-{
-    match value {
-        5 => Some(Action::ReportStatus),
-        6 => Some(Action::ReportPlace),
-        _ => None,
-    }
-}
-
-/// TBC by its parameter (ECMA-48, 8.3.154). None if the value is ignored.
-fn tabs(value: u16) -> Option<Action>
-    ensures value { result ≡ tab_cleared value }
-    ensures counted { IfSome result IsCounted }
-{
-    match value {
-        0 => Some(Action::ClearTab),
-        3 => Some(Action::ClearTabs),
-        _ => None,
-    }
-}
-
-/// DECSCA by its parameter (VT220 Programmer Reference Manual). None if the value is ignored.
-fn protection(value: u16) -> Option<Action>
-    ensures value { result ≡ protection value }
-    ensures counted { IfSome result IsCounted }
-{
-    match value {
-        0 | 2 => Some(Action::Protect(false)),
-        1 => Some(Action::Protect(true)),
         _ => None,
     }
 }

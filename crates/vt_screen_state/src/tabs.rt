@@ -7,8 +7,7 @@ ghost use Rattle.terminal_model.specs.Motion.{next_stop};
 use std::marker::Model;
 use terminal_model::MAX_COLUMNS;
 
-/// The tab stops of a page: for each column, counted from 0, whether it has one (ECMA-48, 8.3.62,
-/// HTS; 8.3.154, TBC).
+/// The tab stops of a page: for each column, counted from 0, whether it has one (ECMA-48, 8.3.62, HTS; 8.3.154, TBC).
 #[derive(Drop)]
 pub struct Tabs {
     stops: [bool; MAX_COLUMNS],

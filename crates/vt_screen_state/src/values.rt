@@ -1,8 +1,7 @@
 //! The functions with several values.
 
 ghost use Rattle.std.specs.Prelude.{◌≡◌, IfSome, IsTrue};
-ghost use Rattle.terminal_model.specs.Functions.{colour_action, mode_set, private_mode_set};
-ghost use Rattle.terminal_model.specs.Functions.{rendered};
+ghost use Rattle.terminal_model.specs.Functions.{colour_action, mode_set, private_mode_set, rendered};
 ghost use Rattle.vt_screen_state.specs.Meanings.{is_render, meaning};
 ghost use Rattle.vt_screen_state.specs.Counted.{IsCounted};
 ghost use Rattle.vt_screen_state.specs.Silent.{IsSilent};
@@ -60,9 +59,6 @@ pub fn rendition_action(value: u16) -> Option<Action>
 /// The action of a value of SGR that names a colour. None for any other value.
 fn colour_action(value: u16) -> Option<Action>
     ensures value { result ≡ colour_action value }
-    ensures renders { IfSome result (λ action. IsTrue (is_render action)) }
-    ensures counted { IfSome result IsCounted }
-    ensures silent { IfSome result IsSilent }
 {
     match value {
         30 => Some(Action::Render(Attribute::Foreground(Colour::Black))),
@@ -90,8 +86,6 @@ fn colour_action(value: u16) -> Option<Action>
 /// The action of a value of SM or RM (ECMA-48, 7.2). None if the value isn't known.
 fn mode_action(is_set: bool, value: u16) -> Option<Action>
     ensures value { result ≡ mode_set is_set value }
-    ensures counted { IfSome result IsCounted }
-    ensures silent { IfSome result IsSilent }
 {
     match value {
         4 => Some(Action::SetMode(Mode::Insert, is_set)),
@@ -100,12 +94,10 @@ fn mode_action(is_set: bool, value: u16) -> Option<Action>
     }
 }
 
-/// The action of a value of DECSM or DECRM (VT220 Programmer Reference Manual, chapter 4). None if
-/// the value isn't known.
+/// The action of a value of DECSM or DECRM (VT220 Programmer Reference Manual, chapter 4). None if the value isn't
+/// known.
 fn private_mode_action(is_set: bool, value: u16) -> Option<Action>
     ensures value { result ≡ private_mode_set is_set value }
-    ensures counted { IfSome result IsCounted }
-    ensures silent { IfSome result IsSilent }
 {
     match value {
         1 => Some(Action::SetMode(Mode::Arrows, is_set)),

@@ -1,8 +1,8 @@
 -- A display has nothing of a token.
-use Rattle.std.proofs.Common.{◌≡◌, ℕ, ◌+◌, ◌*◌, ◌<◌, min, max, Bool, List, Option, take, drop, get_or}
+use Rattle.std.proofs.Common.{◌≡◌, ℕ, ◌+◌, ◌*◌, ◌<◌, min, max, List, take, drop, get_or}
 use Rattle.std.proofs.Common.{sym, ap, ◌∙◌, subst, lit<}
 use Rattle.std.proofs.lemmas.List.{get_or-take}
-use Rattle.attach_proto.specs.declared.why.Why.{Why}
+use Rattle.attach_proto.specs.declared.told.Told.{Told}
 use Rattle.attach_proto.specs.Streams.{Reading}
 use Rattle.web_page.specs.Showing.{Sheet}
 use Rattle.web_page.proofs.Blank.{same-blank}
@@ -36,10 +36,7 @@ one-blank rows columns name a b p q =
     ∙ ap (λ (r : Reading). record a { name = b.name; reading = r }) (p.unread ∙ sym q.unread)
     ∙ ap (λ (s : Sheet). record a { name = b.name; reading = b.reading; sheet = s })
     (same-blank rows columns a.sheet b.sheet p.sheet q.sheet)
-    ∙ ap (λ (w : Bool). record b { is_welcome = w; refusal = a.refusal; gone = a.gone })
-    (p.outside ∙ sym q.outside)
-    ∙ ap (λ (r : Option (List ℕ)). record b { refusal = r; gone = a.gone }) (p.unrefused ∙ sym q.unrefused)
-    ∙ ap (λ (w : Option Why). record b { gone = w }) (p.there ∙ sym q.there)
+    ∙ ap (λ (t : Told). record b { told = t }) (p.told ∙ sym q.told)
 
 pub same-display : (p q : List ℕ) (a b : Client) → take 4 p ≡ take 4 q → drop 68 p ≡ drop 68 q → IsLogin p a
     → IsLogin q b → a.display ≡ b.display

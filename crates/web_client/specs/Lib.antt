@@ -3,3 +3,4 @@ pub mod Asking
 pub mod Judging
 pub mod Frames
 pub mod Rows
+pub mod Serving

@@ -35,7 +35,7 @@ Adds old new = (more : List ℕ) × (new.output.items ≡ old.output.items ++ mo
 
 -- Rows are sent if the server let the client in: when the browser has taken the last ones, and at the end.
 abbrev pub IsDue : Display → Wire → Type 0
-IsDue d w = (d.is_welcome ≡ true) × ((w.output.items ≡ []) ⊎ IsSome d.gone)
+IsDue d w = (d.told.is_welcome ≡ true) × ((w.output.items ≡ []) ⊎ IsSome d.told.gone)
 
 -- What is sent makes the page of a terminal that has read all draws, of what the browser shows.
 abbrev pub Shows : (old : Display) (since : ℕ) (before : Wire) (new : Display) (later : ℕ) (after : Wire) → Type 0

@@ -1,7 +1,11 @@
 //! Requests, and what answers them.
 
-ghost use Rattle.std.specs.Prelude.{All, length};
-ghost use Rattle.httparse.specs.Spans.{IsHeaderWithin, IsRequestWithin};
+ghost use Rattle.std.specs.Prelude.{◌≡◌, All, length, IfOk, option_copied, take};
+ghost use Rattle.httparse.specs.Spans.{span_bytes, IsHeaderWithin, IsRequestWithin};
+ghost use Rattle.websocket.specs.Headers.{fields_of, eq_ignore_case};
+ghost use Rattle.std.specs.String.{string_bytes};
+ghost use Rattle.web_client.specs.Serving.{guards, head_of, reply, refusal, reply_with, file_at, value_of, address_of};
+ghost use Rattle.web_client.specs.Serving.{spanned, IsPage, Opens, AnswersSocket, AnswersRequest, AnswersBytes};
 
 use crate::site::Site;
 use httparse::Status;
@@ -51,20 +55,36 @@ Cross-Origin-Resource-Policy: same-origin\r\n\
 X-Frame-Options: DENY\r\n\
 Connection: close\r\n\r\n";
 
+#[tactic(auto, unfolding(crate::specs::Serving::guards))]
+fn guards() -> &'static [u8]
+    ensures { result.now ≡ guards }
+{
+    GUARDS
+}
+
+/// The head of an answer up to its guards.
+fn head(alloc: Global, status: &str, kind: &str, len: usize) -> Result<String, AllocError>
+    ensures { IfOk result (λ head. string_bytes head ≡ head_of status.now kind.now len) }
+{
+    let head = format!(in alloc;
+        "HTTP/1.1 {status}\r\nContent-Type: {kind}\r\nContent-Length: {len}\r\n"
+    )?;
+    Ok(head)
+}
+
 /// An answer with a body, which is left out for HEAD.
+#[tactic(auto, unfolding(crate::specs::Serving::reply))]
 fn page(
     alloc: Global,
     status: &str,
     kind: &str,
     body: &[u8],
     is_shown: bool,
-) -> Result<Vec<u8>, AllocError> {
-    let len = body.len();
-    let head = format!(in alloc;
-        "HTTP/1.1 {status}\r\nContent-Type: {kind}\r\nContent-Length: {len}\r\n"
-    )?;
-    let mut bytes = head.into_bytes();
-    bytes.extend_from_slice(GUARDS)?;
+) -> Result<Vec<u8>, AllocError>
+    ensures { IfOk result (λ bytes. bytes.items ≡ reply status.now kind.now body.now is_shown) }
+{
+    let mut bytes = head(alloc, status, kind, body.len())?.into_bytes();
+    bytes.extend_from_slice(guards())?;
     if is_shown {
         bytes.extend_from_slice(body)?;
     }
@@ -72,21 +92,35 @@ fn page(
 }
 
 /// An answer that only has a status.
-pub fn refusal(alloc: Global, status: &str) -> Result<Vec<u8>, AllocError> {
+pub fn refusal(alloc: Global, status: &str) -> Result<Vec<u8>, AllocError>
+    ensures { IfOk result (λ bytes. bytes.items ≡ refusal status.now) }
+{
     page(alloc, status, "text/plain", status.as_bytes(), true)
 }
 
-fn refused(alloc: Global, status: &str) -> Result<Answer, AllocError> {
+fn refused(alloc: Global, status: &str) -> Result<Answer, AllocError>
+    ensures { IfOk result (IsPage (refusal status.now)) }
+{
     Ok(Answer::Page(refusal(alloc, status)?))
+}
+
+// Whether a header has this name, in any case.
+#[tactic(auto, unfolding(websocket::specs::Headers::eq_ignore_case))]
+fn is_named(head: &[u8], span: &HeaderSpan, name: &[u8]) -> bool
+    requires { IsHeaderWithin (length head.now) span.now }
+    ensures { result ≡ eq_ignore_case (span_bytes head.now span.now.name) name.now }
+{
+    span.name.of(head).eq_ignore_ascii_case(name)
 }
 
 // The value of the one header of this name; None if there is none, or if there are two.
 fn value_of<'b>(head: &'b [u8], spans: &[HeaderSpan], name: &[u8]) -> Option<&'b [u8]>
     requires { All (IsHeaderWithin (length head.now)) spans.now }
+    ensures { option_copied result ≡ value_of (fields_of head.now spans.now) name.now }
 {
     let mut found = None;
     for span in spans {
-        if span.name.of(head).eq_ignore_ascii_case(name) {
+        if is_named(head, span, name) {
             if found.is_some() {
                 return None;
             }
@@ -94,6 +128,47 @@ fn value_of<'b>(head: &'b [u8], spans: &[HeaderSpan], name: &[u8]) -> Option<&'b
         }
     }
     found
+}
+
+// The first bytes of an address.
+fn shortened(address: &[u8]) -> &[u8]
+    ensures { result.now ≡ take 64 address.now }
+{
+    if address.len() <= LONGEST_ADDRESS {
+        return address;
+    }
+    &address[..LONGEST_ADDRESS]
+}
+
+// The address that the web server before the bridge saw; empty if it told none.
+fn address_of(alloc: Global, head: &[u8], spans: &[HeaderSpan]) -> Result<Vec<u8>, AllocError>
+    requires { All (IsHeaderWithin (length head.now)) spans.now }
+    ensures { IfOk result (λ address. address.items ≡ address_of (fields_of head.now spans.now)) }
+{
+    match value_of(head, spans, b"X-Real-IP") {
+        Some(address) => shortened(address).to_vec(alloc),
+        None => Ok(Vec::new(alloc)),
+    }
+}
+
+// The answer after which messages come.
+fn opened(
+    alloc: Global,
+    accept: &[u8; 28],
+    request: usize,
+    address: Vec<u8>,
+) -> Result<Answer, AllocError>
+    ensures { IfOk result (Opens accept.now request address.items) }
+{
+    let mut answer = Vec::new(alloc);
+    match write_response(accept, &[], &mut answer) {
+        Ok(()) => Ok(Answer::Socket(Opening {
+            answer,
+            request,
+            address,
+        })),
+        Err(_) => refused(alloc, "500 Internal Server Error"),
+    }
 }
 
 fn socket(
@@ -104,30 +179,23 @@ fn socket(
     spans: &[HeaderSpan],
 ) -> Result<Answer, AllocError>
     requires { IsRequestWithin head.now spans.now found.now }
+    ensures { IfOk result (AnswersSocket site.now (spanned head.now spans.now found.now)) }
 {
-    let spans_found = &spans[..found.headers];
-    match value_of(head, spans_found, b"Origin") {
+    let fields = &spans[..found.headers];
+    match value_of(head, fields, b"Origin") {
         Some(origin) if site.lets_in(origin) => {}
         _ => return refused(alloc, "403 Forbidden"),
     }
     let Ok(accept) = check_request(head, found, spans) else {
         return refused(alloc, "400 Bad Request");
     };
-    let address = value_of(head, spans_found, b"X-Real-IP").unwrap_or(&[]);
-    let address = &address[..address.len().min(LONGEST_ADDRESS)];
-    let address = address.to_vec(alloc)?;
-    let mut answer = Vec::new(alloc);
-    match write_response(&accept, &[], &mut answer) {
-        Ok(()) => Ok(Answer::Socket(Opening {
-            answer,
-            request: found.len,
-            address,
-        })),
-        Err(_) => refused(alloc, "500 Internal Server Error"),
-    }
+    let address = address_of(alloc, head, fields)?;
+    opened(alloc, &accept, found.len, address)
 }
 
-fn file(alloc: Global, site: &Site, path: &[u8], is_shown: bool) -> Result<Answer, AllocError> {
+fn file(alloc: Global, site: &Site, path: &[u8], is_shown: bool) -> Result<Answer, AllocError>
+    ensures { IfOk result (IsPage (reply_with (file_at site.now.files.items path.now) is_shown)) }
+{
     match site.file(path) {
         Some(file) => {
             let bytes = page(alloc, "200 OK", file.kind, &file.content, is_shown)?;
@@ -137,24 +205,39 @@ fn file(alloc: Global, site: &Site, path: &[u8], is_shown: bool) -> Result<Answe
     }
 }
 
-/// What answers the request that these bytes begin with.
-pub fn answered(alloc: Global, site: &Site, bytes: &[u8]) -> Result<Answer, AllocError> {
-    let mut spans = [EMPTY_HEADER_SPAN; MOST_HEADERS];
-    let found = match parse_request(bytes, &mut spans) {
-        Ok(Status::Complete(found)) => found,
-        Ok(Status::Partial) if bytes.len() < LONGEST_HEAD => return Ok(Answer::Part),
-        Ok(Status::Partial) => return refused(alloc, "431 Request Header Fields Too Large"),
-        Err(_) => return refused(alloc, "400 Bad Request"),
-    };
-    let method = found.method.of(bytes);
-    let path = found.path.of(bytes);
+// What answers a request.
+fn answer_to(
+    alloc: Global,
+    site: &Site,
+    head: &[u8],
+    found: &RequestSpans,
+    spans: &[HeaderSpan],
+) -> Result<Answer, AllocError>
+    requires { IsRequestWithin head.now spans.now found.now }
+    ensures { IfOk result (AnswersRequest site.now (spanned head.now spans.now found.now)) }
+{
+    let method = found.method.of(head);
+    let path = found.path.of(head);
     if path == b"/rows".as_slice() {
-        socket(alloc, site, bytes, &found, &spans)
+        socket(alloc, site, head, found, spans)
     } else if method == b"GET".as_slice() {
         file(alloc, site, path, true)
     } else if method == b"HEAD".as_slice() {
         file(alloc, site, path, false)
     } else {
         refused(alloc, "405 Method Not Allowed")
+    }
+}
+
+/// What answers the request that these bytes begin with.
+pub fn answered(alloc: Global, site: &Site, bytes: &[u8]) -> Result<Answer, AllocError>
+    ensures { IfOk result (AnswersBytes site.now bytes.now) }
+{
+    let mut spans = [EMPTY_HEADER_SPAN; MOST_HEADERS];
+    match parse_request(bytes, &mut spans) {
+        Ok(Status::Complete(found)) => answer_to(alloc, site, bytes, &found, &spans),
+        Ok(Status::Partial) if bytes.len() < LONGEST_HEAD => Ok(Answer::Part),
+        Ok(Status::Partial) => refused(alloc, "431 Request Header Fields Too Large"),
+        Err(_) => refused(alloc, "400 Bad Request"),
     }
 }

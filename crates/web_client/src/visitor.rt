@@ -1,11 +1,12 @@
 //! A browser's connection: its request, its messages, and who it is.
 
 ghost use Rattle.std.specs.Prelude.{◌≡◌, ◌↔◌, ℕ, List, drop, option_map, IfOk, IfSome, OnOk};
-ghost use Rattle.std.specs.Prelude.{IsTrue, ◌<◌, ◌≤◌, [], length, false, true};
+ghost use Rattle.std.specs.Prelude.{IsTrue, ◌<◌, ◌≤◌, [], length, false, true, codes};
 ghost use Rattle.websocket.specs.Content.{received_content, IsReceivedInside, HasValidText};
 ghost use Rattle.web_client.specs.Asking.{Asks, Keeps, IsOwn, IfOwn};
 ghost use Rattle.web_client.specs.Sending.{IsReceived};
 ghost use Rattle.web_client.specs.Rows.{IsDue, Shows};
+ghost use Rattle.web_client.specs.Serving.{refusal};
 ghost use Rattle.web_client.specs.Frames.{page, begun, IsSaid, Reads, Answers, TakesMessage, TakesAll, TakesBytes};
 
 use crate::front::drop_front;
@@ -256,7 +257,8 @@ impl Visitor {
 
     /// Answers a browser that has just opened its page with a refusal, since the bridge is full.
     pub fn turn_away(&mut self) -> Result<(), End>
-        ensures { OnOk result ((self.new.wire.stage ≡ Stage.Last) × (self.new.seat ≡ Seat.Nobody)) }
+        ensures { OnOk result ((self.new.wire.stage ≡ Stage.Last) × (self.new.seat ≡ Seat.Nobody)
+            × (self.new.wire.output.items ≡ refusal (codes "503 Service Unavailable"))) }
     {
         let bytes = refusal(self.wire.alloc, "503 Service Unavailable")?;
         self.wire.output = bytes;

@@ -5,13 +5,12 @@ ghost use Rattle.terminal_model.specs.Reading.{Terminal};
 ghost use Rattle.emulator.specs.Standing.{StandsFor};
 ghost use Rattle.web_page.specs.Laying.{Shown, page_of};
 ghost use Rattle.web_client.specs.Judging.{end_of};
-ghost use Rattle.web_page.specs.Hearing.{told};
 ghost use Rattle.web_client.specs.Frames.{fresh};
 ghost use Rattle.web_client.specs.Rows.{SendsText, IsAsFar, SendsPage, Adds, IsDue, Shows};
 ghost use Rattle.web_client.specs.declared.wire.End.TheVariants as end;
 
 use attach_proto::Why;
-use std::alloc::{AllocError, AllocFailed, Global};
+use std::alloc::{AllocError, Global};
 use web_page::{Display, SheetFault, put_text};
 use websocket::protocol::{
     CloseCode, CloseFrame, Message, NoMask, Role, WebSocketConfig, WebSocketContext,
@@ -37,14 +36,6 @@ impl From<AllocError> for End {
     ghost from_gives = { λ _ e. e ≡ end.NoMemory };
 
     fn from(_error: AllocError) -> End {
-        End::NoMemory
-    }
-}
-
-impl<T: Drop> From<AllocFailed<T>> for End {
-    ghost from_gives = { λ _ e. e ≡ end.NoMemory };
-
-    fn from(_error: AllocFailed<T>) -> End {
         End::NoMemory
     }
 }
@@ -177,7 +168,7 @@ impl Wire {
             → IsAsFar view.old.since display.old.sheet b
             → OnOk result (SendsPage t b self.old self.new × StandsFor display.new.sheet.terminal t
             × IsAsFar view.new.since display.new.sheet (page_of t.screen)) }
-        ensures told { told display.new ≡ told display.old }
+        ensures told { display.new.told ≡ display.old.told }
     {
         match display.update(view.since)? {
             Some(text) => {
@@ -211,8 +202,8 @@ impl Wire {
     // Ends if the server let the client go.
     fn end(&mut self, display: &Display) -> Result<(), End>
         ensures adds { OnOk result (Adds self.old self.new) }
-        ensures gone { IfSome display.now.gone (λ _. OnOk result (self.new.stage ≡ Stage.Last)) }
-        ensures stays { display.now.gone ≡ None → self.new ≡ self.old }
+        ensures gone { IfSome display.now.told.gone (λ _. OnOk result (self.new.stage ≡ Stage.Last)) }
+        ensures stays { display.now.told.gone ≡ None → self.new ≡ self.old }
     {
         match display.gone() {
             Some(why) => {
@@ -232,7 +223,7 @@ impl Wire {
             display.new view.new.since self.new) }
         ensures later { (IsDue display.old self.old → ⊥)
             → (view.new.since ≡ view.old.since) × (display.new ≡ display.old) }
-        ensures gone { IfSome display.old.gone (λ _. OnOk result (self.new.stage ≡ Stage.Last)) }
+        ensures gone { IfSome display.old.told.gone (λ _. OnOk result (self.new.stage ≡ Stage.Last)) }
     {
         if self.output.len() > TOO_MUCH {
             return Err(End::TooFarBehind);

@@ -11,8 +11,9 @@ use Rattle.web_page.specs.Showing.{Sheet}
 use Rattle.web_page.specs.declared.fault.ClientFault.{ClientFault}
 use Rattle.web_page.specs.declared.fault.ClientFault.TheVariants as client
 use Rattle.emulator.specs.Standing.{StandsFor}
-use Rattle.web_page.specs.Hearing.{Display, drawn, all_drawn, Told, told, noted, all_noted, Hears, KeepsSent}
-use Rattle.web_page.specs.Hearing.{heard_fault}
+use Rattle.attach_proto.specs.declared.told.Told.{Told}
+use Rattle.attach_proto.specs.Table.{noted}
+use Rattle.web_page.specs.Hearing.{Display, drawn, all_drawn, all_noted, Hears, KeepsSent, heard_fault}
 
 pub one_more : (messages : List Message) (i : ℕ) (d : Message) (t : Terminal) → i < length messages
     → all_drawn t (drop i messages) ≡ all_drawn (drawn t (get_or messages i d)) (drop (i + 1) messages)
@@ -43,13 +44,13 @@ pub heard : (old new : Display) (bytes : List ℕ) (read : Reading) (first out a
     → ((made : List Message) × (out ≡ first ++ made) × TakesPiece old.reading bytes made read) → first ≡ []
     → all ≡ out → new.reading ≡ read
     → ((t : Terminal) → StandsFor old.sheet.terminal t → StandsFor new.sheet.terminal (all_drawn t all))
-    → told new ≡ all_noted (told old) all → Hears old bytes new
+    → new.told ≡ all_noted old.told all → Hears old bytes new
 heard old new bytes read first out all got e f r s h = λ messages stream t k w.
     let same : all ≡ got.0 = f ∙ (got.1 ∙ ap (λ (l : List Message). l ++ got.0) e) in (
       got.0,
       subst (λ (x : Reading). HasRead x (messages ++ got.0) (stream ++ bytes)) (sym r) (got.2 messages stream k),
       subst (λ (l : List Message). StandsFor new.sheet.terminal (all_drawn t l)) same (s t w),
-      subst (λ (l : List Message). told new ≡ all_noted (told old) l) same h,
+      subst (λ (l : List Message). new.told ≡ all_noted old.told l) same h,
     )
 
 -- only memory that was refused is heard as that

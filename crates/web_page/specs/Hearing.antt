@@ -1,12 +1,12 @@
 -- What a client has of the server's stream.
-use Rattle.std.specs.Prelude.{◌≡◌, ℕ, Bool, true, false, if◌then◌else◌, List, [], ◌∷◌, ◌++◌, Option, Some, None}
+use Rattle.std.specs.Prelude.{◌≡◌, ℕ, List, [], ◌∷◌, ◌++◌, Option, Some, None}
 use Rattle.attach_proto.specs.declared.message.Message.{Message}
-use Rattle.attach_proto.specs.declared.message.Message.TheVariants.{Welcome, Draw, Say, Gone}
+use Rattle.attach_proto.specs.declared.told.Told.{Told}
 use Rattle.attach_proto.specs.declared.side.Side.TheVariants.{Peer}
-use Rattle.attach_proto.specs.declared.why.Why.{Why}
 use Rattle.attach_proto.specs.declared.fault.ProtoFault.{ProtoFault}
 use Rattle.attach_proto.specs.declared.fault.ProtoFault.TheVariants as proto
 use Rattle.attach_proto.specs.Streams.{Reading, HasRead}
+use Rattle.attach_proto.specs.Table.{untold, noted, draw_in}
 use Rattle.terminal_model.specs.Reading.{Terminal, reads}
 use Rattle.terminal_model.specs.Writing.{Size}
 use Rattle.emulator.specs.Standing.{StandsFor, TakesWriting}
@@ -21,37 +21,14 @@ pub record Display : Type 0 where
   pub name : List ℕ
   pub reading : Reading
   pub sheet : Sheet
-  pub is_welcome : Bool
-  pub refusal : Option (List ℕ)
-  pub gone : Option Why
+  pub told : Told
 
 -- the display of a client that has heard nothing: it has the size and the name, and no token
 pub record IsBlank (rows columns : ℕ) (name : List ℕ) (d : Display) : Type 0 where
   pub called : d.name ≡ name
   pub unread : d.reading ≡ record { side = Peer; rest = []; fault = None }
   pub sheet : IsBlankSheet rows columns d.sheet
-  pub outside : d.is_welcome ≡ false
-  pub unrefused : d.refusal ≡ None
-  pub there : d.gone ≡ None
-
--- whether and why the server lets the client in or go
-pub record Told : Type 0 where
-  pub is_welcome : Bool
-  pub refusal : Option (List ℕ)
-  pub gone : Option Why
-
-abbrev pub told : Display → Told
-told d = record { is_welcome = d.is_welcome; refusal = d.refusal; gone = d.gone }
-
--- A text says why the client isn't let in, unless it is. What the server says later is in the page's last row.
-abbrev pub refused : Told → List ℕ → Told
-refused t text = if t.is_welcome then t else (record t { refusal = Some text })
-
-abbrev pub noted : Told → Message → Told
-noted t (Welcome number) = record t { is_welcome = true }
-noted t (Say text) = refused t text
-noted t (Gone why) = record t { gone = Some why }
-noted t _ = t
+  pub told : d.told ≡ untold
 
 unfoldable pub all_noted : Told → List Message → Told
 all_noted t [] = t
@@ -67,12 +44,15 @@ pub record IsResized (rows columns : ℕ) (old new : Display) : Type 0 where
   pub sent : KeepsSent old.sheet new.sheet
   pub name : new.name ≡ old.name
   pub reading : new.reading ≡ old.reading
-  pub told : told new ≡ told old
+  pub told : new.told ≡ old.told
 
 -- a terminal reads the bytes of a draw
+abbrev pub read_draw : Terminal → Option (List ℕ) → Terminal
+read_draw t None = t
+read_draw t (Some bytes) = (reads t bytes).terminal
+
 abbrev pub drawn : Terminal → Message → Terminal
-drawn t (Draw bytes) = (reads t bytes).terminal
-drawn t _ = t
+drawn t m = read_draw t (draw_in m)
 
 unfoldable pub all_drawn : Terminal → List Message → Terminal
 all_drawn t [] = t
@@ -85,7 +65,7 @@ Hears old bytes new =
     (messages : List Message) (stream : List ℕ) (t : Terminal) → HasRead old.reading messages stream
     → StandsFor old.sheet.terminal t
     → (made : List Message) × HasRead new.reading (messages ++ made) (stream ++ bytes)
-    × StandsFor new.sheet.terminal (all_drawn t made) × (told new ≡ all_noted (told old) made)
+    × StandsFor new.sheet.terminal (all_drawn t made) × (new.told ≡ all_noted old.told made)
 
 -- what a fault of the stream is to a client
 abbrev pub heard_fault : ProtoFault → ClientFault

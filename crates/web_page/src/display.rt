@@ -12,11 +12,12 @@ ghost use Rattle.web_page.specs.Showing.{IsShown, AreAsFar, newer};
 ghost use Rattle.web_page.specs.Failing.{FailsAt, IsNext};
 ghost use Rattle.web_page.specs.Vacant.{IsVacant};
 ghost use Rattle.web_page.specs.Hearing.{IsBlank, IsResized, drawn, all_drawn, Hears, KeepsSent};
-ghost use Rattle.web_page.specs.Hearing.{told, refused, noted, all_noted, FailsToHear};
+ghost use Rattle.web_page.specs.Hearing.{all_noted, FailsToHear};
+ghost use Rattle.attach_proto.specs.Table.{noted};
 
 use crate::fault::ClientFault;
 use crate::sheet::{Sheet, SheetFault};
-use attach_proto::{Message, Reader, Side, Text, Why};
+use attach_proto::{Message, Reader, Side, Text, Told, Why};
 use std::alloc::Global;
 use std::marker::Model;
 
@@ -26,11 +27,7 @@ pub struct Display {
     name: Text,
     reader: Reader,
     sheet: Sheet,
-    is_welcome: bool,
-    // Why the server didn't let it in.
-    refusal: Option<Text>,
-    // Why the server let it go.
-    gone: Option<Why>,
+    told: Told,
 }
 
 impl Drop for Display {
@@ -40,9 +37,7 @@ impl Drop for Display {
             name: _,
             reader: _,
             sheet: _,
-            is_welcome: _,
-            refusal: _,
-            gone: _,
+            told: _,
         } = self;
     }
 }
@@ -56,9 +51,7 @@ impl Model for Display {
       name = d.name;
       reading = d.reader;
       sheet = d.sheet;
-      is_welcome = d.is_welcome;
-      refusal = d.refusal;
-      gone = d.gone;
+      told = d.told;
     } };
 }
 
@@ -77,9 +70,7 @@ impl Display {
             name,
             reader: Reader::new(alloc, Side::Peer),
             sheet,
-            is_welcome: false,
-            refusal: None,
-            gone: None,
+            told: Told::new(),
         })
     }
 
@@ -92,23 +83,24 @@ impl Display {
 
     /// Whether the server let it in.
     pub fn is_welcome(&self) -> bool
-        ensures { result ≡ self.now.is_welcome }
+        ensures { result ≡ self.now.told.is_welcome }
     {
-        self.is_welcome
+        self.told.is_welcome
     }
 
     /// Why the server let it go, if it did.
     pub fn gone(&self) -> Option<Why>
-        ensures { result ≡ self.now.gone }
+        ensures { result ≡ self.now.told.gone }
     {
-        self.gone
+        self.told.gone
     }
 
     /// Why the server didn't let it in, if it said so.
     pub fn refusal(&self) -> Option<&str>
-        ensures { MatchOption result (self.now.refusal ≡ None) (λ text. self.now.refusal ≡ Some text.now) }
+        ensures { MatchOption result (self.now.told.refusal ≡ None)
+            (λ text. self.now.told.refusal ≡ Some text.now) }
     {
-        match &self.refusal {
+        match &self.told.refusal {
             Some(text) => Some(text.as_str()),
             None => None,
         }
@@ -135,7 +127,7 @@ impl Display {
         ensures fault { IfErr result (FailsAt self.old.sheet.moment) }
         ensures moment { IsNext self.old.sheet.moment self.new.sheet.moment }
         ensures reading { self.new.reading ≡ self.old.reading }
-        ensures told { told self.new ≡ told self.old }
+        ensures told { self.new.told ≡ self.old.told }
     {
         self.sheet.update(since)
     }
@@ -172,25 +164,12 @@ impl Display {
         ensures sent { KeepsSent self.old.sheet self.new.sheet }
         ensures fault { IfErr result (λ e. e ≡ ClientFault.NoMemory) }
         ensures reading { self.new.reading ≡ self.old.reading }
-        ensures told { told self.new ≡ told self.old }
+        ensures told { self.new.told ≡ self.old.told }
     {
         match self.sheet.read(bytes) {
             Ok(()) => Ok(()),
             Err(_) => Err(ClientFault::NoMemory),
         }
-    }
-
-    // Notes why the server lets nobody in. What it says later stands in the page's last row.
-    fn note(&mut self, text: &str) -> Result<(), ClientFault>
-        ensures sheet { self.new.sheet ≡ self.old.sheet }
-        ensures fault { IfErr result (λ e. e ≡ ClientFault.NoMemory) }
-        ensures reading { self.new.reading ≡ self.old.reading }
-        ensures told { OnOk result (told self.new ≡ refused (told self.old) text.now) }
-    {
-        if !self.is_welcome {
-            self.refusal = Some(Text::of(self.alloc, text)?);
-        }
-        Ok(())
     }
 
     // Takes one message of the server.
@@ -200,20 +179,12 @@ impl Display {
         ensures sent { KeepsSent self.old.sheet self.new.sheet }
         ensures fault { IfErr result (λ e. e ≡ ClientFault.NoMemory) }
         ensures reading { self.new.reading ≡ self.old.reading }
-        ensures told { OnOk result (told self.new ≡ noted (told self.old) message.now) }
+        ensures told { OnOk result (self.new.told ≡ noted self.old.told message.now) }
     {
-        match message {
-            Message::Welcome(_) => {
-                self.is_welcome = true;
-                Ok(())
-            }
-            Message::Draw(draw) => self.draw(draw.as_slice()),
-            Message::Say(text) => self.note(text.as_str()),
-            Message::Gone(why) => {
-                self.gone = Some(*why);
-                Ok(())
-            }
-            _ => Ok(()),
+        self.told.note(self.alloc, message)?;
+        match message.draw() {
+            Some(bytes) => self.draw(bytes.as_slice()),
+            None => Ok(()),
         }
     }
 
@@ -224,7 +195,7 @@ impl Display {
         ensures sent { KeepsSent self.old.sheet self.new.sheet }
         ensures fault { IfErr result (λ e. e ≡ ClientFault.NoMemory) }
         ensures reading { self.new.reading ≡ self.old.reading }
-        ensures told { OnOk result (told self.new ≡ all_noted (told self.old) messages.now) }
+        ensures told { OnOk result (self.new.told ≡ all_noted self.old.told messages.now) }
     {
         for message in messages {
             self.hear(message)?;

@@ -1,4 +1,4 @@
-use Rattle.std.proofs.Common.{refl}
+use Rattle.std.proofs.Common.{rules}
 use Rattle.unicode_width.proofs.Computing.{unicode_width}
 use Rattle.charsets.specs.Utf8.{cut, piece}
 use Rattle.charsets.specs.Shifts.{mapped}
@@ -16,15 +16,4 @@ pub returns : goal.returns
 unfolding unicode_width cut piece mapped character_at supplement fields controls text begun_by function_piece
     functions_behind plain_sequence private_sequence columns_of drawn acted_from resized act act_all read_unit
     read_units read_byte reads
-returns c = record {
-  in_turn = refl;
-  each_by_itself = refl;
-  blank = refl;
-  saved = refl;
-  soft_reset = refl;
-  wide_cut = refl;
-  insertion = refl;
-  deletion = refl;
-  smaller = refl;
-  strings = refl;
-}
+returns c = search rules

@@ -1,22 +1,21 @@
-use Rattle.terminal_model.proofs.WorkedRows.{protected_stay, place_in_margins, eight_bits, scrollback}
-use Rattle.terminal_model.proofs.WorkedRows.{insertion_outside_margins, margins_ignored, tab_stops, no_tab_stops}
-use Rattle.terminal_model.proofs.WorkedRows.{scrollback_in_margins, deletion_keeps_nothing, smaller}
-use Rattle.terminal_model.proofs.WorkedRows.{scrollback_narrowed, lines_that_left}
+use Rattle.std.proofs.Common.{rules}
+use Rattle.unicode_width.proofs.Computing.{unicode_width}
+use Rattle.charsets.specs.Utf8.{cut, piece}
+use Rattle.charsets.specs.Shifts.{mapped}
+use Rattle.charsets.specs.Sets.{character_at, supplement}
+use Rattle.control_parser.specs.Text.{fields}
+use Rattle.control_parser.specs.Grammar.{controls, text, begun_by, piece as function_piece, functions_behind}
+use Rattle.control_parser.specs.Spelling.{decimal}
+use Rattle.terminal_model.specs.Functions.{plain_sequence, private_sequence}
+use Rattle.terminal_model.specs.Printing.{columns_of, drawn}
+use Rattle.terminal_model.specs.Sizing.{resized}
+use Rattle.terminal_model.specs.Table.{acted_from}
+use Rattle.terminal_model.specs.Reading.{act, act_all, read_unit, read_units, read_byte, reads}
+use Rattle.terminal_model.specs.Writing.{writes_all}
 use Rattle.terminal_model.proofs.rows.edited_rows.Goals as goal
 
 pub returns : goal.returns
-returns c = record {
-  protected_stay = protected_stay;
-  place_in_margins = place_in_margins;
-  eight_bits = eight_bits;
-  scrollback = scrollback;
-  insertion_outside_margins = insertion_outside_margins;
-  margins_ignored = margins_ignored;
-  tab_stops = tab_stops;
-  no_tab_stops = no_tab_stops;
-  scrollback_in_margins = scrollback_in_margins;
-  deletion_keeps_nothing = deletion_keeps_nothing;
-  smaller = smaller;
-  scrollback_narrowed = scrollback_narrowed;
-  lines_that_left = lines_that_left;
-}
+unfolding unicode_width cut piece mapped character_at supplement fields controls text begun_by function_piece
+    functions_behind decimal plain_sequence private_sequence columns_of drawn acted_from resized act act_all read_unit
+    read_units read_byte reads writes_all
+returns c = search rules

@@ -1,6 +1,6 @@
 use Rattle.std.proofs.Common.{arith}
 use Rattle.emulator.proofs.Feeding.{nothing-has-read}
-use Rattle.emulator.proofs.RunLemmas.{has-read-on}
+use Rattle.emulator.proofs.Wholes.{has-read-on}
 use Rattle.emulator.proofs.emulator.Emulator.feed_all.Goals as goal
 
 pub bytes-init : goal.bytes-init

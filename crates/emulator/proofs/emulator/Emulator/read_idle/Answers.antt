@@ -1,36 +1,42 @@
-use Rattle.std.proofs.Common.{rules, ◌≡◌, ◌+◌, ℕ, take, ap, ◌∙◌, subst, arith}
-use Rattle.charsets.specs.Units.{Decoding}
-use Rattle.emulator.specs.Standing.{HasRead}
-use Rattle.emulator.proofs.Wholes.{nothing-taken}
-use Rattle.emulator.proofs.RunLemmas.{has-read-on}
+use Rattle.std.proofs.Common.{rules, ◌≡◌, ◌+◌, ◌-◌, ℕ, List, length, take, drop, ◌∙◌, subst, arith}
+use Rattle.std.proofs.lemmas.List.{length-take}
+use Rattle.charsets.specs.declared.unit.Coding.TheVariants.{Utf8}
+use Rattle.charsets.specs.Text.{text}
+use Rattle.emulator.specs.Standing.{TakesWhole}
+use Rattle.emulator.proofs.Wholes.{nothing-whole, both-taken, still-between, quiet-taken, quiet-prints, prints-are}
+use Rattle.emulator.proofs.Wholes.{plain-reads}
 use Rattle.emulator.proofs.emulator.Emulator.read_idle.Goals as goal
+
+pub returns-then-ne : goal.returns-then-ne
+returns-then-ne c =
+    let n : ℕ = c.print_text.result in
+    let run : ℕ = c.plain_run-run.result in
+    let codes : List ℕ = text (take n (take run c.args.bytes.now)) in
+    quiet-taken _ _ _ _ _ c.args.self.now c.args.bytes.now n _ c.self.view_is c.requires
+    (omega (arith, c.print_text.ensures.few, length-take run c.args.bytes.now))
+    (plain-reads _ c.args.bytes.now n run c.plain_run-run.ensures c.print_text.ensures.few) (quiet-prints _ codes)
+    (c.print_text.ensures.performed.screen ∙ prints-are c.self.inside.screen.screen codes)
 
 pub loop-taken-init : goal.loop-taken-init
 loop-taken-init c = record {
-  read = λ said. nothing-taken c.args.self.now c.args.bytes.now said;
-  between = c.requires;
-  coding = search rules;
-  inside = omega arith;
+  read = nothing-whole c.args.self.now c.args.bytes.now;
+  between = record { whole = c.requires.whole; idle = c.requires.idle; coding = search rules };
 }
 
-pub returns-then-count-eq0-clause-taken : goal.returns-then-count-eq0-clause-taken
-returns-then-count-eq0-clause-taken c = λ said t h.
-    let k = c.loop-taken.invariant.read said t h in
+pub returns-then-count-eq0 : goal.returns-then-count-eq0
+returns-then-count-eq0 c =
     let none : c.loop-taken.taken + c.read_piece-count.result ≡ c.loop-taken.taken = omega arith in
-    subst (λ (n : ℕ). HasRead t (take n c.args.bytes.now) said c.read_piece-count.new.self said) none
-    (has-read-on t c.args.bytes.now c.loop-taken.taken c.read_piece-count.result said said said c.loop-taken.self
-    c.read_piece-count.new.self k (c.read_piece-count.ensures.taken said _ k.stands))
+    subst (λ (n : ℕ). TakesWhole c.args.self.now c.args.bytes.now n c.read_piece-count.new.self) none
+    (both-taken c.args.self.now c.loop-taken.self c.read_piece-count.new.self c.args.bytes.now c.loop-taken.taken
+    c.read_piece-count.result (omega arith) c.loop-taken.invariant.read c.read_piece-count.ensures)
 
 pub loop-taken-preserved : goal.loop-taken-preserved
-loop-taken-preserved c = record {
-  read = λ said t h.
-      let k = c.loop-taken.invariant.read said t h in
-      has-read-on t c.args.bytes.now c.loop-taken.taken c.read_piece-count.result said said said c.loop-taken.self
-      c.read_piece-count.new.self k (c.read_piece-count.ensures.taken said _ k.stands);
-  between = record {
-    whole = ap (λ (d : Decoding). d.rest) c.read_piece-count.ensures.decoding ∙ c.loop-taken.invariant.between.whole;
-    idle = c.read_piece-count.ensures.parsing ∙ c.loop-taken.invariant.between.idle;
-  };
-  coding = ap (λ (d : Decoding). d.coding) c.read_piece-count.ensures.decoding ∙ c.loop-taken.invariant.coding;
-  inside = omega arith;
-}
+loop-taken-preserved c =
+    let taken : ℕ = c.loop-taken.taken in
+    let rest : List ℕ = take (length c.args.bytes.now - taken) (drop taken c.args.bytes.now) in
+    record {
+      read = both-taken c.args.self.now c.loop-taken.self c.read_piece-count.new.self c.args.bytes.now taken
+          c.read_piece-count.result (omega arith) c.loop-taken.invariant.read c.read_piece-count.ensures;
+      between = still-between Utf8 c.loop-taken.self c.read_piece-count.new.self rest c.read_piece-count.result
+          c.loop-taken.invariant.between c.read_piece-count.ensures;
+    }

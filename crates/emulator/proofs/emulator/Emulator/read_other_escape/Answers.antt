@@ -1,35 +1,31 @@
-use Rattle.std.proofs.Common.{◌∷◌, [], List, ℕ, take, get_or, refl, sym, ap, ◌∙◌, subst, arith}
+use Rattle.std.proofs.Common.{◌∷◌, [], ◌++◌, List, ℕ, get_or, refl, ap, ◌∙◌, arith}
+use Rattle.std.proofs.lemmas.List.{take_more}
 use Rattle.charsets.specs.declared.unit.Coding.TheVariants.{Utf8}
 use Rattle.control_parser.specs.declared.func.Func.TheVariants.{Esc}
-use Rattle.control_parser.specs.Spelling.{ReadsAs}
 use Rattle.control_parser.proofs.Spelled.{spelled_reads}
-use Rattle.terminal_model.specs.Table.{effect}
-use Rattle.terminal_model.specs.Reports.{report}
-use Rattle.terminal_model.proofs.Codings.{effect-coding}
-use Rattle.emulator.specs.Standing.{Parts}
-use Rattle.emulator.proofs.Wholes.{quiet-has-read, front-two, nothing-whole}
+use Rattle.terminal_model.proofs.Codings.{effect-coding, escape-coding}
+use Rattle.emulator.proofs.Wholes.{one-taken, front-two, nothing-whole}
 use Rattle.emulator.proofs.emulator.Emulator.read_other_escape.Goals as goal
+
+pub returns-then-bytes-lt-DEL : goal.returns-then-bytes-lt-DEL
+returns-then-bytes-lt-DEL c =
+    let bytes : List ℕ = c.args.bytes.now in
+    let last : ℕ = get_or bytes 2 0 in
+    one-taken Utf8 _ _ _ _ c.args.self.now bytes (0x1B ∷ 0x28 ∷ last ∷ []) 3 (Esc (0x28 ∷ []) last) c.self.view_is
+    c.requires.idle (omega arith)
+    (take_more bytes 2 0 (omega arith)
+    ∙ ap (λ (v : List ℕ). v ++ last ∷ []) (front-two bytes 0x1B 0x28 (omega arith) c.requires.begins (omega arith)))
+    (spelled_reads (Esc (0x28 ∷ []) last) (refl, omega arith, omega arith, refl)) (escape-coding _ 0x28 last refl)
+    c.designate.ensures.silent c.designate.ensures.screen
 
 pub returns-then-bytes-lt2 : goal.returns-then-bytes-lt2
 returns-then-bytes-lt2 c = nothing-whole c.args.self.now c.args.bytes.now
 
 pub returns : goal.returns
-returns c = record {
-  taken = λ said t h.
-      let last : ℕ = get_or c.args.bytes.now 1 0 in
-      let f = Esc [] last in
-      let e = front-two c.args.bytes.now 0x1B last (omega arith) c.requires.begins refl in
-      let reads : ReadsAs Utf8 (take 2 c.args.bytes.now) (f ∷ []) = subst (λ (v : List ℕ). ReadsAs Utf8 v (f ∷ []))
-      (sym e) (spelled_reads f (c.ends_escape.ensures c.if-not-ends_escape.false)) in
-      quiet-has-read c.args.self.now _ t _ said f c.requires.idle c.requires.coding
-      (effect-coding c.args.self.now.screen f refl) reads
-      (c.escape.ensures.effect ∙ ap (λ (v : Parts). effect v.screen f) c.self.view_is)
-      (ap (λ (v : Parts). v.decoding) c.self.view_is) (ap (λ (v : Parts). v.parsing) c.self.view_is)
-      (ap (λ (v : Parts). report v.screen f) (sym c.self.view_is) ∙ c.escape.ensures.silent) h;
-  few = omega arith;
-  decoding = ap (λ (v : Parts). v.decoding) c.self.view_is;
-  parsing = ap (λ (v : Parts). v.parsing) c.self.view_is;
-}
-
-pub returns-then-not-ends_escape : goal.returns-then-not-ends_escape
-returns-then-not-ends_escape c = nothing-whole c.args.self.now c.args.bytes.now
+returns c =
+    let bytes : List ℕ = c.args.bytes.now in
+    let last : ℕ = get_or bytes 1 0 in
+    one-taken Utf8 _ _ _ _ c.args.self.now bytes (0x1B ∷ last ∷ []) 2 (Esc [] last) c.self.view_is c.requires.idle
+    (omega arith) (front-two bytes 0x1B last (omega arith) c.requires.begins refl)
+    (spelled_reads (Esc [] last) (c.ends_escape.ensures c.if-not-ends_escape.false)) (effect-coding _ (Esc [] last) refl)
+    c.escape.ensures.silent c.escape.ensures.screen

@@ -1,35 +1,58 @@
-use Rattle.std.proofs.Common.{◌≡◌, ◌∷◌, [], true, List, ℕ, take, get_or, refl, sym, ap, ◌∙◌, subst, arith}
+use Rattle.std.proofs.Common.{◌≡◌, ◌∷◌, [], true, ℕ, List, ◌-◌, ◌+◌, length, take, drop, get_or, refl, sym, ap, ◌∙◌, subst}
+use Rattle.std.proofs.Common.{arith, map}
+use Rattle.std.proofs.lemmas.List.{take_more}
 use Rattle.std.proofs.lemmas.Bool.Decides.{nat_tests}
 use Rattle.charsets.specs.declared.unit.Coding.TheVariants.{Utf8}
-use Rattle.control_parser.specs.declared.func.Func.TheVariants.{Control}
+use Rattle.charsets.specs.Text.{text}
+use Rattle.charsets.specs.Units.{is_plain}
+use Rattle.control_parser.specs.declared.func.Func.{Func}
+use Rattle.control_parser.specs.declared.func.Func.TheVariants.{Print, Control}
 use Rattle.control_parser.specs.Grammar.{is_control}
 use Rattle.control_parser.specs.Spelling.{ReadsAs}
+use Rattle.control_parser.proofs.Readings.{reads-plain}
 use Rattle.control_parser.proofs.Spelled.{spelled_reads}
 use Rattle.terminal_model.specs.Table.{effect}
-use Rattle.terminal_model.specs.Reports.{report}
 use Rattle.terminal_model.proofs.Codings.{effect-coding}
-use Rattle.emulator.specs.Standing.{Parts}
-use Rattle.emulator.proofs.Wholes.{quiet-has-read, front-one, nothing-whole}
+use Rattle.emulator.proofs.Wholes.{one-taken, quiet-taken, quiet-prints, quiet-line, prints-are, text-reads, line-reads}
+use Rattle.emulator.proofs.Wholes.{front-two, front-more, nothing-whole}
 use Rattle.emulator.proofs.emulator.Emulator.read_piece.Goals as goal
 
-pub returns-in-24 : goal.returns-in-24
-returns-in-24 c = nothing-whole c.args.self.now c.args.bytes.now
+pub returns-then-bytes-lt32 : goal.returns-then-bytes-lt32
+returns-then-bytes-lt32 c =
+    let b : ℕ = get_or c.args.bytes.now 0 0 in
+    let plain : is_plain b ≡ true = grind (arith, nat_tests) in
+    one-taken Utf8 _ _ _ _ c.args.self.now c.args.bytes.now (b ∷ []) 1 (Print b) c.self.view_is c.requires.idle
+    (omega arith) (take_more c.args.bytes.now 0 0 c.requires.some) (reads-plain Utf8 (b ∷ []) (rw plain refl))
+    (effect-coding _ (Print b) refl) refl c.print_one.ensures.screen
 
-pub returns-in-0-to-31 : goal.returns-in-0-to-31
-returns-in-0-to-31 c = record {
-  taken = λ said t h.
-      let b : ℕ = get_or c.args.bytes.now 0 0 in
-      let f = Control b in
-      let control : is_control b ≡ true = grind (arith, nat_tests) in
-      let e = front-one c.args.bytes.now b c.requires.some refl in
-      let reads : ReadsAs Utf8 (take 1 c.args.bytes.now) (f ∷ []) = subst (λ (v : List ℕ). ReadsAs Utf8 v (f ∷ []))
-      (sym e) (spelled_reads f control) in
-      quiet-has-read c.args.self.now _ t _ said f c.requires.idle c.requires.coding
-      (effect-coding c.args.self.now.screen f refl) reads
-      (c.control.ensures.effect ∙ ap (λ (v : Parts). effect v.screen f) c.self.view_is)
-      (ap (λ (v : Parts). v.decoding) c.self.view_is) (ap (λ (v : Parts). v.parsing) c.self.view_is)
-      (ap (λ (v : Parts). report v.screen f) (sym c.self.view_is) ∙ c.control.ensures.silent) h;
-  few = omega arith;
-  decoding = ap (λ (v : Parts). v.decoding) c.self.view_is;
-  parsing = ap (λ (v : Parts). v.parsing) c.self.view_is;
-}
+pub returns-then-first-ge32 : goal.returns-then-first-ge32
+returns-then-first-ge32 c =
+    let codes : List ℕ = text (take c.print_text.result c.args.bytes.now) in
+    quiet-taken Utf8 _ _ _ _ c.args.self.now c.args.bytes.now c.print_text.result _ c.self.view_is c.requires.idle
+    c.print_text.ensures.few (text-reads _ c.print_text.ensures.text) (quiet-prints _ codes)
+    (c.print_text.ensures.performed.screen ∙ prints-are c.self.inside.screen.screen codes)
+
+pub returns-then-bytes-eq10 : goal.returns-then-bytes-eq10
+returns-then-bytes-eq10 c =
+    let bytes : List ℕ = c.args.bytes.now in
+    let n : ℕ = c.print_line.result in
+    let codes : List ℕ = take n (take (length bytes - 2) (drop 2 bytes)) in
+    let fs : List Func = Control 0x0D ∷ Control 0x0A ∷ map (λ code. Print code) codes in
+    let front : take 2 bytes ≡ 0x0D ∷ 0x0A ∷ [] = front-two bytes 0x0D 0x0A (omega arith)
+    (take_more bytes 0 0 c.requires.some ∙ ap (λ (b : ℕ). b ∷ []) c.if-first-eq13.true) c.if-bytes-eq10.true in
+    quiet-taken Utf8 _ _ _ _ c.args.self.now bytes (2 + n) fs c.self.view_is c.requires.idle (omega arith)
+    (subst (λ (v : List ℕ). ReadsAs Utf8 v fs) (sym (front-more bytes 0x0D 0x0A n front))
+    (line-reads codes c.print_line.ensures.plain)) (quiet-line _ codes)
+    (c.print_line.ensures.performed.screen
+    ∙ prints-are (effect (effect c.self.inside.screen.screen (Control 0x0D)) (Control 0x0A)) codes)
+
+pub returns-then-first-eq-CAN : goal.returns-then-first-eq-CAN
+returns-then-first-eq-CAN c = nothing-whole c.args.self.now c.args.bytes.now
+
+pub returns : goal.returns
+returns c =
+    let b : ℕ = get_or c.args.bytes.now 0 0 in
+    let control : is_control b ≡ true = grind (arith, nat_tests) in
+    one-taken Utf8 _ _ _ _ c.args.self.now c.args.bytes.now (b ∷ []) 1 (Control b) c.self.view_is c.requires.idle
+    (omega arith) (take_more c.args.bytes.now 0 0 c.requires.some) (spelled_reads (Control b) control)
+    (effect-coding _ (Control b) refl) c.control.ensures.silent c.control.ensures.screen

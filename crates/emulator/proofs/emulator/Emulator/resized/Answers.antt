@@ -1,7 +1,9 @@
-use Rattle.std.proofs.Common.{refl}
-use Rattle.emulator.proofs.Feeding.{stands-resized-on}
+use Rattle.std.proofs.Common.{refl, sym, subst}
+use Rattle.emulator.specs.Standing.{Parts, StandsFor}
+use Rattle.emulator.proofs.Feeding.{stands-resized}
 use Rattle.emulator.proofs.emulator.Emulator.resized.Goals as goal
 
 pub returns-clause-ok : goal.returns-clause-ok
-returns-clause-ok c = stands-resized-on c.resized.result _ c.args.self.now _ c.args.rows c.args.columns c.self.view_is
-    c.resized.ensures.size c.resized.ensures.ok refl refl
+returns-clause-ok c = λ t h.
+    stands-resized _ _ t c.args.rows c.args.columns c.in_ok-resized.ensures.size
+    (subst (λ (e : Parts). StandsFor e t) (sym c.self.view_is) h) c.in_ok-resized.ensures.ok refl refl

@@ -1,14 +1,23 @@
-use Rattle.std.proofs.Common.{refl, sym, ap, ◌∙◌, subst, []}
+use Rattle.std.proofs.Common.{[], sym, ap, ◌∙◌, subst, arith}
 use Rattle.charsets.specs.declared.unit.Coding.{Coding}
-use Rattle.terminal_model.specs.Reading.{ready}
+use Rattle.terminal_model.specs.Reading.{Terminal, ready, reads}
+use Rattle.terminal_model.specs.Screen.{Screen}
 use Rattle.emulator.specs.Standing.{Parts, StandsFor}
-use Rattle.emulator.proofs.Feeding.{stands-ready}
+use Rattle.emulator.proofs.Feeding.{reads-more, stands-ready}
 use Rattle.emulator.proofs.emulator.Emulator.write_anew.Goals as goal
 
-pub returns : goal.returns
-returns c = λ t h.
+pub bytes-init : goal.bytes-init
+unfolding reads
+bytes-init c = λ t h.
     let k = subst (λ (e : Parts). StandsFor e t) (sym c.self.view_is) h in
-    c.feed_each.ensures (ready t.screen)
-    (stands-ready _ _ t k refl
-    (c.set_coding.ensures.starts ∙ ap (λ (coding : Coding). record { coding = coding; rest = [] }) c.coding.ensures)
-    c.new-self-inside.ensures.starts)
+    stands-ready _ t.screen k.terminal.sound k.screen
+    (c.set_coding.ensures.starts
+    ∙ ap (λ (coding : Coding). record { coding = coding; rest = [] })
+    (c.coding.ensures ∙ ap (λ (x : Screen). x.state.coding) k.screen))
+    c.new-self-inside.ensures.starts
+
+pub bytes-preserved : goal.bytes-preserved
+bytes-preserved c = λ t h.
+    subst (λ (u : Terminal). StandsFor c.feed.new.self u)
+    (sym (reads-more (ready t.screen) c.args.bytes.now c.bytes.byte-index (omega arith)))
+    (c.feed.ensures.read _ (c.bytes.invariant t h)).stands

@@ -1,7 +1,8 @@
 use Rattle.std.proofs.Common.{◌≡◌, ℕ, Option, IfSome, OnOk, sym, ap, ◌∙◌, subst}
 use Rattle.attach_proto.specs.declared.why.Why.{Why}
 use Rattle.web_client.specs.declared.wire.Stage.TheVariants.{Last}
-use Rattle.web_page.specs.Hearing.{Display, Told}
+use Rattle.attach_proto.specs.declared.told.Told.{Told}
+use Rattle.web_page.specs.Hearing.{Display}
 use Rattle.web_client.specs.Rows.{IsAsFar}
 use Rattle.web_client.proofs.Rows.{shows}
 use Rattle.web_client.proofs.wire.Wire.show.Goals as goal
@@ -21,10 +22,10 @@ returns-clause-due c = λ due.
 
 pub returns-clause-gone : goal.returns-clause-gone
 returns-clause-gone c =
-    let same : c.if-is_due.display.gone ≡ c.args.display.now.gone =
+    let same : c.if-is_due.display.told.gone ≡ c.args.display.now.told.gone =
     elim c.if-is_due.branch [
       | then-is_due+in_ok-send_rows w ↦
-          ap (λ (d : Display). d.gone) w.display-is ∙ ap (λ (t : Told). t.gone) w.send_rows.ensures.told
-      | else-is_due w ↦ ap (λ (d : Display). d.gone) w.display-is
+          ap (λ (d : Display). d.told.gone) w.display-is ∙ ap (λ (t : Told). t.gone) w.send_rows.ensures.told
+      | else-is_due w ↦ ap (λ (d : Display). d.told.gone) w.display-is
     ] in
     subst (λ (g : Option Why). IfSome g (λ _. OnOk c.end.result (c.end.new.self.stage ≡ Last))) same c.end.ensures.gone

@@ -10,9 +10,7 @@ returns-clause-hears c = λ n.
       name = c.self.inside.name;
       reading = c.self.inside.reader;
       sheet = c.self.inside.sheet;
-      is_welcome = c.self.inside.is_welcome;
-      refusal = c.self.inside.refusal;
-      gone = c.self.inside.gone;
+      told = c.self.inside.told;
     } in
     subst (λ (d : Display). Hears d c.args.bytes.now c.hear_each.new.self) c.self.view_is
     (heard old c.hear_each.new.self c.args.bytes.now c.feed-fed.new.self c.new-messages.result.items
@@ -27,9 +25,7 @@ returns-in_err-fed-clause-hears c = λ n.
       name = c.self.inside.name;
       reading = c.self.inside.reader;
       sheet = c.self.inside.sheet;
-      is_welcome = c.self.inside.is_welcome;
-      refusal = c.self.inside.refusal;
-      gone = c.self.inside.gone;
+      told = c.self.inside.told;
     } in
     subst (λ (d : Display). Hears d c.args.bytes.now c.hear_each.new.self) c.self.view_is
     (heard old c.hear_each.new.self c.args.bytes.now c.feed-fed.new.self c.new-messages.result.items

@@ -2,7 +2,9 @@ use Rattle.std.proofs.Common.{◌+◌, arith, ap, sym, ◌∙◌, refl, subst, d
 use Rattle.attach_proto.specs.declared.message.Message.{Message}
 use Rattle.terminal_model.specs.Reading.{Terminal}
 use Rattle.emulator.specs.Standing.{StandsFor}
-use Rattle.web_page.specs.Hearing.{drawn, all_drawn, Told, told, noted, all_noted}
+use Rattle.attach_proto.specs.declared.told.Told.{Told}
+use Rattle.attach_proto.specs.Table.{noted}
+use Rattle.web_page.specs.Hearing.{drawn, all_drawn, all_noted}
 use Rattle.web_page.proofs.Hearing.{one_more, none_more, one_told, none_told, kept_on}
 use Rattle.web_page.proofs.display.Display.hear_each.Goals as goal
 
@@ -22,9 +24,9 @@ loop-message-preserved c = record {
   reading = c.hear.ensures.reading ∙ c.loop-message.invariant.reading;
   told =
       c.loop-message.invariant.told
-      ∙ one_told c.args.messages.now c.loop-message.message-index c.message-item.result (told c.loop-message.self)
+      ∙ one_told c.args.messages.now c.loop-message.message-index c.message-item.result c.loop-message.self.told
       (omega arith)
-      ∙ ap (λ (m : Message). all_noted (noted (told c.loop-message.self) m)
+      ∙ ap (λ (m : Message). all_noted (noted c.loop-message.self.told m)
       (drop (c.loop-message.message-index + 1) c.args.messages.now)) (sym c.message-item.is)
       ∙ ap (λ (t : Told). all_noted t (drop (c.loop-message.message-index + 1) c.args.messages.now))
       (sym c.in_ok-hear.ensures.told);
@@ -39,7 +41,7 @@ returns-clause-sheet c = λ t w.
 pub returns-clause-told : goal.returns-clause-told
 returns-clause-told c =
     sym (c.loop-message.invariant.told
-    ∙ none_told c.args.messages.now c.loop-message.message-index (told c.loop-message.self) (omega arith))
+    ∙ none_told c.args.messages.now c.loop-message.message-index c.loop-message.self.told (omega arith))
 
 pub returns-in_err-hear-clause-sent : goal.returns-in_err-hear-clause-sent
 returns-in_err-hear-clause-sent c =

@@ -1,7 +1,7 @@
 use Rattle.std.proofs.Common.{◌≡◌, drop}
 use Rattle.terminal_model.specs.Reading.{Terminal}
 use Rattle.emulator.specs.Standing.{StandsFor}
-use Rattle.web_page.specs.Hearing.{all_drawn, told, all_noted, KeepsSent}
+use Rattle.web_page.specs.Hearing.{all_drawn, all_noted, KeepsSent}
 use Rattle.web_page.proofs.display.Display.hear_each.Given as goal
 
 abbrev pub invariant-loop-message : goal.invariant-loop-message
@@ -11,5 +11,5 @@ invariant-loop-message l = record {
       × (s ≡ all_drawn u (drop l.message-index l.messages));
   sent : KeepsSent l.fn.self.sheet l.self.sheet;
   reading : l.self.reading ≡ l.fn.self.reading;
-  told : all_noted (told l.fn.self) l.messages ≡ all_noted (told l.self) (drop l.message-index l.messages);
+  told : all_noted l.fn.self.told l.messages ≡ all_noted l.self.told (drop l.message-index l.messages);
 }

@@ -9,9 +9,7 @@ returns-clause-ok c =
       name = c.self.inside.name;
       reading = c.self.inside.reader;
       sheet = c.resize.new.self;
-      is_welcome = c.self.inside.is_welcome;
-      refusal = c.self.inside.refusal;
-      gone = c.self.inside.gone;
+      told = c.self.inside.told;
     }))) c.self.view_is
     (elim c.match-resize.branch [
       | in-Ok w ↦ rw w.result-is (record {

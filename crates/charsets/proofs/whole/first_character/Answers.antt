@@ -1,6 +1,0 @@
-use Rattle.charsets.proofs.Characters.{one_byte_reads}
-use Rattle.charsets.proofs.whole.first_character.Goals as goal
-
-pub returns-then-a-lt127-clause-reads : goal.returns-then-a-lt127-clause-reads
-returns-then-a-lt127-clause-reads c =
-    one_byte_reads c.args.bytes.now c.requires c.if-a-gt31.true c.if-a-lt127.true

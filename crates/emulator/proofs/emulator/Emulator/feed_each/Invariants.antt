@@ -1,8 +1,0 @@
-use Rattle.std.proofs.Common.{take}
-use Rattle.terminal_model.specs.Reading.{Terminal, reads}
-use Rattle.emulator.specs.Standing.{StandsFor}
-use Rattle.emulator.proofs.emulator.Emulator.feed_each.Given as goal
-
-abbrev pub invariant-bytes : goal.invariant-bytes
-invariant-bytes l = (t : Terminal) → StandsFor l.fn.self t
-    → StandsFor l.self (reads t (take l.byte-index l.bytes)).terminal

@@ -1,0 +1,57 @@
+-- Actions in turn.
+use Rattle.std.proofs.Common.{◌≡◌, ℕ, List, [], ◌∷◌, ◌++◌, Option, Some, None, refl, sym, ap, ◌∙◌, subst, append-nil}
+use Rattle.charsets.specs.declared.unit.Unit.TheVariants.{Code}
+use Rattle.terminal_model.specs.declared.action.Action.{Action}
+use Rattle.terminal_model.specs.declared.action.Action.TheVariants.{Print, Render}
+use Rattle.terminal_model.specs.declared.action.Attribute.{Attribute}
+use Rattle.terminal_model.specs.declared.state.State.{State}
+use Rattle.terminal_model.specs.Motion.{unjoined}
+use Rattle.terminal_model.specs.Functions.{alone}
+use Rattle.terminal_model.specs.Screen.{Screen, with_state}
+use Rattle.terminal_model.specs.Reports.{all_answered}
+use Rattle.terminal_model.specs.Table.{acted, acted_from, all_acted}
+use Rattle.vt_screen_rows.specs.Places.{all_acted_places}
+use Rattle.vt_screen_state.specs.Meanings.{rendition_by}
+use Rattle.vt_screen_rows.specs.Runs.{prints}
+use Rattle.vt_screen.specs.Stored.{Stored, Performs}
+
+-- characters aren't answered
+pub answers_prints : (x : Screen) (codes : List ℕ) → all_answered x (prints codes) ≡ []
+answers_prints x [] = refl
+answers_prints x (c ∷ codes) = answers_prints (acted x (Print (Code c))) codes
+
+performed : (old new : Stored) (actions : List Action) → Performs old actions new → new ≡ record
+    { screen = all_acted old.screen actions; places = all_acted_places old.screen actions old.places }
+performed old new actions h =
+    ap (λ (x : Screen). record { screen = x; places = new.places }) h.screen
+    ∙ ap (λ (ps : List ℕ). record { screen = all_acted old.screen actions; places = ps }) h.places
+
+-- at most one action before others
+pub performs-on : (old mid new : Stored) (first : Option Action) (later : List Action) → Performs old (alone first) mid
+    → Performs mid later new → Performs old (alone first ++ later) new
+performs-on old mid new None later h k = subst (λ (x : Stored). Performs x later new) (performed old mid [] h) k
+performs-on old mid new (Some a) later h k =
+    let rest = subst (λ (x : Stored). Performs x later new) (performed old mid (a ∷ []) h) k in
+    record {
+      screen = rest.screen;
+      places = rest.places;
+      silent = ap (λ v. v ++ all_answered (acted old.screen a) later) (sym (append-nil _) ∙ h.silent) ∙ rest.silent;
+    }
+
+pub performs-none : (x : Stored) → Performs x [] x
+performs-none x = record { screen = refl; places = refl; silent = refl }
+
+-- the action of a known value of SGR
+pub renders : (x : Screen) (places : List ℕ) (next : State) (old : Stored) (known : Option Action)
+    (attribute : Attribute) → known ≡ Some (Render attribute)
+    → next ≡ unjoined (record x.state { rendition = rendition_by x.state.rendition known })
+    → record { screen = x; places = places } ≡ old
+    → Performs old (alone known) (record { screen = with_state x next; places = places })
+unfolding acted_from
+renders x places next old known attribute k n e =
+    subst (λ (s : Stored). Performs s (alone known) (record { screen = with_state x next; places = places })) e
+    (rw k (record {
+      screen = ap (with_state x) (n ∙ ap (λ o. unjoined (record x.state { rendition = rendition_by x.state.rendition o })) k);
+      places = refl;
+      silent = refl;
+    }))
