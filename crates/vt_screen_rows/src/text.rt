@@ -14,8 +14,9 @@ use vt_screen_page::CellPosition;
 use vt_screen_state::advance;
 
 impl Display {
-    /// Prints the graphic characters with which some bytes of UTF-8 begin, one after another, and
-    /// returns their number of bytes. It may stop before the last of them; 0 if there is none.
+    /// Prints graphic characters with which some bytes of UTF-8 begin, one after another, and returns
+    /// their number of bytes. It may stop before the last of them; 0 if there is none.
+    #[inline(always)]
     pub fn print_text(&mut self, bytes: &[u8]) -> usize
         requires fit { IsFit self.old }
         ensures text { IsText (take result bytes.now) }
@@ -24,41 +25,36 @@ impl Display {
         ensures fit { IsFit self.new }
         ensures places { MovesLinesByAll self.old (prints (text (take result bytes.now))) self.new }
     {
-        let mut read = 0;
-        while read < bytes.len() {
-            let size = self.print_some_text(&bytes[read..]);
-            read += size;
-            if size == 0 {
-                return read;
-            }
-        }
-        read
-    }
-
-    /// Prints the first of some characters in UTF-8, or as many whose width is known as there is
-    /// room for in the line. Returns their number of bytes; 0 if there is none.
-    #[inline(always)]
-    fn print_some_text(&mut self, bytes: &[u8]) -> usize
-        requires fit { IsFit self.old }
-        requires some { 0 < length bytes.now }
-        ensures prints { PrintsText self.old (take result bytes.now) self.new }
-        ensures few { result ≤ length bytes.now }
-    {
-        let Some((character, size)) = first_character(bytes) else {
-            return 0;
-        };
         if takes_runs(&self.state) && !self.state.is_wrap_pending {
             let read = self.place_text(bytes);
             if read > 0 {
                 return read;
             }
         }
+        self.print_first(bytes)
+    }
+
+    /// Prints the character with which some bytes begin, and returns its number of bytes; 0 if there
+    /// is none.
+    #[inline(never)]
+    fn print_first(&mut self, bytes: &[u8]) -> usize
+        requires fit { IsFit self.old }
+        ensures prints { PrintsText self.old (take result bytes.now) self.new }
+        ensures few { result ≤ length bytes.now }
+    {
+        if bytes.is_empty() {
+            return 0;
+        }
+        let Some((character, size)) = first_character(bytes) else {
+            return 0;
+        };
         self.print_code(character);
         size
     }
 
     /// Puts the characters of known width with which some bytes begin in the cursor's line, over
     /// the old cells, as far as there is room. Returns their number of bytes.
+    #[inline(always)]
     fn place_text(&mut self, bytes: &[u8]) -> usize
         requires fit { IsFit self.old }
         requires takes { TakesRuns self.old.state }
