@@ -1,6 +1,7 @@
 -- Letters, marks and known wide characters stand for themselves, and their widths are read off the width table.
 use Rattle.std.proofs.Common.{◌≡◌, ℕ, zero, suc, None, ◌<◌, ◌≤◌, Bool, true, false, ◌&&◌, ◌||◌, nat_le, ltb, Option}
-use Rattle.std.proofs.Common.{Some, List, [], ◌∷◌, refl, sym, ap, ◌∙◌, arith, inl, inr, eqb, cond, eqb-true, le-leb, leb-true, ltb-true}
+use Rattle.std.proofs.Common.{Some, List, [], ◌∷◌, refl, sym, ap, ◌∙◌, arith, inl, inr, eqb, cond, eqb-true, le-leb}
+use Rattle.std.proofs.Common.{leb-true, ltb-true}
 use Rattle.std.specs.Prelude.{slice_index_or}
 use Rattle.std.proofs.lemmas.Bool.{and_parts, cases_Bool, cases_eq, cases_lt, cond-true, cond-false, lt-leb}
 use Rattle.std.proofs.lemmas.Bool.Decides.{nat_tests}
@@ -81,7 +82,8 @@ known : (w low high c : ℕ) → all_are w low high kind_number_stepped.steps �
     → c < high → char_width false c ≡ Some w
 unfolding char_width alone kind_number
 known w low high c h small beyond above below =
-    let is : eqb (width_of 9 (kind_number c)) w ≡ true = ap (λ (n : ℕ). eqb (width_of 9 n) w) (kind_number_stepped.gives c)
+    let is : eqb (width_of 9 (kind_number c)) w ≡ true =
+    ap (λ (n : ℕ). eqb (width_of 9 n) w) (kind_number_stepped.gives c)
     ∙ all_are-true kind_number_stepped.default w low high kind_number_stepped.steps c h above below in
     let late : nat_le 0xA0 c ≡ true = le-leb 0xA0 c (omega arith) in
     let few : ltb c 0x7F ≡ false = grind (arith, nat_tests) in
@@ -135,17 +137,10 @@ marks = (0x2FF, 0x338) ∷ (0x338, 0x370) ∷ (0x590, 0x5BE) ∷ []
 abbrev wides : List (ℕ × ℕ)
 wides = (0x3040, 0x3097) ∷ (0x309F, 0x3100) ∷ (0x33FF, 0xA000) ∷ (0xABFF, 0xD7A4) ∷ (0x1F5FF, 0x1F650) ∷ []
 
-letters_are : ranges_are 1 letters kind_number_stepped.steps ≡ true
+widths_are : (ranges_are 0 marks kind_number_stepped.steps ≡ true)
+    × (ranges_are 1 letters kind_number_stepped.steps ≡ true) × (ranges_are 2 wides kind_number_stepped.steps ≡ true)
 unfolding tables kind_number_stepped all_are
-letters_are = refl
-
-marks_are : ranges_are 0 marks kind_number_stepped.steps ≡ true
-unfolding tables kind_number_stepped all_are
-marks_are = refl
-
-wides_are : ranges_are 2 wides kind_number_stepped.steps ≡ true
-unfolding tables kind_number_stepped all_are
-wides_are = refl
+widths_are = (refl, refl, refl)
 
 -- a character that stands for itself in this number of columns
 pub record IsKnown (character width : ℕ) : Type 0 where
@@ -164,12 +159,12 @@ known_by c w beyond width columns drawn = record {
 
 pub known_mark : (c : ℕ) → is_mark c ≡ true → IsKnown c 0
 known_mark c h =
-    known_by c 0 (grind (arith, nat_tests)) (in_known 0 c marks marks_are (omega arith) (grind (arith, nat_tests))) refl
+    known_by c 0 (grind (arith, nat_tests)) (in_known 0 c marks widths_are.0 (omega arith) (grind (arith, nat_tests))) refl
     refl
 
 pub known_wide : (c : ℕ) → is_known_wide c ≡ true → IsKnown c 2
 known_wide c h =
-    known_by c 2 (grind (arith, nat_tests)) (in_known 2 c wides wides_are (omega arith) (grind (arith, nat_tests))) refl
+    known_by c 2 (grind (arith, nat_tests)) (in_known 2 c wides widths_are.2 (omega arith) (grind (arith, nat_tests))) refl
     refl
 
 pub known_letter : (c : ℕ) → is_letter c ≡ true → IsKnown c 1
@@ -183,7 +178,7 @@ known_letter c h =
             | inl lamed ↦ known_by c 1 beyond (rw lamed lamed_width) refl refl
             | inr other ↦
                 known_by c 1 beyond
-                (in_known 1 c letters letters_are (omega arith) (grind (arith, nat_tests))) refl refl
+                (in_known 1 c letters widths_are.1 (omega arith) (grind (arith, nat_tests))) refl refl
           ]
     ]
 
@@ -194,8 +189,8 @@ pub places_known : (s : State) (c w : ℕ) (places : List ℕ) → IsKnown c w
     → printed_places (Some c) s places ≡ wrapped_places (is_wrapped w s) s places
 places_known s c w places k = ap (λ (n : ℕ). wrapped_places (is_wrapped n s) s places) k.columns
 
-pub lines_known : (d later : Display) (c w : ℕ) → IsKnown c w → MovesLines d (wrapped_places (is_wrapped w d.state)) later
-    → MovesLines d (printed_places (Some c)) later
+pub lines_known : (d later : Display) (c w : ℕ) → IsKnown c w
+    → MovesLines d (wrapped_places (is_wrapped w d.state)) later → MovesLines d (printed_places (Some c)) later
 lines_known d later c w k lines =
     record { width = lines.width; places = lines.places ∙ sym (places_known d.state c w d.page.places k) }
 

@@ -119,8 +119,8 @@ module _ (x : Screen) (bytes : List ℕ) (count : ℕ) (h : list_all is_plain (t
       let cells : text_cells cs w.state.rendition w.state.is_protecting ≡ fresh = plain_cells w.state.rendition
       w.state.is_protecting cs h in
       subst (λ (v : List Cell). Makes w (prints cs) (cells_placed v w)) cells
-      (text_makes cs w takes refl (sound_wrapped x sound) (plain_based cs h) (rw (cells, n) (omega (arith, counted, some)))
-      (rw (cells, n) (omega (arith, counted, room))))
+      (text_makes cs w takes refl (sound_wrapped x sound) (plain_based cs h)
+      (rw (cells, n) (omega (arith, counted, some))) (rw (cells, n) (omega (arith, counted, room))))
 
   is_last : (x.state.line == x.state.bottom) ≡ true
   is_last = eq-eqb x.state.line x.state.bottom scrolls.last

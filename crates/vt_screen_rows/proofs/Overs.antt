@@ -1,6 +1,6 @@
 -- New cells over as many old ones, put in one piece or in two.
 use Rattle.std.proofs.Common.{◌≡◌, ℕ, zero, suc, ◌+◌, ◌-◌, ◌<◌, ◌≤◌, Bool, true, false, ◌&&◌, eqb, ltb, leb, cond, List}
-use Rattle.std.proofs.Common.{[], ◌∷◌, ◌++◌, length, set, refl, sym, ap, ◌∙◌, ◌⊎◌, inl, inr, arith, ⊎_elim}
+use Rattle.std.proofs.Common.{[], ◌∷◌, ◌++◌, length, set, refl, sym, ap, ◌∙◌, arith, ⊎_elim}
 use Rattle.std.proofs.Common.{eq-eqb, length-append, subst}
 use Rattle.std.specs.Prelude.{if◌then◌else◌, ◌==◌}
 use Rattle.std.proofs.lemmas.List.{append-nil, ext_get_or, get_or-set_same, get_or-set_other, set-set, length-set}
@@ -138,42 +138,41 @@ module _ (at : ℕ) (front later cells : List Cell) (fronts : IsPaired front) (p
       (cases_lt k at))
 
 -- the cells of a character
-shapes : (s : Shape) → is_right s ≡ false → (s ≡ Left) ⊎ (s ≡ Narrow)
-shapes Narrow h = inr refl
-shapes Left h = inl refl
-shapes Right h = absurd (cc)
-
-before_others : (cell : Cell) (later : List Cell) → cell.shape ≡ Narrow → IsPaired later → IsPaired (cell ∷ later)
-before_others cell later narrow paired = record {
-  first = ap is_right narrow;
+pairs_by : (s : Shape) (cell : Cell) (later : List Cell) → is_right s ≡ false → IsPaired later
+    → IsPaired (whole (record cell { shape = s }) ++ later)
+pairs_by Narrow cell later h paired = record {
+  first = refl;
   next = λ column. elim column as
-      (λ c. is_left (cell_at (cell ∷ later) c).shape ≡ is_right (cell_at (cell ∷ later) (suc c)).shape)
-      [ zero ↦ ap is_left narrow ∙ sym paired.first | suc c ↦ paired.next c ];
+      (λ c. is_left (cell_at (record cell { shape = Narrow } ∷ later) c).shape ≡ is_right
+      (cell_at (record cell { shape = Narrow } ∷ later) (suc c)).shape)
+      [ zero ↦ sym paired.first | suc c ↦ paired.next c ];
 }
+pairs_by Left cell later h paired = record { first = refl; next = next }
+  where
+    next : (column : ℕ)
+        → is_left (cell_at (whole (record cell { shape = Left }) ++ later) column).shape ≡ is_right
+        (cell_at (whole (record cell { shape = Left }) ++ later) (suc column)).shape
+    next zero = refl
+    next (suc zero) = sym paired.first
+    next (suc (suc c)) = paired.next c
+pairs_by Right cell later h paired = absurd (cc)
 
-halves_next : (l r : Cell) (later : List Cell) → l.shape ≡ Left → r.shape ≡ Right → IsPaired later → (column : ℕ)
-    → is_left (cell_at (l ∷ r ∷ later) column).shape ≡ is_right (cell_at (l ∷ r ∷ later) (suc column)).shape
-halves_next l r later hl hr paired zero = ap is_left hl ∙ sym (ap is_right hr)
-halves_next l r later hl hr paired (suc zero) = ap is_left hr ∙ sym paired.first
-halves_next l r later hl hr paired (suc (suc c)) = paired.next c
+last_by : (s : Shape) (cell : Cell) → is_right s ≡ false
+    → last_columns (whole (record cell { shape = s })) ≡ length (whole (record cell { shape = s }))
+last_by Narrow cell h = refl
+last_by Left cell h = refl
+last_by Right cell h = absurd (cc)
 
 module _ (cell : Cell) (first : is_right cell.shape ≡ false) where
   pub whole_pairs : (later : List Cell) → IsPaired later → IsPaired (whole cell ++ later)
-  whole_pairs later paired = ⊎_elim
-      (λ (l : cell.shape ≡ Left).
-      rw l (record { first = refl; next = halves_next (record cell { shape = Left }) _ later refl refl paired }))
-      (λ (l : cell.shape ≡ Narrow). rw l (before_others (record cell { shape = Narrow }) later refl paired))
-      (shapes cell.shape first)
+  whole_pairs later paired = pairs_by cell.shape cell later first paired
 
   pub whole_paired : IsPaired (whole cell)
   whole_paired = subst IsPaired (append-nil (whole cell))
       (whole_pairs [] (record { first = refl; next = λ column. refl }))
 
   pub whole_last : last_columns (whole cell) ≡ length (whole cell)
-  whole_last = ⊎_elim
-      (λ (l : cell.shape ≡ Left). rw l refl)
-      (λ (l : cell.shape ≡ Narrow). rw l refl)
-      (shapes cell.shape first)
+  whole_last = last_by cell.shape cell first
 
 -- the last character of paired cells takes no more columns than they do
 pub last_fits : (cells : List Cell) → IsPaired cells → 0 < length cells → last_columns cells ≤ length cells
@@ -213,8 +212,8 @@ module _ (at mark : ℕ) (cell : Cell) (cells : List Cell) (first : is_right cel
       (λ (h : at ≤ k). let e : k - at ≡ suc (k - suc at) = omega arith in rw e refl)
       (cases_lt k at)
 
-  pub over_marked : set (over at (whole cell) cells) at (marked (cell_at (over at (whole cell) cells) at) mark) ≡ over at
-      (whole (marked cell mark)) cells
+  pub over_marked : set (over at (whole cell) cells) at (marked (cell_at (over at (whole cell) cells) at) mark)
+      ≡ over at (whole (marked cell mark)) cells
   over_marked =
       let one : List Cell = over at (whole cell) cells in
       let new : Cell = marked cell mark in

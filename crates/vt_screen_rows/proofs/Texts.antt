@@ -115,8 +115,11 @@ module _ (d later : Display) (bytes : List ℕ) (put : Put) (fit : IsFit d)
   abbrev s : State
   s = d.state
 
+  abbrev front : List ℕ
+  front = take put.read bytes
+
   abbrev characters : List ℕ
-  characters = text (take put.read bytes)
+  characters = text front
 
   abbrev fresh : List Cell
   fresh = text_cells characters s.rendition s.is_protecting
@@ -124,7 +127,7 @@ module _ (d later : Display) (bytes : List ℕ) (put : Put) (fit : IsFit d)
   -- no text was put in the cursor's line
   pub none_put : put.count ≡ 0
       → screen_of later ≡ with_page (screen_of d) s
-      (page_spliced s.line s.column fresh (s.column + put.count) d.page.lines) → PrintsText d (take put.read bytes) later
+      (page_spliced s.line s.column fresh (s.column + put.count) d.page.lines) → PrintsText d front later
   none_put e placed =
       let none : characters ≡ [] = text_none characters s.rendition s.is_protecting (puts.count ∙ e) in
       let screen : screen_of later ≡ screen_of d = placed
@@ -133,14 +136,14 @@ module _ (d later : Display) (bytes : List ℕ) (put : Put) (fit : IsFit d)
       (page_spliced s.line s.column (text_cells cs s.rendition s.is_protecting) (s.column + 0) d.page.lines)) none
       ∙ ap (λ (p : List (List Cell)). with_page (screen_of d) s p)
       (page_kept s.rows s.columns s.line s.column d.page.lines fit.sound.sized fit.sound.cursor.0) in
-      printed_as d later (take put.read bytes) [] puts.is_text none screen (all_acted_fit d later [] fit screen lines.width)
+      printed_as d later front [] puts.is_text none screen (all_acted_fit d later [] fit screen lines.width)
       lines.places
 
   -- text was put there
   pub text_printed : TakesRuns s → s.is_wrap_pending ≡ false → 0 < put.count
       → screen_of later ≡ with_page (screen_of d)
       (advanced (record s { column = s.column + (put.count - put.last) }) put.last)
-      (page_spliced s.line s.column fresh (s.column + put.count) d.page.lines) → PrintsText d (take put.read bytes) later
+      (page_spliced s.line s.column fresh (s.column + put.count) d.page.lines) → PrintsText d front later
   text_printed takes settled given placed =
       let x : Screen = screen_of d in
       let n : length fresh ≡ put.count = puts.count in
@@ -152,5 +155,5 @@ module _ (d later : Display) (bytes : List ℕ) (put : Put) (fit : IsFit d)
       (page_spliced s.line s.column fresh (s.column + put.count) d.page.lines) ≡ cells_placed fresh x =
       rw (line_width d fit, puts.last, n) refl in
       let screen : screen_of later ≡ all_acted x (prints characters) = placed ∙ all ∙ sym made.screen in
-      printed_as d later (take put.read bytes) characters puts.is_text refl screen
+      printed_as d later front characters puts.is_text refl screen
       (all_acted_fit d later (prints characters) fit screen lines.width) (lines.places ∙ sym (made.places d.page.places))

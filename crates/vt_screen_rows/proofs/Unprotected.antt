@@ -2,7 +2,7 @@
 use Rattle.std.proofs.Common.{◌≡◌, ℕ, ◌+◌, ◌<◌, ◌≤◌, true, false, ◌&&◌, cond, nat_lt, nat_le, List, [], length, set}
 use Rattle.std.proofs.Common.{refl, sym, ap, ◌∙◌, arith, ⊎_elim}
 use Rattle.std.proofs.lemmas.List.{length-set, get_or-set_same, get_or-set_other}
-use Rattle.std.proofs.lemmas.Bool.{cases_lt, cases_eq}
+use Rattle.std.proofs.lemmas.Bool.{cases_eq}
 use Rattle.std.proofs.lemmas.Bool.Decides.{nat_tests}
 use Rattle.cells.specs.declared.cell.Cell.{Cell}
 use Rattle.cells.specs.Line.{cells_from, unprotected_erased}
@@ -17,9 +17,6 @@ within first end line h k = grind (arith, nat_tests)
 behind : (first end line : ℕ) → end ≤ line → (nat_le first line && nat_lt line end) ≡ false
 behind first end line h = grind (arith, nat_tests)
 
-before : (first end line : ℕ) → line < first → (nat_le first line && nat_lt line end) ≡ false
-before first end line h = grind (arith, nat_tests)
-
 elsewhere : (first at line : ℕ) → (line ≡ at → ⊥)
     → (nat_le first line && nat_lt line at) ≡ (nat_le first line && nat_lt line (at + 1))
 elsewhere first at line ne = grind (arith, nat_tests)
@@ -29,10 +26,7 @@ pub unprotected_none : (page : List (List Cell)) (rows columns first : ℕ) → 
     → page_from (unprotected_lines page columns first first) page ≡ page
 unprotected_none page rows columns first is_page =
     sym (page_from-is (unprotected_lines page columns first first) page page refl (λ line h.
-    let outside : (nat_le first line && nat_lt line first) ≡ false = ⊎_elim
-    (λ (k : line < first). before first first line k)
-    (λ (k : first ≤ line). behind first first line k)
-    (cases_lt line first) in
+    let outside : (nat_le first line && nat_lt line first) ≡ false = grind (arith, nat_tests) in
     sym (line_from-whole (unprotected_lines page columns first first line) page line (length (line_at page line)) refl
     (is_page.paired line)
     (λ column. rw outside refl))))
