@@ -1,14 +1,13 @@
 -- Frames that messages add, one message after another.
-use Rattle.std.proofs.Common.{◌≡◌, ℕ, List, [], ◌∷◌, ◌++◌, Result, Ok, Err, OnOk, OnErr, take, drop}
+use Rattle.std.proofs.Common.{◌≡◌, ℕ, List, [], ◌∷◌, ◌++◌, Result, Ok, Err, OnOk, OnErr}
 use Rattle.std.proofs.Common.{inl, inr, sym, ap, ◌∙◌, subst, append_assoc, append-nil}
 use Rattle.std.proofs.lemmas.Grind.{flat_map-append}
 use Rattle.std.specs.List.{flat_map, AllByRecursion}
 use Rattle.attach_proto.specs.declared.message.Message.{Message}
-use Rattle.attach_proto.specs.declared.message.Message.TheVariants.{Attach, Keys, Resize, Detach}
 use Rattle.attach_proto.specs.Spelling.{spelling}
 use Rattle.web_client.specs.declared.seat.Seat.{Seat}
 use Rattle.web_client.specs.declared.seat.Seat.TheVariants.{Nobody, Own, Watching, Unknown, Left}
-use Rattle.web_client.specs.Asking.{lines_in, columns_in, IsAskedBy, IsAskable, AddsFrames}
+use Rattle.web_client.specs.Asking.{IsAskable, AddsFrames}
 use Rattle.web_client.specs.Asking.{IsApart, Asks, IsAttached, IsShared, Begins, Watches, Takes, Keeps}
 
 all-append : {A : Type 0} (P : A → Type 0) (xs ys : List A) → AllByRecursion P xs → AllByRecursion P ys
@@ -30,14 +29,6 @@ both a b c p q = (
       ∙ append_assoc a (flat_map spelling p.0) (flat_map spelling q.0)
       ∙ ap (λ (l : List ℕ). a ++ l) (sym (flat_map-append spelling p.0 q.0)),
 )
-
--- what an attached browser asks for may be sent
-askable : (message : List ℕ) (m : Message) → IsAskedBy message m → IsAskable m
-askable message (Keys keys) h = tt
-askable message (Resize rows columns) h = tt
-askable message Detach h = tt
-askable message (Attach rows columns token name) h = tt
-askable message _ h = h
 
 -- a seat that never has a client goes on so
 later : (b c : Seat) → IsApart b → Asks b c → IsApart c
@@ -64,9 +55,7 @@ shared payload Left h = tt
 
 attached : (payload : List ℕ) (s : Seat) → IsAttached payload s → Asks Nobody s
 attached payload Nobody h = tt
-attached payload (Own c) h =
-    one (Attach (lines_in payload) (columns_in payload) (take 64 (drop 4 payload)) (drop 68 payload))
-    [] c.outgoing tt h.asked
+attached payload (Own c) h = one _ [] c.outgoing (inl tt) h.asked
 attached payload (Watching rows columns) h = tt
 attached payload Unknown h = tt
 attached payload Left h = tt
@@ -91,7 +80,7 @@ pub taken : (s : Seat) (message : List ℕ) (after : Seat) → Takes s message a
 taken Nobody message after h = begun message after h
 taken (Own before) message Nobody h = h
 taken (Own before) message (Own c) h =
-    one h.frame before.outgoing c.outgoing (askable message h.frame h.asked) h.added
+    one h.frame before.outgoing c.outgoing (inr (message, h.asked)) h.added
 taken (Own before) message (Watching rows columns) h = h
 taken (Own before) message Unknown h = h
 taken (Own before) message Left h = h

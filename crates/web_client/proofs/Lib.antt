@@ -1,9 +1,9 @@
 pub mod Writing
 pub mod Tokens
 pub mod Adding
-pub mod Passing
 pub mod Login
 pub mod Judging
 pub mod Frames
 pub mod Rows
 pub mod Serving
+pub mod Answering

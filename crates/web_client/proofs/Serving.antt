@@ -1,6 +1,6 @@
 -- The values of the headers of one name.
-use Rattle.std.proofs.Common.{◌≡◌, ℕ, ◌+◌, ◌<◌, ◌≤◌, Bool, true, false, cond, List, [], ◌∷◌, ◌++◌, length, drop, get_or, Bor}
-use Rattle.std.proofs.Common.{Option, None, Some, option_to_list, option_copied, is_some, ap, sym, ◌∙◌, refl}
+use Rattle.std.proofs.Common.{◌≡◌, ℕ, ◌+◌, ◌<◌, ◌≤◌, Bool, true, false, cond, List, [], ◌∷◌, ◌++◌, length, drop}
+use Rattle.std.proofs.Common.{get_or, Bor, Option, None, Some, option_to_list, option_copied, is_some, ap, sym, ◌∙◌, refl}
 use Rattle.std.proofs.lemmas.List.{drop_more, drop_all}
 use Rattle.httparse.specs.declared.spans.HeaderSpan.{HeaderSpan}
 use Rattle.httparse.specs.Spans.{span_bytes}
@@ -17,7 +17,8 @@ next_value : (head : List ℕ) (spans : List HeaderSpan) (i : ℕ) (name : List 
     (span_bytes head (get_or spans i blank).value ∷ values (fields_of head (drop (i + 1) spans)) name)
     (values (fields_of head (drop (i + 1) spans)) name)
 unfolding values
-next_value head spans i name l = ap (λ (s : List HeaderSpan). values (fields_of head s) name) (drop_more spans i blank l)
+next_value head spans i name l =
+    ap (λ (s : List HeaderSpan). values (fields_of head s) name) (drop_more spans i blank l)
 
 no_value : (head : List ℕ) (spans : List HeaderSpan) (i : ℕ) (name : List ℕ) → length spans ≤ i
     → values (fields_of head (drop i spans)) name ≡ []

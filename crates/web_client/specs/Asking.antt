@@ -106,13 +106,13 @@ Keeps Left after = after ≡ Left
 
 -- ---- any number of messages
 
--- a frame that a browser's client may send
+abbrev pub IsFirstFrame : Message → Type 0
+IsFirstFrame (Attach rows columns token name) = Unit {0}
+IsFirstFrame _ = ⊥
+
+-- a frame that a browser's client may send: its first one, and those that messages ask for
 abbrev pub IsAskable : Message → Type 0
-IsAskable (Attach rows columns token name) = Unit {0}
-IsAskable (Keys keys) = Unit {0}
-IsAskable (Resize rows columns) = Unit {0}
-IsAskable Detach = Unit {0}
-IsAskable _ = ⊥
+IsAskable frame = IsFirstFrame frame ⊎ ((message : List ℕ) × IsAskedBy message frame)
 
 abbrev pub AddsFrames : List ℕ → List ℕ → Type 0
 AddsFrames before after =

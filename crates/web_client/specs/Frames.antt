@@ -1,5 +1,5 @@
 -- The frames of a page: how they are read from its WebSocket, and what their messages do.
-use Rattle.std.specs.Prelude.{◌≡◌, ◌⊎◌, ℕ, zero, suc, false, List, [], drop, Option, Some, None, Ok, Err}
+use Rattle.std.specs.Prelude.{◌≡◌, ◌⊎◌, ℕ, zero, suc, false, List, [], ◌++◌, drop, Option, Some, None, Ok, Err}
 use Rattle.websocket.specs.declared.error.Error.{Error}
 use Rattle.websocket.specs.declared.protocol.frame.codec.FrameStatus.TheVariants.{Partial, Complete}
 use Rattle.websocket.specs.declared.protocol.config.Role.TheVariants.{Server}
@@ -13,6 +13,10 @@ use Rattle.web_client.specs.declared.wire.Stage.TheVariants.{Request, Socket, La
 use Rattle.web_client.specs.declared.visitor.Frame.{Frame}
 use Rattle.web_client.specs.declared.visitor.Frame.TheVariants as frame
 use Rattle.web_client.specs.declared.visitor.Visitor.{Visitor}
+use Rattle.web_client.specs.declared.site.Site.{Site}
+use Rattle.web_client.specs.declared.requests.Answer.{Answer}
+use Rattle.web_client.specs.declared.requests.Answer.TheVariants as answer
+use Rattle.web_client.specs.Serving.{AnswersBytes}
 use Rattle.web_client.specs.Asking.{Takes, Keeps}
 use Rattle.web_client.specs.Judging.{IsAllowed}
 
@@ -150,21 +154,28 @@ TakesAll watcher old new =
     (n : ℕ) × (last : Page) × TakesFrames n old last
     × ((Waits last × (new ≡ last)) ⊎ ((new.stage ≡ Last) × EndsAt watcher last new.seat))
 
--- A page's request isn't whole yet, or its answer is the last, or a WebSocket begins after its bytes.
-abbrev pub Answers : Page → Page → Type 0
-Answers old new =
-    (new ≡ old)
-    ⊎ (((new.stage ≡ Last) × (new.seat ≡ old.seat))
-    ⊎ ((n : ℕ) × (new ≡ record old { stage = Socket; waiting = drop n old.waiting })))
+-- What an answer does: nothing if the request isn't whole yet; it is the last one; or a WebSocket begins after the
+-- bytes of the request.
+abbrev pub Answers : Answer → Visitor → Visitor → Type 0
+Answers answer.Part old new = new ≡ old
+Answers (answer.Page bytes) old new =
+    (new.wire.stage ≡ Last) × (new.seat ≡ old.seat)
+    × (new.wire.output.items ≡ old.wire.output.items ++ bytes.items)
+Answers (answer.Socket opening) old new =
+    (page new ≡ record (page old) { stage = Socket; waiting = drop opening.request old.input.items })
+    × (new.wire.output.items ≡ old.wire.output.items ++ opening.answer.items) × (new.address ≡ opening.address)
 
-abbrev pub TakesRequest : {A : Type 0} → Option A → Page → Page → Type 0
-TakesRequest watcher old new =
-    (new ≡ old)
-    ⊎ (((new.stage ≡ Last) × (new.seat ≡ old.seat))
-    ⊎ ((n : ℕ) × TakesAll watcher (record old { stage = Socket; waiting = drop n old.waiting }) new))
+-- the answer was given, and the frames that came after the request were taken
+abbrev pub TakesRequest : Site → Answer → Visitor → Visitor → Type 0
+TakesRequest site answer.Part old new = new ≡ old
+TakesRequest site (answer.Page bytes) old new = Answers (answer.Page bytes) old new
+TakesRequest site (answer.Socket opening) old new =
+    TakesAll site.watcher (record (page old) { stage = Socket; waiting = drop opening.request old.input.items })
+    (page new)
 
 -- what came of a browser is taken
-abbrev pub TakesBytes : {A : Type 0} → Option A → Stage → Page → Page → Type 0
-TakesBytes watcher Request old new = TakesRequest watcher old new
-TakesBytes watcher Socket old new = TakesAll watcher old new
-TakesBytes watcher Last old new = new ≡ old
+abbrev pub TakesBytes : Site → Stage → Visitor → Visitor → Type 0
+TakesBytes site Request old new =
+    (a : Answer) × AnswersBytes site old.input.items a × TakesRequest site a old new
+TakesBytes site Socket old new = TakesAll site.watcher (page old) (page new)
+TakesBytes site Last old new = page new ≡ page old

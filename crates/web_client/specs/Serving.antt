@@ -1,6 +1,7 @@
 -- What a bridge serves, and what answers a request.
-use Rattle.std.specs.Prelude.{◌≡◌, ◌⊎◌, ℕ, ◌<◌, ◌≤◌, Bool, true, false, cond, List, [], ◌∷◌, ◌++◌, length, map, take, find}
-use Rattle.std.specs.Prelude.{codes, bytes_eq, nat_eq, decimal, Option, None, Some, unwrap_or, Result, Ok, Err, MatchBool}
+use Rattle.std.specs.Prelude.{◌≡◌, ◌⊎◌, ℕ, ◌<◌, ◌≤◌, Bool, true, false, cond, List, [], ◌∷◌, ◌++◌, length, map, take}
+use Rattle.std.specs.Prelude.{find, codes, bytes_eq, nat_eq, decimal, Option, None, Some, unwrap_or, Result, Ok, Err}
+use Rattle.std.specs.Prelude.{MatchBool}
 use Rattle.std.specs.List.{list_any, ends_with}
 use Rattle.std.specs.String.{string_bytes}
 use Rattle.httparse.specs.declared.spans.HeaderSpan.{HeaderSpan}
@@ -43,7 +44,8 @@ lets_in site origin = list_any (λ o. bytes_eq (string_bytes o) origin) site.ori
 unfoldable pub guards : List ℕ
 guards =
     field_line (codes "Content-Security-Policy")
-    (codes "default-src 'none'; script-src 'self'; style-src 'self'; connect-src 'self'; base-uri 'none'; form-action 'none'; frame-ancestors 'none'")
+    (codes "default-src 'none'; script-src 'self'; style-src 'self'; connect-src 'self'; "
+    ++ codes "base-uri 'none'; form-action 'none'; frame-ancestors 'none'")
     ++ field_line (codes "X-Content-Type-Options") (codes "nosniff")
     ++ field_line (codes "Referrer-Policy") (codes "no-referrer")
     ++ field_line (codes "Cache-Control") (codes "no-store")

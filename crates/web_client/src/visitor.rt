@@ -1,6 +1,6 @@
 //! A browser's connection: its request, its messages, and who it is.
 
-ghost use Rattle.std.specs.Prelude.{◌≡◌, ◌↔◌, ℕ, List, drop, option_map, IfOk, IfSome, OnOk};
+ghost use Rattle.std.specs.Prelude.{◌≡◌, ◌↔◌, ℕ, List, drop, option_map, IfOk, IfSome, OnOk, OnErr};
 ghost use Rattle.std.specs.Prelude.{IsTrue, ◌<◌, ◌≤◌, [], length, false, true, codes};
 ghost use Rattle.websocket.specs.Content.{received_content, IsReceivedInside, HasValidText};
 ghost use Rattle.web_client.specs.Asking.{Asks, Keeps, IsOwn, IfOwn};
@@ -202,7 +202,8 @@ impl Visitor {
     // Takes the answer to a request.
     fn take_answer(&mut self, answer: Answer) -> Result<(), End>
         requires { self.old.wire.stage ≡ Stage.Request }
-        ensures answers { Answers (page self.old) (page self.new) }
+        ensures ok { OnOk result (Answers answer self.old self.new) }
+        ensures err { OnErr result (page self.new ≡ page self.old) }
         ensures seat { self.new.seat ≡ self.old.seat }
     {
         match answer {
@@ -241,8 +242,7 @@ impl Visitor {
     /// Takes what came of the browser. For its own client it adds frames that the browser may ask for,
     /// and nothing else.
     pub fn take(&mut self, site: &Site) -> Result<(), End>
-        ensures takes { OnOk result (TakesBytes site.now.watcher self.old.wire.stage (page self.old)
-            (page self.new)) }
+        ensures takes { OnOk result (TakesBytes site.now self.old.wire.stage self.old self.new) }
         ensures asks { Asks self.old.seat self.new.seat }
     {
         if self.wire.stage == Stage::Request {

@@ -11,7 +11,8 @@ returns c =
     let head = head_of c.args.status.now c.args.kind.now (length c.args.body.now) in
     let front : c.extend_from_slice.new.self.items ≡ head ++ guards =
     c.in_ok-extend_from_slice.ensures.items
-    ∙ (ap (λ (l : List ℕ). l ++ c.guards.result.now) (ap (λ (v : Vec ℕ Global). v.items) c.into_bytes-bytes.ensures.value ∙ c.in_ok-head.ensures)
+    ∙ (ap (λ (l : List ℕ). l ++ c.guards.result.now)
+    (ap (λ (v : Vec ℕ Global). v.items) c.into_bytes-bytes.ensures.value ∙ c.in_ok-head.ensures)
     ∙ ap (λ (l : List ℕ). head ++ l) c.guards.ensures) in
     elim c.if-is_shown.branch [
       | then-is_shown+in_ok-extend_from_slice-2 w ↦ rw (w.bytes-is, w.if-is_shown.true)
