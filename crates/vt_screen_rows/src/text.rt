@@ -1,5 +1,4 @@
 //! Text in UTF-8.
-//! LEAD (delete this line): print_text shall have no loop and decode nothing first, see the end of /work/notes/TEXT.md (print_text = place_text, else print_next). Do it now; it is measured (edits, tabs). Then commit at once: the gate waits.
 
 ghost use Rattle.std.specs.Prelude.{◌≡◌, ◌<◌, ◌≤◌, false, length, take};
 ghost use Rattle.charsets.specs.Text.{text, IsText};
