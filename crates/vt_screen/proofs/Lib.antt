@@ -1,1 +1,12 @@
+pub mod Widths
+pub mod KeptLines
+pub mod Unprotected
+pub mod WideLemmas
+pub mod SizeLemmas
+pub mod Acted
+pub mod Known
+pub mod Overs
+pub mod TextRuns
+pub mod LineRuns
+pub mod Texts
 pub mod Turns

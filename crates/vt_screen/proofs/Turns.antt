@@ -10,9 +10,9 @@ use Rattle.terminal_model.specs.Functions.{alone}
 use Rattle.terminal_model.specs.Screen.{Screen, with_state}
 use Rattle.terminal_model.specs.Reports.{all_answered}
 use Rattle.terminal_model.specs.Table.{acted, acted_from, all_acted}
-use Rattle.vt_screen_rows.specs.Places.{all_acted_places}
+use Rattle.vt_screen.specs.Places.{all_acted_places}
 use Rattle.vt_screen_state.specs.Meanings.{rendition_by}
-use Rattle.vt_screen_rows.specs.Runs.{prints}
+use Rattle.vt_screen.specs.Runs.{prints}
 use Rattle.vt_screen.specs.Stored.{Stored, Performs}
 
 -- characters aren't answered

@@ -6,7 +6,7 @@ use Rattle.terminal_model.specs.Screen.{Screen}
 use Rattle.terminal_model.specs.Functions.{actions_of}
 use Rattle.terminal_model.specs.Reports.{all_answered}
 use Rattle.terminal_model.specs.Table.{all_acted}
-use Rattle.vt_screen_rows.specs.Places.{all_acted_places}
+use Rattle.vt_screen.specs.Places.{all_acted_places}
 
 -- a screen, and for each line of its page the number of its stored line
 pub record Stored : Type 0 where

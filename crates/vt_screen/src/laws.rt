@@ -6,8 +6,8 @@ ghost use Rattle.control_parser.specs.declared.func.Func.TheVariants.{Control, C
 ghost use Rattle.terminal_model.specs.Functions.{count};
 ghost use Rattle.terminal_model.specs.Screen.{Screen};
 ghost use Rattle.vt_screen_page.specs.Store.{turned};
-ghost use Rattle.vt_screen_rows.specs.Places.{indexed_places, lowered_places, inserted_places};
-ghost use Rattle.vt_screen_rows.specs.Places.{deleted_places};
+ghost use Rattle.vt_screen.specs.Places.{indexed_places, lowered_places, inserted_places};
+ghost use Rattle.vt_screen.specs.Places.{deleted_places};
 ghost use Rattle.vt_screen.specs.Stored.{effect_places};
 
 /// If the lines from `top` to `bottom` go up or down by a count, each line that stays keeps its

@@ -10,19 +10,19 @@ ghost use Rattle.cells.specs.Line.{cell_at};
 ghost use Rattle.terminal_model.specs.Screen.{IsSound, starting};
 ghost use Rattle.terminal_model.specs.Sizing.{resized};
 ghost use Rattle.terminal_model.specs.declared.action.Action.TheVariants.{CarriageReturn, LineFeed};
-ghost use Rattle.vt_screen_rows.specs.Runs.{prints};
+ghost use Rattle.vt_screen.specs.Runs.{prints};
 ghost use Rattle.vt_screen.specs.Stored.{Performs};
 ghost use Rattle.vt_screen.specs.Sizes.{IsScreenSize};
 
+use crate::display::Display;
 use cells::{Cell, GridFault};
 use charsets::Coding;
 use std::alloc::Global;
 use std::marker::Model;
 use terminal_model::{MAX_KEEP, Modes};
-use vt_screen_rows::Display;
 
-// Wraps `Display`, whose rows are methods of another crate: an invariant there would have to be
-// shown after each field that a row sets.
+// Wraps `Display`, which has no invariant: it would have to be shown after each field that a row
+// sets.
 /// The screen of a VT220: its page with everything that control functions change, and its
 /// scrollback. Lines and columns count from 0. Only `new` and changes of size need memory.
 #[derive(Drop)]
@@ -31,7 +31,7 @@ pub struct Screen {
 }
 
 impl Model for Screen {
-    ghost use Rattle.vt_screen_rows.specs.Displays.{IsFit, screen_of};
+    ghost use Rattle.vt_screen.specs.Displays.{IsFit, screen_of};
     ghost use Rattle.vt_screen.specs.Stored.{Stored};
 
     ghost Value = { Stored };

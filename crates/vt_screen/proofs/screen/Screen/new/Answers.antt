@@ -1,4 +1,4 @@
-use Rattle.vt_screen_rows.proofs.Widths.{starting_fit}
+use Rattle.vt_screen.proofs.Widths.{starting_fit}
 use Rattle.vt_screen.proofs.screen.Screen.new.Goals as goal
 
 pub invariant_of-result : goal.invariant_of-result

@@ -1,5 +1,5 @@
 use Rattle.std.proofs.Common.{Some, sym, ap, ◌∙◌}
-use Rattle.vt_screen_rows.specs.Displays.{screen_of}
+use Rattle.vt_screen.specs.Displays.{screen_of}
 use Rattle.vt_screen.proofs.Turns.{renders}
 use Rattle.vt_screen.proofs.screen.Screen.render.Goals as goal
 

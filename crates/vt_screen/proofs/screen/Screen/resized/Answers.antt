@@ -1,5 +1,5 @@
-use Rattle.vt_screen_rows.specs.Displays.{screen_of}
-use Rattle.vt_screen_rows.proofs.Widths.{resized_fit}
+use Rattle.vt_screen.specs.Displays.{screen_of}
+use Rattle.vt_screen.proofs.Widths.{resized_fit}
 use Rattle.vt_screen.proofs.screen.Screen.resized.Goals as goal
 
 pub invariant_of-self : goal.invariant_of-self
