@@ -1,8 +1,7 @@
 -- The characters of bytes of UTF-8, printed one after another.
 use Rattle.std.proofs.Common.{◌≡◌, ℕ, Bool, ◌+◌, ◌-◌, ◌<◌, ◌≤◌, true, false, List, [], ◌∷◌, ◌++◌, length, take}
-use Rattle.std.proofs.Common.{drop, set, refl, sym, ap, ◌∙◌, subst, arith}
-use Rattle.std.proofs.Math.Seq.{take-add}
-use Rattle.std.proofs.lemmas.List.{length-drop, map-append, set-get_or, take_all}
+use Rattle.std.proofs.Common.{set, refl, sym, ap, ◌∙◌, arith}
+use Rattle.std.proofs.lemmas.List.{map-append, set-get_or}
 use Rattle.charsets.specs.declared.unit.Unit.TheVariants.{Code}
 use Rattle.charsets.specs.Text.{text, IsText}
 use Rattle.charsets.specs.Units.{is_character}
@@ -86,21 +85,6 @@ more_printed a b c front later first second =
           ∙ sym (all_acted_places-append x (prints (text front)) (prints (text later)) a.page.places)
           ∙ ap (λ (as' : List Action). all_acted_places x as' a.page.places) (sym all);
     }
-
--- the rest of some bytes
-rest_is : (bytes : List ℕ) (read : ℕ) → take (length bytes - read) (drop read bytes) ≡ drop read bytes
-rest_is bytes read = take_all (length bytes - read) (drop read bytes) (omega (arith, length-drop read bytes))
-
--- the first bytes, and then some of the others
-pub rest_printed : (a b c : Display) (bytes : List ℕ) (read size : ℕ) → PrintsText a (take read bytes) b
-    → PrintsText b (take size (take (length bytes - read) (drop read bytes))) c
-    → PrintsText a (take (read + size) bytes) c
-rest_printed a b c bytes read size first second =
-    let rest : take size (take (length bytes - read) (drop read bytes)) ≡ take size (drop read bytes) =
-    ap (λ (v : List ℕ). take size v) (rest_is bytes read) in
-    subst (λ (v : List ℕ). PrintsText a v c) (sym (take-add read size bytes))
-    (more_printed a b c (take read bytes) (take size (drop read bytes)) first
-    (subst (λ (v : List ℕ). PrintsText b v c) rest second))
 
 -- what was put has a last character
 pub put_last : (bytes : List ℕ) (r : Rendition) (p : Bool) (room : ℕ) (put : Put) → PutsText bytes r p room put

@@ -2,8 +2,8 @@ use Rattle.std.proofs.Common.{take}
 use Rattle.vt_screen.proofs.Texts.{none_printed, one_printed}
 use Rattle.vt_screen.proofs.display.Display.print_first.Goals as goal
 
-pub returns-then-bytes-clause-prints : goal.returns-then-bytes-clause-prints
-returns-then-bytes-clause-prints c = none_printed c.args.self.now c.requires.fit
+pub returns-then-is_empty-clause-prints : goal.returns-then-is_empty-clause-prints
+returns-then-is_empty-clause-prints c = none_printed c.args.self.now c.requires.fit
 
 pub returns-in_default-clause-prints : goal.returns-in_default-clause-prints
 returns-in_default-clause-prints c = none_printed c.args.self.now c.requires.fit

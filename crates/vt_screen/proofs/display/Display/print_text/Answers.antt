@@ -3,11 +3,11 @@ use Rattle.vt_screen.specs.declared.display.Display.{Display}
 use Rattle.vt_screen.specs.Texts.{PrintsText}
 use Rattle.vt_screen.proofs.Texts.{more_printed, none_printed}
 use Rattle.vt_screen.proofs.display.Display.print_text.Goals as goal
-use Rattle.vt_screen.proofs.display.Display.print_text.Goals.{else-takes_runs}
+use Rattle.vt_screen.proofs.display.Display.print_text.Goals.{After-print_first, else-takes_runs}
 use Rattle.vt_screen.proofs.display.Display.print_text.Goals.{then-takes_runs+then-not-self+else-read-gt0}
 
 -- nothing may have been put before the first character is printed
-printed : (c : goal.Returns) → PrintsText c.args.self.now (take c.print_first.result c.args.bytes.now)
+printed : (c : After-print_first) → PrintsText c.args.self.now (take c.print_first.result c.args.bytes.now)
     c.print_first.new.self
 printed c =
     let old : Display = c.args.self.now in
