@@ -17,7 +17,8 @@ use Rattle.terminal_model.specs.Reading.{in_coding, read_byte, reads}
 use Rattle.terminal_model.specs.Writing.{Size, writes}
 use Rattle.terminal_model.proofs.Readings.{effects, reports_of, outcome, act_all-is, read_units-is, reads-append}
 use Rattle.terminal_model.proofs.Terminals.{IsTerminal-ready, IsTerminal-read_byte, IsTerminal-writes}
-use Rattle.emulator.specs.Standing.{Parts, StandsFor, StandsWithin, HasReadWithin, HasReadByte, HasRead, in_screen_coding}
+use Rattle.emulator.specs.Standing.{Parts, StandsFor, StandsWithin, HasReadWithin, HasReadByte, HasRead}
+use Rattle.emulator.specs.Standing.{in_screen_coding}
 
 -- UNITS
 
@@ -90,8 +91,11 @@ byte-read old mid after new t b us said h s p c u read d s' p' n =
         terminal = subst (λ (v : Read). IsTerminal v.terminal) is (IsTerminal-read_byte t b h.terminal);
         screen = s' ∙ k.stands.screen;
         decoding = n ∙ ap (λ (x : Screen). in_screen_coding (record after { screen = x })) k.stands.screen
-            ∙ ap (λ (v : Decoding). in_screen_coding (record { screen = r.terminal.screen; decoding = v; parsing = after.parsing }))
-            decoded;
+            ∙ ap (λ (v : Decoding). in_screen_coding (record {
+              screen = r.terminal.screen;
+              decoding = v;
+              parsing = after.parsing;
+            })) decoded;
         parsing = p' ∙ k.stands.parsing;
       };
       reports = k.reports;

@@ -1,6 +1,6 @@
 -- Complete functions at the beginning of some bytes, performed at once.
-use Rattle.std.proofs.Common.{◌≡◌, ℕ, zero, suc, ◌+◌, ◌-◌, ◌<◌, ◌≤◌, ◌&&◌, Bool, true, false, List, [], ◌∷◌, ◌++◌, length, take, drop}
-use Rattle.std.proofs.Common.{get_or, map, if◌then◌else◌, refl, sym, ap, ◌∙◌, subst, append-nil, arith}
+use Rattle.std.proofs.Common.{◌≡◌, ℕ, ◌+◌, ◌-◌, ◌<◌, ◌≤◌, true, List, [], ◌∷◌, ◌++◌, length}
+use Rattle.std.proofs.Common.{take, drop, get_or, map, refl, sym, ap, ◌∙◌, subst, append-nil, arith}
 use Rattle.std.specs.List.{list_all, prefix_len}
 use Rattle.std.proofs.lemmas.Bool.Decides.{nat_tests}
 use Rattle.std.proofs.lemmas.List.{take_all, take_more, take-take, get_or-take, length-take, length-drop}
@@ -219,7 +219,8 @@ plain-reads c bytes n run r l =
 pub line-reads : (codes : List ℕ) → list_all is_plain codes ≡ true
     → ReadsAs Utf8 (0x0D ∷ 0x0A ∷ codes) (Control 0x0D ∷ Control 0x0A ∷ map (λ code. Print code) codes)
 line-reads codes plain =
-    spelled.reads-append Utf8 (0x0D ∷ 0x0A ∷ []) codes (Control 0x0D ∷ Control 0x0A ∷ []) (map (λ code. Print code) codes)
+    spelled.reads-append Utf8 (0x0D ∷ 0x0A ∷ []) codes (Control 0x0D ∷ Control 0x0A ∷ [])
+    (map (λ code. Print code) codes)
     (spelled.reads-spelled (Control 0x0D ∷ Control 0x0A ∷ []) ((refl, refl), ((refl, refl), tt)))
     (spelled.reads-plain Utf8 codes plain)
 

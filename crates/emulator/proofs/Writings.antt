@@ -1,6 +1,6 @@
 -- A terminal doesn't answer the commands clear, reset and encoding.
-use Rattle.std.proofs.Common.{◌≡◌, ℕ, ◌<◌, List, [], ◌∷◌, ◌++◌, get_or, map, None, refl, sym, ap, ◌∙◌, append_assoc, append-nil}
-use Rattle.std.proofs.Common.{arith}
+use Rattle.std.proofs.Common.{◌≡◌, ℕ, ◌<◌, List, [], ◌∷◌, ◌++◌, get_or, map, None, refl, sym, ap, ◌∙◌, append_assoc}
+use Rattle.std.proofs.Common.{append-nil, arith}
 use Rattle.std.specs.List.{AllByRecursion}
 use Rattle.charsets.specs.declared.unit.Unit.TheVariants.{Code}
 use Rattle.charsets.specs.declared.unit.Coding.{Coding}

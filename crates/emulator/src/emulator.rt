@@ -1,8 +1,7 @@
 //! A VT220 that turns bytes into a page.
 
-ghost use Rattle.std.specs.Prelude.{◌≡◌, ◌≤◌, ◌<◌, ◌+◌, ◌*◌, ◌↔◌, ℕ, List, [], ◌∷◌, ◌++◌, true};
-ghost use Rattle.std.specs.Prelude.{Err, IfOk, IfErr, OnOk, OnErr, IsOk, IsTrue, length, take};
-ghost use Rattle.std.specs.Prelude.{vec_len, vec_capacity};
+ghost use Rattle.std.specs.Prelude.{◌≡◌, ◌≤◌, ◌<◌, ◌+◌, ◌*◌, ◌↔◌, ◌++◌, Err, IfOk, IfErr, OnOk};
+ghost use Rattle.std.specs.Prelude.{OnErr, IsOk, length, vec_len, vec_capacity};
 ghost use Rattle.cells.specs.Page.{IsPage, IsGridSize};
 ghost use Rattle.charsets.specs.Units.{unit_list};
 ghost use Rattle.terminal_model.specs.Screen.{starting};

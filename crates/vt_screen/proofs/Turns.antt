@@ -51,7 +51,8 @@ unfolding acted_from
 renders x places next old known attribute k n e =
     subst (λ (s : Stored). Performs s (alone known) (record { screen = with_state x next; places = places })) e
     (rw k (record {
-      screen = ap (with_state x) (n ∙ ap (λ o. unjoined (record x.state { rendition = rendition_by x.state.rendition o })) k);
+      screen = ap (with_state x)
+          (n ∙ ap (λ o. unjoined (record x.state { rendition = rendition_by x.state.rendition o })) k);
       places = refl;
       silent = refl;
     }))

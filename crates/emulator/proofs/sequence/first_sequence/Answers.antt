@@ -24,8 +24,8 @@ loop-at-preserved c =
     let some : c.loop-at.at + c.numeral-value.result.1 ≤ length c.args.bytes.now =
     omega (arith, is.few, c.saturating_sub-end.ensures, c.loop-at-test.true) in
     let behind = numeral-behind c.args.bytes.now c.loop-at.at c.numeral-value.result.1 c.numeral-value.result.0
-    c.numeral-value.result.2 c.first_mark-mark.result.0 (take count params) some is.some c.loop-at.invariant.read is.value
-    is.digits is.behind in
+    c.numeral-value.result.2 c.first_mark-mark.result.0 (take count params) some is.some c.loop-at.invariant.read
+    is.value is.digits is.behind in
     let few : count + 1 < 16 = omega arith in
     record {
       inside = some;
@@ -43,7 +43,8 @@ returns-then-c-le126-clause-reads c = λ positive.
     let some : c.loop-at.at + c.numeral-value.result.1 ≤ length c.args.bytes.now =
     omega (arith, is.few, c.saturating_sub-end.ensures, c.loop-at-test.true) in
     let behind = numeral-behind c.args.bytes.now c.loop-at.at c.numeral-value.result.1 c.numeral-value.result.0
-    c.numeral-value.result.2 c.first_mark-mark.result.0 (take count params) some is.some c.loop-at.invariant.read is.value
-    is.digits is.behind in
+    c.numeral-value.result.2 c.first_mark-mark.result.0 (take count params) some is.some c.loop-at.invariant.read
+    is.value is.digits is.behind in
     final-read c.args.bytes.now _ count c.numeral-value.result.0 c.numeral-value.result.2 _ params behind
-    c.if-c-ge64.true (omega (arith, c.if-c-le126.true)) (omega (arith, c.loop-at.invariant.few, c.loop-at.invariant.room))
+    c.if-c-ge64.true (omega (arith, c.if-c-le126.true))
+    (omega (arith, c.loop-at.invariant.few, c.loop-at.invariant.room))

@@ -27,5 +27,6 @@ returns c =
     let last : ℕ = get_or bytes 1 0 in
     one-taken Utf8 _ _ _ _ c.args.self.now bytes (0x1B ∷ last ∷ []) 2 (Esc [] last) c.self.view_is c.requires.idle
     (omega arith) (front-two bytes 0x1B last (omega arith) c.requires.begins refl)
-    (spelled_reads (Esc [] last) (c.ends_escape.ensures c.if-not-ends_escape.false)) (effect-coding _ (Esc [] last) refl)
+    (spelled_reads (Esc [] last) (c.ends_escape.ensures c.if-not-ends_escape.false))
+    (effect-coding _ (Esc [] last) refl)
     c.escape.ensures.silent c.escape.ensures.screen

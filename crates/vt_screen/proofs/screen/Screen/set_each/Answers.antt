@@ -15,10 +15,12 @@ loop-value-preserved c = λ new h.
     let here : Option Action = meaning c.args.setting value in
     let one : Performs c.loop-value.self (alone here) c.match-setting.self = elim c.match-setting.branch [
       | in-Rendition w ↦ subst (λ (x : Stored). Performs c.loop-value.self (alone here) x) (sym w.self-is)
-          (subst (λ (s : Setting). Performs c.loop-value.self (alone (meaning s value)) w.render.new.self) (sym w.in-Rendition.is)
+          (subst (λ (s : Setting). Performs c.loop-value.self (alone (meaning s value)) w.render.new.self)
+          (sym w.in-Rendition.is)
           w.render.ensures)
       | in_default w ↦ subst (λ (x : Stored). Performs c.loop-value.self (alone here) x) (sym w.self-is)
-          (subst (λ (o : Option Action). Performs c.loop-value.self (alone o) w.perform_any.new.self) w.action.ensures.value
+          (subst (λ (o : Option Action). Performs c.loop-value.self (alone o) w.perform_any.new.self)
+          w.action.ensures.value
           w.perform_any.ensures)
     ] in
     c.loop-value.invariant new
