@@ -9,6 +9,7 @@ use Rattle.cells.specs.declared.cell.Shape.TheVariants.{Narrow, Left, Right}
 use Rattle.cells.specs.Line.{blank, cell_at, is_left, is_right, IsPaired, Source, Fresh, Old, are_halves, kept, settled}
 use Rattle.cells.specs.Line.{source_before, source_after, cells_from, spliced, unprotected_erased}
 use Rattle.cells.proofs.Pages.{cells_from-old}
+use Rattle.cells.proofs.UsedSplices.{same_cells}
 use Rattle.std.proofs.lemmas.Bool.Decides.{nat_tests}
 use Rattle.cells.proofs.Splicing.{at_front, at_fresh, at_rest}
 use Rattle.cells.proofs.Settling.{settled_at, cell_at-cells_from, cells_from-is, length-cells_from, cell_at_past}
@@ -87,29 +88,14 @@ erased_is p cells line paired n each = cells_from-is (inplace p) cells line n
     (λ c within. each c within ∙ sym (value_at p cells paired c within))
 
 -- erasing a blank column changes nothing
-blank_next : (s : Shape) (cell : Cell) (before after : Bool) → (is_left s ≡ true → after ≡ false)
-    → (is_right s ≡ true → before ≡ false) → value_by s before after cell ≡ cell
-blank_next Narrow cell before after l r = refl
-blank_next Left cell before after l r = rw (l refl) refl
-blank_next Right cell before after l r = rw (r refl) refl
-
 pub erased_blank : (k : ℕ) (cells : List Cell) → IsPaired cells → cell_at cells k ≡ blank
     → cells ≡ cells_from (inplace (λ c. eqb c k)) cells
-erased_blank k cells paired b = erased_is (λ c. eqb c k) cells cells paired refl (λ c within. ⊎_elim
-    (λ (e : c ≡ k). rw (eq-eqb c k e) (ap (cell_at cells) e ∙ b))
-    (λ ne. rw (ne_eqb c k ne)
-    (sym (blank_next (cell_at cells c).shape (cell_at cells c) (before_of (λ c. eqb c k) c) (eqb (suc c) k)
-    (λ left. ne_eqb (suc c) k
-    (λ e. true≢false _ (sym (paired.next c) ∙ left)
-    (ap (λ x. is_right (cell_at cells x).shape) e ∙ ap (λ (x : Cell). is_right x.shape) b)))
-    (right_case c))))
+erased_blank k cells paired b = sym
+    (same_cells cells (inplace (λ c. eqb c k)) Old paired (λ c within. ⊎_elim
+    (λ (e : c ≡ k). rw (eq-eqb c k e) (inr (refl, ap (cell_at cells) e ∙ b)))
+    (λ (ne : c ≡ k → ⊥). rw (ne_eqb c k ne) (inl refl))
     (cases_eq c k))
-  where
-    right_case : (c : ℕ) → is_right (cell_at cells c).shape ≡ true → before_of (λ c. eqb c k) c ≡ false
-    right_case zero right = refl
-    right_case (suc d) right = ne_eqb d k
-        (λ e. true≢false _ (paired.next d ∙ right)
-        (ap (λ x. is_left (cell_at cells x).shape) e ∙ ap (λ (x : Cell). is_left x.shape) b))
+    ∙ cells_from-old cells paired)
 
 joined : (s : Shape) (cell : Cell) → cell.shape ≡ s → (a b d a' b' d' : Bool)
     → cond a' blank (value_by (cond a blank (value_by s b d cell)).shape b' d' (cond a blank (value_by s b d cell))) ≡

@@ -94,10 +94,7 @@ put_over_plain at codes cells line room paired plains put =
     put_plain at fresh cells line (rw n room) paired (plains_paired fresh (plain_cells codes))
     (ap (λ (x : Cell). is_right x.shape) (plains at (omega arith)))
     (ap (λ (x : Cell). is_right x.shape) (plains (at + length fresh) (omega arith)))
-    put.width put.front
-    (λ k past inside. let e : at + (k - at) ≡ k = omega arith in
-    ap (cell_at line) (sym e) ∙ put.placed (k - at) (omega arith))
-    (λ k past inside. put.rest k past)
+    put
     ∙ ap (λ m. cells_from (spliced at fresh (at + m) (length cells)) cells) n
 
 pub first_over_plain : (at count : ℕ) (codes : List ℕ) (cells line : List Cell) → count ≤ length codes

@@ -1,6 +1,6 @@
 -- New cells put over as many old ones.
 use Rattle.std.proofs.Common.{◌≡◌, ℕ, zero, suc, ◌+◌, ◌-◌, ◌<◌, ◌≤◌, min, Bool, false, ◌&&◌, List, [], ◌∷◌, ◌++◌}
-use Rattle.std.proofs.Common.{length, set}
+use Rattle.std.proofs.Common.{length, set, subst}
 use Rattle.std.proofs.Common.{replicate, refl, sym, ap, ◌∙◌, ◌⊎◌, inl, inr, arith, ⊎_elim}
 use Rattle.std.proofs.lemmas.List.{length-set, get_or-set_same, get_or-set_other, length-replicate, length-map}
 use Rattle.std.proofs.lemmas.List.{length-append, get_or_append_left, get_or-append_right}
@@ -107,44 +107,40 @@ module _ (at : ℕ) (fresh cells : List Cell) (room : at + length fresh ≤ leng
       (at + length fresh) (length cells) k (omega arith) (omega arith) ∙ ap Old e)
       h
 
-  same_before : (j c : ℕ) → j < length cells → are_halves (source j) (Old c) ≡ are_halves (blank_source j) (Old c)
-  same_before j c within = let n = n_blanks in ⊎_elim
-      (λ (front : j < at). ap (λ s. are_halves s (Old c))
-      (kept_place j (inl front) within ∙ sym (kept_place_blank j (inl front) within)))
+  -- an old half pairs with the same columns, whatever the new cells are
+  same_halves : (j c : ℕ) → j < length cells
+      → (are_halves (source j) (Old c) ≡ are_halves (blank_source j) (Old c)) ×
+      (are_halves (Old c) (source j) ≡ are_halves (Old c) (blank_source j))
+  same_halves j c within =
+      let n = n_blanks in
+      let outside : IsOutside j → source j ≡ blank_source j = λ h. kept_place j h within
+      ∙ sym (kept_place_blank j h within) in
+      ⊎_elim
+      (λ (front : j < at).
+      (ap (λ s. are_halves s (Old c)) (outside (inl front)), ap (are_halves (Old c)) (outside (inl front))))
       (λ (past : at ≤ j). ⊎_elim
       (λ (new : j < at + length fresh).
-      ap (λ s. are_halves s (Old c)) (at_fresh at fresh (at + length fresh) (length cells) j past new)
-      ∙ sym
-      (ap (λ s. are_halves s (Old c)) (at_fresh at blanks (at + length fresh) (length cells) j past (omega arith))))
-      (λ (behind : at + length fresh ≤ j). ap (λ s. are_halves s (Old c))
-      (kept_place j (inr behind) within ∙ sym (kept_place_blank j (inr behind) within)))
-      (cases_lt j (at + length fresh)))
-      (cases_lt j at)
-
-  same_after : (j c : ℕ) → j < length cells → are_halves (Old c) (source j) ≡ are_halves (Old c) (blank_source j)
-  same_after j c within = let n = n_blanks in ⊎_elim
-      (λ (front : j < at). ap (are_halves (Old c))
-      (kept_place j (inl front) within ∙ sym (kept_place_blank j (inl front) within)))
-      (λ (past : at ≤ j). ⊎_elim
-      (λ (new : j < at + length fresh).
-      ap (are_halves (Old c)) (at_fresh at fresh (at + length fresh) (length cells) j past new)
-      ∙ sym (ap (are_halves (Old c)) (at_fresh at blanks (at + length fresh) (length cells) j past (omega arith))))
-      (λ (behind : at + length fresh ≤ j). ap (are_halves (Old c))
-      (kept_place j (inr behind) within ∙ sym (kept_place_blank j (inr behind) within)))
+      let f = at_fresh at fresh (at + length fresh) (length cells) j past new in
+      let g = at_fresh at blanks (at + length fresh) (length cells) j past (omega arith) in (
+        ap (λ s. are_halves s (Old c)) f ∙ sym (ap (λ s. are_halves s (Old c)) g),
+        ap (are_halves (Old c)) f ∙ sym (ap (are_halves (Old c)) g),
+      ))
+      (λ (behind : at + length fresh ≤ j).
+      (ap (λ s. are_halves s (Old c)) (outside (inr behind)), ap (are_halves (Old c)) (outside (inr behind))))
       (cases_lt j (at + length fresh)))
       (cases_lt j at)
 
   sources_before : (k c : ℕ) → k < length cells
       → are_halves (source_before source k) (Old c) ≡ are_halves (source_before blank_source k) (Old c)
   sources_before zero c within = refl
-  sources_before (suc j) c within = same_before j c (omega arith)
+  sources_before (suc j) c within = (same_halves j c (omega arith)).0
 
   sources_after : (k c : ℕ) → k < length cells
       → are_halves (Old c) (source_after source (length cells) k) ≡ are_halves (Old c)
       (source_after blank_source (length cells) k)
   sources_after k c within = ⊎_elim
       (λ (inside : suc k < length cells). ap (are_halves (Old c)) (after_inside source (length cells) k inside)
-      ∙ same_after (suc k) c inside
+      ∙ (same_halves (suc k) c inside).1
       ∙ sym (ap (are_halves (Old c)) (after_inside blank_source (length cells) k inside)))
       (λ outside. let e : suc k ≡ length cells = omega arith in
       ap (are_halves (Old c)) (after_last source (length cells) k e)
@@ -257,6 +253,13 @@ IsPut-none at old = record {
   placed = λ k h. absurd (omega arith);
   rest = λ k h. refl;
 }
+
+pub IsPut-one : (at : ℕ) (cell : Cell) (cells : List Cell) → at < length cells
+    → IsPut at (cell ∷ []) cells (set cells at cell)
+IsPut-one at cell cells inside =
+    let e : at + 0 ≡ at = omega arith in
+    subst (λ n. IsPut at (cell ∷ []) cells (set cells n cell)) e
+    (IsPut-more at [] cells cells cell (IsPut-none at cells) (omega arith))
 
 -- one of the new cells takes another value
 pub IsPut-other : (at : ℕ) (fresh old line : List Cell) (last : ℕ) (cell : Cell) → IsPut at fresh old line

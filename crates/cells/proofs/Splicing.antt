@@ -344,19 +344,29 @@ moved_line-is at count rest cells order inside room changes paired =
     ∙ sym
     (cells_from-spliced at fresh rest cells order inside (rw n room) (rw n changes) paired (IsPaired-blanks count))
 
-pub narrow_pairs : (cell : Cell) → cell.shape ≡ Narrow → IsPaired (cell ∷ [])
-narrow_pairs cell h = record {
-  first = ap is_right h;
-  next = λ column. elim column as
-      (λ c. is_left (cell_at (cell ∷ []) c).shape ≡ is_right (cell_at (cell ∷ []) (suc c)).shape)
-      [ zero ↦ ap is_left h | suc c ↦ refl ];
-}
+-- one more cell of width 1, or both halves, before paired cells
+pub narrow_paired : (cell : Cell) (more : List Cell) → is_left cell.shape ≡ false → is_right cell.shape ≡ false
+    → IsPaired more → IsPaired (cell ∷ more)
+narrow_paired cell more no_left no_right paired = record { first = no_right; next = go }
+  where
+    go : (k : ℕ) → is_left (cell_at (cell ∷ more) k).shape ≡ is_right (cell_at (cell ∷ more) (suc k)).shape
+    go zero = no_left ∙ sym paired.first
+    go (suc k) = paired.next k
 
-wide_next : (l r : Cell) → l.shape ≡ Left → r.shape ≡ Right → (column : ℕ)
-    → is_left (cell_at (l ∷ r ∷ []) column).shape ≡ is_right (cell_at (l ∷ r ∷ []) (suc column)).shape
-wide_next l r hl hr zero = ap is_left hl ∙ sym (ap is_right hr)
-wide_next l r hl hr (suc zero) = ap is_left hr
-wide_next l r hl hr (suc (suc c)) = refl
+pub wide_paired : (l r : Cell) (more : List Cell) → is_left l.shape ≡ true → is_right l.shape ≡ false → r.shape ≡ Right
+    → IsPaired more → IsPaired (l ∷ r ∷ more)
+wide_paired l r more left no_right right paired = record { first = no_right; next = go }
+  where
+    go : (k : ℕ) → is_left (cell_at (l ∷ r ∷ more) k).shape ≡ is_right (cell_at (l ∷ r ∷ more) (suc k)).shape
+    go zero = left ∙ sym (ap is_right right)
+    go (suc zero) = ap is_left right ∙ sym paired.first
+    go (suc (suc k)) = paired.next k
+
+none_paired : IsPaired []
+none_paired = record { first = refl; next = λ column. refl }
+
+pub narrow_pairs : (cell : Cell) → cell.shape ≡ Narrow → IsPaired (cell ∷ [])
+narrow_pairs cell h = narrow_paired cell [] (ap is_left h) (ap is_right h) none_paired
 
 pub wide_pairs : (l r : Cell) → l.shape ≡ Left → r.shape ≡ Right → IsPaired (l ∷ r ∷ [])
-wide_pairs l r hl hr = record { first = ap is_right hl; next = wide_next l r hl hr }
+wide_pairs l r hl hr = wide_paired l r [] (ap is_left hl) (ap is_right hl) hr none_paired

@@ -20,6 +20,7 @@ use Rattle.cells.specs.Texts.{cells_on, text_cells, last_columns, PutsText}
 use Rattle.cells.proofs.Pages.{IsPaired-nil}
 use Rattle.cells.proofs.Putting.{length-narrow_cells}
 use Rattle.cells.proofs.OverPlain.{both}
+use Rattle.cells.proofs.Splicing.{narrow_paired, wide_paired}
 
 pub or_true : (b : Bool) → (b || true) ≡ true
 or_true true = refl
@@ -77,29 +78,12 @@ is_based-mark [] mark some based is = absurd (omega arith)
 is_based-mark (c ∷ cs) mark some based is = is_based-behind c cs mark based (rw is (or_true (is_base mark)))
 
 -- the cells of a character before other cells
-narrow_paired : (cell : Cell) (more : List Cell) → is_left cell.shape ≡ false → is_right cell.shape ≡ false
-    → IsPaired more → IsPaired (cell ∷ more)
-narrow_paired cell more no_left no_right paired = record { first = no_right; next = go }
-  where
-    go : (k : ℕ) → is_left (cell_at (cell ∷ more) k).shape ≡ is_right (cell_at (cell ∷ more) (suc k)).shape
-    go zero = no_left ∙ sym paired.first
-    go (suc k) = paired.next k
-
-wide_paired : (cell : Cell) (c : ℕ) (r : Rendition) (p : Bool) (more : List Cell) → is_left cell.shape ≡ true
-    → is_right cell.shape ≡ false → IsPaired more → IsPaired (cell ∷ right_cell c r p ∷ more)
-wide_paired cell c r p more left no_right paired = record { first = no_right; next = go }
-  where
-    go : (k : ℕ) → is_left (cell_at (cell ∷ right_cell c r p ∷ more) k).shape ≡ is_right
-        (cell_at (cell ∷ right_cell c r p ∷ more) (suc k)).shape
-    go zero = left
-    go (suc zero) = sym paired.first
-    go (suc (suc k)) = paired.next k
-
 whole_paired : (cell : Cell) (more : List Cell) → is_right cell.shape ≡ false → IsPaired more
     → IsPaired (whole cell ++ more)
 whole_paired cell more no_right paired = ⊎_elim
     (λ (t : is_left cell.shape ≡ true).
-    rw t (wide_paired cell cell.character cell.rendition cell.is_protected more t no_right paired))
+    rw t
+    (wide_paired cell (right_cell cell.character cell.rendition cell.is_protected) more t no_right refl paired))
     (λ (t : is_left cell.shape ≡ false). rw t (narrow_paired cell more t no_right paired))
     (cases_Bool (is_left cell.shape))
 

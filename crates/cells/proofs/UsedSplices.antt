@@ -131,7 +131,7 @@ front_is cells end source other paired inside blanks alike =
     (cases_lt k end))
 
 -- sources that are alike give the same line
-same_cells : (cells : List Cell) (source other : ℕ → Source) → IsPaired cells
+pub same_cells : (cells : List Cell) (source other : ℕ → Source) → IsPaired cells
     → ((k : ℕ) → k < length cells → Alike cells (source k) (other k)) → cells_from source cells ≡ cells_from other cells
 unfolding settled_at
 same_cells cells source other paired each =

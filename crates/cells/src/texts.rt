@@ -77,16 +77,16 @@ pub fn put_text(cells: &mut [Cell], at: usize, begun: usize, bytes: &[u8], space
         let Some((character, size)) = first_character(&bytes[read..]) else {
             break;
         };
-        let mut cell = *space;
-        cell.character = character;
         if is_letter(character) {
+            let mut cell = *space;
+            cell.character = character;
             cells[column] = cell;
             column += 1;
             last = 1;
         } else if at < column && is_mark(character) {
             join_mark(cells, column - last, character);
         } else if column + 1 < cells.len() && is_known_wide(character) {
-            write_halves(cells, column, cell);
+            write_halves(cells, column, space, character);
             column += 2;
             last = 2;
         } else {
@@ -135,15 +135,16 @@ fn join_mark(cells: &mut [Cell], column: usize, mark: char)
     cells[column].marks = marks.joined(mark);
 }
 
-/// Writes both halves of a wide character, each a copy of one cell but for its shape.
+/// Writes both halves of a wide character, each in a copy of a space.
 #[inline(always)]
-fn write_halves(cells: &mut [Cell], column: usize, cell: Cell)
+fn write_halves(cells: &mut [Cell], column: usize, space: &Cell, character: char)
     requires { column + 1 < length cells.old }
     ensures { cells.new ≡ slice_set
-        (slice_set cells.old column (record cell { shape = Shape.Left }))
-        (column + 1) (record cell { shape = Shape.Right }) }
+        (slice_set cells.old column (record space.now { character = character; shape = Shape.Left }))
+        (column + 1) (record space.now { character = character; shape = Shape.Right }) }
 {
-    let mut half = cell;
+    let mut half = *space;
+    half.character = character;
     half.shape = Shape::Left;
     cells[column] = half;
     half.shape = Shape::Right;

@@ -8,7 +8,8 @@ invariant_of-self c =
     let line = ap length c.self.view_is in
     record {
       used_part = IsUsed-spliced c.args.at (c.args.cell ∷ []) c.args.rest c.self.inside.used
-          c.used_after-self-inside.result c.put_narrow.new.cells c.as_mut_slice.result.now c.self.inside.cells.items c.self.inside.cells.len
+          c.used_after-self-inside.result c.put_narrow.new.cells c.as_mut_slice.result.now c.self.inside.cells.items
+          c.self.inside.cells.len
           (c.put_narrow.auto.cells ∙ c.as_mut_slice.ensures.len) c.put_narrow.ensures c.as_mut_slice.ensures.value
           c.self.invariant.used_part
           (omega (
