@@ -134,10 +134,10 @@ IsPart Part = Unit {0}
 IsPart (Page made) = ⊥
 IsPart (Socket opening) = ⊥
 
--- A WebSocket begins after the bytes of the request, or memory is refused.
+-- A WebSocket begins after the bytes of the request.
 abbrev pub Opens : (accept : List ℕ) (request : ℕ) (address : List ℕ) → Answer → Type 0
 Opens accept request address Part = ⊥
-Opens accept request address (Page made) = made.items ≡ refusal (codes "500 Internal Server Error")
+Opens accept request address (Page made) = ⊥
 Opens accept request address (Socket opening) =
     (opening.answer.items ≡ response_bytes accept []) × (opening.request ≡ request)
     × (opening.address.items ≡ address)

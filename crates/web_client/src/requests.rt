@@ -167,7 +167,7 @@ fn opened(
             request,
             address,
         })),
-        Err(_) => refused(alloc, "500 Internal Server Error"),
+        Err(_) => Err(AllocError),
     }
 }
 
