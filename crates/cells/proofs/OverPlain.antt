@@ -1,6 +1,6 @@
 -- Cells that differ from blanks in their characters only: writing the characters is enough.
-use Rattle.std.proofs.Common.{◌≡◌, ℕ, zero, suc, ◌+◌, ◌-◌, ◌<◌, ◌≤◌, Bool, true, false, ◌&&◌, cond, ltb, List, [], ◌∷◌}
-use Rattle.std.proofs.Common.{◌++◌, length, take, drop, get_or, set, replicate, not, leb, refl, sym, ap, ◌∙◌}
+use Rattle.std.proofs.Common.{◌≡◌, ℕ, zero, suc, ◌+◌, ◌-◌, ◌<◌, ◌≤◌, max, Bool, true, false, ◌&&◌, cond, ltb, List, []}
+use Rattle.std.proofs.Common.{◌∷◌, ◌++◌, length, take, drop, get_or, set, replicate, not, leb, refl, sym, ap, ◌∙◌}
 use Rattle.std.proofs.Common.{subst, arith, ⊎_elim}
 use Rattle.std.proofs.Math.Seq.{take-suc}
 use Rattle.std.proofs.lemmas.List.{get_or_default, ext_get_or, take_at, get_or-replicate, length-replicate}
@@ -219,6 +219,24 @@ blank_at width k = ⊎_elim
     (λ (past : width ≤ k). cell_at_past (replicate width blank) k (rw (length-replicate width blank) past))
     (cases_lt k width)
 
+-- blanks past `end` were there before
+pub blanked_up_to : (from end count : ℕ) (old line : List Cell) → IsBlankFrom (max from end) old → end ≤ from + count
+    → AreBlanked from old count line → AreBlanked from old (end - from) line
+blanked_up_to from end count old line blanks enough put =
+    let n : length (replicate count blank) ≡ count = length-replicate count blank in
+    let m : length (replicate (end - from) blank) ≡ end - from = length-replicate (end - from) blank in
+    record {
+      width = put.width;
+      front = put.front;
+      placed = λ k h. put.placed k (omega (arith, n, m, h)) ∙ blank_at count k ∙ sym (blank_at (end - from) k);
+      rest = λ k h. ⊎_elim
+          (λ (within : k < from + count). let e : from + (k - from) ≡ k = omega (arith, m, h) in
+          ap (cell_at line) (sym e) ∙ put.placed (k - from) (omega (arith, n, m, h)) ∙ blank_at count (k - from)
+          ∙ sym (blanks k (omega (arith, m, h))))
+          (λ (past : from + count ≤ k). put.rest k (omega (arith, n)))
+          (cases_lt k (from + count));
+    }
+
 -- after a run in the first columns, the rest of the line is blanked
 pub cleared_behind : (codes : List ℕ) (used : ℕ) (cells put line : List Cell) → length codes ≤ length cells
     → IsBlankFrom used cells → IsPut 0 (narrow_cells codes plain false) cells put
@@ -303,3 +321,10 @@ pub plain_behind : (codes : List ℕ) (cells put : List Cell) → ArePlainFrom 0
 plain_behind codes cells put plains is k h =
     let n : length (narrow_cells codes plain false) ≡ length codes = length-narrow_cells codes plain false in
     subst IsPlain (sym (is.rest k (omega (arith, n, h)))) (plains k (omega arith))
+
+-- a line that ends in blanks, after a run in its first columns
+pub blank_behind : (codes : List ℕ) (used : ℕ) (cells put : List Cell) → IsBlankFrom used cells
+    → IsPut 0 (narrow_cells codes plain false) cells put → IsBlankFrom (max (length codes) used) put
+blank_behind codes used cells put blanks is k h =
+    let n : length (narrow_cells codes plain false) ≡ length codes = length-narrow_cells codes plain false in
+    is.rest k (omega (arith, n, h)) ∙ blanks k (omega (arith, h))

@@ -1,11 +1,11 @@
 //! Edits of the cells of a line.
 
-ghost use Rattle.std.specs.Prelude.{◌≡◌, ◌+◌, ◌*◌, ◌-◌, ◌<◌, ◌≤◌, length, replicate, [], ◌∷◌, false};
+ghost use Rattle.std.specs.Prelude.{◌≡◌, ◌+◌, ◌*◌, ◌-◌, ◌<◌, ◌≤◌, max, length, replicate, [], ◌∷◌, false};
 ghost use Rattle.std.specs.Prelude.{IsTrue};
 ghost use Rattle.std.specs.List.{copy_within};
 ghost use Rattle.cells.specs.Line.{cells_from, cells_spliced, IsPaired, cut_of, blank};
 ghost use Rattle.cells.specs.Line.{unprotected_erased, fresh_at, narrow_cells};
-ghost use Rattle.cells.specs.Line.{ArePlainFrom, plain};
+ghost use Rattle.cells.specs.Line.{ArePlainFrom, IsBlankFrom, plain};
 ghost use Rattle.cells.specs.Put.{AreNarrow, AreNarrowIn, IsPut};
 
 use crate::cell::{Cell, Shape};
@@ -183,21 +183,37 @@ pub fn put_run_over_plain(cells: &mut [Cell], at: usize, codes: &[u8])
 }
 
 /// Blanks the cells from `from` up to but not including `end`. They differ from blanks in their
-/// characters only, so only characters are written.
+/// characters only, so only characters are written. The cells from `end` on are blank already, so
+/// the last group of eight may reach past `end`, which saves a loop over the rest.
 pub fn blank_plain(cells: &mut [Cell], from: usize, end: usize)
     requires plain { ArePlainFrom from cells.old }
     requires inside { end ≤ length cells.old }
+    requires blank { IsBlankFrom (max from end) cells.old }
     ensures { IsPut from (replicate (end - from) blank) cells.old cells.new }
 {
     let count = end.saturating_sub(from);
-    let eights = count / 8;
+    let eights = (count + 7) / 8;
+    if from + 8 * eights <= cells.len() {
+        blank_eights(cells, from, eights);
+        return;
+    }
+    for column in 0..count {
+        cells[from + column].character = ' ';
+    }
+}
+
+/// Blanks `eights` groups of eight cells, from `from` on. They differ from blanks in their
+/// characters only.
+#[inline(always)]
+fn blank_eights(cells: &mut [Cell], from: usize, eights: usize)
+    requires plain { ArePlainFrom from cells.old }
+    requires room { from + 8 * eights ≤ length cells.old }
+    ensures { IsPut from (replicate (8 * eights) blank) cells.old cells.new }
+{
     for eight in 0..eights {
         for place in 0..8 {
             cells[from + (8 * eight + place)].character = ' ';
         }
-    }
-    for column in 8 * eights..count {
-        cells[from + column].character = ' ';
     }
 }
 

@@ -1,38 +1,19 @@
-use Rattle.std.proofs.Common.{◌≡◌, ◌+◌, ◌-◌, ◌*◌, ◌/◌, ℕ, refl, subst, arith}
+use Rattle.std.proofs.Common.{◌≡◌, ◌+◌, ◌-◌, refl, subst, arith}
 use Rattle.cells.proofs.Putting.{IsPut-none}
-use Rattle.cells.proofs.OverPlain.{AreBlanked, next_blanked}
+use Rattle.cells.proofs.OverPlain.{AreBlanked, blanked_up_to, next_blanked}
 use Rattle.cells.proofs.edits.blank_plain.Goals as goal
 
-pub loop-eight-init : goal.loop-eight-init
-loop-eight-init c = IsPut-none c.args.from c.args.cells.now
-
-pub loop-place-init : goal.loop-place-init
-loop-place-init c = subst (λ n. AreBlanked c.args.from c.args.cells.now n c.loop-eight.cells) (omega arith)
-    c.loop-eight.invariant
-
-pub loop-place-preserved : goal.loop-place-preserved
-loop-place-preserved c =
-    let count : ℕ = 8 * c.loop-eight.eight + c.loop-place.place in
-    next_blanked c.args.from count (8 * c.loop-eight.eight + (c.loop-place.place + 1)) c.args.cells.now
-    c.loop-place.cells _ c.requires.plain (omega (arith, c.loop-place.auto, c.loop-eight.auto, c.requires.inside))
-    (omega arith)
-    c.loop-place.invariant
-
-pub loop-eight-preserved : goal.loop-eight-preserved
-loop-eight-preserved c =
-    let all : 8 * c.loop-eight.eight + c.loop-place.place ≡ 8 * (c.loop-eight.eight + 1) = omega arith in
-    subst (λ n. AreBlanked c.args.from c.args.cells.now n c.loop-place.cells) all c.loop-place.invariant
+pub returns-then-from-eights : goal.returns-then-from-eights
+returns-then-from-eights c = blanked_up_to c.args.from c.args.end _ c.args.cells.now c.blank_eights.new.cells
+    c.requires.blank (omega arith) c.blank_eights.ensures
 
 pub loop-column-init : goal.loop-column-init
-loop-column-init c =
-    let all : 8 * c.loop-eight.eight ≡ 8 * (c.saturating_sub-count.result / 8) = omega arith in
-    subst (λ n. AreBlanked c.args.from c.args.cells.now n c.loop-eight.cells) all c.loop-eight.invariant
+loop-column-init c = IsPut-none c.args.from c.args.cells.now
 
 pub loop-column-preserved : goal.loop-column-preserved
 loop-column-preserved c =
     next_blanked c.args.from c.loop-column.column (c.loop-column.column + 1) c.args.cells.now c.loop-column.cells _
-    c.requires.plain (omega (arith, c.loop-column.auto, c.loop-eight.auto, c.requires.inside)) refl
-    c.loop-column.invariant
+    c.requires.plain (omega (arith, c.loop-column.auto, c.requires.inside)) refl c.loop-column.invariant
 
 pub returns : goal.returns
 returns c =

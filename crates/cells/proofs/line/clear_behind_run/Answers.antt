@@ -1,7 +1,7 @@
 use Rattle.std.proofs.Common.{◌≡◌, ◌+◌, ◌∙◌, length, false, sym, ap, subst, arith}
 use Rattle.cells.specs.Line.{plain, cells_spliced, narrow_cells, ArePlainFrom, IsPaired}
 use Rattle.cells.proofs.Splicing.{IsPaired-blanks}
-use Rattle.cells.proofs.OverPlain.{cleared_behind, plain_blanks, plain_behind, put_over_plain}
+use Rattle.cells.proofs.OverPlain.{blank_behind, cleared_behind, plain_blanks, plain_behind, put_over_plain}
 use Rattle.cells.proofs.line.clear_behind_run.Goals as goal
 
 pub put_run_over_plain-requires-clause-plain : goal.put_run_over_plain-requires-clause-plain
@@ -10,6 +10,10 @@ put_run_over_plain-requires-clause-plain c = c.requires.plain c.if-is_plain.true
 pub blank_plain-requires-clause-plain : goal.blank_plain-requires-clause-plain
 blank_plain-requires-clause-plain c = plain_behind c.args.codes.now c.args.cells.now c.put_run_over_plain.new.cells
     (c.requires.plain c.if-is_plain.true) c.put_run_over_plain.ensures
+
+pub blank_plain-requires-clause-blank : goal.blank_plain-requires-clause-blank
+blank_plain-requires-clause-blank c = blank_behind c.args.codes.now c.args.used c.args.cells.now
+    c.put_run_over_plain.new.cells c.requires.blank c.put_run_over_plain.ensures
 
 pub put_run_over_plain-requires-else-is_plain-clause-plain : goal.put_run_over_plain-requires-else-is_plain-clause-plain
 put_run_over_plain-requires-else-is_plain-clause-plain c = subst (ArePlainFrom 0) (sym c.clear_used.ensures)

@@ -8,6 +8,9 @@ use Rattle.cells.proofs.line.clear_used.Goals as goal
 pub blank_plain-requires-clause-plain : goal.blank_plain-requires-clause-plain
 blank_plain-requires-clause-plain c = c.requires.plain c.if-is_plain.true
 
+pub blank_plain-requires-clause-blank : goal.blank_plain-requires-clause-blank
+blank_plain-requires-clause-blank c = λ k h. c.requires.blank k (omega arith)
+
 pub returns-then-is_plain : goal.returns-then-is_plain
 returns-then-is_plain c = cleared_plain c.args.used c.args.cells.now c.blank_plain.new.cells c.requires.inside
     c.requires.blank c.blank_plain.ensures
