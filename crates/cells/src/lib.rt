@@ -1,6 +1,7 @@
 //! Cells, lines and grids of cells, in which the halves of wide characters are paired.
 #![tactic(auto)]
 
+mod blanking;
 mod cell;
 mod edits;
 mod glyph;

@@ -9,27 +9,13 @@ ghost use Rattle.cells.specs.Line.{narrow_cells, ArePlainFrom, plain};
 ghost use Rattle.cells.specs.Texts.{text_cells, PutsText};
 ghost use Rattle.cells.specs.Resizing.{line_resized};
 
+use crate::blanking::{blank_all, blanks};
 use crate::cell::{Cell, Rendition, Shape};
 use crate::put::Put;
 use crate::shifting::splice_used;
 use crate::{edits, texts};
 use std::alloc::{AllocError, Global};
 use std::marker::Model;
-
-/// The blanks of the longest line of a page, from which lines are blanked by one copy.
-static BLANKS: [Cell; 300] = [Cell::BLANK; 300];
-
-/// Makes `width` blanks.
-fn blanks(alloc: Global, width: usize) -> Result<Vec<Cell>, AllocError>
-    ensures { IfOk result (λ cells. cells.items ≡ replicate width blank) }
-{
-    if width > BLANKS.len() {
-        return vec![in alloc; Cell::BLANK; width];
-    }
-    let mut cells = Vec::with_capacity(alloc, width)?;
-    cells.extend_from_slice(&BLANKS[..width])?;
-    Ok(cells)
-}
 
 /// Blanks every cell; those from `used` on are blank already. If `is_plain`, all cells differ from
 /// blanks in their characters only, and only characters are written.
@@ -43,11 +29,7 @@ fn clear_used(cells: &mut [Cell], used: usize, is_plain: bool)
         edits::blank_plain(cells, 0, used);
         return;
     }
-    if used > BLANKS.len() {
-        cells.fill(Cell::BLANK);
-        return;
-    }
-    cells[..used].copy_from_slice(&BLANKS[..used]);
+    blank_all(&mut cells[..used]);
 }
 
 /// Blanks every cell but the first ones, one for each of `codes`, which a run of characters of

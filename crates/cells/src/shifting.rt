@@ -4,6 +4,7 @@ ghost use Rattle.std.specs.Prelude.{◌≡◌, ◌+◌, ◌-◌, ◌<◌, ◌≤
 ghost use Rattle.cells.specs.Line.{cells_spliced, IsPaired, IsUsed, blank};
 ghost use Rattle.cells.specs.Put.{IsPut};
 
+use crate::blanking::blank_all;
 use crate::cell::Cell;
 use crate::edits::{cut, splice};
 
@@ -55,5 +56,5 @@ fn blank_out(cells: &mut [Cell], at: usize, end: usize)
     requires inside { end ≤ length cells.old }
     ensures { IsPut at (replicate (end - at) blank) cells.old cells.new }
 {
-    cells[at..end].fill(Cell::BLANK);
+    blank_all(&mut cells[at..end]);
 }

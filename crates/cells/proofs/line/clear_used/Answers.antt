@@ -1,5 +1,4 @@
-use Rattle.std.proofs.Common.{drop, ◌++◌, ◌∙◌, ap, arith}
-use Rattle.std.proofs.lemmas.List.{take-replicate}
+use Rattle.std.proofs.Common.{◌≡◌, ◌++◌, length, take, drop, replicate, length-take, ap, ◌∙◌, arith}
 use Rattle.cells.specs.Line.{blank}
 use Rattle.cells.proofs.Used.{cleared_is}
 use Rattle.cells.proofs.OverPlain.{cleared_plain}
@@ -16,6 +15,8 @@ returns-then-is_plain c = cleared_plain c.args.used c.args.cells.now c.blank_pla
     c.requires.blank c.blank_plain.ensures
 
 pub returns : goal.returns
-returns c = ap (λ front. front ++ drop c.args.used c.args.cells.now)
-    (c.copy_from_slice.ensures.after ∙ take-replicate c.args.used 300 blank (omega arith))
+returns c =
+    let front : length (take c.args.used c.args.cells.now) ≡ c.args.used = simp length-take (omega arith) in
+    ap (λ front. front ++ drop c.args.used c.args.cells.now)
+    (c.blank_all.ensures ∙ ap (λ n. replicate n blank) front)
     ∙ cleared_is c.args.used c.args.cells.now c.requires.inside c.requires.blank

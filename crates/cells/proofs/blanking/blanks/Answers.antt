@@ -1,7 +1,7 @@
 use Rattle.std.proofs.Common.{◌++◌, ◌∙◌, ap, take, replicate, arith}
 use Rattle.std.proofs.lemmas.List.{take-replicate}
 use Rattle.cells.specs.Line.{blank}
-use Rattle.cells.proofs.line.blanks.Goals as goal
+use Rattle.cells.proofs.blanking.blanks.Goals as goal
 
 pub returns : goal.returns
 returns c = c.in_ok-extend_from_slice.ensures.items
