@@ -3,14 +3,15 @@
 use crate::gate::Gate;
 use crate::ration::Rations;
 use crate::submitting::Submitted;
-use crate::turn::PIECE;
+use crate::turn::OUTPUT;
 use server_connections::{Awaits, Connections, End, HasConnections, News, SessionSeat};
 use server_users::Users;
 use std::alloc::{AllocError, Global};
 use std::time::Duration;
 
-// A read takes at most this many bytes. The longest frame has a little more than half of them.
-const READ_SIZE: usize = 16_384;
+// A read takes at most this many bytes: four of the longest frames, all but a few bytes. Half as many cost a
+// flood a tenth more processor time, and twice as many a fifth.
+const READ_SIZE: usize = 32_768;
 
 // At most this many news wait until they are taken. Later ones are left out.
 const MOST_NEWS: usize = 1_024;
@@ -101,7 +102,7 @@ impl<S: Drop, G: Gate + Drop, J: SessionSeat + Drop> Loop<S, G, J> {
                 buffer: vec![in alloc; 0; READ_SIZE]?,
                 has_typed: false,
                 has_much: false,
-                output_left: PIECE,
+                output_left: OUTPUT,
                 next: 0,
             },
             submitted: Submitted::NOTHING,

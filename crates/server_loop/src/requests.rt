@@ -136,7 +136,7 @@ impl<S: Read + Write + Drop, G: Gate + Drop, J: SessionSeat + Drop> Loop<S, G, J
         }
     }
 
-    // A step takes a piece of a window's output; the rest is the next turn's.
+    // A step takes a piece of a window's output.
     fn output(&mut self, rt: &impl Wait, key: usize, window: u32, asked: &mut Asked) -> Progress {
         let rest = asked.rest();
         let bytes = rest.get(..PIECE).unwrap_or(rest);

@@ -14,8 +14,11 @@ const READS: usize = 16;
 // turn.
 const STEPS: usize = 8;
 
-/// At most this many bytes of windows' output are done in a turn, and so by one step.
+/// At most this many bytes of a window's output are done by one step.
 pub(crate) const PIECE: usize = 8_192;
+
+/// At most this many bytes of windows' output are done in a turn, but the last step may go beyond.
+pub(crate) const OUTPUT: usize = 4 * PIECE;
 
 /// What became of a message.
 #[derive(Clone, Copy, Debug, PartialEq, Eq)]
@@ -32,8 +35,7 @@ pub(crate) enum Progress {
 pub struct Reads {
     /// Keys of a client were submitted.
     pub has_typed: bool,
-    /// A connection had more bytes than one read takes, or a window had more output than is done in
-    /// a turn.
+    /// A connection had more bytes than one read takes, or windows had more output than one step takes.
     pub is_much: bool,
     pub submitted: Submitted,
 }
@@ -104,6 +106,11 @@ impl<S: Read + Write + Drop, G: Gate + Drop, J: SessionSeat + Drop> Loop<S, G, J
         }
     }
 
+    // Whether more of windows' output was done in this turn than one step takes.
+    fn has_done_much(&self) -> bool {
+        self.reading.output_left < OUTPUT - PIECE
+    }
+
     // Reads what a connection sent, once all that it asked for before is done, and does some of it.
     fn serve(&mut self, rt: &impl Wait, key: usize) {
         for _ in 0..READS {
@@ -118,7 +125,7 @@ impl<S: Read + Write + Drop, G: Gate + Drop, J: SessionSeat + Drop> Loop<S, G, J
                 }
             }
             let is_done = self.obey_some(rt, key);
-            if !is_done && self.is_window(key) {
+            if self.is_window(key) && (!is_done || self.has_done_much()) {
                 self.reading.has_much = true;
             }
             if !is_done || arrival == Arrival::Much {
@@ -149,7 +156,7 @@ impl<S: Read + Write + Drop, G: Gate + Drop, J: SessionSeat + Drop> Loop<S, G, J
         if self.draws.from.is_some() {
             return;
         }
-        self.reading.output_left = PIECE;
+        self.reading.output_left = OUTPUT;
         let first = self.reading.next;
         each_awake(self, |own, key| {
             if key >= first {
