@@ -1,1 +1,2 @@
+mod NextStops
 mod TabLemmas

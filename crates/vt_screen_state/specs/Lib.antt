@@ -3,3 +3,4 @@ pub mod Meanings
 pub mod Acting
 pub mod Counted
 pub mod Silent
+pub mod Stops
