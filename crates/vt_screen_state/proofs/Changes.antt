@@ -25,7 +25,8 @@ rendered-past : (value : ℕ) → 50 ≤ value → rendered value ≡ None
 rendered-past value h = grind (arith, nat_tests)
 
 -- the row of a value
-pub row-is : (value row : ℕ) (other : Change) → row ≡ min value 50 → IsChangeBy (rendered value) (get_or CHANGES row other)
+pub row-is : (value row : ℕ) (other : Change) → row ≡ min value 50
+    → IsChangeBy (rendered value) (get_or CHANGES row other)
 row-is value row other e old =
     let size : row < 51 = omega arith in
     let here : changed_by (get_or CHANGES row other) ≡ by_value row =

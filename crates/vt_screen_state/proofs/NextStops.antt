@@ -25,7 +25,8 @@ next-more stops next column stop n e inside room noted ahead k from below = ⊎_
     (cases_eq k n)
 
 -- a stop is the next one of the column before it
-pub stop_from-here : (stops : List Bool) (n : ℕ) → n < length stops → get_or stops n false ≡ true → n ≡ stop_from stops n
+pub stop_from-here : (stops : List Bool) (n : ℕ) → n < length stops → get_or stops n false ≡ true
+    → n ≡ stop_from stops n
 stop_from-here stops n inside here =
     omega (arith, prefix_len-drop_no not stops n false inside (ap not here))
 
