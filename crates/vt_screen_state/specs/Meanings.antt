@@ -1,12 +1,8 @@
 -- The actions of the values of SGR, SM, RM, DECSM and DECRM.
-use Rattle.std.specs.Prelude.{ℕ, ◌+◌, ◌∷◌, [], Bool, false, true, Option, Some, map}
-use Rattle.cells.specs.declared.cell.Colour.{Colour}
-use Rattle.cells.specs.declared.cell.Colour.TheVariants.{Default}
+use Rattle.std.specs.Prelude.{ℕ, Bool, false, true, Option, Some}
 use Rattle.cells.specs.declared.cell.Rendition.{Rendition}
-use Rattle.charsets.specs.Entries.{entry_or}
 use Rattle.terminal_model.specs.declared.action.Action.{Action}
 use Rattle.terminal_model.specs.declared.action.Action.TheVariants.{Render}
-use Rattle.terminal_model.specs.Functions.{all_colours, colour_digit}
 use Rattle.terminal_model.specs.Functions.{rendered, mode_set, private_mode_set}
 use Rattle.terminal_model.specs.Settings.{rendition_with}
 use Rattle.vt_screen_state.specs.declared.values.Setting.{Setting}
@@ -28,13 +24,3 @@ is_render _ = false
 abbrev pub rendition_by : Rendition → Option Action → Rendition
 rendition_by r (Some (Render attribute)) = rendition_with r attribute
 rendition_by r _ = r
-
--- a flag after a value of SGR, where one value sets it and one resets it
-abbrev pub flagged : ℕ → ℕ → Bool → ℕ → Bool
-flagged set reset old value =
-    entry_or old ((0, false) ∷ (set, true) ∷ (reset, false) ∷ []) value
-
--- a colour after a value of SGR, where the values from `base` on name colours
-abbrev pub shaded : ℕ → Colour → ℕ → Colour
-shaded base old value =
-    entry_or old ((0, Default) ∷ map (λ (c : Colour). (base + colour_digit c, c)) all_colours) value

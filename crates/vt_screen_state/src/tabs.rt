@@ -3,6 +3,7 @@
 ghost use Rattle.std.specs.Prelude.{◌≡◌, ◌<◌, ◌≤◌, true, false, length, replicate, slice_set};
 ghost use Rattle.terminal_model.specs.Screen.{starting_tabs};
 ghost use Rattle.terminal_model.specs.Motion.{next_stop};
+ghost use Rattle.vt_screen_state.specs.Stops.{AreNext};
 
 use std::marker::Model;
 use terminal_model::MAX_COLUMNS;
@@ -11,17 +12,23 @@ use terminal_model::MAX_COLUMNS;
 #[derive(Drop)]
 pub struct Tabs {
     stops: [bool; MAX_COLUMNS],
+    /// For each column, where HT goes from there.
+    next: [u16; MAX_COLUMNS],
     columns: usize,
 }
 
 impl Model for Tabs {
     ghost use Rattle.std.specs.Prelude.{◌≤◌, Bool, List, take};
+    ghost use Rattle.vt_screen_state.specs.Stops.{AreNext};
 
     ghost Value = { List Bool };
 
     ghost view = { λ tabs. take tabs.columns tabs.stops };
 
-    ghost invariant = { λ tabs. tabs.columns ≤ 300 };
+    ghost invariant = { λ tabs. record {
+      few : tabs.columns ≤ 300;
+      next : AreNext (take tabs.columns tabs.stops) tabs.next;
+    } };
 }
 
 impl Tabs {
@@ -30,19 +37,21 @@ impl Tabs {
         requires { columns ≤ 300 }
         ensures { result ≡ starting_tabs columns }
     {
-        let mut tabs = Tabs {
-            stops: [false; MAX_COLUMNS],
+        let mut stops = [false; MAX_COLUMNS];
+        start_stops(&mut stops[0..columns]);
+        let next = next_stops(&stops[0..columns]);
+        Tabs {
+            stops,
+            next,
             columns,
-        };
-        tabs.start();
-        tabs
+        }
     }
 
     /// Resets the stops: one in every eighth column, except the first.
     pub fn start(&mut self)
         ensures { self.new ≡ starting_tabs (length self.old) }
     {
-        start_stops(&mut self.stops[0..self.columns]);
+        *self = Tabs::new(self.columns);
     }
 
     /// HTS: sets a stop in a column.
@@ -51,6 +60,7 @@ impl Tabs {
         ensures { self.new ≡ slice_set self.old column true }
     {
         self.stops[column] = true;
+        self.next = next_stops(&self.stops[0..self.columns]);
     }
 
     /// TBC 0: removes the stop in a column.
@@ -59,6 +69,7 @@ impl Tabs {
         ensures { self.new ≡ slice_set self.old column false }
     {
         self.stops[column] = false;
+        self.next = next_stops(&self.stops[0..self.columns]);
     }
 
     /// TBC 3: removes all stops.
@@ -66,6 +77,7 @@ impl Tabs {
         ensures { self.new ≡ replicate (length self.old) false }
     {
         self.stops = [false; MAX_COLUMNS];
+        self.next = next_stops(&self.stops[0..self.columns]);
     }
 
     /// HT (ECMA-48, 8.3.60): the next stop after a column, or the last column if there is none.
@@ -73,7 +85,9 @@ impl Tabs {
         requires { column < length self.now }
         ensures { result ≡ next_stop self.now (length self.now) column }
     {
-        next_stop(&self.stops[0..self.columns], column)
+        // (borrowed first: the type's invariant, which bounds the index, is known only from then on)
+        let next = &self.next;
+        usize::from(next[column])
     }
 }
 
@@ -86,16 +100,18 @@ fn start_stops(stops: &mut [bool])
     }
 }
 
-/// The next stop after a column, or the last column if there is none.
-fn next_stop(stops: &[bool], column: usize) -> usize
-    requires { column < length stops.now }
-    ensures { result ≡ next_stop stops.now (length stops.now) column }
+/// For each column the next stop after it, or the last column if there is none.
+fn next_stops(stops: &[bool]) -> [u16; MAX_COLUMNS]
+    requires { length stops.now ≤ 300 }
+    ensures { AreNext stops.now result }
 {
-    let columns = stops.len();
-    for stop in column + 1..columns {
-        if stops[stop] {
-            return stop;
+    let mut next = [0; MAX_COLUMNS];
+    let mut stop = stops.len().saturating_sub(1);
+    for column in (0..stops.len()).rev() {
+        next[column] = stop as u16;
+        if stops[column] {
+            stop = column;
         }
     }
-    columns - 1
+    next
 }

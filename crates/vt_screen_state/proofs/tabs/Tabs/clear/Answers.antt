@@ -4,4 +4,4 @@ use Rattle.vt_screen_state.proofs.tabs.Tabs.clear.Goals as goal
 
 pub returns : goal.returns
 returns c = taken-set c.self.inside.columns c.self.inside.stops c.args.self.now c.args.column false c.self.view_is
-    (omega (arith, c.self.invariant)) c.requires
+    (omega (arith, c.self.invariant.few)) c.requires
