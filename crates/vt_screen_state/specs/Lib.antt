@@ -1,5 +1,4 @@
 pub mod Fitted
 pub mod Meanings
-pub mod Acting
 pub mod Counted
 pub mod Silent
