@@ -159,13 +159,13 @@ known_by c w beyond width columns drawn = record {
 
 pub known_mark : (c : ℕ) → is_mark c ≡ true → IsKnown c 0
 known_mark c h =
-    known_by c 0 (grind (arith, nat_tests)) (in_known 0 c marks widths_are.0 (omega arith) (grind (arith, nat_tests))) refl
-    refl
+    known_by c 0 (grind (arith, nat_tests))
+    (in_known 0 c marks widths_are.0 (omega arith) (grind (arith, nat_tests))) refl refl
 
 pub known_wide : (c : ℕ) → is_known_wide c ≡ true → IsKnown c 2
 known_wide c h =
-    known_by c 2 (grind (arith, nat_tests)) (in_known 2 c wides widths_are.2 (omega arith) (grind (arith, nat_tests))) refl
-    refl
+    known_by c 2 (grind (arith, nat_tests))
+    (in_known 2 c wides widths_are.2 (omega arith) (grind (arith, nat_tests))) refl refl
 
 pub known_letter : (c : ℕ) → is_letter c ≡ true → IsKnown c 1
 known_letter c h =

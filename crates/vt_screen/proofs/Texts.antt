@@ -140,4 +140,5 @@ module _ (d later : Display) (bytes : List ℕ) (put : Put) (fit : IsFit d)
       rw (line_width d fit, puts.last, n) refl in
       let screen : screen_of later ≡ all_acted x (prints characters) = placed ∙ all ∙ sym made.screen in
       printed_as d later front characters puts.is_text refl screen
-      (all_acted_fit d later (prints characters) fit screen lines.width) (lines.places ∙ sym (made.places d.page.places))
+      (all_acted_fit d later (prints characters) fit screen lines.width)
+      (lines.places ∙ sym (made.places d.page.places))

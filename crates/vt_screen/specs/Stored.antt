@@ -24,6 +24,12 @@ pub record Performs (old : Stored) (actions : List Action) (new : Stored) : Type
   pub places : new.places ≡ all_acted_places old.screen actions old.places
   pub silent : all_answered old.screen actions ≡ []
 
+-- the screen has performed these actions, in turn, and this is their answer
+pub record Answers (old : Stored) (actions : List Action) (report : List ℕ) (new : Stored) : Type 0 where
+  pub screen : new.screen ≡ all_acted old.screen actions
+  pub places : new.places ≡ all_acted_places old.screen actions old.places
+  pub answered : report ≡ all_answered old.screen actions
+
 -- it has performed them if it says so; else it is as before
 pub record PerformsIf (is_done : Bool) (old : Stored) (actions : List Action) (new : Stored)
     : Type 0 where

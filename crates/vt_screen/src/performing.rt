@@ -5,18 +5,18 @@ ghost use Rattle.control_parser.specs.declared.func.Func.TheVariants.{Control, C
 ghost use Rattle.terminal_model.specs.Functions.{actions_of, alone, each, rendered, sequence_actions};
 ghost use Rattle.terminal_model.specs.Reports.{report};
 ghost use Rattle.terminal_model.specs.Table.{effect};
-ghost use Rattle.vt_screen_state.specs.Acting.{actions_in};
-ghost use Rattle.vt_screen_state.specs.Counted.{AreCounted, IsCounted};
+ghost use Rattle.vt_screen_state.specs.Counted.{IsCounted};
 ghost use Rattle.vt_screen_state.specs.Meanings.{meaning};
 ghost use Rattle.vt_screen_state.specs.Silent.{IsSilent};
-ghost use Rattle.vt_screen.specs.Stored.{Performs, PerformsIf, effect_places};
+ghost use Rattle.vt_screen.specs.Stored.{Answers, Performs, PerformsIf, effect_places};
 
 use crate::screen::Screen;
+use charsets::Unit;
 use control_parser::Func;
 use terminal_model::{Action, Report};
 use vt_screen_state::{
-    Acts, Setting, acts_of, control_action, escape_action, plain_escape_action, render_value,
-    rendition_action, sequence_acts,
+    Setting, control_action, escape_action, plain_action, render_value, rendition_action,
+    sequence_action, setting_of,
 };
 
 impl Screen {
@@ -28,34 +28,61 @@ impl Screen {
         ensures report { result ≡ report self.old.screen func.now }
         ensures few { length result ≤ 12 }
     {
-        match acts_of(func) {
-            Acts::Nothing => Report::none(),
-            Acts::One(action) => self.display.apply(action),
-            Acts::Each(setting, values) => {
-                self.set_each(setting, values);
-                Report::none()
-            }
+        match func {
+            Func::Print(character) => self.answer(Some(Action::Print(Unit::Code(*character)))),
+            Func::High(byte) => self.answer(Some(Action::Print(Unit::High(*byte)))),
+            Func::Control(control) => self.answer(control_action(*control)),
+            Func::Esc {
+                intermediates,
+                last,
+            } => self.answer(escape_action(intermediates.as_slice(), *last)),
+            Func::Csi {
+                mark,
+                params,
+                intermediates,
+                last,
+            } => self.answer_sequence(*mark, params.as_slice(), intermediates.as_slice(), *last),
         }
     }
 
-    /// Performs a C0 control, which isn't answered. CR and LF, the commonest ones, have a case of
-    /// their own, so that the compiler finds their rows.
+    /// Performs a control sequence and returns the answer.
+    fn answer_sequence(
+        &mut self,
+        mark: Option<u8>,
+        params: &[u16],
+        intermediates: &[u8],
+        last: u8,
+    ) -> Report
+        ensures answers { Answers self.old (sequence_actions mark params.now intermediates.now last) result self.new }
+        ensures few { length result ≤ 12 }
+    {
+        if let Some(setting) = setting_of(mark, intermediates, last) {
+            self.set_each(setting, params);
+            return Report::none();
+        }
+        self.answer(sequence_action(mark, params, intermediates, last))
+    }
+
+    /// Performs the action of a control function that has at most one, and returns the answer.
+    fn answer(&mut self, action: Option<Action>) -> Report
+        requires { IfSome action IsCounted }
+        ensures answers { Answers self.old (alone action) result self.new }
+        ensures few { length result ≤ 12 }
+    {
+        match action {
+            Some(action) => self.display.apply(action),
+            None => Report::none(),
+        }
+    }
+
+    /// Performs a C0 control, which isn't answered.
+    #[inline(never)]
     pub fn control(&mut self, control: u8)
         ensures { Performs self.old (actions_of (Control control)) self.new }
     {
-        match control {
-            b'\r' => self.perform(Action::CarriageReturn),
-            b'\n' => self.perform(Action::LineFeed),
-            _ => self.perform_any(control_action(control)),
+        if let Some(action) = control_action(control) {
+            self.perform(action);
         }
-    }
-
-    /// Performs the escape sequence without intermediates that has this final byte. It isn't
-    /// answered.
-    pub fn escape(&mut self, last: u8)
-        ensures { Performs self.old (actions_of (Esc [] last)) self.new }
-    {
-        self.perform_any(plain_escape_action(last));
     }
 
     /// Designates a set to G0, by its final byte: performs ESC ( and this byte. It isn't answered.
@@ -69,63 +96,64 @@ impl Screen {
     /// case of their own, so that the compiler finds their rows. If the sequence is answered, it
     /// does nothing and returns false.
     #[inline(always)]
+    #[tactic(auto, unfolding(terminal_model::specs::Functions::plain_sequence))]
     pub fn sequence(&mut self, mark: Option<u8>, params: &[u16], last: u8) -> bool
         ensures { PerformsIf result self.old (actions_of (Csi mark params.now [] last)) self.new }
     {
-        if mark.is_some() {
-            return self.perform_acts(sequence_acts(mark, params, &[], last));
-        }
-        match last {
-            b'H' => self.perform_each(sequence_acts(None, params, &[], b'H')),
-            b'm' => self.perform_each(sequence_acts(None, params, &[], b'm')),
-            _ => self.perform_editing(params, last),
+        match (mark, last) {
+            (None, b'H') => self.perform_alone(plain_action(params, b'H')),
+            (None, b'm') => {
+                self.set_each(Setting::Rendition, params);
+                true
+            }
+            (None, _) => self.perform_plain(params, last),
+            _ => self.perform_marked(mark, params, last),
         }
     }
 
-    /// Performs a control sequence without private marker and intermediates. ICH, DCH, ECH, EL, IL
-    /// and DL have a case of their own, so that the compiler finds their rows. If the sequence is
-    /// answered, it does nothing and returns false.
+    /// Performs a control sequence without private marker and intermediates. If it is answered, it
+    /// does nothing and returns false.
     #[inline(never)]
-    fn perform_editing(&mut self, params: &[u16], last: u8) -> bool
+    fn perform_plain(&mut self, params: &[u16], last: u8) -> bool
         ensures { PerformsIf result self.old (sequence_actions None params.now [] last) self.new }
     {
-        match last {
-            b'@' => self.perform_each(sequence_acts(None, params, &[], b'@')),
-            b'K' => self.perform_each(sequence_acts(None, params, &[], b'K')),
-            b'L' => self.perform_each(sequence_acts(None, params, &[], b'L')),
-            b'M' => self.perform_each(sequence_acts(None, params, &[], b'M')),
-            b'P' => self.perform_each(sequence_acts(None, params, &[], b'P')),
-            b'X' => self.perform_each(sequence_acts(None, params, &[], b'X')),
-            _ => self.perform_acts(sequence_acts(None, params, &[], last)),
-        }
+        self.perform_sequence(None, params, last)
     }
 
-    /// Performs the actions of a control function, whose rows are looked up as the program runs. If
-    /// the function is answered, it does nothing and returns false.
+    /// Performs a control sequence without intermediates. If it is answered, it does nothing and
+    /// returns false.
     #[inline(never)]
-    fn perform_acts(&mut self, acts: Acts<'_>) -> bool
-        requires { AreCounted acts }
-        ensures { PerformsIf result self.old (actions_in acts.entry) self.new }
+    fn perform_marked(&mut self, mark: Option<u8>, params: &[u16], last: u8) -> bool
+        ensures { PerformsIf result self.old (sequence_actions mark params.now [] last) self.new }
     {
-        self.perform_each(acts)
+        self.perform_sequence(mark, params, last)
     }
 
-    /// Performs the actions of a control function, in turn. If the function is answered, it does
+    /// Performs a control sequence without intermediates. If it is answered, it does nothing and
+    /// returns false. It is inlined, so that a mark that is known to be None isn't tested.
+    #[inline(always)]
+    fn perform_sequence(&mut self, mark: Option<u8>, params: &[u16], last: u8) -> bool
+        ensures { PerformsIf result self.old (sequence_actions mark params.now [] last) self.new }
+    {
+        if let Some(setting) = setting_of(mark, &[], last) {
+            self.set_each(setting, params);
+            return true;
+        }
+        self.perform_alone(sequence_action(mark, params, &[], last))
+    }
+
+    /// Performs the action of a control function that has at most one. If it is answered, it does
     /// nothing and returns false.
     #[inline(always)]
-    fn perform_each(&mut self, acts: Acts<'_>) -> bool
-        requires { AreCounted acts }
-        ensures { PerformsIf result self.old (actions_in acts.entry) self.new }
+    fn perform_alone(&mut self, action: Option<Action>) -> bool
+        requires { IfSome action IsCounted }
+        ensures { PerformsIf result self.old (alone action) self.new }
     {
-        match acts {
-            Acts::Nothing => {}
-            Acts::One(action) => {
-                if is_answered(&action) {
-                    return false;
-                }
-                self.perform(action);
+        if let Some(action) = action {
+            if is_answered(&action) {
+                return false;
             }
-            Acts::Each(setting, values) => self.set_each(setting, values),
+            self.perform(action);
         }
         true
     }

@@ -1,7 +1,6 @@
 pub mod Fitted
 pub mod Meanings
 pub mod Changes
-pub mod Acting
 pub mod Counted
 pub mod Silent
 pub mod Stops

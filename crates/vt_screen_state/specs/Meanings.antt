@@ -1,6 +1,8 @@
--- The actions of the values of SGR, SM, RM, DECSM and DECRM.
-use Rattle.std.specs.Prelude.{ℕ, Bool, false, true, Option, Some}
+-- Control sequences with several values, SGR, SM, RM, DECSM and DECRM, and the actions of the values.
+use Rattle.std.specs.Prelude.{ℕ, List, ◌∷◌, [], Bool, false, true, Option, Some, None}
+use Prim.Native.Char.{code}
 use Rattle.cells.specs.declared.cell.Rendition.{Rendition}
+use Rattle.charsets.specs.Entries.{entry_at, entry_or}
 use Rattle.terminal_model.specs.declared.action.Action.{Action}
 use Rattle.terminal_model.specs.declared.action.Action.TheVariants.{Render}
 use Rattle.terminal_model.specs.Functions.{rendered, mode_set, private_mode_set}
@@ -8,6 +10,20 @@ use Rattle.terminal_model.specs.Settings.{rendition_with}
 use Rattle.vt_screen_state.specs.declared.values.Setting.{Setting}
 use Rattle.vt_screen_state.specs.declared.values.Setting.TheVariants.{Rendition as SetRendition, Mode}
 use Rattle.vt_screen_state.specs.declared.values.Setting.TheVariants.{PrivateMode}
+
+-- what a control sequence sets by each of its parameters; None if it is another sequence
+abbrev pub setting_of : Option ℕ → List ℕ → ℕ → Option Setting
+setting_of None [] last =
+    entry_at ((code "h", Mode true) ∷ (code "l", Mode false) ∷ (code "m", SetRendition) ∷ []) last
+setting_of (Some mark) [] last =
+    entry_or None
+    ((
+      code "?",
+      entry_at ((code "h", PrivateMode true) ∷ (code "l", PrivateMode false) ∷ []) last,
+    )
+    ∷ [])
+    mark
+setting_of mark (intermediate ∷ more) last = None
 
 -- the action of one value
 abbrev pub meaning : Setting → ℕ → Option Action

@@ -43,7 +43,7 @@ pub fn escape_action(intermediates: &[u8], last: u8) -> Option<Action>
 /// The action of ESC and a final byte (ECMA-48, 8.3; VT220 Programmer Reference Manual, chapter 4). None if it is
 /// ignored.
 #[inline(always)]
-pub fn plain_escape_action(last: u8) -> Option<Action>
+fn plain_escape_action(last: u8) -> Option<Action>
     ensures value { result ≡ escape_action last }
     ensures counted { IfSome result IsCounted }
     ensures silent { IfSome result IsSilent }

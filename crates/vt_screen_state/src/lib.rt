@@ -2,7 +2,6 @@
 //! columns count from 0.
 #![tactic(auto)]
 
-mod acts;
 mod cursor;
 mod erasing;
 mod escapes;
@@ -15,13 +14,12 @@ mod sequences;
 mod tabs;
 mod values;
 
-pub use acts::{Acts, acts_of};
 pub use cursor::{
     advance, following, go_down, go_home, go_left, go_right, go_to, go_to_first_column, go_up,
     lacks_room, move_to, needs_line, separate, settle,
 };
 pub use erasing::{end_after, end_column, end_line, first_column, first_line};
-pub use escapes::{control_action, escape_action, plain_escape_action};
+pub use escapes::{control_action, escape_action};
 pub use margins::{fit, is_in_margins, set_margins, use_whole_page};
 pub use modes::{
     designate, protect, render, set_application_keypad, set_coding, set_eight_bit_reports,
@@ -30,6 +28,6 @@ pub use modes::{
 pub use rendition::render_value;
 pub use report::report_of;
 pub use saved::{fit_saved, restore, saved_of};
-pub use sequences::sequence_acts;
+pub use sequences::{plain_action, sequence_action, setting_of};
 pub use tabs::Tabs;
 pub use values::{Setting, rendition_action};

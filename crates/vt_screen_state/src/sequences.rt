@@ -1,34 +1,55 @@
 //! Control sequences.
 
-ghost use Rattle.std.specs.Prelude.{◌≡◌, ◌-◌, IfSome, slice_index_or};
-ghost use Rattle.terminal_model.specs.Functions.{alone, between_sequence, count, part_of, plain_sequence};
+ghost use Rattle.std.specs.Prelude.{◌≡◌, ℕ, ◌-◌, List, [], None, Some, IfSome, slice_index_or};
+ghost use Rattle.terminal_model.specs.Functions.{alone, between_sequence, count, each, part_of, plain_sequence};
 ghost use Rattle.terminal_model.specs.Functions.{private_sequence, sequence_actions};
-ghost use Rattle.vt_screen_state.specs.Acting.{actions_in};
-ghost use Rattle.vt_screen_state.specs.Counted.{AreCounted, IsCounted};
+ghost use Rattle.vt_screen_state.specs.Counted.{IsCounted};
+ghost use Rattle.vt_screen_state.specs.Meanings.{meaning, setting_of};
 
-use crate::acts::Acts;
 use crate::values::Setting;
 use terminal_model::{Action, Part};
 
-/// The actions of a control sequence.
+/// What a control sequence sets by each of its parameters. Only SGR, SM, RM, DECSM and DECRM have such a setting; None
+/// for any other sequence.
 #[inline(always)]
-pub fn sequence_acts<'a>(
+#[tactic(auto, // the rows of both tables
+unfolding(terminal_model::specs::Functions::plain_sequence, terminal_model::specs::Functions::private_sequence))]
+pub fn setting_of(mark: Option<u8>, intermediates: &[u8], last: u8) -> Option<Setting>
+    ensures value { result ≡ setting_of mark intermediates.now last }
+    ensures each { IfSome result (λ setting. (params : List ℕ)
+        → sequence_actions mark params intermediates.now last ≡ each (meaning setting) params) }
+{
+    match (mark, intermediates, last) {
+        (None, [], b'm') => Some(Setting::Rendition),
+        (None, [], b'h') => Some(Setting::Mode(true)),
+        (None, [], b'l') => Some(Setting::Mode(false)),
+        (Some(b'?'), [], b'h') => Some(Setting::PrivateMode(true)),
+        (Some(b'?'), [], b'l') => Some(Setting::PrivateMode(false)),
+        _ => None,
+    }
+}
+
+/// The action of a control sequence without a setting. None if it is ignored, or if it has a setting.
+#[inline(always)]
+pub fn sequence_action(
     mark: Option<u8>,
-    params: &'a [u16],
+    params: &[u16],
     intermediates: &[u8],
     last: u8,
-) -> Acts<'a>
-    ensures value { actions_in result ≡ sequence_actions mark params.now intermediates.now last }
-    ensures counted { AreCounted result }
+) -> Option<Action>
+    ensures value { setting_of mark intermediates.now last ≡ None
+        → alone result ≡ sequence_actions mark params.now intermediates.now last }
+    ensures none { IfSome (setting_of mark intermediates.now last) (λ setting. result ≡ None) }
+    ensures counted { IfSome result IsCounted }
 {
     match (mark, intermediates) {
-        (None, []) => plain_acts(params, last),
-        (Some(b'?'), []) => private_acts(params, last),
+        (None, []) => plain_action(params, last),
+        (Some(b'?'), []) => private_action(params, last),
         (Some(b'>'), []) if last == b'c' && value(params, 0) == 0 => {
-            Acts::One(Action::ReportSecondaryAttributes)
+            Some(Action::ReportSecondaryAttributes)
         }
-        (None, [intermediate]) => Acts::of(intermediate_action(params, *intermediate, last)),
-        _ => Acts::Nothing,
+        (None, [intermediate]) => intermediate_action(params, *intermediate, last),
+        _ => None,
     }
 }
 
@@ -45,56 +66,56 @@ fn intermediate_action(params: &[u16], intermediate: u8, last: u8) -> Option<Act
     }
 }
 
-/// The actions of CSI, parameters and a final byte (ECMA-48, 8.3; VT220 Programmer Reference Manual, chapter 4).
-/// DECSTBM takes the last line of the page if its second parameter is absent or 0.
+/// The action of CSI, parameters and a final byte (ECMA-48, 8.3; VT220 Programmer Reference Manual, chapter 4), if they
+/// have no setting. None if they are ignored, or if they have a setting. DECSTBM takes the last line of the page if its
+/// second parameter is absent or 0.
 #[inline(always)]
 #[tactic(auto, unfolding(terminal_model::specs::Functions::plain_sequence))]
-fn plain_acts(params: &[u16], last: u8) -> Acts<'_>
-    ensures value { actions_in result ≡ plain_sequence params.now last }
-    ensures counted { AreCounted result }
+pub fn plain_action(params: &[u16], last: u8) -> Option<Action>
+    ensures value { setting_of None [] last ≡ None → alone result ≡ plain_sequence params.now last }
+    ensures none { IfSome (setting_of None [] last) (λ setting. result ≡ None) }
+    ensures counted { IfSome result IsCounted }
 {
     match last {
-        b'@' => Acts::One(Action::InsertCells(count(params))),
-        b'A' => Acts::One(Action::Up(count(params))),
-        b'B' => Acts::One(Action::Down(count(params))),
-        b'C' => Acts::One(Action::Right(count(params))),
-        b'D' => Acts::One(Action::Left(count(params))),
-        b'H' | b'f' => Acts::One(Action::MoveTo(place(params, 0), place(params, 1))),
-        b'J' => Acts::of(part(params).map(Action::EraseInPage)),
-        b'K' => Acts::of(part(params).map(Action::EraseInLine)),
-        b'L' => Acts::One(Action::InsertLines(count(params))),
-        b'M' => Acts::One(Action::DeleteLines(count(params))),
-        b'P' => Acts::One(Action::DeleteCells(count(params))),
-        b'X' => Acts::One(Action::EraseCells(count(params))),
-        b'c' if value(params, 0) == 0 => Acts::One(Action::ReportAttributes),
-        b'g' if value(params, 0) == 0 => Acts::One(Action::ClearTab),
-        b'g' if value(params, 0) == 3 => Acts::One(Action::ClearTabs),
-        b'h' => Acts::Each(Setting::Mode(true), params),
-        b'l' => Acts::Each(Setting::Mode(false), params),
-        b'm' => Acts::Each(Setting::Rendition, params),
-        b'n' if value(params, 0) == 5 => Acts::One(Action::ReportStatus),
-        b'n' if value(params, 0) == 6 => Acts::One(Action::ReportPlace),
+        b'@' => Some(Action::InsertCells(count(params))),
+        b'A' => Some(Action::Up(count(params))),
+        b'B' => Some(Action::Down(count(params))),
+        b'C' => Some(Action::Right(count(params))),
+        b'D' => Some(Action::Left(count(params))),
+        b'H' | b'f' => Some(Action::MoveTo(place(params, 0), place(params, 1))),
+        b'J' => part(params).map(Action::EraseInPage),
+        b'K' => part(params).map(Action::EraseInLine),
+        b'L' => Some(Action::InsertLines(count(params))),
+        b'M' => Some(Action::DeleteLines(count(params))),
+        b'P' => Some(Action::DeleteCells(count(params))),
+        b'X' => Some(Action::EraseCells(count(params))),
+        b'c' if value(params, 0) == 0 => Some(Action::ReportAttributes),
+        b'g' if value(params, 0) == 0 => Some(Action::ClearTab),
+        b'g' if value(params, 0) == 3 => Some(Action::ClearTabs),
+        b'n' if value(params, 0) == 5 => Some(Action::ReportStatus),
+        b'n' if value(params, 0) == 6 => Some(Action::ReportPlace),
         b'r' => {
             let bottom = usize::from(value(params, 1)).checked_sub(1);
-            Acts::One(Action::SetMargins(place(params, 0), bottom))
+            Some(Action::SetMargins(place(params, 0), bottom))
         }
-        _ => Acts::Nothing,
+        _ => None,
     }
 }
 
-/// The actions of CSI ?, parameters and a final byte (VT220 Programmer Reference Manual, chapter 4).
+/// The action of CSI ?, parameters and a final byte (VT220 Programmer Reference Manual, chapter 4), if they have no
+/// setting. None if they are ignored, or if they have a setting.
+#[inline(always)]
 #[tactic(auto, unfolding(terminal_model::specs::Functions::private_sequence))]
-fn private_acts(params: &[u16], last: u8) -> Acts<'_>
-    ensures value { actions_in result ≡ private_sequence params.now last }
-    ensures counted { AreCounted result }
+fn private_action(params: &[u16], last: u8) -> Option<Action>
+    ensures value { setting_of (Some 0x3F) [] last ≡ None → alone result ≡ private_sequence params.now last }
+    ensures none { IfSome (setting_of (Some 0x3F) [] last) (λ setting. result ≡ None) }
+    ensures counted { IfSome result IsCounted }
 {
     match last {
-        b'J' => Acts::of(part(params).map(Action::EraseUnprotectedInPage)),
-        b'K' => Acts::of(part(params).map(Action::EraseUnprotectedInLine)),
-        b'h' => Acts::Each(Setting::PrivateMode(true), params),
-        b'l' => Acts::Each(Setting::PrivateMode(false), params),
-        b'n' if value(params, 0) == 15 => Acts::One(Action::ReportPrinter),
-        _ => Acts::Nothing,
+        b'J' => part(params).map(Action::EraseUnprotectedInPage),
+        b'K' => part(params).map(Action::EraseUnprotectedInLine),
+        b'n' if value(params, 0) == 15 => Some(Action::ReportPrinter),
+        _ => None,
     }
 }
 
