@@ -1,6 +1,5 @@
 pub mod Fitted
 pub mod Meanings
-pub mod Changes
 pub mod Counted
 pub mod Silent
 pub mod Stops

@@ -3,7 +3,6 @@
 ghost use Rattle.std.specs.Prelude.{◌≡◌};
 ghost use Rattle.terminal_model.specs.Functions.{rendered};
 ghost use Rattle.terminal_model.specs.Motion.{unjoined};
-ghost use Rattle.vt_screen_state.specs.Changes.{IsChangeBy};
 ghost use Rattle.vt_screen_state.specs.Meanings.{rendition_by};
 
 use crate::cursor::separate;
@@ -148,7 +147,7 @@ pub fn render_value(state: &mut State, value: u16)
 fn changed(old: Rendition, value: u16) -> Rendition
     ensures { result ≡ rendition_by old (rendered value) }
 {
-    let change = change_of(value);
+    let change = &CHANGES[usize::from(value).min(CHANGES.len() - 1)];
     Rendition {
         is_bold: change.sets.is_bold | (change.keeps.is_bold & old.is_bold),
         is_underlined: change.sets.is_underlined | (change.keeps.is_underlined & old.is_underlined),
@@ -157,11 +156,4 @@ fn changed(old: Rendition, value: u16) -> Rendition
         fore: change.fore.unwrap_or(old.fore),
         back: change.back.unwrap_or(old.back),
     }
-}
-
-/// What a value of SGR changes.
-fn change_of(value: u16) -> &'static Change
-    ensures { IsChangeBy (rendered value) result.now }
-{
-    &CHANGES[usize::from(value).min(CHANGES.len() - 1)]
 }
