@@ -100,9 +100,9 @@ fn sees_its_last_step(rt: &impl System) -> Result<bool, AllocError> {
 // A window asks for its state, as output.
 const ASK: &[u8] = b"O\0\x04\x1b[5n";
 
-// Keys are done before output, and output in pieces. Eight steps are done in a turn, so the first
-// client's letter, which comes after its commands, is done in turn 126. Bytes come in the first turn
-// alone.
+// Keys are done before output, and of output what one read takes: the second question, behind 32,768
+// bytes, is read in the second turn. Eight steps of a client are done in a turn, so the first client's
+// letter, which comes after its commands, is done in turn 126. No more is sent after the first turn.
 static SHARES: [Row; 4] = [
     (0, Wanted::Typed(0, b"b\x1b[0n")),
     (1, Wanted::Typed(0, b"b\x1b[0n\x1b[0n")),
@@ -136,10 +136,11 @@ fn busy<'a>(output: &'a [u8], commands: &'a [u8]) -> [Act<'a>; 19] {
     ]
 }
 
-// 8,192 bytes, and 1,000 commands.
+// 32,768 bytes, and 1,000 commands.
 fn nobody_waits(rt: &impl System) -> Result<bool, AllocError> {
     let alloc = rt.alloc();
-    let output = often(alloc, b"O\x20\0", b"y", 8_192)?;
+    let frame = often(alloc, b"O\x20\0", b"y", 8_192)?;
+    let output = often(alloc, b"", &frame, 4)?;
     let commands = often(alloc, b"K\x07\xD0", b"\x01n", 1_000)?;
     Ok(is_played(rt, &busy(&output, &commands), &SHARES))
 }
