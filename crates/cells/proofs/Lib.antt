@@ -11,8 +11,10 @@ pub mod Resizing
 pub mod Grids
 pub mod Used
 pub mod OverPlain
-pub mod Looks
 pub mod UsedSplices
 pub mod TextCells
 pub mod Written
 pub mod Mending
+pub mod Packed
+pub mod Alike
+pub mod Blanks

@@ -205,6 +205,10 @@ plain_spliced at fresh cells rest width new old k = go (ltb k at) (ltb k (at + l
     go false false true = old (k + rest - (at + length fresh)) (omega arith)
     go false false false = refl
 
+pub plain_one : (cell : Cell) → IsPlain cell → ArePlainFrom 0 (cell ∷ [])
+plain_one cell is zero h = is
+plain_one cell is (suc k) h = refl
+
 pub plain_blanks : (count : ℕ) → ArePlainFrom 0 (replicate count blank)
 plain_blanks count k h = ⊎_elim
     (λ (inside : k < count). subst IsPlain (sym (get_or-replicate count k blank blank inside)) refl)

@@ -10,7 +10,7 @@ use Rattle.charsets.specs.Text.{text}
 use Rattle.charsets.specs.Units.{is_plain, is_character}
 use Rattle.charsets.proofs.Pieces.{codes-plain}
 use Rattle.cells.specs.declared.cell.Cell.{Cell}
-use Rattle.cells.specs.declared.cell.Rendition.{Rendition}
+use Rattle.cells.specs.declared.rendition.Rendition.{Rendition}
 use Rattle.cells.specs.declared.cell.Shape.{Shape}
 use Rattle.cells.specs.declared.cell.Shape.TheVariants.{Narrow, Left, Right}
 use Rattle.cells.specs.Line.{blank, cell_at, is_left, is_right, IsPaired, fresh_at, right_follows, marked}

@@ -9,7 +9,7 @@ use Rattle.charsets.specs.Units.{is_character, is_plain}
 use Rattle.charsets.specs.Utf8.{codes}
 use Rattle.charsets.proofs.Texts.{IsText-one, text-more, IsText-more}
 use Rattle.cells.specs.declared.cell.Cell.{Cell}
-use Rattle.cells.specs.declared.cell.Rendition.{Rendition}
+use Rattle.cells.specs.declared.rendition.Rendition.{Rendition}
 use Rattle.cells.specs.Line.{blank, cell_at, left_cell, marked, narrow_cell, narrow_cells, right_cell}
 use Rattle.cells.specs.Put.{IsPut}
 use Rattle.cells.specs.Texts.{base_cell, is_base, is_based, is_known_wide, is_letter, is_mark, last_columns, text_cells}

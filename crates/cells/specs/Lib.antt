@@ -4,6 +4,7 @@ pub mod Moves
 pub mod Resizing
 pub mod Glyph
 pub mod Unlike
-pub mod Look
+pub mod Rendition
+pub mod Marks
 pub mod Put
 pub mod Texts

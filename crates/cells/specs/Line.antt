@@ -1,39 +1,14 @@
 use Rattle.std.specs.Prelude.{◌≡◌, ℕ, zero, suc, ◌+◌, ◌-◌, ◌≤◌, Bool, true, false, ◌&&◌, ◌==◌}
 use Rattle.std.specs.Prelude.{nat_lt, nat_le, not, cond, List, map, length, slice_index_or}
-use Rattle.std.specs.Prelude.{slice_set, Option, Some, None}
+use Rattle.std.specs.Prelude.{slice_set}
 use Rattle.std.specs.List.{range_with_len}
 use Rattle.cells.specs.declared.cell.Shape.{Shape}
 use Rattle.cells.specs.declared.cell.Shape.TheVariants.{Narrow, Left, Right}
-use Rattle.cells.specs.declared.cell.Marks.{Marks}
-use Rattle.cells.specs.declared.cell.Marks.TheVariants.{Bare, One, Two}
-use Rattle.cells.specs.declared.cell.Colour.{Colour}
-use Rattle.cells.specs.declared.cell.Colour.TheVariants.{Default, Black, Red, Green, Yellow, Blue}
-use Rattle.cells.specs.declared.cell.Colour.TheVariants.{Magenta, Cyan, White}
-use Rattle.cells.specs.declared.cell.Rendition.{Rendition}
+use Rattle.cells.specs.declared.marks.Marks.{Marks}
+use Rattle.cells.specs.declared.marks.Marks.TheVariants.{Bare, One, Two}
+use Rattle.cells.specs.declared.rendition.Rendition.{Rendition}
+pub use Rattle.cells.specs.Rendition.{plain}
 use Rattle.cells.specs.declared.cell.Cell.{Cell}
-
--- no rendition (ECMA-48, 8.3.117: SGR 0)
-abbrev pub plain : Rendition
-plain = record {
-  is_bold = false;
-  is_underlined = false;
-  is_blinking = false;
-  is_reversed = false;
-  fore = Default;
-  back = Default;
-}
-
--- the number of a colour; None for the terminal's own
-abbrev pub colour_number : Colour → Option ℕ
-colour_number Default = None
-colour_number Black = Some 0
-colour_number Red = Some 1
-colour_number Green = Some 2
-colour_number Yellow = Some 3
-colour_number Blue = Some 4
-colour_number Magenta = Some 5
-colour_number Cyan = Some 6
-colour_number White = Some 7
 
 -- a space without rendition, marks or protection
 abbrev pub blank : Cell

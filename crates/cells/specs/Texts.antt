@@ -5,7 +5,7 @@ use Rattle.std.specs.List.{list_all}
 use Rattle.charsets.specs.Text.{text, IsText}
 use Rattle.charsets.specs.Units.{is_plain}
 use Rattle.cells.specs.declared.cell.Cell.{Cell}
-use Rattle.cells.specs.declared.cell.Rendition.{Rendition}
+use Rattle.cells.specs.declared.rendition.Rendition.{Rendition}
 use Rattle.cells.specs.declared.put.Put.{Put}
 use Rattle.cells.specs.Line.{cell_at, is_left, is_right, left_cell, marked, narrow_cell, right_cell}
 

@@ -9,10 +9,6 @@ IsAlike a b column = unprotected (cell_at a column) ≡ unprotected (cell_at b c
 abbrev pub IsUnlike : List Cell → List Cell → ℕ → Type 0
 IsUnlike a b column = unprotected (cell_at a column) ≢ unprotected (cell_at b column)
 
--- they look alike from a column up to but not including another one
-abbrev pub AreAlikeIn : List Cell → List Cell → ℕ → ℕ → Type 0
-AreAlikeIn a b from end = (column : ℕ) → from ≤ column → column < end → IsAlike a b column
-
 -- they look alike from a column on
 abbrev pub AreAlikeFrom : List Cell → List Cell → ℕ → Type 0
 AreAlikeFrom a b from = (column : ℕ) → from ≤ column → column < length a → IsAlike a b column

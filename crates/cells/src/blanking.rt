@@ -1,34 +1,22 @@
 //! Blanks for whole runs of cells.
 
-ghost use Rattle.std.specs.Prelude.{◌≡◌, length, replicate, IfOk};
+ghost use Rattle.std.specs.Prelude.{◌≡◌, length, replicate};
 ghost use Rattle.cells.specs.Line.{blank};
 
 use crate::cell::Cell;
-use std::alloc::{AllocError, Global};
 
-/// The blanks of the longest line of a page. One copy from them is faster than a loop.
-static BLANKS: [Cell; 300] = [Cell::BLANK; 300];
+/// The number of cells that are blanked one by one.
+const FIRST: usize = 8;
 
-/// Makes `width` blanks.
-pub fn blanks(alloc: Global, width: usize) -> Result<Vec<Cell>, AllocError>
-    ensures { IfOk result (λ cells. cells.items ≡ replicate width blank) }
-{
-    if width > BLANKS.len() {
-        return vec![in alloc; Cell::BLANK; width];
-    }
-    let mut cells = Vec::with_capacity(alloc, width)?;
-    cells.extend_from_slice(&BLANKS[..width])?;
-    Ok(cells)
-}
-
-/// Blanks every cell.
+/// Blanks every cell: the first ones, and then by copies of all that are blank, which is faster than a loop over cells.
 pub fn blank_all(cells: &mut [Cell])
     ensures { cells.new ≡ replicate (length cells.old) blank }
 {
-    let count = cells.len();
-    if count > BLANKS.len() {
-        cells.fill(Cell::BLANK);
-        return;
+    let mut done = cells.len().min(FIRST);
+    cells[..done].fill(Cell::BLANK);
+    while done < cells.len() {
+        let more = done.min(cells.len() - done);
+        cells.copy_within(..more, done);
+        done += more;
     }
-    cells.copy_from_slice(&BLANKS[..count]);
 }

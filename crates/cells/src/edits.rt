@@ -6,7 +6,7 @@ ghost use Rattle.std.specs.List.{copy_within};
 ghost use Rattle.cells.specs.Line.{cells_from, cells_spliced, IsPaired, cut_of, blank};
 ghost use Rattle.cells.specs.Line.{unprotected_erased, fresh_at, narrow_cells};
 ghost use Rattle.cells.specs.Line.{ArePlainFrom, IsBlankFrom, plain};
-ghost use Rattle.cells.specs.Put.{AreNarrow, AreNarrowIn, IsPut};
+ghost use Rattle.cells.specs.Put.{AreNarrow, IsPut};
 
 use crate::cell::{Cell, Shape};
 
@@ -122,31 +122,12 @@ pub fn put(cells: &mut [Cell], at: usize, fresh: &[Cell])
     }
 }
 
-/// Whether all cells are of width 1. Eight cells are tested at a time.
+/// Whether all cells are of width 1.
 fn are_narrow(cells: &[Cell]) -> bool
     ensures { IsTrue result → AreNarrow cells.now }
 {
-    let eights = cells.len() / 8;
-    for eight in 0..eights {
-        if !are_eight_narrow(cells, 8 * eight) {
-            return false;
-        }
-    }
-    for column in 8 * eights..cells.len() {
+    for column in 0..cells.len() {
         if !cells[column].is_narrow() {
-            return false;
-        }
-    }
-    true
-}
-
-/// Whether the eight cells from `from` on are of width 1.
-fn are_eight_narrow(cells: &[Cell], from: usize) -> bool
-    requires { from + 8 ≤ length cells.now }
-    ensures { IsTrue result → AreNarrowIn cells.now from (from + 8) }
-{
-    for place in 0..8 {
-        if !cells[from + place].is_narrow() {
             return false;
         }
     }

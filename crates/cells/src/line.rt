@@ -9,9 +9,10 @@ ghost use Rattle.cells.specs.Line.{narrow_cells, ArePlainFrom, plain};
 ghost use Rattle.cells.specs.Texts.{text_cells, PutsText};
 ghost use Rattle.cells.specs.Resizing.{line_resized};
 
-use crate::blanking::{blank_all, blanks};
-use crate::cell::{Cell, Rendition, Shape};
+use crate::blanking::blank_all;
+use crate::cell::{Cell, Shape};
 use crate::put::Put;
+use crate::rendition::Rendition;
 use crate::shifting::splice_used;
 use crate::{edits, texts};
 use std::alloc::{AllocError, Global};
@@ -102,7 +103,7 @@ impl Line {
     pub fn blank(alloc: Global, width: usize) -> Result<Line, AllocError>
         ensures { IfOk result (λ line. line ≡ replicate width blank) }
     {
-        let cells = blanks(alloc, width)?;
+        let cells = vec![in alloc; Cell::BLANK; width]?;
         Ok(Line {
             cells,
             used: 0,
@@ -193,7 +194,7 @@ impl Line {
     {
         edits::put_narrow(self.cells.as_mut_slice(), at, cell, rest);
         self.used = used_after(self.used, at + 1, rest, self.cells.len());
-        self.is_plain = false;
+        self.is_plain = self.is_plain && cell.is_plain();
     }
 
     /// Puts both halves of a wide character at `at`; the old cells from `rest` on follow them.

@@ -143,10 +143,14 @@ fn write_halves(cells: &mut [Cell], column: usize, space: &Cell, character: char
         (slice_set cells.old column (record space.now { character = character; shape = Shape.Left }))
         (column + 1) (record space.now { character = character; shape = Shape.Right }) }
 {
-    let mut half = *space;
-    half.character = character;
-    half.shape = Shape::Left;
-    cells[column] = half;
-    half.shape = Shape::Right;
-    cells[column + 1] = half;
+    cells[column] = Cell {
+        character,
+        shape: Shape::Left,
+        ..*space
+    };
+    cells[column + 1] = Cell {
+        character,
+        shape: Shape::Right,
+        ..*space
+    };
 }

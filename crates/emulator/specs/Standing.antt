@@ -1,5 +1,5 @@
 -- The parts of an emulator, and the terminals that it stands for.
-use Rattle.std.specs.Prelude.{◌≡◌, ◌≤◌, ℕ, List, [], ◌++◌, take, length}
+use Rattle.std.specs.Prelude.{◌≡◌, ◌<◌, ◌≤◌, ℕ, List, [], ◌++◌, Option, Some, None, take, length}
 use Rattle.charsets.specs.declared.unit.Coding.{Coding}
 use Rattle.charsets.specs.Units.{Decoding}
 use Rattle.control_parser.specs.declared.state.State.{State}
@@ -69,6 +69,11 @@ pub record TakesWhole (old : Parts) (bytes : List ℕ) (count : ℕ) (new : Part
   pub few : count ≤ length bytes
   pub decoding : new.decoding ≡ old.decoding
   pub parsing : new.parsing ≡ old.parsing
+
+-- it has read some, if it says how many bytes they take; else it has read nothing
+abbrev pub TakesPiece : Parts → List ℕ → Option ℕ → Parts → Type 0
+TakesPiece old bytes (Some count) new = (0 < count) × TakesWhole old bytes count new
+TakesPiece old bytes None new = TakesWhole old bytes 0 new
 
 -- it has performed a writing of the window; nothing is said of answers
 abbrev pub TakesWriting : Parts → Writing → Parts → Type 0

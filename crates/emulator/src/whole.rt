@@ -2,7 +2,7 @@
 
 ghost use Rattle.std.specs.Prelude.{◌≡◌, ◌≤◌, ◌<◌, ℕ, List, [], ◌∷◌, length, take};
 ghost use Rattle.charsets.specs.declared.unit.Coding.TheVariants.{Utf8};
-ghost use Rattle.emulator.specs.Standing.{HasTaken, TakesWhole, IsBetween};
+ghost use Rattle.emulator.specs.Standing.{HasTaken, TakesPiece, TakesWhole, IsBetween};
 
 use crate::emulator::Emulator;
 use crate::sequence::{PARAMS, first_sequence};
@@ -45,10 +45,9 @@ impl Emulator {
         }
         let mut taken = 0;
         while taken < bytes.len() {
-            let count = self.read_piece(&bytes[taken..]);
-            if count == 0 {
+            let Some(count) = self.read_piece(&bytes[taken..]) else {
                 return taken;
-            }
+            };
             taken += count;
         }
         taken
@@ -58,12 +57,12 @@ impl Emulator {
     /// its number of bytes. The function is a control, a designation to G0, or a control sequence
     /// that isn't answered. A single character 20 to 7E before a control or a sequence has a path of
     /// its own, since most are such. CR and LF are read with the characters 20 to 7E of the line
-    /// after them. Returns 0 if the bytes begin with anything else.
+    /// after them. None if the bytes begin with anything else.
     #[inline(always)]
-    fn read_piece(&mut self, bytes: &[u8]) -> usize
+    fn read_piece(&mut self, bytes: &[u8]) -> Option<usize>
         requires some { 0 < length bytes.now }
         requires idle { IsBetween Utf8 self.old }
-        ensures { TakesWhole self.old bytes.now result self.new }
+        ensures { TakesPiece self.old bytes.now result self.new }
     {
         let first = bytes[0];
         if first == ESC {
@@ -72,26 +71,30 @@ impl Emulator {
         if first >= b' ' {
             if first < DEL && bytes.len() > 1 && bytes[1] < b' ' {
                 self.screen.print_one(first);
-                return 1;
+                return Some(1);
             }
-            return self.screen.print_text(bytes);
+            let count = self.screen.print_text(bytes);
+            if count == 0 {
+                return None;
+            }
+            return Some(count);
         }
         if first == b'\r' && bytes.len() > 1 && bytes[1] == b'\n' {
-            return 2 + self.screen.print_line(&bytes[2..]);
+            return Some(2 + self.screen.print_line(&bytes[2..]));
         }
         if first == CAN || first == SUB {
-            return 0;
+            return None;
         }
         self.screen.control(first);
-        1
+        Some(1)
     }
 
-    /// Reads a sequence that begins with ESC and returns its number of bytes, or 0 if it can't be
+    /// Reads a sequence that begins with ESC and returns its number of bytes. None if it can't be
     /// read at once.
-    fn read_escape(&mut self, bytes: &[u8]) -> usize
+    fn read_escape(&mut self, bytes: &[u8]) -> Option<usize>
         requires begins { take 1 bytes.now ≡ 0x1B ∷ [] }
         requires idle { IsBetween Utf8 self.old }
-        ensures { TakesWhole self.old bytes.now result self.new }
+        ensures { TakesPiece self.old bytes.now result self.new }
     {
         // With more than 5 bytes, the first parameter needn't be tested for room.
         if bytes.len() < 6 || bytes[1] != b'[' {
@@ -99,27 +102,27 @@ impl Emulator {
         }
         let mut params = [0; PARAMS];
         let Some(found) = first_sequence(&bytes[2..], &mut params) else {
-            return 0;
+            return None;
         };
         let params = &params[..found.count];
         if !self.screen.sequence(found.mark, params, found.last) {
-            return 0;
+            return None;
         }
-        2 + found.size
+        Some(2 + found.size)
     }
 
-    /// Reads a designation to G0 and returns its number of bytes, or 0 if the bytes begin with no
+    /// Reads a designation to G0 and returns its number of bytes. None if the bytes begin with no
     /// whole one.
     #[inline(never)]
-    fn read_other_escape(&mut self, bytes: &[u8]) -> usize
+    fn read_other_escape(&mut self, bytes: &[u8]) -> Option<usize>
         requires begins { take 1 bytes.now ≡ 0x1B ∷ [] }
         requires idle { IsBetween Utf8 self.old }
-        ensures { TakesWhole self.old bytes.now result self.new }
+        ensures { TakesPiece self.old bytes.now result self.new }
     {
         if bytes.len() > 2 && bytes[1] == b'(' && b'0' <= bytes[2] && bytes[2] < DEL {
             self.screen.designate(bytes[2]);
-            return 3;
+            return Some(3);
         }
-        0
+        None
     }
 }

@@ -1,11 +1,11 @@
 -- What marks do to a screen on which a frame is drawn: each joins the character before it.
-use Rattle.std.proofs.Common.{◌≡◌, ℕ, ◌+◌, ◌-◌, ◌<◌, true, List, []}
+use Rattle.std.proofs.Common.{◌≡◌, ℕ, ◌+◌, ◌<◌, true, List, []}
 use Rattle.std.proofs.Common.{length, set, Option, Some, refl, sym, ap, ◌∙◌, subst, arith, ⊎_elim}
 use Rattle.std.proofs.Common.{eq-eqb}
 use Rattle.std.proofs.lemmas.Bool.{cases_eq, ne_eqb, lt-ltb, le-ltb}
 use Rattle.std.proofs.lemmas.List.{get_or-set_same, get_or-set_other}
 use Rattle.cells.specs.declared.cell.Cell.{Cell}
-use Rattle.cells.specs.declared.cell.Rendition.{Rendition}
+use Rattle.cells.specs.declared.rendition.Rendition.{Rendition}
 use Rattle.cells.specs.Line.{blank, cell_at, unprotected, marked}
 use Rattle.cells.specs.Page.{line_at, IsPage, page_marked}
 use Rattle.control_parser.specs.declared.func.Func.TheVariants.{Print}

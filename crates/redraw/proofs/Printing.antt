@@ -10,7 +10,7 @@ use Rattle.charsets.specs.declared.shifts.Shifts.{Shifts}
 use Rattle.charsets.specs.Shifts.{mapped, spent, is_position, is_graphic, starting as starting_shifts}
 use Rattle.charsets.specs.Sets.{character_at}
 use Rattle.cells.specs.declared.cell.Cell.{Cell}
-use Rattle.cells.specs.declared.cell.Rendition.{Rendition}
+use Rattle.cells.specs.declared.rendition.Rendition.{Rendition}
 use Rattle.cells.specs.Line.{cell_at, unprotected, fresh_at, spliced, narrow_cell}
 use Rattle.cells.specs.Line.{left_cell, right_cell}
 use Rattle.cells.specs.Page.{line_at, page_from, edited}

@@ -5,14 +5,15 @@ use Rattle.std.specs.Prelude.{if◌then◌else◌, nat_lt, option_to_list}
 use Rattle.std.specs.List.{AllByRecursion, list_all}
 use Rattle.std.proofs.lemmas.List.{length-append}
 use Rattle.std.proofs.lemmas.Bool.{eqb-true}
-use Rattle.cells.specs.declared.cell.Colour.{Colour}
-use Rattle.cells.specs.declared.cell.Colour.TheVariants.{Default, Black, Red, Green, Yellow, Blue, Magenta, Cyan, White}
-use Rattle.cells.specs.declared.cell.Rendition.{Rendition}
+use Rattle.cells.specs.declared.rendition.Colour.{Colour}
+use Rattle.cells.specs.declared.rendition.Colour.TheVariants.{Default, Black, Red, Green, Yellow, Blue, Magenta}
+use Rattle.cells.specs.declared.rendition.Colour.TheVariants.{Cyan, White}
+use Rattle.cells.specs.declared.rendition.Rendition.{Rendition}
 use Rattle.control_parser.specs.declared.func.Func.TheVariants.{Csi}
 use Rattle.terminal_model.specs.declared.action.Action.TheVariants.{Render}
-use Rattle.terminal_model.specs.declared.action.Attribute.{Attribute}
-use Rattle.terminal_model.specs.declared.action.Attribute.TheVariants.{Plain, Bold, Underlined, Blinking, Reversed}
-use Rattle.terminal_model.specs.declared.action.Attribute.TheVariants.{Foreground, Background}
+use Rattle.cells.specs.declared.rendition.Attribute.{Attribute}
+use Rattle.cells.specs.declared.rendition.Attribute.TheVariants.{Plain, Bold, Underlined, Blinking, Reversed}
+use Rattle.cells.specs.declared.rendition.Attribute.TheVariants.{Foreground, Background}
 use Rattle.terminal_model.specs.Screen.{Screen, with_state}
 use Rattle.terminal_model.specs.Functions.{plain_sequence, each, rendered, colour_digit}
 use Rattle.terminal_model.specs.Motion.{unjoined}

@@ -3,8 +3,8 @@ use Rattle.std.specs.Prelude.{◌≡◌, ℕ, ◌+◌, ◌-◌, ◌==◌, ◌<�
 use Rattle.std.specs.Prelude.{true, false, List, [], ◌++◌, length, Option, Some, None, is_some}
 use Rattle.cells.specs.declared.cell.Shape.{Shape}
 use Rattle.cells.specs.declared.cell.Shape.TheVariants.{Narrow, Left, Right}
-use Rattle.cells.specs.declared.cell.Marks.{Marks}
-use Rattle.cells.specs.declared.cell.Marks.TheVariants.{Bare, One, Two}
+use Rattle.cells.specs.declared.marks.Marks.{Marks}
+use Rattle.cells.specs.declared.marks.Marks.TheVariants.{Bare, One, Two}
 use Rattle.cells.specs.declared.cell.Cell.{Cell}
 use Rattle.cells.specs.Line.{blank, cell_at, is_left, is_right, unprotected, right_cell, IsPaired}
 use Rattle.cells.specs.Page.{line_at}

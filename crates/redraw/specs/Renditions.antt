@@ -1,8 +1,8 @@
 -- The values of SGR that lead to a rendition, in as few bytes as possible (ECMA-48, 8.3.117).
 use Rattle.std.specs.Prelude.{ℕ, ◌+◌, ◌==◌, nat_lt, Bool, true, false, if◌then◌else◌}
 use Rattle.std.specs.Prelude.{List, [], ◌∷◌, ◌++◌, Option, Some, None}
-use Rattle.cells.specs.declared.cell.Colour.{Colour}
-use Rattle.cells.specs.declared.cell.Rendition.{Rendition}
+use Rattle.cells.specs.declared.rendition.Colour.{Colour}
+use Rattle.cells.specs.declared.rendition.Rendition.{Rendition}
 use Rattle.terminal_model.specs.Functions.{colour_digit}
 use Rattle.terminal_model.specs.Places.{value_if, value_of_colour}
 

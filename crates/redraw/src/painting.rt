@@ -82,7 +82,7 @@ fn draw_piece(
         pen.erase_cells(at, erased as u16, out)?;
         return Ok(column + erased);
     }
-    let cell = after[column];
+    let cell = &after[column];
     pen.put_cell(at, after.len() as u16, cell, out)?;
     Ok(column + columns_of(cell) as usize)
 }

@@ -106,12 +106,12 @@ impl Pen {
         &mut self,
         at: PenPosition,
         columns: u16,
-        cell: Cell,
+        cell: &Cell,
         out: &mut Vec<u8>,
     ) -> Result<(), AllocError>
         requires { (at.line < 9999) × (at.column < 9999) }
         ensures takes { OnOk result
-            (PutsCell at.line at.column columns cell self.old self.new out.old out.new) }
+            (PutsCell at.line at.column columns cell.now self.old self.new out.old out.new) }
     {
         self.aim(at, cell.rendition, out)?;
         put_glyphs(cell, out)?;
@@ -149,8 +149,8 @@ impl Pen {
 }
 
 /// The number of columns that a cell's character takes.
-pub fn columns_of(cell: Cell) -> u16
-    ensures value { result ≡ width_of cell.shape }
+pub fn columns_of(cell: &Cell) -> u16
+    ensures value { result ≡ width_of cell.now.shape }
     ensures few { (0 < result) × (result ≤ 2) }
 {
     match cell.shape {
@@ -160,11 +160,11 @@ pub fn columns_of(cell: Cell) -> u16
 }
 
 /// Appends a cell's character and its marks.
-fn put_glyphs(cell: Cell, out: &mut Vec<u8>) -> Result<(), AllocError>
-    ensures { OnOk result (out.new.items ≡ out.old.items ++ glyph_bytes cell) }
+fn put_glyphs(cell: &Cell, out: &mut Vec<u8>) -> Result<(), AllocError>
+    ensures { OnOk result (out.new.items ≡ out.old.items ++ glyph_bytes cell.now) }
 {
     Command::Glyph(cell.character).put(out)?;
-    match cell.marks {
+    match cell.marks() {
         Marks::Bare => {}
         Marks::One(mark) => Command::Glyph(mark).put(out)?,
         Marks::Two(first, second) => {

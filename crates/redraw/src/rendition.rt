@@ -66,12 +66,12 @@ fn whole(rendition: Rendition) -> Params
     ensures { result ≡ whole_params rendition }
 {
     let mut params = Params::one(0);
-    push_if(&mut params, rendition.is_bold, 1);
-    push_if(&mut params, rendition.is_underlined, 4);
-    push_if(&mut params, rendition.is_blinking, 5);
-    push_if(&mut params, rendition.is_reversed, 7);
-    push_colour(&mut params, rendition.fore, 30);
-    push_colour(&mut params, rendition.back, 40);
+    push_if(&mut params, rendition.is_bold(), 1);
+    push_if(&mut params, rendition.is_underlined(), 4);
+    push_if(&mut params, rendition.is_blinking(), 5);
+    push_if(&mut params, rendition.is_reversed(), 7);
+    push_colour(&mut params, rendition.fore(), 30);
+    push_colour(&mut params, rendition.back(), 40);
     params
 }
 
@@ -111,12 +111,12 @@ fn changes(old: Rendition, new: Rendition) -> Option<Params>
     ensures { listed result ≡ change_params old new }
 {
     let mut params = None;
-    push_switch(&mut params, old.is_bold, new.is_bold, 1, 22);
-    push_switch(&mut params, old.is_underlined, new.is_underlined, 4, 24);
-    push_switch(&mut params, old.is_blinking, new.is_blinking, 5, 25);
-    push_switch(&mut params, old.is_reversed, new.is_reversed, 7, 27);
-    push_change(&mut params, old.fore, new.fore, 30);
-    push_change(&mut params, old.back, new.back, 40);
+    push_switch(&mut params, old.is_bold(), new.is_bold(), 1, 22);
+    push_switch(&mut params, old.is_underlined(), new.is_underlined(), 4, 24);
+    push_switch(&mut params, old.is_blinking(), new.is_blinking(), 5, 25);
+    push_switch(&mut params, old.is_reversed(), new.is_reversed(), 7, 27);
+    push_change(&mut params, old.fore(), new.fore(), 30);
+    push_change(&mut params, old.back(), new.back(), 40);
     params
 }
 

@@ -5,7 +5,7 @@
 ghost use Rattle.std.specs.Prelude.{◌≡◌};
 
 use crate::drawing::{Page, put, view_of};
-use cells::{Cell, Rendition};
+use cells::{Attribute, Cell, Rendition};
 use redraw::{Shadow, frame_keeping, frame_sparing};
 use std::alloc::{AllocError, Global};
 
@@ -23,24 +23,25 @@ const LETTER: Cell = Cell {
     ..Cell::BLANK
 };
 
-const BOLD_LETTER: Cell = Cell {
-    character: 'i',
-    rendition: Rendition {
-        is_bold: true,
-        ..Rendition::PLAIN
-    },
-    ..Cell::BLANK
-};
+fn bold_letter() -> Cell {
+    Cell {
+        character: 'i',
+        rendition: Rendition::PLAIN.with(Attribute::Bold(true)),
+        ..Cell::BLANK
+    }
+}
 
-static FIRST: Page<'static> = Page {
-    lines: &[&[Cell::BLANK, LETTER]],
-    cursor: (0, 1),
-};
+/// The lines of the second page.
+fn second() -> ([Cell; 3], [Cell; 1]) {
+    ([Cell::BLANK, LETTER, bold_letter()], [bold_letter()])
+}
 
-static SECOND: Page<'static> = Page {
-    lines: &[&[Cell::BLANK, LETTER, BOLD_LETTER], &[BOLD_LETTER]],
-    cursor: (0, 1),
-};
+fn page_of<'a>(lines: &'a [&'a [Cell]]) -> Page<'a> {
+    Page {
+        lines,
+        cursor: (0, 1),
+    }
+}
 
 fn keep(alloc: Global, shadow: &mut Shadow, page: Page<'_>) -> Result<Option<Vec<u8>>, AllocError>
     requires rows { shadow.old.rows ≡ 24 }
@@ -58,7 +59,8 @@ fn spare(alloc: Global, shadow: &mut Shadow, page: Page<'_>) -> Result<Option<Ve
     ensures rows { shadow.new.rows ≡ 24 }
     ensures columns { shadow.new.columns ≡ 80 }
 {
-    let mut other = Some(view_of(alloc, None, SECOND)?);
+    let (upper, lower) = second();
+    let mut other = Some(view_of(alloc, None, page_of(&[&upper, &lower]))?);
     let view = view_of(alloc, other.take(), page)?;
     frame_sparing(alloc, shadow, view, &mut other)
 }
@@ -106,10 +108,12 @@ fn is_drawn(
 /// Appends a first frame, from an unknown page, and a second frame. The list has room for both.
 fn has_drawn(alloc: Global, call: Call, out: &mut Vec<u8>) -> bool {
     let mut shadow = Shadow::unknown(24, 80);
+    let first = [Cell::BLANK, LETTER];
+    let (upper, lower) = second();
     (out.reserve(1000).is_ok() || out.reserve(1000).is_ok())
-        && is_drawn(alloc, call, &mut shadow, FIRST, out)
+        && is_drawn(alloc, call, &mut shadow, page_of(&[&first]), out)
         && out.starts_with(b"\x18\x1bc\x1b%G\x1b[?7l")
-        && is_drawn(alloc, call, &mut shadow, SECOND, out)
+        && is_drawn(alloc, call, &mut shadow, page_of(&[&upper, &lower]), out)
 }
 
 fn are_drawn_so(alloc: Global, call: Call, wanted: &[u8]) -> bool {

@@ -1,75 +1,74 @@
 //! A frame changes only the colours that differ, in few bytes.
 
 use crate::drawing::{Page, put};
-use cells::{Cell, Colour, Rendition};
+use cells::{Attribute, Cell, Colour, Rendition};
 use redraw::Shadow;
 use std::alloc::Global;
 use std::str;
 
-const RED: Rendition = Rendition {
-    fore: Colour::Red,
-    ..Rendition::PLAIN
-};
+fn red() -> Rendition {
+    Rendition::PLAIN.with(Attribute::Foreground(Colour::Red))
+}
 
-const GREEN: Rendition = Rendition {
-    fore: Colour::Green,
-    ..Rendition::PLAIN
-};
+fn green() -> Rendition {
+    Rendition::PLAIN.with(Attribute::Foreground(Colour::Green))
+}
 
-const ON_BLUE: Rendition = Rendition {
-    back: Colour::Blue,
-    ..Rendition::PLAIN
-};
+fn on_blue() -> Rendition {
+    Rendition::PLAIN.with(Attribute::Background(Colour::Blue))
+}
 
-const RED_ON_BLUE: Rendition = Rendition {
-    fore: Colour::Red,
-    ..ON_BLUE
-};
+fn red_on_blue() -> Rendition {
+    red().with(Attribute::Background(Colour::Blue))
+}
 
-const BOLD: Rendition = Rendition {
-    is_bold: true,
-    ..Rendition::PLAIN
-};
+fn bold() -> Rendition {
+    Rendition::PLAIN.with(Attribute::Bold(true))
+}
 
-const BOLD_RED: Rendition = Rendition {
-    is_bold: true,
-    ..RED
-};
+fn bold_red() -> Rendition {
+    red().with(Attribute::Bold(true))
+}
 
-/// Two letters with their renditions.
-type Letters = ((char, Rendition), (char, Rendition));
+/// Two letters, the letters that replace them, and a part that the frame must have once. A frame must
+/// not have an `x`.
+#[derive(Drop)]
+struct Row {
+    old: [Cell; 2],
+    new: [Cell; 2],
+    part: &'static str,
+}
 
-const BEFORE: Letters = (('x', BOLD), ('y', BOLD));
+fn letter(character: char, rendition: Rendition) -> Cell {
+    Cell::narrow(character, rendition, false)
+}
 
-/// Letters, the letters that replace them, and a part that the frame must have once. A frame must not
-/// have an `x`.
-static ROWS: [(Letters, Letters, &str); 11] = [
-    (BEFORE, (('a', Rendition::PLAIN), ('b', RED)), "a\x1b[31mb"),
-    (BEFORE, (('a', RED), ('b', GREEN)), "a\x1b[32mb"),
-    (BEFORE, (('a', RED), ('b', Rendition::PLAIN)), "a\x1b[mb"),
-    (BEFORE, (('a', RED_ON_BLUE), ('b', ON_BLUE)), "a\x1b[39mb"),
-    (BEFORE, (('a', RED_ON_BLUE), ('b', RED)), "a\x1b[49mb"),
-    (
-        BEFORE,
-        (('a', RED_ON_BLUE), ('b', Rendition::PLAIN)),
-        "a\x1b[mb",
-    ),
-    (BEFORE, (('a', RED), ('b', RED_ON_BLUE)), "a\x1b[44mb"),
-    (BEFORE, (('a', BOLD_RED), ('b', BOLD)), "a\x1b[39mb"),
-    (BEFORE, (('a', RED), ('b', BOLD_RED)), "a\x1b[1mb"),
-    (BEFORE, (('a', RED), ('b', RED)), "ab"),
-    (
-        (('x', RED), ('y', RED)),
-        (('x', RED), ('y', RED_ON_BLUE)),
-        "y",
-    ),
-];
+/// A row in which `a` and `b` with these renditions replace two bold letters.
+fn replacing(first: Rendition, second: Rendition, part: &'static str) -> Row {
+    Row {
+        old: [letter('x', bold()), letter('y', bold())],
+        new: [letter('a', first), letter('b', second)],
+        part,
+    }
+}
 
-fn cells_of(letters: Letters) -> [Cell; 2] {
-    let ((first, look), (second, next)) = letters;
+fn rows() -> [Row; 11] {
     [
-        Cell::narrow(first, look, false),
-        Cell::narrow(second, next, false),
+        replacing(Rendition::PLAIN, red(), "a\x1b[31mb"),
+        replacing(red(), green(), "a\x1b[32mb"),
+        replacing(red(), Rendition::PLAIN, "a\x1b[mb"),
+        replacing(red_on_blue(), on_blue(), "a\x1b[39mb"),
+        replacing(red_on_blue(), red(), "a\x1b[49mb"),
+        replacing(red_on_blue(), Rendition::PLAIN, "a\x1b[mb"),
+        replacing(red(), red_on_blue(), "a\x1b[44mb"),
+        replacing(bold_red(), bold(), "a\x1b[39mb"),
+        replacing(red(), bold_red(), "a\x1b[1mb"),
+        replacing(red(), red(), "ab"),
+        Row {
+            old: [letter('x', red()), letter('y', red())],
+            new: [letter('x', red()), letter('y', red_on_blue())],
+            part: "y",
+        },
     ]
 }
 
@@ -83,14 +82,11 @@ fn has_once(frame: &[u8], part: &str) -> bool {
     }
 }
 
-fn is_so(alloc: Global, row: &(Letters, Letters, &str)) -> bool {
-    let (old, new, part) = *row;
-    let old = cells_of(old);
-    let new = cells_of(new);
+fn is_so(alloc: Global, row: &Row) -> bool {
     let mut shadow = Shadow::unknown(24, 80);
     let mut out = Vec::new(alloc);
     let before = Page {
-        lines: &[&old],
+        lines: &[&row.old],
         cursor: (0, 1),
     };
     if put(alloc, &mut shadow, before, &mut out).is_err() {
@@ -98,14 +94,14 @@ fn is_so(alloc: Global, row: &(Letters, Letters, &str)) -> bool {
     }
     out.clear();
     let behind = Page {
-        lines: &[&new],
+        lines: &[&row.new],
         ..before
     };
-    put(alloc, &mut shadow, behind, &mut out).is_ok() && has_once(&out, part)
+    put(alloc, &mut shadow, behind, &mut out).is_ok() && has_once(&out, row.part)
 }
 
 fn first_wrong(alloc: Global) -> Option<usize> {
-    for (number, row) in ROWS.iter().enumerate() {
+    for (number, row) in rows().iter().enumerate() {
         if !is_so(alloc, row) {
             return Some(number);
         }

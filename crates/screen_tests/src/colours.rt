@@ -1,7 +1,7 @@
 //! Colours of cells (ECMA-48, 8.3.117).
 
 use crate::judging::{Size, read};
-use cells::{Cell, Rendition};
+use cells::{Attribute, Cell, Colour, Rendition};
 use emulator::MovedPage;
 use std::alloc::Global;
 use std::str::Chars;
@@ -68,25 +68,26 @@ static ROWS: [Row; 16] = [
 ];
 
 /// The sign of a colour.
-fn sign(colour: Option<u8>) -> char {
+fn sign(colour: Colour) -> char {
     match colour {
-        Some(0) => '0',
-        Some(1) => '1',
-        Some(2) => '2',
-        Some(3) => '3',
-        Some(4) => '4',
-        Some(5) => '5',
-        Some(6) => '6',
-        Some(7) => '7',
-        Some(_) => '?',
-        None => '.',
+        Colour::Default => '.',
+        Colour::Black => '0',
+        Colour::Red => '1',
+        Colour::Green => '2',
+        Colour::Yellow => '3',
+        Colour::Blue => '4',
+        Colour::Magenta => '5',
+        Colour::Cyan => '6',
+        Colour::White => '7',
     }
 }
 
 /// Whether two texts continue with the foregrounds and the backgrounds of a line, each followed by `|`.
 fn go_on_with_line(fore: &mut Chars<'_>, back: &mut Chars<'_>, line: &[Cell]) -> bool {
     for cell in line {
-        if fore.next() != Some(sign(cell.fore())) || back.next() != Some(sign(cell.back())) {
+        if fore.next() != Some(sign(cell.rendition.fore()))
+            || back.next() != Some(sign(cell.rendition.back()))
+        {
             return false;
         }
     }
@@ -125,11 +126,9 @@ fn first_wrong(alloc: Global) -> Option<usize> {
 
 /// Tests that SGR reads the values 38, 5 and 1 one by one.
 fn is_bold_and_blinking(alloc: Global) -> bool {
-    let rendition = Rendition {
-        is_bold: true,
-        is_blinking: true,
-        ..Rendition::PLAIN
-    };
+    let rendition = Rendition::PLAIN
+        .with(Attribute::Bold(true))
+        .with(Attribute::Blinking(true));
     let mut answers = Vec::new(alloc);
     match read(alloc, SMALL, &[b"\x1B[38;5;1ma"], &mut answers) {
         Some(emulator) => {

@@ -75,7 +75,7 @@ fn goes_on(text: &mut Chars<'_>, cell: &Cell) -> bool {
     if text.next() != Some(shown) {
         return false;
     }
-    match cell.marks {
+    match cell.marks() {
         Marks::Bare => true,
         Marks::One(mark) => text.next() == Some(mark),
         Marks::Two(first, second) => text.next() == Some(first) && text.next() == Some(second),

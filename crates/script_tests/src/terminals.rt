@@ -124,7 +124,7 @@ fn put_cell(cell: &Cell, text: &mut String) -> Result<(), AllocError> {
         return Ok(());
     }
     text.push(cell.character)?;
-    match cell.marks {
+    match cell.marks() {
         Marks::Bare => Ok(()),
         Marks::One(mark) => text.push(mark),
         Marks::Two(first, second) => {

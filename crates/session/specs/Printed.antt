@@ -6,8 +6,8 @@ use Rattle.std.specs.Char.{encode_utf8}
 use Rattle.std.specs.Fmt.{decimal}
 use Rattle.line_fields.specs.Texts as texts
 use Rattle.cells.specs.declared.cell.Cell.{Cell}
-use Rattle.cells.specs.declared.cell.Marks.{Marks}
-use Rattle.cells.specs.declared.cell.Marks.TheVariants as marks
+use Rattle.cells.specs.declared.marks.Marks.{Marks}
+use Rattle.cells.specs.declared.marks.Marks.TheVariants as marks
 use Rattle.cells.specs.Line.{is_right}
 use Rattle.terminal_model.specs.declared.state.Position.{Position}
 use Rattle.terminal_model.specs.Shows.{View}

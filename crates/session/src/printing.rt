@@ -203,7 +203,7 @@ fn push_cell(cell: &Cell, out: &mut String) -> Result<(), AllocError>
         return Ok(());
     }
     out.push(cell.character)?;
-    match cell.marks {
+    match cell.marks() {
         Marks::Bare => Ok(()),
         Marks::One(mark) => out.push(mark),
         Marks::Two(first, second) => {

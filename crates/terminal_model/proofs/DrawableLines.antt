@@ -2,7 +2,7 @@
 use Rattle.std.proofs.Common.{◌≡◌, ℕ, ◌-◌, ◌<◌, Bool, false, ◌&&◌, List, []}
 use Rattle.std.proofs.Common.{◌∷◌, length, map, set, replicate, refl, ap, ◌∙◌, subst, arith}
 use Rattle.cells.specs.declared.cell.Cell.{Cell}
-use Rattle.cells.specs.declared.cell.Rendition.{Rendition}
+use Rattle.cells.specs.declared.rendition.Rendition.{Rendition}
 use Rattle.cells.specs.Line.{blank, cell_at, is_right, kept, marked, narrow_cell}
 use Rattle.cells.specs.Line.{left_cell, right_cell, spliced}
 use Rattle.cells.specs.Page.{line_at, Origin, New, From, are_own_halves, settled_cell, origin_before}

@@ -16,7 +16,7 @@ use Rattle.cells.proofs.Splicing.{IsPaired-blanks, narrow_pairs, wide_pairs}
 use Rattle.control_parser.specs.declared.func.Func.TheVariants.{Print, Esc, Csi}
 use Rattle.terminal_model.specs.declared.action.Action.{Action}
 use Rattle.terminal_model.specs.declared.action.Action.TheVariants.{Render, SetMode}
-use Rattle.terminal_model.specs.declared.action.Attribute.{Attribute}
+use Rattle.cells.specs.declared.rendition.Attribute.{Attribute}
 use Rattle.terminal_model.specs.declared.action.Mode.{Mode}
 use Rattle.terminal_model.specs.Reports.{report}
 use Rattle.terminal_model.specs.declared.state.Position.{Position}
@@ -27,7 +27,8 @@ use Rattle.terminal_model.specs.Printing.{printed_as, placed, placed_narrow, pla
 use Rattle.terminal_model.specs.Printing.{wide_printed, wide_or_none, lacks_room, marked_at, advanced, columns_of}
 use Rattle.terminal_model.specs.Printing.{drawn}
 use Rattle.terminal_model.specs.Erasing.{line_erased}
-use Rattle.terminal_model.specs.Settings.{homed, rendition_with, modes_with}
+use Rattle.cells.specs.Rendition.{rendition_with}
+use Rattle.terminal_model.specs.Settings.{homed, modes_with}
 use Rattle.terminal_model.specs.Table.{acted_from, acted, all_acted, effect}
 use Rattle.terminal_model.specs.Places.{place, IsPlain, narrow_at, wide_at, PutsOver, PutsMark, mode_final}
 use Rattle.terminal_model.specs.Places.{keypad_final}

@@ -2,8 +2,8 @@
 use Rattle.std.specs.Prelude.{◌≡◌, ℕ, suc, ◌<◌, true, false, List, length, IfSome}
 use Rattle.cells.specs.declared.cell.Shape.{Shape}
 use Rattle.cells.specs.declared.cell.Shape.TheVariants.{Narrow, Left, Right}
-use Rattle.cells.specs.declared.cell.Marks.{Marks}
-use Rattle.cells.specs.declared.cell.Marks.TheVariants.{Bare, One, Two}
+use Rattle.cells.specs.declared.marks.Marks.{Marks}
+use Rattle.cells.specs.declared.marks.Marks.TheVariants.{Bare, One, Two}
 use Rattle.cells.specs.declared.cell.Cell.{Cell}
 use Rattle.cells.specs.Line.{cell_at, is_left, is_right, right_cell, unprotected}
 use Rattle.cells.specs.Page.{line_at}

@@ -11,8 +11,8 @@ use Rattle.charsets.specs.declared.unit.Unit.TheVariants as units
 use Rattle.charsets.specs.Shifts.{mapped}
 use Rattle.cells.specs.declared.cell.Shape.{Shape}
 use Rattle.cells.specs.declared.cell.Shape.TheVariants.{Narrow, Left, Right}
-use Rattle.cells.specs.declared.cell.Marks.{Marks}
-use Rattle.cells.specs.declared.cell.Marks.TheVariants.{Bare, One, Two}
+use Rattle.cells.specs.declared.marks.Marks.{Marks}
+use Rattle.cells.specs.declared.marks.Marks.TheVariants.{Bare, One, Two}
 use Rattle.cells.specs.declared.cell.Cell.{Cell}
 use Rattle.cells.specs.Line.{cell_at}
 use Rattle.cells.specs.Page.{line_at}

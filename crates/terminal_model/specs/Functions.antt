@@ -19,13 +19,13 @@ use Rattle.control_parser.specs.declared.func.Func.{Func}
 use Rattle.control_parser.specs.declared.func.Func.TheVariants as funcs
 use Rattle.terminal_model.specs.declared.action.Part.{Part}
 use Rattle.terminal_model.specs.declared.action.Part.TheVariants.{ToEnd, ToStart, All}
-use Rattle.cells.specs.declared.cell.Colour.{Colour}
-use Rattle.cells.specs.declared.cell.Colour.TheVariants.{Default, Black, Red, Green, Yellow, Blue}
-use Rattle.cells.specs.declared.cell.Colour.TheVariants.{Magenta, Cyan, White}
-use Rattle.terminal_model.specs.declared.action.Attribute.{Attribute}
-use Rattle.terminal_model.specs.declared.action.Attribute.TheVariants.{Plain, Bold, Underlined}
-use Rattle.terminal_model.specs.declared.action.Attribute.TheVariants.{Blinking, Reversed}
-use Rattle.terminal_model.specs.declared.action.Attribute.TheVariants.{Foreground, Background}
+use Rattle.cells.specs.declared.rendition.Colour.{Colour}
+use Rattle.cells.specs.declared.rendition.Colour.TheVariants.{Default, Black, Red, Green, Yellow, Blue}
+use Rattle.cells.specs.declared.rendition.Colour.TheVariants.{Magenta, Cyan, White}
+use Rattle.cells.specs.declared.rendition.Attribute.{Attribute}
+use Rattle.cells.specs.declared.rendition.Attribute.TheVariants.{Plain, Bold, Underlined}
+use Rattle.cells.specs.declared.rendition.Attribute.TheVariants.{Blinking, Reversed}
+use Rattle.cells.specs.declared.rendition.Attribute.TheVariants.{Foreground, Background}
 use Rattle.terminal_model.specs.declared.action.Mode.TheVariants as modes
 use Rattle.terminal_model.specs.declared.action.Action.{Action}
 use Rattle.terminal_model.specs.declared.action.Action.TheVariants.{Print, Backspace, Tab, LineFeed}

@@ -5,8 +5,8 @@ use Prim.Native.Char.{code}
 use Rattle.charsets.specs.declared.sets.CharacterSet.TheVariants.{Ascii}
 use Rattle.charsets.specs.Shifts.{set_at}
 use Rattle.cells.specs.declared.cell.Cell.{Cell}
-use Rattle.cells.specs.declared.cell.Colour.{Colour}
-use Rattle.cells.specs.declared.cell.Rendition.{Rendition}
+use Rattle.cells.specs.declared.rendition.Colour.{Colour}
+use Rattle.cells.specs.declared.rendition.Rendition.{Rendition}
 use Rattle.cells.specs.Line.{blank, cell_at, is_left, is_right, marked, narrow_cell, left_cell}
 use Rattle.cells.specs.Line.{right_cell}
 use Rattle.cells.specs.Page.{line_at}

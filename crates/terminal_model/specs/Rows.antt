@@ -1,7 +1,7 @@
 -- Worked rows: what a fresh window shows after it has read some bytes.
 use Rattle.std.specs.Prelude.{ℕ, true, false, List, [], ◌∷◌, ◌++◌, map, codes}
 use Rattle.cells.specs.declared.cell.Cell.{Cell}
-use Rattle.cells.specs.declared.cell.Colour.{Colour}
+use Rattle.cells.specs.declared.rendition.Colour.{Colour}
 use Rattle.cells.specs.Line.{plain, narrow_cell, left_cell, right_cell}
 use Rattle.terminal_model.specs.Screen.{Page, Screen, blank_page, starting}
 use Rattle.terminal_model.specs.Reading.{ready, Read, reads}

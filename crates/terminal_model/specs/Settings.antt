@@ -1,25 +1,10 @@
--- The rendition and the modes that SGR, SM, RM, DECSM and DECRM set.
+-- The modes that SM, RM, DECSM and DECRM set.
 use Rattle.std.specs.Prelude.{Bool}
-use Rattle.cells.specs.declared.cell.Rendition.{Rendition}
-use Rattle.cells.specs.Line.{plain}
 use Rattle.terminal_model.specs.declared.state.Modes.{Modes}
 use Rattle.terminal_model.specs.declared.state.State.{State}
-use Rattle.terminal_model.specs.declared.action.Attribute.{Attribute}
-use Rattle.terminal_model.specs.declared.action.Attribute.TheVariants.{Plain, Bold, Underlined}
-use Rattle.terminal_model.specs.declared.action.Attribute.TheVariants.{Blinking, Reversed}
-use Rattle.terminal_model.specs.declared.action.Attribute.TheVariants.{Foreground, Background}
 use Rattle.terminal_model.specs.declared.action.Mode.{Mode}
 use Rattle.terminal_model.specs.declared.action.Mode.TheVariants as modes
 use Rattle.terminal_model.specs.Motion.{unpending, home}
-
-abbrev pub rendition_with : Rendition → Attribute → Rendition
-rendition_with r Plain = plain
-rendition_with r (Bold on) = record r { is_bold = on }
-rendition_with r (Underlined on) = record r { is_underlined = on }
-rendition_with r (Blinking on) = record r { is_blinking = on }
-rendition_with r (Reversed on) = record r { is_reversed = on }
-rendition_with r (Foreground colour) = record r { fore = colour }
-rendition_with r (Background colour) = record r { back = colour }
 
 abbrev pub modes_with : Modes → Mode → Bool → Modes
 modes_with m modes.Insert on = record m { inserts = on }

@@ -39,7 +39,8 @@ use Rattle.terminal_model.specs.Saving.{saved_of, saved_or_none, restored}
 use Rattle.terminal_model.specs.Erasing.{first_line, end_line, line_erased, part_erased}
 use Rattle.terminal_model.specs.Erasing.{part_unprotected, lines_unprotected, is_in_margins}
 use Rattle.terminal_model.specs.Erasing.{lines_inserted, lines_deleted}
-use Rattle.terminal_model.specs.Settings.{rendition_with, modes_with, homed}
+use Rattle.cells.specs.Rendition.{rendition_with}
+use Rattle.terminal_model.specs.Settings.{modes_with, homed}
 use Rattle.terminal_model.specs.Resets.{cleared, reset, softly_reset}
 
 -- The table. The first argument is the state of the screen.

@@ -1,6 +1,6 @@
 //! The rows of the screen table, with their arguments.
 
-use cells::Colour;
+use cells::Attribute;
 use charsets::{CharacterSet, Coding, Place, Shift, Unit};
 
 /// The part of a line or of the page that an erasure takes: from the cursor on, up to the cursor,
@@ -10,18 +10,6 @@ pub enum Part {
     ToEnd,
     ToStart,
     All,
-}
-
-/// A change of the rendition by one value of SGR (ECMA-48, 8.3.117).
-#[derive(Clone, Copy, Debug)]
-pub enum Attribute {
-    Plain,
-    Bold(bool),
-    Underlined(bool),
-    Blinking(bool),
-    Reversed(bool),
-    Foreground(Colour),
-    Background(Colour),
 }
 
 /// A mode that a value of SM, RM, DECSM or DECRM names.

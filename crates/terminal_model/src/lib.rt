@@ -10,7 +10,7 @@ mod report;
 mod rows;
 mod state;
 
-pub use action::{Action, Attribute, Mode, Part};
+pub use action::{Action, Mode, Part};
 pub use laws::{
     draws_join, erased_ones_stand_at_places, frame_functions_are_listed, frames_start_anew,
     frames_start_plain, ignored_ones_change_nothing, last_lines_stay,

@@ -3,8 +3,8 @@
 
 ghost use Rattle.std.specs.Prelude.{◌≡◌, true, false, List, [], ◌∷◌, ◌++◌, codes};
 ghost use Rattle.cells.specs.Line.{plain, narrow_cell, marked};
-ghost use Rattle.cells.specs.declared.cell.Colour.TheVariants.{Default, Black, Red, Yellow, Blue};
-ghost use Rattle.cells.specs.declared.cell.Colour.TheVariants.{Cyan, White};
+ghost use Rattle.cells.specs.declared.rendition.Colour.TheVariants.{Default, Black, Red, Yellow, Blue};
+ghost use Rattle.cells.specs.declared.rendition.Colour.TheVariants.{Cyan, White};
 ghost use Rattle.terminal_model.specs.Screen.{blank_page, starting};
 ghost use Rattle.terminal_model.specs.Sizing.{resized};
 ghost use Rattle.terminal_model.specs.Reading.{ready};

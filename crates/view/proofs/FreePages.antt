@@ -11,7 +11,6 @@ use Rattle.regions.specs.declared.rects.Rects.{Rects}
 use Rattle.regions.specs.declared.way.Way.TheVariants.{Below, Right}
 use Rattle.regions.specs.Shapes.{Shape, region, split, upper, lower, left, right, boxes, separators}
 use Rattle.regions.specs.Pages.{box_of, status_of}
-use Rattle.regions.proofs.Room.{wide}
 use Rattle.view.specs.Composing.{HasPageSize}
 use Rattle.view.specs.Rows.{IsFree, AreFree}
 use Rattle.view.specs.Granted.{Piece, Part, AreParts, pieces}

@@ -9,7 +9,7 @@ use Rattle.std.specs.Str.{all_scalars}
 use Rattle.std.proofs.lemmas.Bool.{cases_lt, ne_eqb, le-ltb, leb-true, eqb-true}
 use Rattle.std.proofs.lemmas.List.{get_or_past, get_or_default}
 use Rattle.cells.specs.declared.cell.Cell.{Cell}
-use Rattle.cells.specs.declared.cell.Rendition.{Rendition}
+use Rattle.cells.specs.declared.rendition.Rendition.{Rendition}
 use Rattle.cells.specs.declared.cell.Shape.TheVariants.{Narrow, Right}
 use Rattle.cells.specs.Glyph.{drawn_as, glyph_columns}
 use Rattle.cells.specs.Line.{blank, cell_at, is_left, narrow_cell, left_cell, right_cell, unprotected}

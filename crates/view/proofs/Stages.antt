@@ -1,5 +1,5 @@
 -- The pieces of a page are laid over it one after another.
-use Rattle.std.proofs.Common.{◌≡◌, ℕ, ◌+◌, ◌-◌, ◌<◌, ◌≤◌, true, List, [], length, map}
+use Rattle.std.proofs.Common.{◌≡◌, ℕ, ◌+◌, ◌<◌, ◌≤◌, true, List, [], length, map}
 use Rattle.std.proofs.Common.{get_or, take, refl, sym, ap, subst, ◌∙◌, arith, ⊎_elim}
 use Rattle.std.specs.Prelude.{◌==◌}
 use Rattle.std.specs.List.{range_with_len}
@@ -12,8 +12,7 @@ use Rattle.cells.specs.Page.{line_at, IsGrid}
 use Rattle.terminal_model.specs.Shows.{View}
 use Rattle.regions.specs.declared.rect.Rect.{Rect}
 use Rattle.regions.specs.declared.rects.Rects.{Rects}
-use Rattle.regions.specs.Shapes.{Shape, boxes, separators}
-use Rattle.regions.specs.Pages.{parts}
+use Rattle.regions.specs.Shapes.{Shape}
 use Rattle.regions.proofs.Room.{tall}
 use Rattle.terminal_model.specs.Screen.{Page}
 use Rattle.std.proofs.Math.Seq.{take-length}

@@ -7,7 +7,7 @@ use Rattle.std.proofs.lemmas.Fmt.{IsAscii-decimal}
 use Rattle.std.proofs.lemmas.List.{at_drop_more, at_drop_all, length_push, append-nil}
 use Rattle.std.proofs.lemmas.Bool.{ne_eqb}
 use Rattle.cells.specs.declared.cell.Cell.{Cell}
-use Rattle.cells.specs.declared.cell.Rendition.{Rendition}
+use Rattle.cells.specs.declared.rendition.Rendition.{Rendition}
 use Rattle.cells.specs.Line.{narrow_cell, left_cell, right_cell}
 use Rattle.cells.specs.Glyph.{drawn_as, glyph_columns}
 use Rattle.terminal_model.specs.Printing.{columns_of, drawn}

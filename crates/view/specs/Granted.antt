@@ -6,7 +6,7 @@ use Rattle.std.specs.List.{range_with_len}
 use Rattle.std.specs.Str.Lossy.{utf8_lossy}
 use Prim.Native.Char.{code}
 use Rattle.cells.specs.declared.cell.Cell.{Cell}
-use Rattle.cells.specs.declared.cell.Rendition.{Rendition}
+use Rattle.cells.specs.declared.rendition.Rendition.{Rendition}
 use Rattle.cells.specs.Line.{blank, plain, narrow_cell, cell_at, IsPaired}
 use Rattle.cells.specs.Page.{line_at}
 use Rattle.regions.specs.declared.rect.Rect.{Rect}

@@ -2,7 +2,7 @@
 use Rattle.std.specs.Prelude.{ℕ, ◌+◌, false, ◌&&◌, ◌==◌, if◌then◌else◌}
 use Rattle.std.specs.Prelude.{List, [], ◌∷◌, ◌++◌, slice_index_or}
 use Rattle.cells.specs.declared.cell.Cell.{Cell}
-use Rattle.cells.specs.declared.cell.Rendition.{Rendition}
+use Rattle.cells.specs.declared.rendition.Rendition.{Rendition}
 use Rattle.cells.specs.Line.{is_left, narrow_cell, left_cell, right_cell}
 use Rattle.terminal_model.specs.Printing.{columns_of, drawn}
 

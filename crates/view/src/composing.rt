@@ -11,7 +11,7 @@ ghost use Rattle.view.specs.Composing.{HasScalarCaption, TakesFocus, IsCursorOf}
 ghost use Rattle.view.specs.Composing.{LaysRow, LaysBoxRow, LaysBox, LaysSeparator, LaysStatus};
 
 use crate::pane::{Contents, Pane};
-use crate::region_rows::{BoxRow, REVERSE, box_row, first_shown, line_shown_whole};
+use crate::region_rows::{BoxRow, box_row, first_shown, line_shown_whole, reverse};
 use crate::text::text_row;
 use crate::view::{Cursor, KeyModes, View};
 use cells::{Cell, Rendition};
@@ -167,9 +167,9 @@ impl View {
         ensures size { KeepsSize self.old self.new }
         ensures lays { LaysSeparator rect self.old self.new }
     {
-        let bar = Cell::narrow('|', REVERSE, false);
+        let bar = [Cell::narrow('|', reverse(), false)];
         for row in 0..rect.rows {
-            self.put_row(rect, row, &[bar]);
+            self.put_row(rect, row, &bar);
         }
     }
 

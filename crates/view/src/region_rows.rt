@@ -5,21 +5,22 @@ ghost use Rattle.std.specs.Prelude.{false, Bool, IsTrue, IfSome};
 ghost use Rattle.view.specs.Rows.{IsRow, whole_cell, cut_cell};
 ghost use Rattle.view.specs.Rows.{IsWindowRow, IsPartRow, IsCaptionRow, IsBoxRow};
 ghost use Rattle.cells.specs.Line.{cell_at};
-ghost use Rattle.view.specs.Granted.{part_of, window_of, line_cell, shown_cell as shown_cell_of};
+ghost use Rattle.view.specs.Granted.{part_of, window_of, line_cell, reverse, shown_cell as shown_cell_of};
 ghost use Rattle.view.specs.Granted.{first_shown as first_shown_of, caption_text as caption_of};
 ghost use Rattle.view.specs.Composing.{HasScalarCaption};
 
 use crate::pane::{Contents, Pane};
 use crate::text::text_row;
-use cells::{Cell, Rendition};
+use cells::{Attribute, Cell, Rendition};
 use regions::Rect;
 use std::alloc::{AllocError, Global};
 
 /// The rendition of captions and separators.
-pub(crate) const REVERSE: Rendition = Rendition {
-    is_reversed: true,
-    ..Rendition::PLAIN
-};
+pub(crate) fn reverse() -> Rendition
+    ensures { result ≡ reverse }
+{
+    Rendition::PLAIN.with(Attribute::Reversed(true))
+}
 
 /// A row of a region's box, and whether the region has the focus.
 #[derive(Clone, Copy)]
@@ -33,16 +34,14 @@ pub(crate) struct BoxRow {
 fn shown_cell(cell: Cell, is_inverted: bool) -> Cell
     ensures { result ≡ shown_cell_of is_inverted cell }
 {
-    let is_reversed = cell.rendition.is_reversed;
+    let is_reversed = cell.rendition.is_reversed();
+    let shown = Attribute::Reversed(if is_inverted {
+        !is_reversed
+    } else {
+        is_reversed
+    });
     Cell {
-        rendition: Rendition {
-            is_reversed: if is_inverted {
-                !is_reversed
-            } else {
-                is_reversed
-            },
-            ..cell.rendition
-        },
+        rendition: cell.rendition.with(shown),
         is_protected: false,
         ..cell
     }
@@ -234,10 +233,7 @@ fn caption_row(
     ensures characters { OnOk result (HasScalarCaption (part_of pane.now)) }
 {
     let text = caption_text(alloc, pane)?;
-    let rendition = Rendition {
-        is_bold: is_focused,
-        ..REVERSE
-    };
+    let rendition = reverse().with(Attribute::Bold(is_focused));
     text_row(alloc, text.as_str(), columns, rendition)
 }
 

@@ -1,7 +1,7 @@
 //! Texts of captions and of the status line.
 
-ghost use Rattle.std.specs.Prelude.{◌≡◌, ◌<◌, ◌++◌, IfOk, OnOk, chars, length};
-ghost use Rattle.cells.specs.Line.{cell_at};
+ghost use Rattle.std.specs.Prelude.{◌≡◌, ◌<◌, ◌++◌, IfOk, OnOk, chars, false, length};
+ghost use Rattle.cells.specs.Line.{cell_at, narrow_cell};
 ghost use Rattle.view.specs.Texts.{visible as visible_of, uncut as uncut_of, char_cells};
 ghost use Rattle.view.specs.Texts.{text_cells as text_cells_of, text_at};
 ghost use Rattle.view.specs.Rows.{IsRow};
@@ -69,13 +69,14 @@ fn text_cells(
     Ok(cells)
 }
 
-/// Puts a space in place of the left half of a wide character in the last column.
-fn cut_end(row: &mut [Cell], space: Cell)
-    ensures { IsRow (λ column. uncut_of (length row.old) column (cell_at row.old column) space)
-        (length row.old) row.new }
+/// Puts a space of this rendition in place of the left half of a wide character in the last column.
+fn cut_end(row: &mut [Cell], rendition: Rendition)
+    ensures { IsRow (λ column. uncut_of (length row.old) column (cell_at row.old column)
+        (narrow_cell 32 rendition false)) (length row.old) row.new }
 {
     let columns = row.len();
     if 0 < columns {
+        let space = Cell::narrow(' ', rendition, false);
         row[columns - 1] = uncut(row[columns - 1], columns - 1, columns, space);
     }
 }
@@ -92,8 +93,7 @@ pub(crate) fn text_row(
         (λ row. IsRow (text_at rendition (chars text.now) columns) columns row.items) }
 {
     let mut row = text_cells(alloc, text, columns, rendition)?;
-    let space = Cell::narrow(' ', rendition, false);
-    row.resize(columns, space)?;
-    cut_end(row.as_mut_slice(), space);
+    row.resize(columns, Cell::narrow(' ', rendition, false))?;
+    cut_end(row.as_mut_slice(), rendition);
     Ok(row)
 }

@@ -7,7 +7,7 @@ use Rattle.std.proofs.lemmas.List.Sums.{prefix_len-le-length}
 use Rattle.std.proofs.lemmas.Bool.Decides.{nat_tests}
 use Rattle.charsets.specs.Units.{is_plain}
 use Rattle.cells.specs.declared.cell.Cell.{Cell}
-use Rattle.cells.specs.declared.cell.Rendition.{Rendition}
+use Rattle.cells.specs.declared.rendition.Rendition.{Rendition}
 use Rattle.cells.specs.Line.{cell_at, is_right, narrow_cell, narrow_cells, plain, spliced}
 use Rattle.cells.specs.Page.{line_at, page_from, page_spliced}
 use Rattle.cells.specs.Moves.{scrolled_up}

@@ -9,7 +9,7 @@ use Rattle.charsets.specs.declared.unit.Unit.TheVariants.{Code}
 use Rattle.charsets.specs.Shifts.{spent}
 use Rattle.charsets.proofs.Shifted.{mapped-ascii, spent-none}
 use Rattle.cells.specs.declared.cell.Cell.{Cell}
-use Rattle.cells.specs.declared.cell.Rendition.{Rendition}
+use Rattle.cells.specs.declared.rendition.Rendition.{Rendition}
 use Rattle.cells.specs.Line.{IsPaired, is_right, marked, spliced, narrow_cell, left_cell}
 use Rattle.cells.specs.Page.{IsPage, page_marked}
 use Rattle.cells.specs.Texts.{base_cell, cells_on, is_base, is_base_or_mark, is_based, is_known_wide, is_letter}

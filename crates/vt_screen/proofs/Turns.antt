@@ -3,7 +3,8 @@ use Rattle.std.proofs.Common.{◌≡◌, ℕ, List, [], ◌∷◌, ◌++◌, Opt
 use Rattle.charsets.specs.declared.unit.Unit.TheVariants.{Code}
 use Rattle.terminal_model.specs.declared.action.Action.{Action}
 use Rattle.terminal_model.specs.declared.action.Action.TheVariants.{Print, Render}
-use Rattle.terminal_model.specs.declared.action.Attribute.{Attribute}
+use Rattle.cells.specs.declared.rendition.Attribute.{Attribute}
+use Rattle.cells.specs.Rendition.{rendition_with}
 use Rattle.terminal_model.specs.declared.state.State.{State}
 use Rattle.terminal_model.specs.Motion.{unjoined}
 use Rattle.terminal_model.specs.Functions.{alone}
@@ -11,7 +12,6 @@ use Rattle.terminal_model.specs.Screen.{Screen, with_state}
 use Rattle.terminal_model.specs.Reports.{all_answered}
 use Rattle.terminal_model.specs.Table.{acted, acted_from, all_acted}
 use Rattle.vt_screen.specs.Places.{all_acted_places}
-use Rattle.vt_screen_state.specs.Meanings.{rendition_by}
 use Rattle.vt_screen.specs.Runs.{prints}
 use Rattle.vt_screen.specs.Stored.{Stored, Performs}
 
@@ -44,15 +44,10 @@ performs-none x = record { screen = refl; places = refl; silent = refl }
 -- the action of a known value of SGR
 pub renders : (x : Screen) (places : List ℕ) (next : State) (old : Stored) (known : Option Action)
     (attribute : Attribute) → known ≡ Some (Render attribute)
-    → next ≡ unjoined (record x.state { rendition = rendition_by x.state.rendition known })
+    → next ≡ unjoined (record x.state { rendition = rendition_with x.state.rendition attribute })
     → record { screen = x; places = places } ≡ old
     → Performs old (alone known) (record { screen = with_state x next; places = places })
 unfolding acted_from
 renders x places next old known attribute k n e =
     subst (λ (s : Stored). Performs s (alone known) (record { screen = with_state x next; places = places })) e
-    (rw k (record {
-      screen = ap (with_state x)
-          (n ∙ ap (λ o. unjoined (record x.state { rendition = rendition_by x.state.rendition o })) k);
-      places = refl;
-      silent = refl;
-    }))
+    (rw k (record { screen = ap (with_state x) n; places = refl; silent = refl }))

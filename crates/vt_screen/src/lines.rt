@@ -10,7 +10,6 @@ ghost use Rattle.vt_screen.specs.Runs.{ScrollsPlain, prints};
 
 use crate::display::Display;
 use crate::runs::takes_runs;
-use cells::Cell;
 use control_parser::plain_run;
 use terminal_model::State;
 use vt_screen_state::{advance, go_to_first_column};
@@ -49,8 +48,10 @@ impl Display {
 fn scrolls_plain(state: &State) -> bool
     ensures { IsTrue result → ScrollsPlain state.now }
 {
-    let space = Cell::narrow(' ', state.rendition, state.is_protecting);
-    state.line == state.bottom && state.top == 0 && space.is_blank()
+    state.line == state.bottom
+        && state.top == 0
+        && state.rendition.is_plain()
+        && !state.is_protecting
 }
 
 /// The number of characters 20 to 7E with which some bytes begin, but at most `most`.

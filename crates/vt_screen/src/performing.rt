@@ -15,8 +15,7 @@ use charsets::Unit;
 use control_parser::Func;
 use terminal_model::{Action, Report};
 use vt_screen_state::{
-    Setting, control_action, escape_action, plain_action, render_value, rendition_action,
-    sequence_action, setting_of,
+    Setting, control_action, escape_action, render, rendition_action, sequence_action, setting_of,
 };
 
 impl Screen {
@@ -101,7 +100,7 @@ impl Screen {
         ensures { PerformsIf result self.old (actions_of (Csi mark params.now [] last)) self.new }
     {
         match (mark, last) {
-            (None, b'H') => self.perform_alone(plain_action(params, b'H')),
+            (None, b'H') => self.perform_sequence(None, params, b'H'),
             (None, b'm') => {
                 self.set_each(Setting::Rendition, params);
                 true
@@ -139,17 +138,7 @@ impl Screen {
             self.set_each(setting, params);
             return true;
         }
-        self.perform_alone(sequence_action(mark, params, &[], last))
-    }
-
-    /// Performs the action of a control function that has at most one. If it is answered, it does
-    /// nothing and returns false.
-    #[inline(always)]
-    fn perform_alone(&mut self, action: Option<Action>) -> bool
-        requires { IfSome action IsCounted }
-        ensures { PerformsIf result self.old (alone action) self.new }
-    {
-        if let Some(action) = action {
+        if let Some(action) = sequence_action(mark, params, &[], last) {
             if is_answered(&action) {
                 return false;
             }
@@ -184,14 +173,13 @@ impl Screen {
         }
     }
 
-    /// Performs the action of a value of SGR. Which value it is can't be foreseen, so that there is
-    /// no branch on the attribute.
+    /// Performs the action of a value of SGR.
     #[inline(always)]
     fn render(&mut self, value: u16)
         ensures { Performs self.old (alone (rendered value)) self.new }
     {
-        if let Some(Action::Render(_)) = rendition_action(value) {
-            render_value(&mut self.display.state, value);
+        if let Some(Action::Render(attribute)) = rendition_action(value) {
+            render(&mut self.display.state, attribute);
         }
     }
 

@@ -215,7 +215,7 @@ impl Page {
             (replicate (length (line_at self.old.lines 0)) blank) }
         ensures places { self.new.places ≡ self.old.places }
     {
-        store::fill_all(self.stored.as_mut_slice(), Cell::BLANK);
+        store::fill_all(self.stored.as_mut_slice(), &Cell::BLANK);
     }
 
     /// Puts a copy of one cell, of width 1, at every place.
@@ -224,7 +224,7 @@ impl Page {
         ensures lines { self.new.lines ≡ page_from (filled cell) self.old.lines }
         ensures places { self.new.places ≡ self.old.places }
     {
-        store::fill_all(self.stored.as_mut_slice(), cell);
+        store::fill_all(self.stored.as_mut_slice(), &cell);
     }
 
     /// Rotates the lines from `top` to `bottom`, so that the first `count` of them come last.

@@ -46,12 +46,12 @@ fn rotate(places: &mut [u8], count: usize)
 }
 
 /// Puts a copy of one cell, of width 1, in every column of every line.
-pub fn fill_all(stored: &mut [Line], cell: Cell)
-    requires narrow { cell.shape ≡ Shape.Narrow }
-    ensures { stored.new ≡ map (λ line. replicate (length line) cell) stored.old }
+pub fn fill_all(stored: &mut [Line], cell: &Cell)
+    requires narrow { cell.now.shape ≡ Shape.Narrow }
+    ensures { stored.new ≡ map (λ line. replicate (length line) cell.now) stored.old }
 {
     for line in stored.iter_mut() {
-        line.fill(cell);
+        line.fill(*cell);
     }
 }
 

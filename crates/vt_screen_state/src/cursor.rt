@@ -121,7 +121,8 @@ pub fn lacks_room(state: &State) -> bool
     requires { state.now.column < state.now.columns }
     ensures { result ≡ lacks_room state.now }
 {
-    state.column + 1 == state.columns
+    let (column, columns) = (state.column, state.columns);
+    column + 1 == columns
 }
 
 /// Whether a wide character goes to the next line first: ?7 is set, and it doesn't fit in at the cursor.

@@ -20,9 +20,10 @@ pub fn end_column(part: Part, state: &State) -> usize
     requires { state.now.column < state.now.columns }
     ensures { result ≡ end_column part state.now }
 {
+    let (column, columns) = (state.column, state.columns);
     match part {
-        Part::ToStart => state.column + 1,
-        Part::ToEnd | Part::All => state.columns,
+        Part::ToStart => column + 1,
+        Part::ToEnd | Part::All => columns,
     }
 }
 

@@ -7,7 +7,6 @@ mod erasing;
 mod escapes;
 mod margins;
 mod modes;
-mod rendition;
 mod report;
 mod saved;
 mod sequences;
@@ -25,7 +24,6 @@ pub use modes::{
     designate, protect, render, set_application_keypad, set_coding, set_eight_bit_reports,
     set_mode, shift, soft_reset, starting_state,
 };
-pub use rendition::render_value;
 pub use report::report_of;
 pub use saved::{fit_saved, restore, saved_of};
 pub use sequences::{plain_action, sequence_action, setting_of};

@@ -4,14 +4,15 @@ ghost use Rattle.std.specs.Prelude.{◌≡◌, ◌-◌, ◌<◌};
 ghost use Rattle.charsets.specs.Shifts.{designated, shifted};
 ghost use Rattle.terminal_model.specs.Screen.{starting_modes, starting_state};
 ghost use Rattle.terminal_model.specs.Motion.{unjoined, unpending};
-ghost use Rattle.terminal_model.specs.Settings.{homed, modes_with, rendition_with};
+ghost use Rattle.cells.specs.Rendition.{rendition_with};
+ghost use Rattle.terminal_model.specs.Settings.{homed, modes_with};
 ghost use Rattle.terminal_model.specs.Resets.{softly_reset};
 
 use crate::cursor::{go_home, separate, settle};
 use crate::margins::use_whole_page;
-use cells::Rendition;
+use cells::{Attribute, Rendition};
 use charsets::{CharacterSet, Coding, Place, Shift, Shifts};
-use terminal_model::{Attribute, Mode, Modes, State};
+use terminal_model::{Mode, Modes, State};
 
 /// The starting values of the modes (VT220 Programmer Reference Manual, chapter 4).
 fn starting_modes() -> Modes
@@ -72,26 +73,11 @@ pub fn set_mode(state: &mut State, mode: Mode, is_set: bool)
     settle(state);
 }
 
-/// Changes a rendition by one value of SGR.
-fn change_rendition(rendition: &mut Rendition, attribute: Attribute)
-    ensures { rendition.new ≡ rendition_with rendition.old attribute }
-{
-    match attribute {
-        Attribute::Plain => *rendition = Rendition::PLAIN,
-        Attribute::Bold(is_bold) => rendition.is_bold = is_bold,
-        Attribute::Underlined(is_underlined) => rendition.is_underlined = is_underlined,
-        Attribute::Blinking(is_blinking) => rendition.is_blinking = is_blinking,
-        Attribute::Reversed(is_reversed) => rendition.is_reversed = is_reversed,
-        Attribute::Foreground(fore) => rendition.fore = fore,
-        Attribute::Background(back) => rendition.back = back,
-    }
-}
-
 /// Changes the rendition of new characters by one value of SGR (ECMA-48, 8.3.117).
 pub fn render(state: &mut State, attribute: Attribute)
     ensures { state.new ≡ unjoined (record state.old { rendition = rendition_with state.old.rendition attribute }) }
 {
-    change_rendition(&mut state.rendition, attribute);
+    state.rendition = state.rendition.with(attribute);
     separate(state);
 }
 

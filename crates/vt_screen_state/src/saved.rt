@@ -6,6 +6,7 @@ ghost use Rattle.terminal_model.specs.Saving.{restored, restored_line, saved_of,
 ghost use Rattle.terminal_model.specs.Sizing.{saved_resized};
 
 use crate::modes::starting_state;
+use charsets::Coding;
 use terminal_model::{Saved, State};
 
 /// What DECSC saves: the cursor, and the settings for new characters.
@@ -30,10 +31,9 @@ pub fn restore(state: &mut State, saved: Option<Saved>)
     requires column_inside { state.old.column < state.old.columns }
     ensures { state.new ≡ restored state.old (saved_or_none saved) }
 {
-    let starting = saved_of(&starting_state(state.rows, state.columns, state.coding));
-    let saved = saved.unwrap_or(starting);
+    let saved = saved_or_none(saved);
     let last = state.columns - 1;
-    state.line = restored_line(state, saved);
+    state.line = restored_line(state, &saved);
     state.column = saved.column.min(last);
     state.is_wrap_pending = saved.is_wrap_pending && state.modes.wraps && state.column == last;
     state.rendition = saved.rendition;
@@ -43,10 +43,20 @@ pub fn restore(state: &mut State, saved: Option<Saved>)
     state.joining = None;
 }
 
+/// What DECRC restores: the starting values if nothing was saved.
+fn saved_or_none(saved: Option<Saved>) -> Saved
+    ensures { result ≡ saved_or_none saved }
+{
+    match saved {
+        Some(saved) => saved,
+        None => saved_of(&starting_state(1, 1, Coding::Utf8)),
+    }
+}
+
 /// The saved line: on the page, and within the margins if ?6 was saved as set.
-fn restored_line(state: &State, saved: Saved) -> usize
+fn restored_line(state: &State, saved: &Saved) -> usize
     requires { state.now.line < state.now.rows }
-    ensures { result ≡ restored_line state.now saved }
+    ensures { result ≡ restored_line state.now saved.now }
 {
     if saved.counts_from_margin {
         saved.line.min(state.bottom).max(state.top)

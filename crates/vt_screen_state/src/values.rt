@@ -6,8 +6,8 @@ ghost use Rattle.vt_screen_state.specs.Meanings.{is_render, meaning};
 ghost use Rattle.vt_screen_state.specs.Counted.{IsCounted};
 ghost use Rattle.vt_screen_state.specs.Silent.{IsSilent};
 
-use cells::Colour;
-use terminal_model::{Action, Attribute, Mode};
+use cells::{Attribute, Colour};
+use terminal_model::{Action, Mode};
 
 /// A function that performs one action for each value that is known.
 #[derive(Clone, Copy, Debug)]

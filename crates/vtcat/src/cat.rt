@@ -83,7 +83,7 @@ fn write_cell<W: Write>(cell: &Cell, writer: &mut W) -> io::Result<()> {
         return Ok(());
     }
     write!(writer, "{}", cell.character)?;
-    match cell.marks {
+    match cell.marks() {
         Marks::Bare => Ok(()),
         Marks::One(mark) => write!(writer, "{mark}"),
         Marks::Two(first, second) => write!(writer, "{first}{second}"),

@@ -1,9 +1,9 @@
 -- How a character looks, as a number.
 use Rattle.std.specs.Prelude.{ℕ, ◌+◌, ◌*◌, Bool, cond}
 use Rattle.cells.specs.declared.cell.Cell.{Cell}
-use Rattle.cells.specs.declared.cell.Rendition.{Rendition}
-use Rattle.cells.specs.declared.cell.Colour.{Colour}
-use Rattle.cells.specs.declared.cell.Colour.TheVariants as colour
+use Rattle.cells.specs.declared.rendition.Rendition.{Rendition}
+use Rattle.cells.specs.declared.rendition.Colour.{Colour}
+use Rattle.cells.specs.declared.rendition.Colour.TheVariants as colour
 use Rattle.cells.specs.Line.{is_left}
 
 abbrev pub flag : Bool → ℕ → ℕ

@@ -47,7 +47,7 @@ fn put_cell(out: &mut String, cell: &Cell) -> Result<(), AllocError>
         ≡ string_bytes out.old ++ spelled_text (letters cell.now)) }
 {
     put_character(out, cell.character)?;
-    match cell.marks {
+    match cell.marks() {
         Marks::Bare => Ok(()),
         Marks::One(mark) => put_character(out, mark),
         Marks::Two(first, second) => {

@@ -37,12 +37,12 @@ fn rendition_value(rendition: Rendition) -> u32
     ensures value { result ≡ rendition_value rendition }
     ensures few { result < 4096 }
 {
-    flag(rendition.is_bold, 1)
-        + flag(rendition.is_underlined, 2)
-        + flag(rendition.is_blinking, 4)
-        + flag(rendition.is_reversed, 8)
-        + 16 * colour_value(rendition.fore)
-        + 256 * colour_value(rendition.back)
+    flag(rendition.is_bold(), 1)
+        + flag(rendition.is_underlined(), 2)
+        + flag(rendition.is_blinking(), 4)
+        + flag(rendition.is_reversed(), 8)
+        + 16 * colour_value(rendition.fore())
+        + 256 * colour_value(rendition.back())
 }
 
 /// The style of a cell: 1 for bold, 2 for underlined, 4 for blinking, 8 for reversed, 16 times the

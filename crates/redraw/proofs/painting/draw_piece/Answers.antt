@@ -1,9 +1,7 @@
-use Rattle.std.proofs.Common.{◌≡◌, ◌+◌, ◌<◌, ◌≤◌, ℕ, length, false, get_or, List, arith, refl, sym, ap, ◌∙◌, subst}
+use Rattle.std.proofs.Common.{◌≡◌, ◌+◌, ◌<◌, ◌≤◌, ℕ, length, List, arith, refl, sym, ap, ◌∙◌, subst}
 use Rattle.cells.specs.declared.cell.Cell.{Cell}
 use Rattle.std.proofs.lemmas.List.{get_or_default}
-use Rattle.cells.specs.declared.cell.Shape.TheVariants.{Narrow}
-use Rattle.cells.specs.declared.cell.Marks.TheVariants.{Bare}
-use Rattle.cells.specs.Line.{blank, plain, cell_at, is_right}
+use Rattle.cells.specs.Line.{blank, cell_at, is_right}
 use Rattle.terminal_model.specs.Drawable.{IsDrawableCell}
 use Rattle.redraw.specs.Drawing.{width_of}
 use Rattle.redraw.proofs.Pieces.{blank_piece, cell_piece, cell_fits, cell_stands}
@@ -37,9 +35,9 @@ pub returns-clause-draws : goal.returns-clause-draws
 returns-clause-draws c old new rows before lh rh lines whole differs =
     let cells : List Cell = c.args.after.now in
     let inside : c.args.run.0 < length cells = omega (arith, c.requires.inside, c.requires.end) in
-    let none : Cell = record { character = 0; marks = Bare; rendition = plain; shape = Narrow; is_protected = false } in
-    let cell : Cell = get_or cells c.args.run.0 none in
-    let here : cell ≡ cell_at cells c.args.run.0 = get_or_default cells c.args.run.0 none blank inside in
+    let cell : Cell = c.index-after-column.result in
+    let here : cell ≡ cell_at cells c.args.run.0 = c.index-after-column.is
+    ∙ get_or_default cells c.args.run.0 cell blank inside in
     let fits : c.args.run.0 + width_of cell.shape ≤ length cells = rw here
     (cell_fits cells c.args.run.0 lines.new_paired inside) in
     let width = c.columns_of.ensures.value in

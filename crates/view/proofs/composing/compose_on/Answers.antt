@@ -28,16 +28,17 @@ loop-place-preserved c =
     let there : n < length c.args.panes.now = omega (arith, lt, c.requires.each) in
     let rect : Rect = c.index.result.now in
     let re : rect ≡ box_at r n = c.index.ensures ∙ get_or_default r.boxes.items n rect r.status lt in
-    let pane : Pane = get_or c.args.panes.now n Empty in
+    let pe : c.index-panes-place.result ≡ get_or c.args.panes.now n Empty = c.index-panes-place.is
+    ∙ get_or_default c.args.panes.now n c.index-panes-place.result Empty there in
     record {
       size = record {
         rows_are = c.in_ok-put_box.ensures.size.rows_are ∙ c.loop-place.invariant.size.rows_are;
         columns_are = c.in_ok-put_box.ensures.size.columns_are ∙ c.loop-place.invariant.size.columns_are;
       };
       stage = λ s rows columns is.
-          box_stage r (map part_of c.args.panes.now) c.args.status.now s rows columns is n rect (part_of pane)
-          c.loop-place.view c.put_box.new.self lt re
-          (part_is c.args.panes.now n there) (c.loop-place.invariant.stage s rows columns is)
+          box_stage r (map part_of c.args.panes.now) c.args.status.now s rows columns is n rect
+          (part_of c.index-panes-place.result) c.loop-place.view c.put_box.new.self lt re
+          (ap part_of pe ∙ part_is c.args.panes.now n there) (c.loop-place.invariant.stage s rows columns is)
           c.in_ok-put_box.ensures.lays c.in_ok-put_box.ensures.characters;
     }
 
@@ -106,11 +107,12 @@ focused c s rows columns is =
     let old : View = c.put_status.new.self in
     let new : View = c.focus.new.self in
     let rect : Rect = c.index-2.result.now in
-    let pane : Pane = get_or c.args.panes.now r.focus Empty in
+    let pane : Pane = c.index-panes-rects.result in
     let there : r.focus < length c.args.panes.now = omega (arith, c.requires.focus, c.requires.each) in
     let re : rect ≡ box_at r r.focus = c.index-2.ensures
     ∙ get_or_default r.boxes.items r.focus rect r.status c.requires.focus in
-    let pe : part_of pane ≡ part_at ps r.focus = part_is c.args.panes.now r.focus there in
+    let pe : part_of pane ≡ part_at ps r.focus = ap part_of (c.index-panes-rects.is
+    ∙ get_or_default c.args.panes.now r.focus pane Empty there) ∙ part_is c.args.panes.now r.focus there in
     let placed : IsPlaced rect old.page = subst (λ (x : Rect). IsPlaced x old.page) (sym re)
     (focus_placed r ps c.args.status.now s rows columns is old (last_size c)) in
     subst (λ (x : Rect). FocusesOn x (part_at ps r.focus) old new) re

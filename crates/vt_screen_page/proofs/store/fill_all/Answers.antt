@@ -7,5 +7,5 @@ pub loop-line-preserved : goal.loop-line-preserved
 loop-line-preserved c =
     let inside : c.loop-line.line-index < length c.args.stored.now = omega arith in
     rw (c.fill.ensures, ← c.line-item.is)
-    (map_over_more (λ (line : List Cell). replicate (length line) c.args.cell) c.args.stored.now c.loop-line.stored
+    (map_over_more (λ (line : List Cell). replicate (length line) c.args.cell.now) c.args.stored.now c.loop-line.stored
     c.loop-line.line-index c.line-item.result inside c.loop-line.invariant c.line-item.is)

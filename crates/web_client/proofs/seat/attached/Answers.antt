@@ -31,3 +31,7 @@ returns-in_err-client-in-Some-name_of-clause-judged c =
 pub returns-in-None-clause-judged : goal.returns-in-None-clause-judged
 returns-in-None-clause-judged c =
     (omega arith, omega arith, digits (take 64 (drop 4 c.args.payload.now)) c.in-Some-read.token c.in-Some-read.ensures)
+
+pub returns-in_ok-client-in-Some-name_of-clause-judged : goal.returns-in_ok-client-in-Some-name_of-clause-judged
+returns-in_ok-client-in-Some-name_of-clause-judged c =
+    (omega arith, omega arith, digits (take 64 (drop 4 c.args.payload.now)) c.in-Some-read.token c.in-Some-read.ensures)

@@ -1,6 +1,10 @@
-use Rattle.std.proofs.Common.{[], ◌∷◌, length, ◌∙◌, ap, arith}
+use Rattle.std.proofs.Common.{[], ◌∷◌, List, length, ◌∙◌, sym, ap, arith}
+use Rattle.cells.specs.declared.cell.Cell.{Cell}
+use Rattle.cells.specs.Line.{spliced}
+use Rattle.cells.proofs.OverPlain.{plain-stored, plain_one, plain_spliced}
 use Rattle.cells.proofs.Used.{IsUsed-spliced}
 use Rattle.cells.proofs.line.Line.put_narrow.Goals as goal
+use Rattle.cells.proofs.line.Line.put_narrow.Goals.{then-self, else-self}
 
 pub invariant_of-self : goal.invariant_of-self
 invariant_of-self c =
@@ -22,5 +26,17 @@ invariant_of-self c =
             c.requires.room,
           ))
           (λ k past inside. omega (arith, c.used_after-self-inside.ensures, c.len.ensures, width, inside, past));
-      plain = λ e. absurd (cc);
+      plain = λ e. elim c.if-self.branch [
+        | then-self w ↦
+            let fresh : List Cell = c.args.cell ∷ [] in
+            let items : List Cell = c.self.inside.cells.items in
+            plain-stored (spliced c.args.at fresh c.args.rest (length c.as_mut_slice.result.now))
+            c.put_narrow.new.cells c.as_mut_slice.result.now items c.self.inside.cells.len
+            (c.put_narrow.auto.cells ∙ c.as_mut_slice.ensures.len) c.put_narrow.ensures
+            c.as_mut_slice.ensures.value
+            (plain_spliced c.args.at fresh items c.args.rest (length c.as_mut_slice.result.now)
+            (plain_one c.args.cell (w.is_plain-self-inside.ensures (sym w.self-is ∙ e)))
+            (c.self.invariant.plain w.if-self.true))
+        | else-self w ↦ absurd (cc)
+      ];
     }

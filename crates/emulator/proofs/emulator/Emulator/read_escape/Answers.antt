@@ -22,9 +22,11 @@ returns c =
     let n : ℕ = c.in-Some.found.size in
     let f : Func = Csi c.in-Some.found.mark (take c.in-Some.found.count c.first_sequence.new.params) []
     c.in-Some.found.last in
-    let done = c.if-not-sequence.ensures.performed refl in
-    one-taken Utf8 _ _ _ _ c.args.self.now bytes _ (2 + n) f c.self.view_is c.requires.idle
-    (omega (arith, c.in-Some.ensures.few))
-    (front-more bytes 0x1B 0x5B n (front-two bytes 0x1B 0x5B (omega arith) c.requires.begins (omega arith)))
-    (c.in-Some.ensures.reads c.in-Some.ensures.some) (effect-coding c.self.inside.screen.screen f refl)
-    done.silent done.screen
+    let done = c.if-not-sequence.ensures.performed refl in (
+      omega arith,
+      one-taken Utf8 _ _ _ _ c.args.self.now bytes _ (2 + n) f c.self.view_is c.requires.idle
+          (omega (arith, c.in-Some.ensures.few))
+          (front-more bytes 0x1B 0x5B n (front-two bytes 0x1B 0x5B (omega arith) c.requires.begins (omega arith)))
+          (c.in-Some.ensures.reads c.in-Some.ensures.some) (effect-coding c.self.inside.screen.screen f refl)
+          done.silent done.screen,
+    )

@@ -23,20 +23,20 @@ loop-taken-init c = record {
   between = record { whole = c.requires.whole; idle = c.requires.idle; coding = search rules };
 }
 
-pub returns-then-count-eq0 : goal.returns-then-count-eq0
-returns-then-count-eq0 c =
-    let none : c.loop-taken.taken + c.read_piece-count.result ≡ c.loop-taken.taken = omega arith in
-    subst (λ (n : ℕ). TakesWhole c.args.self.now c.args.bytes.now n c.read_piece-count.new.self) none
-    (both-taken c.args.self.now c.loop-taken.self c.read_piece-count.new.self c.args.bytes.now c.loop-taken.taken
-    c.read_piece-count.result (omega arith) c.loop-taken.invariant.read c.read_piece-count.ensures)
+pub returns-in_default : goal.returns-in_default
+returns-in_default c =
+    let none : c.loop-taken.taken + 0 ≡ c.loop-taken.taken = omega arith in
+    subst (λ (n : ℕ). TakesWhole c.args.self.now c.args.bytes.now n c.read_piece.new.self) none
+    (both-taken c.args.self.now c.loop-taken.self c.read_piece.new.self c.args.bytes.now c.loop-taken.taken 0
+    (omega arith) c.loop-taken.invariant.read c.in_default.ensures)
 
 pub loop-taken-preserved : goal.loop-taken-preserved
 loop-taken-preserved c =
     let taken : ℕ = c.loop-taken.taken in
     let rest : List ℕ = take (length c.args.bytes.now - taken) (drop taken c.args.bytes.now) in
     record {
-      read = both-taken c.args.self.now c.loop-taken.self c.read_piece-count.new.self c.args.bytes.now taken
-          c.read_piece-count.result (omega arith) c.loop-taken.invariant.read c.read_piece-count.ensures;
-      between = still-between Utf8 c.loop-taken.self c.read_piece-count.new.self rest c.read_piece-count.result
-          c.loop-taken.invariant.between c.read_piece-count.ensures;
+      read = both-taken c.args.self.now c.loop-taken.self c.read_piece.new.self c.args.bytes.now taken
+          c.in-Some.count (omega arith) c.loop-taken.invariant.read c.in-Some.ensures.1;
+      between = still-between Utf8 c.loop-taken.self c.read_piece.new.self rest c.in-Some.count
+          c.loop-taken.invariant.between c.in-Some.ensures.1;
     }

@@ -1,9 +1,10 @@
-use Rattle.std.proofs.Common.{◌∷◌, [], ◌++◌, List, ℕ, get_or, refl, ap, ◌∙◌, arith}
+use Rattle.std.proofs.Common.{◌∷◌, [], ◌++◌, List, ℕ, get_or, take, ◌≡◌, refl, ap, ◌∙◌, arith}
 use Rattle.std.proofs.lemmas.List.{take_more}
 use Rattle.charsets.specs.declared.unit.Coding.TheVariants.{Utf8}
 use Rattle.control_parser.specs.declared.func.Func.TheVariants.{Esc}
 use Rattle.control_parser.proofs.Spelled.{spelled_reads}
 use Rattle.terminal_model.proofs.Codings.{escape-coding}
+use Rattle.emulator.specs.Standing.{TakesWhole}
 use Rattle.emulator.proofs.Wholes.{one-taken, front-two, nothing-whole}
 use Rattle.emulator.proofs.emulator.Emulator.read_other_escape.Goals as goal
 
@@ -11,12 +12,14 @@ pub returns-then-bytes-lt-DEL : goal.returns-then-bytes-lt-DEL
 returns-then-bytes-lt-DEL c =
     let bytes : List ℕ = c.args.bytes.now in
     let last : ℕ = get_or bytes 2 0 in
+    let front : take 2 bytes ≡ 0x1B ∷ 0x28 ∷ [] = front-two bytes 0x1B 0x28 (omega arith) c.requires.begins
+    (omega arith) in
+    let read : TakesWhole c.args.self.now bytes 3 _ =
     one-taken Utf8 _ _ _ _ c.args.self.now bytes (0x1B ∷ 0x28 ∷ last ∷ []) 3 (Esc (0x28 ∷ []) last) c.self.view_is
-    c.requires.idle (omega arith)
-    (take_more bytes 2 0 (omega arith)
-    ∙ ap (λ (v : List ℕ). v ++ last ∷ []) (front-two bytes 0x1B 0x28 (omega arith) c.requires.begins (omega arith)))
+    c.requires.idle (omega arith) (take_more bytes 2 0 (omega arith) ∙ ap (λ (v : List ℕ). v ++ last ∷ []) front)
     (spelled_reads (Esc (0x28 ∷ []) last) (refl, omega arith, omega arith, refl)) (escape-coding _ 0x28 last refl)
-    c.designate.ensures.silent c.designate.ensures.screen
+    c.designate.ensures.silent c.designate.ensures.screen in
+    (omega arith, read)
 
 pub returns : goal.returns
 returns c = nothing-whole c.args.self.now c.args.bytes.now

@@ -1,5 +1,6 @@
 use Rattle.std.proofs.Common.{◌≡◌, false, List, [], ◌∷◌, arith, refl, ap, ◌∙◌}
 use Rattle.cells.specs.declared.cell.Cell.{Cell}
+use Rattle.cells.specs.Rendition.{Rendition}
 use Rattle.cells.specs.Line.{narrow_cell}
 use Rattle.view.specs.Granted.{Piece, separator_piece, reverse}
 use Rattle.view.specs.Rows.{IsRow}
@@ -23,8 +24,10 @@ loop-row-preserved c =
         columns_are = c.put_row.ensures.size.columns_are ∙ inv.size.columns_are;
       };
       lays = λ narrow free.
-          let cells : List Cell = c.narrow-bar.result ∷ [] in
-          let same : cells ≡ narrow_cell 0x7C reverse false ∷ [] = ap (λ (bar : Cell). bar ∷ []) c.narrow-bar.ensures in
+          let cells : List Cell = c.narrow.result ∷ [] in
+          let same : cells ≡ narrow_cell 0x7C reverse false ∷ [] =
+          ap (λ (bar : Cell). bar ∷ []) (c.narrow.ensures ∙ ap (λ (r : Rendition). narrow_cell 0x7C r false)
+          c.reverse.ensures) in
           let row : IsRow (piece.cell c.loop-row.row) c.args.rect.columns cells = bar_row cells
           (narrow_cell 0x7C reverse false) c.args.rect.columns same narrow in
           let before = inv.lays narrow free in
