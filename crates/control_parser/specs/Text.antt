@@ -74,12 +74,7 @@ is_well_formed text =
 abbrev pub params_of : List ℕ → List ℕ
 params_of text = take 16 (values (numbers_of text))
 
--- the last one of some values; the values with another last one
-abbrev pub last_value : List ℕ → ℕ
-last_value [] = 0
-last_value (n ∷ []) = n
-last_value (n ∷ m ∷ ns) = last_value (m ∷ ns)
-
+-- the values with another last one
 abbrev pub with_last : List ℕ → ℕ → List ℕ
 with_last [] value = []
 with_last (n ∷ []) value = value ∷ []

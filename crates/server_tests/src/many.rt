@@ -145,6 +145,41 @@ fn nobody_waits(rt: &impl System) -> Result<bool, AllocError> {
     Ok(is_played(rt, &busy(&output, &commands), &SHARES))
 }
 
+// Each frame asks for the window's state and has 8,192 bytes of output, so the answers, of 4 bytes each,
+// count the frames that are done. The first turn does 32,768 bytes of all windows' output: three frames
+// of the first window, since one read takes no fourth, and the second window's frame. The third window
+// waits. The next turn does the client's keys, and then begins with the third window, though the first
+// window has four more frames.
+static SHARED: [Row; 3] = [
+    (0, Wanted::TypedLen(0, 3 * 4)),
+    (0, Wanted::Typed(1, b"\x1b[0n")),
+    (1, Wanted::Typed(2, b"k\x1b[0n")),
+];
+
+// Three windows print at once. After a turn a client selects the third one and types a letter.
+fn shares_a_turn(rt: &impl System) -> Result<bool, AllocError> {
+    let alloc = rt.alloc();
+    let frame = often(alloc, b"O\x20\0\x1b[5n", b"y", 8_188)?;
+    let output = often(alloc, b"", &frame, 7)?;
+    let acts = [
+        Act::Connect(Habit::Whole, WINDOW),
+        Act::Connect(Habit::Whole, WINDOW),
+        Act::Connect(Habit::Whole, WINDOW),
+        Act::Turns(2),
+        Act::Connect(Habit::Whole, ATTACH),
+        Act::Turns(2),
+        Act::Send(0, &output),
+        Act::Send(1, &frame),
+        Act::Send(2, ASK),
+        Act::Turns(1),
+        Act::Note(0),
+        Act::Send(3, b"K\0\x03\x012k"),
+        Act::Turns(1),
+        Act::Note(0),
+    ];
+    Ok(is_played(rt, &acts, &SHARED))
+}
+
 // 8,192 entries at once, and 1,000 more a second. A second before, the attach and the window took
 // entries, which have come back. Between, the loop waits.
 static RATE: [Row; 4] = [
@@ -220,6 +255,11 @@ fn a_loop_sees_its_own_last_steps(rt: HostRuntime) {
 #[test]
 fn nobody_waits_for_anothers_commands(rt: HostRuntime) {
     assert!(rt; matches!(nobody_waits(&rt), Ok(true)));
+}
+
+#[test]
+fn nobody_waits_for_anothers_output(rt: HostRuntime) {
+    assert!(rt; matches!(shares_a_turn(&rt), Ok(true)));
 }
 
 #[test]

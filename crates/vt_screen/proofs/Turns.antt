@@ -2,15 +2,11 @@
 use Rattle.std.proofs.Common.{◌≡◌, ℕ, List, [], ◌∷◌, ◌++◌, Option, Some, None, refl, sym, ap, ◌∙◌, subst, append-nil}
 use Rattle.charsets.specs.declared.unit.Unit.TheVariants.{Code}
 use Rattle.terminal_model.specs.declared.action.Action.{Action}
-use Rattle.terminal_model.specs.declared.action.Action.TheVariants.{Print, Render}
-use Rattle.cells.specs.declared.rendition.Attribute.{Attribute}
-use Rattle.cells.specs.Rendition.{rendition_with}
-use Rattle.terminal_model.specs.declared.state.State.{State}
-use Rattle.terminal_model.specs.Motion.{unjoined}
+use Rattle.terminal_model.specs.declared.action.Action.TheVariants.{Print}
 use Rattle.terminal_model.specs.Functions.{alone}
-use Rattle.terminal_model.specs.Screen.{Screen, with_state}
+use Rattle.terminal_model.specs.Screen.{Screen}
 use Rattle.terminal_model.specs.Reports.{all_answered}
-use Rattle.terminal_model.specs.Table.{acted, acted_from, all_acted}
+use Rattle.terminal_model.specs.Table.{acted, all_acted}
 use Rattle.vt_screen.specs.Places.{all_acted_places}
 use Rattle.vt_screen.specs.Runs.{prints}
 use Rattle.vt_screen.specs.Stored.{Stored, Performs}
@@ -40,14 +36,3 @@ performs-on old mid new (Some a) later h k =
 
 pub performs-none : (x : Stored) → Performs x [] x
 performs-none x = record { screen = refl; places = refl; silent = refl }
-
--- the action of a known value of SGR
-pub renders : (x : Screen) (places : List ℕ) (next : State) (old : Stored) (known : Option Action)
-    (attribute : Attribute) → known ≡ Some (Render attribute)
-    → next ≡ unjoined (record x.state { rendition = rendition_with x.state.rendition attribute })
-    → record { screen = x; places = places } ≡ old
-    → Performs old (alone known) (record { screen = with_state x next; places = places })
-unfolding acted_from
-renders x places next old known attribute k n e =
-    subst (λ (s : Stored). Performs s (alone known) (record { screen = with_state x next; places = places })) e
-    (rw k (record { screen = ap (with_state x) n; places = refl; silent = refl }))

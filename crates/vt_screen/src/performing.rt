@@ -2,7 +2,7 @@
 
 ghost use Rattle.std.specs.Prelude.{◌≡◌, ◌≤◌, [], ◌∷◌, None, false, length, IfSome};
 ghost use Rattle.control_parser.specs.declared.func.Func.TheVariants.{Control, Csi, Esc};
-ghost use Rattle.terminal_model.specs.Functions.{actions_of, alone, each, rendered, sequence_actions};
+ghost use Rattle.terminal_model.specs.Functions.{actions_of, alone, each, sequence_actions};
 ghost use Rattle.terminal_model.specs.Reports.{report};
 ghost use Rattle.terminal_model.specs.Table.{effect};
 ghost use Rattle.vt_screen_state.specs.Counted.{IsCounted};
@@ -15,7 +15,7 @@ use charsets::Unit;
 use control_parser::Func;
 use terminal_model::{Action, Report};
 use vt_screen_state::{
-    Setting, control_action, escape_action, render, rendition_action, sequence_action, setting_of,
+    Setting, control_action, escape_action, sequence_action, setting_of,
 };
 
 impl Screen {
@@ -85,10 +85,13 @@ impl Screen {
     }
 
     /// Designates a set to G0, by its final byte: performs ESC ( and this byte. It isn't answered.
+    #[inline(never)]
     pub fn designate(&mut self, last: u8)
         ensures { Performs self.old (actions_of (Esc (0x28 ∷ []) last)) self.new }
     {
-        self.perform_any(escape_action(b"(", last));
+        if let Some(action) = escape_action(b"(", last) {
+            self.perform(action);
+        }
     }
 
     /// Performs a control sequence without intermediates. CUP and SGR, the commonest ones, have a
@@ -101,35 +104,21 @@ impl Screen {
     {
         match (mark, last) {
             (None, b'H') => self.perform_sequence(None, params, b'H'),
-            (None, b'm') => {
-                self.set_each(Setting::Rendition, params);
-                true
-            }
-            (None, _) => self.perform_plain(params, last),
-            _ => self.perform_marked(mark, params, last),
+            (None, b'm') => self.perform_sequence(None, params, b'm'),
+            _ => self.perform_other(mark, params, last),
         }
     }
 
-    /// Performs a control sequence without private marker and intermediates. If it is answered, it
-    /// does nothing and returns false.
+    /// Does the same for any control sequence; its row is looked up as the program runs.
     #[inline(never)]
-    fn perform_plain(&mut self, params: &[u16], last: u8) -> bool
-        ensures { PerformsIf result self.old (sequence_actions None params.now [] last) self.new }
-    {
-        self.perform_sequence(None, params, last)
-    }
-
-    /// Performs a control sequence without intermediates. If it is answered, it does nothing and
-    /// returns false.
-    #[inline(never)]
-    fn perform_marked(&mut self, mark: Option<u8>, params: &[u16], last: u8) -> bool
+    fn perform_other(&mut self, mark: Option<u8>, params: &[u16], last: u8) -> bool
         ensures { PerformsIf result self.old (sequence_actions mark params.now [] last) self.new }
     {
         self.perform_sequence(mark, params, last)
     }
 
     /// Performs a control sequence without intermediates. If it is answered, it does nothing and
-    /// returns false. It is inlined, so that a mark that is known to be None isn't tested.
+    /// returns false. It is inlined, so that what is known of the sequence isn't tested.
     #[inline(always)]
     fn perform_sequence(&mut self, mark: Option<u8>, params: &[u16], last: u8) -> bool
         ensures { PerformsIf result self.old (sequence_actions mark params.now [] last) self.new }
@@ -147,39 +136,15 @@ impl Screen {
         true
     }
 
-    /// Performs the action of a control function that has at most one and isn't answered. Its row is
-    /// looked up as the program runs.
-    #[inline(never)]
-    fn perform_any(&mut self, action: Option<Action>)
-        requires counted { IfSome action IsCounted }
-        requires silent { IfSome action IsSilent }
-        ensures { Performs self.old (alone action) self.new }
-    {
-        if let Some(action) = action {
-            self.perform(action);
-        }
-    }
-
     /// Performs the action of each value that is known, in turn. None of them is answered.
     #[inline(always)]
     fn set_each(&mut self, setting: Setting, values: &[u16])
         ensures { Performs self.old (each (meaning setting) values.now) self.new }
     {
         for value in values {
-            match setting {
-                Setting::Rendition => self.render(*value),
-                _ => self.perform_any(setting.action(*value)),
+            if let Some(action) = setting.action(*value) {
+                self.perform(action);
             }
-        }
-    }
-
-    /// Performs the action of a value of SGR.
-    #[inline(always)]
-    fn render(&mut self, value: u16)
-        ensures { Performs self.old (alone (rendered value)) self.new }
-    {
-        if let Some(Action::Render(attribute)) = rendition_action(value) {
-            render(&mut self.display.state, attribute);
         }
     }
 

@@ -1,9 +1,8 @@
 -- Control sequences with several values, SGR, SM, RM, DECSM and DECRM, and the actions of the values.
-use Rattle.std.specs.Prelude.{ℕ, List, ◌∷◌, [], Bool, false, true, Option, Some, None}
+use Rattle.std.specs.Prelude.{ℕ, List, ◌∷◌, [], false, true, Option, Some, None}
 use Prim.Native.Char.{code}
 use Rattle.charsets.specs.Entries.{entry_at, entry_or}
 use Rattle.terminal_model.specs.declared.action.Action.{Action}
-use Rattle.terminal_model.specs.declared.action.Action.TheVariants.{Render}
 use Rattle.terminal_model.specs.Functions.{rendered, mode_set, private_mode_set}
 use Rattle.vt_screen_state.specs.declared.values.Setting.{Setting}
 use Rattle.vt_screen_state.specs.declared.values.Setting.TheVariants.{Rendition as SetRendition, Mode}
@@ -28,8 +27,3 @@ abbrev pub meaning : Setting → ℕ → Option Action
 meaning SetRendition value = rendered value
 meaning (Mode is_set) value = mode_set is_set value
 meaning (PrivateMode is_set) value = private_mode_set is_set value
-
--- the action changes the rendition
-abbrev pub is_render : Action → Bool
-is_render (Render attribute) = true
-is_render _ = false

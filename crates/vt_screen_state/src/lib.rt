@@ -26,6 +26,6 @@ pub use modes::{
 };
 pub use report::report_of;
 pub use saved::{fit_saved, restore, saved_of};
-pub use sequences::{plain_action, sequence_action, setting_of};
+pub use sequences::{sequence_action, setting_of};
 pub use tabs::Tabs;
-pub use values::{Setting, rendition_action};
+pub use values::Setting;

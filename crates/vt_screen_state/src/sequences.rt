@@ -71,7 +71,7 @@ fn intermediate_action(params: &[u16], intermediate: u8, last: u8) -> Option<Act
 /// second parameter is absent or 0.
 #[inline(always)]
 #[tactic(auto, unfolding(terminal_model::specs::Functions::plain_sequence))]
-pub fn plain_action(params: &[u16], last: u8) -> Option<Action>
+fn plain_action(params: &[u16], last: u8) -> Option<Action>
     ensures value { setting_of None [] last ≡ None → alone result ≡ plain_sequence params.now last }
     ensures none { IfSome (setting_of None [] last) (λ setting. result ≡ None) }
     ensures counted { IfSome result IsCounted }

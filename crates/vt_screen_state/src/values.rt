@@ -1,8 +1,8 @@
 //! The functions with several values.
 
-ghost use Rattle.std.specs.Prelude.{◌≡◌, IfSome, IsTrue};
+ghost use Rattle.std.specs.Prelude.{◌≡◌, IfSome};
 ghost use Rattle.terminal_model.specs.Functions.{colour_action, mode_set, private_mode_set, rendered};
-ghost use Rattle.vt_screen_state.specs.Meanings.{is_render, meaning};
+ghost use Rattle.vt_screen_state.specs.Meanings.{meaning};
 ghost use Rattle.vt_screen_state.specs.Counted.{IsCounted};
 ghost use Rattle.vt_screen_state.specs.Silent.{IsSilent};
 
@@ -36,9 +36,8 @@ impl Setting {
 }
 
 /// The action of a value of SGR (ECMA-48, 8.3.117). None if the value isn't known.
-pub fn rendition_action(value: u16) -> Option<Action>
+fn rendition_action(value: u16) -> Option<Action>
     ensures value { result ≡ rendered value }
-    ensures renders { IfSome result (λ action. IsTrue (is_render action)) }
     ensures counted { IfSome result IsCounted }
     ensures silent { IfSome result IsSilent }
 {

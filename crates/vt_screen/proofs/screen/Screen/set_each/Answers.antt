@@ -1,32 +1,30 @@
-use Rattle.std.proofs.Common.{sym, subst, get_or, ℕ, List, Option, arith}
+use Rattle.std.proofs.Common.{sym, subst, ◌∙◌, get_or, ℕ, List, Option, arith}
 use Rattle.std.proofs.lemmas.List.{drop_more, drop_all}
 use Rattle.terminal_model.specs.declared.action.Action.{Action}
 use Rattle.terminal_model.specs.Functions.{alone, each}
 use Rattle.vt_screen_state.specs.Meanings.{meaning}
-use Rattle.vt_screen_state.specs.declared.values.Setting.{Setting}
 use Rattle.vt_screen.specs.Stored.{Stored, Performs}
 use Rattle.vt_screen.proofs.Turns.{performs-on, performs-none}
-use Rattle.vt_screen.proofs.screen.Screen.set_each.Goals.{in-Rendition, in_default}
+use Rattle.vt_screen.proofs.screen.Screen.set_each.Goals.{in-Some, in_default}
 use Rattle.vt_screen.proofs.screen.Screen.set_each.Goals as goal
 
 pub loop-value-preserved : goal.loop-value-preserved
 loop-value-preserved c = λ new h.
-    let value : ℕ = get_or c.args.values.now c.loop-value.value-index 0 in
-    let here : Option Action = meaning c.args.setting value in
-    let one : Performs c.loop-value.self (alone here) c.match-setting.self = elim c.match-setting.branch [
-      | in-Rendition w ↦ subst (λ (x : Stored). Performs c.loop-value.self (alone here) x) (sym w.self-is)
-          (subst (λ (s : Setting). Performs c.loop-value.self (alone (meaning s value)) w.render.new.self)
-          (sym w.in-Rendition.is)
-          w.render.ensures)
+    let here : Option Action = meaning c.args.setting (get_or c.args.values.now c.loop-value.value-index 0) in
+    let one : Performs c.loop-value.self (alone here) c.match-action.self = elim c.match-action.branch [
+      | in-Some w ↦ subst (λ (x : Stored). Performs c.loop-value.self (alone here) x) (sym w.self-is)
+          (subst (λ (o : Option Action). Performs c.loop-value.self (alone o) w.perform.new.self)
+          (sym w.in-Some.is ∙ c.action.ensures.value)
+          w.perform.ensures)
       | in_default w ↦ subst (λ (x : Stored). Performs c.loop-value.self (alone here) x) (sym w.self-is)
-          (subst (λ (o : Option Action). Performs c.loop-value.self (alone o) w.perform_any.new.self)
-          w.action.ensures.value
-          w.perform_any.ensures)
+          (subst (λ (o : Option Action). Performs c.loop-value.self (alone o) c.loop-value.self)
+          (sym w.in_default.is ∙ c.action.ensures.value)
+          (performs-none c.loop-value.self))
     ] in
     c.loop-value.invariant new
     (subst (λ (values : List ℕ). Performs c.loop-value.self (each (meaning c.args.setting) values) new)
     (sym (drop_more c.args.values.now c.loop-value.value-index 0 (omega arith)))
-    (performs-on c.loop-value.self c.match-setting.self new here _ one h))
+    (performs-on c.loop-value.self c.match-action.self new here _ one h))
 
 pub returns : goal.returns
 returns c =
