@@ -1,14 +1,11 @@
 -- The bits of a rendition give it back, and an attribute changes them as it changes the rendition.
 use Rattle.std.proofs.Common.{◌≡◌, ℕ, zero, suc, ◌+◌, ◌-◌, ◌*◌, ◌/◌, ◌%◌, ◌<◌, ◌≤◌, Bool, true, false, ◌&&◌, ◌==◌}
-use Rattle.std.proofs.Common.{refl, ap, ◌∙◌, arith, bit_and, ⊎_elim}
+use Rattle.std.proofs.Common.{refl, arith, bit_and, ⊎_elim}
 use Rattle.std.proofs.lemmas.Bool.{and_parts, cases_lt, eqb-true}
 use Rattle.cells.specs.declared.rendition.Colour.{Colour}
 use Rattle.cells.specs.declared.rendition.Colour.TheVariants.{Default, Black, Red, Green, Yellow, Blue}
 use Rattle.cells.specs.declared.rendition.Colour.TheVariants.{Magenta, Cyan, White}
-use Rattle.cells.specs.declared.rendition.Attribute.{Attribute}
-use Rattle.cells.specs.declared.rendition.Attribute.TheVariants as attribute
-use Rattle.cells.specs.Rendition.{Rendition, bit, bits_of, colour_at, colour_part, kept_by, rendition_of}
-use Rattle.cells.specs.Rendition.{rendition_with, set_by}
+use Rattle.cells.specs.Rendition.{Rendition, bit, bits_of, colour_at, colour_part, rendition_of}
 
 bit_few : (b : Bool) → bit b ≤ 1
 bit_few false = omega arith
@@ -52,8 +49,14 @@ holds_at f (suc n) k all few =
     ⊎_elim (λ (less : k < n). holds_at f n k parts.1 less)
     (λ (most : n ≤ k). let same : k ≡ n = omega arith in rw same parts.0) (cases_lt k n)
 
+-- what is left of a number below 4096 under each mask
+masked : (mask : ℕ) (left : ℕ → ℕ) (n : ℕ) → holds_below (λ k. bit_and k mask == left k) 4096 ≡ true → n < 4096
+    → bit_and n mask ≡ left n
+masked mask left n all few =
+    eqb-true (bit_and n mask) (left n) (holds_at (λ k. bit_and k mask == left k) 4096 n all few)
+
 module _ (r : Rendition) where
-  few : bits_of r < 4096
+  pub few : bits_of r < 4096
   few = omega (
     arith,
     bit_few r.is_bold,
@@ -108,45 +111,30 @@ module _ (r : Rendition) where
         colour_back r.back,
       ) refl)
 
--- what is left of a number below 4096 under each mask
-masked : (mask : ℕ) (left : ℕ → ℕ) (n : ℕ) → holds_below (λ k. bit_and k mask == left k) 4096 ≡ true → n < 4096
-    → bit_and n mask ≡ left n
-masked mask left n all few =
-    eqb-true (bit_and n mask) (left n) (holds_at (λ k. bit_and k mask == left k) 4096 n all few)
+  pub with_bold : (on : Bool) (set : ℕ) → set ≡ bit on
+      → bit_and (bits_of r) 0xFFE + set ≡ bits_of (record r { is_bold = on })
+  with_bold on set is = rw (masked 0xFFE (λ k. k - k % 2) (bits_of r) refl few, bold_bit, is) (omega arith)
 
-module _ (r : Rendition) where
-  without_bold : bit_and (bits_of r) 0xFFE ≡ bits_of r - bit r.is_bold
-  without_bold = masked 0xFFE (λ k. k - k % 2) (bits_of r) refl (few r) ∙ ap (λ x. bits_of r - x) (bold_bit r)
+  pub with_underlined : (on : Bool) (set : ℕ) → set ≡ bit on
+      → bit_and (bits_of r) 0xFFD + 2 * set ≡ bits_of (record r { is_underlined = on })
+  with_underlined on set is =
+      rw (masked 0xFFD (λ k. k - 2 * (k / 2 % 2)) (bits_of r) refl few, underlined_bit, is) (omega arith)
 
-  without_underlined : bit_and (bits_of r) 0xFFD ≡ bits_of r - 2 * bit r.is_underlined
-  without_underlined = masked 0xFFD (λ k. k - 2 * (k / 2 % 2)) (bits_of r) refl (few r)
-      ∙ ap (λ x. bits_of r - 2 * x) (underlined_bit r)
+  pub with_blinking : (on : Bool) (set : ℕ) → set ≡ bit on
+      → bit_and (bits_of r) 0xFFB + 4 * set ≡ bits_of (record r { is_blinking = on })
+  with_blinking on set is =
+      rw (masked 0xFFB (λ k. k - 4 * (k / 4 % 2)) (bits_of r) refl few, blinking_bit, is) (omega arith)
 
-  without_blinking : bit_and (bits_of r) 0xFFB ≡ bits_of r - 4 * bit r.is_blinking
-  without_blinking = masked 0xFFB (λ k. k - 4 * (k / 4 % 2)) (bits_of r) refl (few r)
-      ∙ ap (λ x. bits_of r - 4 * x) (blinking_bit r)
+  pub with_reversed : (on : Bool) (set : ℕ) → set ≡ bit on
+      → bit_and (bits_of r) 0xFF7 + 8 * set ≡ bits_of (record r { is_reversed = on })
+  with_reversed on set is =
+      rw (masked 0xFF7 (λ k. k - 8 * (k / 8 % 2)) (bits_of r) refl few, reversed_bit, is) (omega arith)
 
-  without_reversed : bit_and (bits_of r) 0xFF7 ≡ bits_of r - 8 * bit r.is_reversed
-  without_reversed = masked 0xFF7 (λ k. k - 8 * (k / 8 % 2)) (bits_of r) refl (few r)
-      ∙ ap (λ x. bits_of r - 8 * x) (reversed_bit r)
+  pub with_fore : (c : Colour) (set : ℕ) → set ≡ colour_part c
+      → bit_and (bits_of r) 0xF0F + 16 * set ≡ bits_of (record r { fore = c })
+  with_fore c set is =
+      rw (masked 0xF0F (λ k. k - 16 * (k / 16 % 16)) (bits_of r) refl few, fore_bits, is) (omega arith)
 
-  without_fore : bit_and (bits_of r) 0xF0F ≡ bits_of r - 16 * colour_part r.fore
-  without_fore = masked 0xF0F (λ k. k - 16 * (k / 16 % 16)) (bits_of r) refl (few r)
-      ∙ ap (λ x. bits_of r - 16 * x) (fore_bits r)
-
-  without_back : bit_and (bits_of r) 0xFF ≡ bits_of r - 256 * colour_part r.back
-  without_back = masked 0xFF (λ k. k - 256 * (k / 256)) (bits_of r) refl (few r)
-      ∙ ap (λ x. bits_of r - 256 * x) (back_bits r)
-
-  nothing : bit_and (bits_of r) 0 ≡ 0
-  nothing = masked 0 (λ k. 0) (bits_of r) refl (few r)
-
-pub changed_bits : (r : Rendition) (a : Attribute)
-    → bit_and (bits_of r) (kept_by a) + set_by a ≡ bits_of (rendition_with r a)
-changed_bits r attribute.Plain = rw (nothing r) refl
-changed_bits r (attribute.Bold on) = rw (without_bold r) (omega arith)
-changed_bits r (attribute.Underlined on) = rw (without_underlined r) (omega arith)
-changed_bits r (attribute.Blinking on) = rw (without_blinking r) (omega arith)
-changed_bits r (attribute.Reversed on) = rw (without_reversed r) (omega arith)
-changed_bits r (attribute.Foreground c) = rw (without_fore r) (omega arith)
-changed_bits r (attribute.Background c) = rw (without_back r) (omega arith)
+  pub with_back : (c : Colour) (set : ℕ) → set ≡ colour_part c
+      → bit_and (bits_of r) 0xFF + 256 * set ≡ bits_of (record r { back = c })
+  with_back c set is = rw (masked 0xFF (λ k. k - 256 * (k / 256)) (bits_of r) refl few, back_bits, is) (omega arith)

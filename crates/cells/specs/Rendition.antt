@@ -1,5 +1,5 @@
 -- How a character is shown (ECMA-48, 8.3.117: SGR), and the bits that hold it.
-use Rattle.std.specs.Prelude.{ℕ, ◌+◌, ◌*◌, ◌/◌, ◌%◌, ◌==◌, Bool, false, cond}
+use Rattle.std.specs.Prelude.{ℕ, ◌+◌, ◌*◌, ◌/◌, ◌%◌, ◌==◌, Bool, false, cond, List, [], ◌∷◌, get_or}
 use Rattle.cells.specs.declared.rendition.Colour.{Colour}
 use Rattle.cells.specs.declared.rendition.Colour.TheVariants as colour
 use Rattle.cells.specs.declared.rendition.Attribute.{Attribute}
@@ -34,7 +34,16 @@ rendition_with r (attribute.Reversed on) = record r { is_reversed = on }
 rendition_with r (attribute.Foreground c) = record r { fore = c }
 rendition_with r (attribute.Background c) = record r { back = c }
 
--- the number of a colour in the order of the colours, and the colour of a number
+-- the colours in the order of their numbers: the terminal's own, and then those of SGR 30 to 37
+abbrev pub colours : List Colour
+colours =
+    colour.Default ∷ colour.Black ∷ colour.Red ∷ colour.Green ∷ colour.Yellow ∷ colour.Blue ∷ colour.Magenta
+    ∷ colour.Cyan ∷ colour.White ∷ []
+
+-- the colour of a number, and the number of a colour
+abbrev pub colour_at : ℕ → Colour
+colour_at number = get_or colours number colour.Default
+
 abbrev pub colour_part : Colour → ℕ
 colour_part colour.Default = 0
 colour_part colour.Black = 1
@@ -45,12 +54,6 @@ colour_part colour.Blue = 5
 colour_part colour.Magenta = 6
 colour_part colour.Cyan = 7
 colour_part colour.White = 8
-
-abbrev pub colour_at : ℕ → Colour
-colour_at n =
-    cond (n == 1) colour.Black (cond (n == 2) colour.Red (cond (n == 3) colour.Green (cond (n == 4) colour.Yellow
-    (cond (n == 5) colour.Blue (cond (n == 6) colour.Magenta (cond (n == 7) colour.Cyan
-    (cond (n == 8) colour.White colour.Default)))))))
 
 abbrev pub bit : Bool → ℕ
 bit on = cond on 1 0
@@ -70,22 +73,3 @@ rendition_of bits = record {
   fore = colour_at (bits / 16 % 16);
   back = colour_at (bits / 256);
 }
-
--- the bits that an attribute keeps, and those that it sets
-abbrev pub kept_by : Attribute → ℕ
-kept_by attribute.Plain = 0
-kept_by (attribute.Bold on) = 0xFFE
-kept_by (attribute.Underlined on) = 0xFFD
-kept_by (attribute.Blinking on) = 0xFFB
-kept_by (attribute.Reversed on) = 0xFF7
-kept_by (attribute.Foreground c) = 0xF0F
-kept_by (attribute.Background c) = 0xFF
-
-abbrev pub set_by : Attribute → ℕ
-set_by attribute.Plain = 0
-set_by (attribute.Bold on) = bit on
-set_by (attribute.Underlined on) = 2 * bit on
-set_by (attribute.Blinking on) = 4 * bit on
-set_by (attribute.Reversed on) = 8 * bit on
-set_by (attribute.Foreground c) = 16 * colour_part c
-set_by (attribute.Background c) = 256 * colour_part c

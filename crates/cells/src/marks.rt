@@ -1,6 +1,6 @@
 //! Nonspacing marks.
 
-ghost use Rattle.std.specs.Prelude.{◌≡◌, ◌↔◌, IsTrue};
+ghost use Rattle.std.specs.Prelude.{◌≡◌};
 ghost use Rattle.cells.specs.Line.{joined};
 ghost use Rattle.cells.specs.Marks.{mark_of, IsCode};
 

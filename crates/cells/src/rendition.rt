@@ -1,7 +1,7 @@
 //! How characters are shown.
 
-ghost use Rattle.std.specs.Prelude.{◌≡◌, ◌↔◌, IsTrue};
-ghost use Rattle.cells.specs.Rendition.{colour_at, kept_by, plain, rendition_with, set_by};
+ghost use Rattle.std.specs.Prelude.{◌≡◌, ◌↔◌, ◌+◌, IsTrue, bit_and};
+ghost use Rattle.cells.specs.Rendition.{bits_of, colour_at, plain, rendition_with};
 
 use std::marker::Model;
 
@@ -61,7 +61,7 @@ impl Model for Rendition {
 /// these pairs the compiler makes a table, without a branch.
 #[inline(always)]
 fn parts(attribute: Attribute) -> (u16, u16)
-    ensures { result ≡ (kept_by attribute, set_by attribute) }
+    ensures { (r : Rendition) → bit_and (bits_of r) result.0 + result.1 ≡ bits_of (rendition_with r attribute) }
 {
     match attribute {
         Attribute::Plain => (0, 0),
