@@ -110,7 +110,7 @@ impl Cell {
 
     /// Whether the cell holds a character of width 1 without rendition, marks or protection.
     pub(crate) fn is_plain(&self) -> bool
-        ensures { IsTrue result → IsPlain self.now }
+        ensures { IsTrue result ↔ IsPlain self.now }
     {
         self.is_like(&Cell::narrow(self.character, Rendition::PLAIN, false)) && !self.is_protected
     }

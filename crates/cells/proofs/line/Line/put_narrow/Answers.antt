@@ -35,7 +35,7 @@ invariant_of-self c =
             (c.put_narrow.auto.cells ∙ c.as_mut_slice.ensures.len) c.put_narrow.ensures
             c.as_mut_slice.ensures.value
             (plain_spliced c.args.at fresh items c.args.rest (length c.as_mut_slice.result.now)
-            (plain_one c.args.cell (w.is_plain-self-inside.ensures (sym w.self-is ∙ e)))
+            (plain_one c.args.cell (w.is_plain-self-inside.ensures.0 (sym w.self-is ∙ e)))
             (c.self.invariant.plain w.if-self.true))
         | else-self w ↦ absurd (cc)
       ];
