@@ -14,9 +14,7 @@ use crate::screen::Screen;
 use charsets::Unit;
 use control_parser::Func;
 use terminal_model::{Action, Report};
-use vt_screen_state::{
-    Setting, control_action, escape_action, sequence_action, setting_of,
-};
+use vt_screen_state::{Setting, control_action, escape_action, sequence_action, setting_of};
 
 impl Screen {
     /// Performs a control function, as the screen table says, and returns the answer. It needs no
