@@ -157,27 +157,31 @@ static SHARED: [Row; 3] = [
 ];
 
 // Three windows print at once. After a turn a client selects the third one and types a letter.
-fn shares_a_turn(rt: &impl System) -> Result<bool, AllocError> {
-    let alloc = rt.alloc();
-    let frame = often(alloc, b"O\x20\0\x1b[5n", b"y", 8_188)?;
-    let output = often(alloc, b"", &frame, 7)?;
-    let acts = [
+fn shared<'a>(output: &'a [u8], frame: &'a [u8]) -> [Act<'a>; 14] {
+    [
         Act::Connect(Habit::Whole, WINDOW),
         Act::Connect(Habit::Whole, WINDOW),
         Act::Connect(Habit::Whole, WINDOW),
         Act::Turns(2),
         Act::Connect(Habit::Whole, ATTACH),
         Act::Turns(2),
-        Act::Send(0, &output),
-        Act::Send(1, &frame),
+        Act::Send(0, output),
+        Act::Send(1, frame),
         Act::Send(2, ASK),
         Act::Turns(1),
         Act::Note(0),
         Act::Send(3, b"K\0\x03\x012k"),
         Act::Turns(1),
         Act::Note(0),
-    ];
-    Ok(is_played(rt, &acts, &SHARED))
+    ]
+}
+
+// Seven frames of a window, and one of another.
+fn shares_a_turn(rt: &impl System) -> Result<bool, AllocError> {
+    let alloc = rt.alloc();
+    let frame = often(alloc, b"O\x20\0\x1b[5n", b"y", 8_188)?;
+    let output = often(alloc, b"", &frame, 7)?;
+    Ok(is_played(rt, &shared(&output, &frame), &SHARED))
 }
 
 // 8,192 entries at once, and 1,000 more a second. A second before, the attach and the window took
