@@ -1,5 +1,6 @@
 -- How a character is shown (ECMA-48, 8.3.117: SGR), and the bits that hold it.
 use Rattle.std.specs.Prelude.{ℕ, ◌+◌, ◌*◌, ◌/◌, ◌%◌, ◌==◌, Bool, false, cond, List, [], ◌∷◌, get_or}
+use Rattle.std.specs.Prelude.{Option, None, Some}
 use Rattle.cells.specs.declared.rendition.Colour.{Colour}
 use Rattle.cells.specs.declared.rendition.Colour.TheVariants as colour
 use Rattle.cells.specs.declared.rendition.Attribute.{Attribute}
@@ -54,6 +55,18 @@ colour_part colour.Blue = 5
 colour_part colour.Magenta = 6
 colour_part colour.Cyan = 7
 colour_part colour.White = 8
+
+-- the number of a colour among the eight; None for the terminal's own
+abbrev pub colour_number : Colour → Option ℕ
+colour_number colour.Default = None
+colour_number colour.Black = Some 0
+colour_number colour.Red = Some 1
+colour_number colour.Green = Some 2
+colour_number colour.Yellow = Some 3
+colour_number colour.Blue = Some 4
+colour_number colour.Magenta = Some 5
+colour_number colour.Cyan = Some 6
+colour_number colour.White = Some 7
 
 abbrev pub bit : Bool → ℕ
 bit on = cond on 1 0

@@ -2,6 +2,7 @@
 
 ghost use Rattle.std.specs.Prelude.{◌≡◌, ◌↔◌, IsTrue};
 ghost use Rattle.cells.specs.Line.{blank, IsPlain, unprotected, narrow_cell, left_cell, right_cell};
+ghost use Rattle.cells.specs.Rendition.{colour_number};
 
 use crate::marks::{Marks, PackedMarks};
 use crate::rendition::Rendition;
@@ -94,6 +95,20 @@ impl Cell {
         self.rendition
     }
 
+    /// The number of the character's colour, 0 to 7; None for the terminal's own.
+    pub fn fore(&self) -> Option<u8>
+        ensures { result ≡ colour_number self.now.rendition.fore }
+    {
+        self.rendition.fore().number()
+    }
+
+    /// The number of the background's colour, 0 to 7; None for the terminal's own.
+    pub fn back(&self) -> Option<u8>
+        ensures { result ≡ colour_number self.now.rendition.back }
+    {
+        self.rendition.back().number()
+    }
+
     /// Whether a selective erasure leaves the cell as it is.
     pub fn is_protected(&self) -> bool
         ensures { result ≡ self.now.is_protected }
@@ -119,30 +134,21 @@ impl Cell {
     pub fn is_narrow(&self) -> bool
         ensures { IsTrue result ↔ (self.now.shape ≡ Shape.Narrow) }
     {
-        match self.shape {
-            Shape::Narrow => true,
-            _ => false,
-        }
+        matches!(self.shape, Shape::Narrow)
     }
 
     /// Whether the cell holds the left half of a wide character.
     pub fn is_left(&self) -> bool
         ensures { result ≡ is_left_shape self.now.shape }
     {
-        match self.shape {
-            Shape::Left => true,
-            _ => false,
-        }
+        matches!(self.shape, Shape::Left)
     }
 
     /// Whether the cell holds the right half of a wide character.
     pub fn is_right(&self) -> bool
         ensures { result ≡ is_right_shape self.now.shape }
     {
-        match self.shape {
-            Shape::Right => true,
-            _ => false,
-        }
+        matches!(self.shape, Shape::Right)
     }
 
     /// Whether two cells look alike: they are equal, or differ in protection only.

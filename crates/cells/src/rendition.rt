@@ -1,7 +1,7 @@
 //! How characters are shown.
 
 ghost use Rattle.std.specs.Prelude.{◌≡◌, ◌↔◌, ◌+◌, IsTrue, bit_and};
-ghost use Rattle.cells.specs.Rendition.{bits_of, colour_at, plain, rendition_with};
+ghost use Rattle.cells.specs.Rendition.{bits_of, colour_at, colour_number, plain, rendition_with};
 
 use std::marker::Model;
 
@@ -17,6 +17,15 @@ pub enum Colour {
     Magenta,
     Cyan,
     White,
+}
+
+impl Colour {
+    /// The number of the colour, 0 to 7; None for the terminal's own.
+    pub fn number(self) -> Option<u8>
+        ensures { result ≡ colour_number self }
+    {
+        (self as u8).checked_sub(1)
+    }
 }
 
 /// A change of a rendition by one value of SGR (ECMA-48, 8.3.117).

@@ -12,7 +12,8 @@ use Rattle.std.specs.declared.vec.Vec.{Vec}
 use Rattle.std.specs.declared.alloc.Global.{Global}
 use Rattle.session_laws.proofs.Lists.{equal, itself}
 use Rattle.session_model.specs.declared.event.Effect.{Effect}
-use Rattle.session_model.specs.declared.event.Effect.TheVariants.{Input, Deliver, Say, Size, GoneWindow, GoneClient}
+use Rattle.session_model.specs.declared.event.Effect.TheVariants.{Input, Deliver, Say, Size, Gone}
+use Rattle.session_model.specs.declared.event.Peer.TheVariants as peer
 use Rattle.hub_ledger.specs.Peers.{Owners, AreSeats, seat_of, HasPeer}
 use Rattle.hub_ledger.specs.Routing.{views, is_for}
 use Rattle.hub_ledger.proofs.Places.{slice_get-set, slice_get-set_here, slice_get-set_other}
@@ -35,16 +36,16 @@ seat_there o (Input window bytes) here = there o.windows window here
 seat_there o (Deliver client bytes) here = there o.clients client here
 seat_there o (Say client text) here = there o.clients client here
 seat_there o (Size window rows columns) here = there o.windows window here
-seat_there o (GoneWindow window why) here = there o.windows window here
-seat_there o (GoneClient client why) here = there o.clients client here
+seat_there o (Gone (peer.Window window) why) here = there o.windows window here
+seat_there o (Gone (peer.Client client) why) here = there o.clients client here
 
 pub seat_within : (n : ℕ) (o : Owners) (e : Effect) (s : ℕ) → AreSeats n o → seat_of o e ≡ Some s → s < n
 seat_within n o (Input window bytes) s all at = all_at (λ k. k < n) o.windows window s all.windows at
 seat_within n o (Deliver client bytes) s all at = all_at (λ k. k < n) o.clients client s all.clients at
 seat_within n o (Say client text) s all at = all_at (λ k. k < n) o.clients client s all.clients at
 seat_within n o (Size window rows columns) s all at = all_at (λ k. k < n) o.windows window s all.windows at
-seat_within n o (GoneWindow window why) s all at = all_at (λ k. k < n) o.windows window s all.windows at
-seat_within n o (GoneClient client why) s all at = all_at (λ k. k < n) o.clients client s all.clients at
+seat_within n o (Gone (peer.Window window) why) s all at = all_at (λ k. k < n) o.windows window s all.windows at
+seat_within n o (Gone (peer.Client client) why) s all at = all_at (λ k. k < n) o.clients client s all.clients at
 
 -- ---- one effect more
 

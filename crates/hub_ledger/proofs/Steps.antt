@@ -6,7 +6,8 @@ use Rattle.session_laws.proofs.Lists.{all_append, all_weaken}
 use Rattle.session_laws.proofs.FewEffects.{step_few}
 use Rattle.session_laws.proofs.Sounding.{fresh_sound, run_sound}
 use Rattle.session_model.specs.declared.event.Effect.{Effect}
-use Rattle.session_model.specs.declared.event.Effect.TheVariants.{Input, Deliver, Say, Size, GoneWindow, GoneClient}
+use Rattle.session_model.specs.declared.event.Effect.TheVariants.{Input, Deliver, Say, Size, Gone}
+use Rattle.session_model.specs.declared.event.Peer.TheVariants as peer
 use Rattle.session_model.specs.Trace.{EventValue, Reply, Entry, Trace, with_step}
 use Rattle.session_model.specs.Sound.{AreSound}
 use Rattle.session_model.specs.Tables.{Tables, fresh}
@@ -41,8 +42,8 @@ come t o cs ws (Input window bytes) is = omega (arith, ws, is)
 come t o cs ws (Deliver client bytes) is = omega (arith, cs, is)
 come t o cs ws (Say client bytes) is = omega (arith, cs, is)
 come t o cs ws (Size window rows columns) is = omega (arith, ws, is)
-come t o cs ws (GoneWindow window why) is = omega (arith, ws, is)
-come t o cs ws (GoneClient client why) is = omega (arith, cs, is)
+come t o cs ws (Gone (peer.Window window) why) is = omega (arith, ws, is)
+come t o cs ws (Gone (peer.Client client) why) is = omega (arith, cs, is)
 
 -- ---- a step
 

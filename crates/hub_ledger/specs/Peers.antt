@@ -5,7 +5,8 @@ use Rattle.std.specs.Prelude.{slice_get}
 use Rattle.std.specs.List.{AllByRecursion}
 use Rattle.session_model.specs.declared.event.Effect.{Effect}
 use Rattle.session_model.specs.declared.event.Effect.TheVariants.{Input, Deliver, Say, Size}
-use Rattle.session_model.specs.declared.event.Effect.TheVariants.{GoneWindow, GoneClient}
+use Rattle.session_model.specs.declared.event.Effect.TheVariants.{Gone}
+use Rattle.session_model.specs.declared.event.Peer.TheVariants as peer
 use Rattle.session_model.specs.Trace.{EventValue, Reply}
 use Rattle.hub_trail.specs.Peers.{attaches, opens}
 use Rattle.hub_ledger.specs.declared.peers.Peers.{Peers}
@@ -39,8 +40,8 @@ seat_of o (Input window bytes) = slice_get o.windows window
 seat_of o (Deliver client bytes) = slice_get o.clients client
 seat_of o (Say client text) = slice_get o.clients client
 seat_of o (Size window rows columns) = slice_get o.windows window
-seat_of o (GoneWindow window why) = slice_get o.windows window
-seat_of o (GoneClient client why) = slice_get o.clients client
+seat_of o (Gone (peer.Window window) why) = slice_get o.windows window
+seat_of o (Gone (peer.Client client) why) = slice_get o.clients client
 
 -- the effect's peer has come before
 abbrev pub HasPeer : Owners → Effect → Type 0
@@ -48,5 +49,5 @@ HasPeer o (Input window bytes) = window < length o.windows
 HasPeer o (Deliver client bytes) = client < length o.clients
 HasPeer o (Say client text) = client < length o.clients
 HasPeer o (Size window rows columns) = window < length o.windows
-HasPeer o (GoneWindow window why) = window < length o.windows
-HasPeer o (GoneClient client why) = client < length o.clients
+HasPeer o (Gone (peer.Window window) why) = window < length o.windows
+HasPeer o (Gone (peer.Client client) why) = client < length o.clients

@@ -5,7 +5,7 @@ ghost use Rattle.session_model.specs.Trace.{happening};
 ghost use Rattle.hub_trail.specs.Peers.{attaches, opens};
 ghost use Rattle.hub_ledger.specs.Peers.{HasPeer, owners_of, seat_of, with_peers};
 
-use session_model::{Effect, Event, Reply};
+use session_model::{Effect, Event, Peer, Reply};
 use std::alloc::{AllocError, Global};
 
 /// The seats of clients and of windows, by serial.
@@ -83,8 +83,8 @@ impl Peers {
             Effect::Deliver(client, _) => self.clients[*client as usize],
             Effect::Say(client, _) => self.clients[*client as usize],
             Effect::Size(window, _, _) => self.windows[*window as usize],
-            Effect::GoneWindow(window, _) => self.windows[*window as usize],
-            Effect::GoneClient(client, _) => self.clients[*client as usize],
+            Effect::Gone(Peer::Window(window), _) => self.windows[*window as usize],
+            Effect::Gone(Peer::Client(client), _) => self.clients[*client as usize],
         }
     }
 }

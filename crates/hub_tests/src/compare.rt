@@ -1,6 +1,6 @@
 //! Whether what two sessions made is the same.
 
-use session_model::{Bytes, Effect, Reason, Reply};
+use session_model::{Bytes, Effect, Peer, Reason, Reply};
 
 /// What an effect is.
 #[derive(Clone, Copy)]
@@ -51,8 +51,8 @@ pub(crate) fn parts_of(effect: &Effect) -> Parts<'_> {
             size: (*rows, *columns),
             ..NONE
         },
-        Effect::GoneWindow(window, why) => with_why(16, *window, *why),
-        Effect::GoneClient(client, why) => with_why(32, *client, *why),
+        Effect::Gone(Peer::Window(window), why) => with_why(16, *window, *why),
+        Effect::Gone(Peer::Client(client), why) => with_why(32, *client, *why),
     }
 }
 

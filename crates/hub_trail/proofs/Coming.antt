@@ -9,7 +9,8 @@ use Rattle.command_lang.specs.declared.command.Command.{Command as Order}
 use Rattle.command_lang.specs.declared.command.Command.TheVariants as command
 use Rattle.command_lang.specs.Relation.{read_line}
 use Rattle.session_model.specs.declared.event.Effect.{Effect}
-use Rattle.session_model.specs.declared.event.Effect.TheVariants.{Input, Deliver, Say, Size, GoneWindow, GoneClient}
+use Rattle.session_model.specs.declared.event.Effect.TheVariants.{Input, Deliver, Say, Size, Gone}
+use Rattle.session_model.specs.declared.event.Peer.TheVariants as peer
 use Rattle.session_model.specs.declared.event.Reason.{Reason}
 use Rattle.session_model.specs.declared.event.Reason.TheVariants as reason
 use Rattle.session_model.specs.declared.refusal.Refusal.TheVariants.{NoWindow}
@@ -101,14 +102,14 @@ module _ (t : Tables) (s : AreSound t) where
     sizes (command.Multiuser false) n rows columns is = absurd is
     sizes c n rows columns is = absurd is
 
-    closes : (c : Order) (n : ℕ) (why : Reason) → IsDoneBy t g c (GoneWindow n why) → n < t.next_window
+    closes : (c : Order) (n : ℕ) (why : Reason) → IsDoneBy t g c (Gone (peer.Window n) why) → n < t.next_window
     closes command.Kill n why is = own n is.0
     closes command.Quit n why is = open_below n is.0
     closes (command.Multiuser true) n why is = absurd is
     closes (command.Multiuser false) n why is = absurd is
     closes c n why is = absurd is
 
-    parts : (c : Order) (n : ℕ) (why : Reason) → IsDoneBy t g c (GoneClient n why) → n < t.next_client
+    parts : (c : Order) (n : ℕ) (why : Reason) → IsDoneBy t g c (Gone (peer.Client n) why) → n < t.next_client
     parts command.Quit n why is = passing_below _ n is.0
     parts command.Detach n why is = there.client n is.0
     parts (command.Acldel word) n why is = passing_below _ n is.0
@@ -121,8 +122,8 @@ module _ (t : Tables) (s : AreSound t) where
     command_comes (Deliver n bytes) is = absurd (never_delivers t g g.order n bytes is)
     command_comes (Say n bytes) is = says g.order n bytes is
     command_comes (Size n rows columns) is = sizes g.order n rows columns is
-    command_comes (GoneWindow n why) is = closes g.order n why is
-    command_comes (GoneClient n why) is = parts g.order n why is
+    command_comes (Gone (peer.Window n) why) is = closes g.order n why is
+    command_comes (Gone (peer.Client n) why) is = parts g.order n why is
 
   some_comes : (f : Effect) (gs : List Given) → AllByRecursion (λ g. IsThere g.caller) gs
       → SomeOf (IsDoneByRight t f) gs → HasCome t f
@@ -162,8 +163,8 @@ module _ (t : Tables) (s : AreSound t) where
   typed_comes n c is (Say to bytes) by = subst (λ m. m < t.next_client) (sym by) (client_below n c is)
   typed_comes n c is (Deliver to bytes) by = absurd by
   typed_comes n c is (Size w rows columns) by = absurd by
-  typed_comes n c is (GoneWindow w why) by = absurd by
-  typed_comes n c is (GoneClient to why) by = absurd by
+  typed_comes n c is (Gone (peer.Window w) why) by = absurd by
+  typed_comes n c is (Gone (peer.Client to) why) by = absurd by
 
   keys_come : (n : ℕ) (bytes : List ℕ) (c : Client) → client_at t n ≡ Some c → (f : Effect)
       → IsEffectOf t (Keys n bytes) f → HasCome t f
@@ -194,16 +195,16 @@ module _ (t : Tables) (s : AreSound t) where
   output_comes n bytes w is (Deliver to reports) of = absurd of
   output_comes n bytes w is (Say to said) of = absurd of
   output_comes n bytes w is (Size at rows columns) of = absurd of
-  output_comes n bytes w is (GoneWindow at why) of = absurd of
-  output_comes n bytes w is (GoneClient to why) of = absurd of
+  output_comes n bytes w is (Gone (peer.Window at) why) of = absurd of
+  output_comes n bytes w is (Gone (peer.Client to) why) of = absurd of
 
   draw_comes : (n : ℕ) (c : Client) → client_at t n ≡ Some c → (f : Effect) → IsEffectOf t (Draw n) f → HasCome t f
   draw_comes n c is (Deliver to bytes) of = subst (λ m. m < t.next_client) (sym of) (client_below n c is)
   draw_comes n c is (Input at bytes) of = absurd of
   draw_comes n c is (Say to said) of = absurd of
   draw_comes n c is (Size at rows columns) of = absurd of
-  draw_comes n c is (GoneWindow at why) of = absurd of
-  draw_comes n c is (GoneClient to why) of = absurd of
+  draw_comes n c is (Gone (peer.Window at) why) of = absurd of
+  draw_comes n c is (Gone (peer.Client to) why) of = absurd of
 
   -- if the peer isn't there, there is no effect
   come : (event : EventValue) (effects : List Effect) → HasEffects t event effects

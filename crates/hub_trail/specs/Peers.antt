@@ -4,7 +4,8 @@ use Rattle.std.specs.Prelude.{◌≡◌, ◌<◌, ℕ, ◌+◌, Bool, false, if�
 use Rattle.std.specs.List.{AllByRecursion}
 use Rattle.session_model.specs.declared.event.Effect.{Effect}
 use Rattle.session_model.specs.declared.event.Effect.TheVariants.{Input, Deliver, Say, Size}
-use Rattle.session_model.specs.declared.event.Effect.TheVariants.{GoneWindow, GoneClient}
+use Rattle.session_model.specs.declared.event.Effect.TheVariants.{Gone}
+use Rattle.session_model.specs.declared.event.Peer.TheVariants as peer
 use Rattle.session_model.specs.Trace.{EventValue, Attach, Open, Reply, Entry}
 use Rattle.session_model.specs.Sound.{AreSound}
 use Rattle.session_model.specs.Tables.{Tables}
@@ -47,8 +48,8 @@ HasCome t (Input window bytes) = window < t.next_window
 HasCome t (Deliver client bytes) = client < t.next_client
 HasCome t (Say client bytes) = client < t.next_client
 HasCome t (Size window rows columns) = window < t.next_window
-HasCome t (GoneWindow window why) = window < t.next_window
-HasCome t (GoneClient client why) = client < t.next_client
+HasCome t (Gone (peer.Window window) why) = window < t.next_window
+HasCome t (Gone (peer.Client client) why) = client < t.next_client
 
 -- each effect of a step is for a client or a window that came before
 abbrev pub EffectsHavePeers : Type 0

@@ -75,8 +75,12 @@ impl<S: Read + Write + Drop, G: Gate + Drop, J: SessionSeat + Drop> Loop<S, G, J
                         columns: *columns,
                     }),
                 ),
-                Effect::GoneWindow(window, reason) => self.let_go(Role::Window(*window), *reason),
-                Effect::GoneClient(client, reason) => self.let_go(Role::Client(*client), *reason),
+                Effect::Gone(session_model::Peer::Window(window), reason) => {
+                    self.let_go(Role::Window(*window), *reason)
+                }
+                Effect::Gone(session_model::Peer::Client(client), reason) => {
+                    self.let_go(Role::Client(*client), *reason)
+                }
             }
         }
         self.draws.is_told |= is_told;

@@ -55,8 +55,8 @@ effect_line (effect.Say client bytes) =
 effect_line (effect.Size window rows columns) =
     line (codes "size " ++ decimal window ++ codes " " ++ decimal rows ++ codes " "
     ++ decimal columns)
-effect_line (effect.GoneWindow window why) = gone_line (codes "window") window why
-effect_line (effect.GoneClient client why) = gone_line (codes "client") client why
+effect_line (effect.Gone (peer.Window window) why) = gone_line (codes "window") window why
+effect_line (effect.Gone (peer.Client client) why) = gone_line (codes "client") client why
 
 -- ---- replies
 

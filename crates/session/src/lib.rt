@@ -16,7 +16,7 @@ pub use printing::{print_effect, print_reply};
 pub use script::{read_event, reads_printed};
 pub use session_core::{NewSession, Notes, Session};
 pub use session_model::{
-    Bytes, Denied, Done, Effect, EntryDenied, Event, LockDenied, Ran, Reason, Refusal, Reply,
+    Bytes, Denied, Done, Effect, EntryDenied, Event, LockDenied, Peer, Ran, Reason, Refusal, Reply,
     Verdict, WindowsFault,
 };
 pub use setup::{SetupUnread, setup_of};

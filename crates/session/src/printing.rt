@@ -12,7 +12,7 @@ ghost use Rattle.session.specs.Printed.{reply_line, cell_text, row_line};
 ghost use Rattle.session.specs.Printed.{cursor_line, view_lines};
 
 use cells::{Cell, Marks};
-use session_model::{Bytes, Done, Effect, Event, Reason, Refusal, Reply};
+use session_model::{Bytes, Done, Effect, Event, Peer, Reason, Refusal, Reply};
 use std::alloc::AllocError;
 use view::{Cursor, View};
 
@@ -68,8 +68,8 @@ fn push_effect(effect: &Effect, out: &mut String) -> Result<(), AllocError>
             push_text(bytes.as_slice(), out)
         }
         Effect::Size(window, rows, columns) => writeln!(out, "size {window} {rows} {columns}"),
-        Effect::GoneWindow(window, why) => push_gone("window", *window, *why, out),
-        Effect::GoneClient(client, why) => push_gone("client", *client, *why, out),
+        Effect::Gone(Peer::Window(window), why) => push_gone("window", *window, *why, out),
+        Effect::Gone(Peer::Client(client), why) => push_gone("client", *client, *why, out),
     }
 }
 

@@ -17,7 +17,8 @@ use Rattle.acl.proofs.FollowingLemmas.{followed_by-append}
 use Rattle.writelock.specs.Holding.{clients_of}
 use Rattle.writelock.specs.LockTable.{LocksStandFor}
 use Rattle.writelock.specs.declared.locks.Locks.{Locks}
-use Rattle.session_model.specs.declared.event.Effect.TheVariants.{GoneWindow, GoneClient}
+use Rattle.session_model.specs.declared.event.Effect.TheVariants.{Gone}
+use Rattle.session_model.specs.declared.event.Peer.TheVariants as peer
 use Rattle.session_model.specs.declared.event.Reason.{Reason}
 use Rattle.session_model.specs.declared.event.Reason.TheVariants as reason
 use Rattle.session_model.specs.windows_fault.WindowsFault.{WindowsFault}
@@ -116,7 +117,7 @@ module _ (t : Tables) (why : Reason) (window : ℕ) where
       → ChangesAll (without_window window) s.clients clients
       → (rows : List model.Window) → closed window t.windows ≡ Ok rows → StandFor rows windows
       → after.acts.items ≡ before.acts.items ++ Closed window ∷ []
-      → after.effects.items ≡ before.effects.items ++ GoneWindow window why ∷ []
+      → after.effects.items ≡ before.effects.items ++ Gone (peer.Window window) why ∷ []
       → Settled t (closing window why t) (Ok tt)
       (record s { acl = acl; locks = locks; windows = windows; clients = clients }) before after
   closing_done s acl locks windows clients before after st fit told locked changes rows answer stand acts effects =
@@ -128,8 +129,9 @@ module _ (t : Tables) (why : Reason) (window : ℕ) where
       let same : w.serial ≡ window = serial_is serial_of t.windows window w there.1 in
       let closed_are : d.acts ≡ Closed window ∷ [] = ap (map (λ (v : model.Window). Closed v.serial)) one
       ∙ ap (λ n. Closed n ∷ []) same in
-      let gone : d.effects ≡ GoneWindow window why ∷ [] = ap (map (λ (v : model.Window). GoneWindow v.serial why)) one
-      ∙ ap (λ n. GoneWindow n why ∷ []) same in (
+      let gone : d.effects ≡ Gone (peer.Window window) why ∷ [] = ap (map
+        (λ (v : model.Window). Gone (peer.Window v.serial) why)) one
+      ∙ ap (λ n. Gone (peer.Window n) why ∷ []) same in (
         d,
         given_some (window_at t window) NoWindow (λ w. Ok (closes (λ v. v.serial == window) why t)) w there.1,
         refl,
@@ -217,9 +219,10 @@ module _ (t : Tables) (ws : List Window) (cs : List Client) (windows : StandFor 
   effects_are : map (gone_row reason.Quit) ws ++ map (gone_now reason.Quit) (filter (goes_now All) cs) ≡
       (quits t).effects
   effects_are =
-      ap (λ xs. xs ++ map (gone_now reason.Quit) (filter (goes_now All) cs)) (rows_are (λ n. GoneWindow n reason.Quit))
-      ∙ ap (λ xs. map (λ (m : model.Window). GoneWindow m.serial reason.Quit) closed_in ++ xs)
-      (gone_are All t.clients cs clients reason.Quit ∙ clients_are (λ n. GoneClient n reason.Quit))
+      ap (λ xs. xs ++ map (gone_now reason.Quit) (filter (goes_now All) cs)) (rows_are
+        (λ n. Gone (peer.Window n) reason.Quit))
+      ∙ ap (λ xs. map (λ (m : model.Window). Gone (peer.Window m.serial) reason.Quit) closed_in ++ xs)
+      (gone_are All t.clients cs clients reason.Quit ∙ clients_are (λ n. Gone (peer.Client n) reason.Quit))
 
 pub quit_done : (t : Tables) (s : State) (ws : List Window) (cs : List Client) (acl : Table) (mid locks : Locks)
     (windows : List Window) (clients : List Client) (before after : StepOutput)

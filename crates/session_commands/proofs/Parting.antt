@@ -24,7 +24,8 @@ use Rattle.acl.proofs.FollowingLemmas.{same_user-sym, followed_by-append}
 use Rattle.writelock.specs.Holding.{clients_of, has_client, loses_last}
 use Rattle.writelock.specs.LockTable.{LocksStandFor}
 use Rattle.writelock.specs.declared.locks.Locks.{Locks}
-use Rattle.session_model.specs.declared.event.Effect.TheVariants.{GoneClient}
+use Rattle.session_model.specs.declared.event.Effect.TheVariants.{Gone}
+use Rattle.session_model.specs.declared.event.Peer.TheVariants as peer
 use Rattle.session_model.specs.declared.event.Reason.{Reason}
 use Rattle.session_model.specs.Tables as model
 use Rattle.session_model.specs.Tables.{Tables}
@@ -365,9 +366,9 @@ module _ (g : Going) (rows : List model.Client) (cs : List Client) (st : AreClie
   parted_are = going_same Parted g rows cs st
 
   pub gone_are : (why : Reason)
-      → map (gone_now why) (filter (goes_now g) cs) ≡ map (λ (m : model.Client). GoneClient m.serial why)
+      → map (gone_now why) (filter (goes_now g) cs) ≡ map (λ (m : model.Client). Gone (peer.Client m.serial) why)
       (filter (goes g) rows)
-  gone_are why = going_same (λ n. GoneClient n why) g rows cs st
+  gone_are why = going_same (λ n. Gone (peer.Client n) why) g rows cs st
 
   -- the locks stand for the tables once they are told, also after other acts of these clients
   pub locks_told : (old new : Locks) (edition : Edition) (owner : UserId) (h : History) (next : ℕ)

@@ -3,7 +3,8 @@ use Rattle.std.specs.Prelude.{ℕ, ◌==◌, List, Ok, map}
 use Rattle.acl.specs.declared.act.Act.{Act}
 use Rattle.acl.specs.declared.act.Act.TheVariants.{Closed}
 use Rattle.session_model.specs.declared.event.Effect.{Effect}
-use Rattle.session_model.specs.declared.event.Effect.TheVariants.{GoneWindow}
+use Rattle.session_model.specs.declared.event.Effect.TheVariants.{Gone}
+use Rattle.session_model.specs.declared.event.Peer.TheVariants as peer
 use Rattle.session_model.specs.declared.event.Reason.{Reason}
 use Rattle.session_model.specs.declared.refusal.Refusal.TheVariants.{NoWindow}
 use Rattle.session_model.specs.Tables.{Tables, window_at}
@@ -11,7 +12,7 @@ use Rattle.session_model.specs.Deeds.{Answer, given, closes}
 use Rattle.windows.specs.declared.window.Window.{Window}
 
 abbrev pub gone_row : Reason → Window → Effect
-gone_row why w = GoneWindow w.serial why
+gone_row why w = Gone (peer.Window w.serial) why
 
 abbrev pub closed_row : Window → Act
 closed_row w = Closed w.serial

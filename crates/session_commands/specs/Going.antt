@@ -8,7 +8,8 @@ use Rattle.acl.specs.declared.act.Act.TheVariants.{Parted}
 use Rattle.acl.specs.Same.{same_user}
 use Rattle.writelock.specs.Holding.{clients_of}
 use Rattle.session_model.specs.declared.event.Effect.{Effect}
-use Rattle.session_model.specs.declared.event.Effect.TheVariants.{GoneClient}
+use Rattle.session_model.specs.declared.event.Effect.TheVariants.{Gone}
+use Rattle.session_model.specs.declared.event.Peer.TheVariants as peer
 use Rattle.session_model.specs.declared.event.Reason.{Reason}
 use Rattle.session_model.specs.Tables as model
 use Rattle.session_model.specs.Tables.{Tables}
@@ -38,7 +39,7 @@ abbrev pub goes_now : Going → Client → Bool
 goes_now g c = takes g c.serial c.user
 
 abbrev pub gone_now : Reason → Client → Effect
-gone_now why c = GoneClient c.serial why
+gone_now why c = Gone (peer.Client c.serial) why
 
 abbrev pub parting : Client → Act
 parting c = Parted c.serial

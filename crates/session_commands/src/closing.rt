@@ -11,7 +11,7 @@ ghost use Rattle.session_commands.specs.Closing.{closing, gone_row, closed_acts}
 ghost use Rattle.session_commands.specs.Settling.{Settles};
 
 use acl::{Acl, Act, UserId};
-use session_model::{Effect, Reason, Refusal};
+use session_model::{Effect, Peer, Reason, Refusal};
 use session_state::{State, StepOutput};
 use std::alloc::{AllocError, Global};
 use windows::Window;
@@ -27,7 +27,7 @@ pub(crate) fn gone_windows(
 {
     let mut gone = Vec::new(alloc);
     for window in windows {
-        gone.push(Effect::GoneWindow(window.serial, why))?;
+        gone.push(Effect::Gone(Peer::Window(window.serial), why))?;
     }
     Ok(gone)
 }
@@ -67,7 +67,7 @@ pub(crate) fn close(
     made.effects.reserve(1)?;
     state.windows.close(window)?;
     made.acts.push(Act::Closed { window }).unwrap();
-    made.effects.push(Effect::GoneWindow(window, why)).unwrap();
+    made.effects.push(Effect::Gone(Peer::Window(window), why)).unwrap();
     state.acl.window_closed(window);
     state.locks.closed(window);
     state.clients.close_window(window);

@@ -16,7 +16,7 @@ ghost use Rattle.session_commands.specs.Going.{serials_now, attached_now, is_of_
 ghost use Rattle.session_commands.specs.Going.{last_of, Goes};
 
 use acl::{Act, UserId};
-use session_model::{Effect, Reason};
+use session_model::{Effect, Peer, Reason};
 use session_state::{Client, Clients, State, StepOutput};
 use std::alloc::{AllocError, Global};
 use writelock::Locks;
@@ -60,7 +60,7 @@ pub(crate) fn gone_clients(
     let mut gone = Vec::new(alloc);
     for client in clients {
         if going.has(client) {
-            gone.push(Effect::GoneClient(client.serial, why))?;
+            gone.push(Effect::Gone(Peer::Client(client.serial), why))?;
         }
     }
     Ok(gone)

@@ -9,7 +9,8 @@ use Rattle.acl.specs.Names.{named_by, name_of}
 use Rattle.command_lang.specs.declared.command.Command.{Command as Order}
 use Rattle.command_lang.specs.declared.command.Command.TheVariants as command
 use Rattle.session_model.specs.declared.event.Effect.{Effect}
-use Rattle.session_model.specs.declared.event.Effect.TheVariants.{Input, Say, GoneWindow, GoneClient, Size}
+use Rattle.session_model.specs.declared.event.Effect.TheVariants.{Input, Say, Gone, Size}
+use Rattle.session_model.specs.declared.event.Peer.TheVariants as peer
 use Rattle.session_model.specs.declared.event.Reason.{Reason}
 use Rattle.session_model.specs.declared.event.Reason.TheVariants.{Detached, Killed, Removed, SingleUser, Quit}
 use Rattle.session_model.specs.Tables.{Tables, Window, Client}
@@ -46,12 +47,13 @@ on_own o w n is same = subst (λ x. IsOn x n) (sym is) same
 
 -- the windows and clients that go were there
 gone_windows : (P : Effect → Type 0) (t : Tables) (goes : Window → Bool) (why : Reason)
-    → ((w : Window) → goes w ≡ true → IsOpen t w.serial → P (GoneWindow w.serial why))
-    → AllByRecursion P (map (λ (w : Window). GoneWindow w.serial why) (filter goes t.windows))
+    → ((w : Window) → goes w ≡ true → IsOpen t w.serial → P (Gone (peer.Window w.serial) why))
+    → AllByRecursion P (map (λ (w : Window). Gone (peer.Window w.serial) why) (filter goes t.windows))
 gone_windows P t goes why on =
-    all_map P (λ (w : Window). GoneWindow w.serial why) (filter goes t.windows)
-    (all_passed (λ (w : Window). P (GoneWindow w.serial why)) goes t.windows
-    (all_weaken (λ w. SomeOf (λ v. v ≡ w) t.windows) (λ (w : Window). goes w ≡ true → P (GoneWindow w.serial why))
+    all_map P (λ (w : Window). Gone (peer.Window w.serial) why) (filter goes t.windows)
+    (all_passed (λ (w : Window). P (Gone (peer.Window w.serial) why)) goes t.windows
+    (all_weaken (λ w. SomeOf (λ v. v ≡ w) t.windows)
+      (λ (w : Window). goes w ≡ true → P (Gone (peer.Window w.serial) why))
     t.windows
     (λ w some is. on w is
     (some_weaken (λ v. v ≡ w) (λ (v : Window). v.serial ≡ w.serial) t.windows
@@ -59,12 +61,13 @@ gone_windows P t goes why on =
     (members t.windows)))
 
 gone_clients : (P : Effect → Type 0) (t : Tables) (goes : Client → Bool) (why : Reason)
-    → ((c : Client) → goes c ≡ true → IsClient t goes c.serial → P (GoneClient c.serial why))
-    → AllByRecursion P (map (λ (c : Client). GoneClient c.serial why) (filter goes t.clients))
+    → ((c : Client) → goes c ≡ true → IsClient t goes c.serial → P (Gone (peer.Client c.serial) why))
+    → AllByRecursion P (map (λ (c : Client). Gone (peer.Client c.serial) why) (filter goes t.clients))
 gone_clients P t goes why on =
-    all_map P (λ (c : Client). GoneClient c.serial why) (filter goes t.clients)
-    (all_passed (λ (c : Client). P (GoneClient c.serial why)) goes t.clients
-    (all_weaken (λ c. SomeOf (λ d. d ≡ c) t.clients) (λ (c : Client). goes c ≡ true → P (GoneClient c.serial why))
+    all_map P (λ (c : Client). Gone (peer.Client c.serial) why) (filter goes t.clients)
+    (all_passed (λ (c : Client). P (Gone (peer.Client c.serial) why)) goes t.clients
+    (all_weaken (λ c. SomeOf (λ d. d ≡ c) t.clients)
+      (λ (c : Client). goes c ≡ true → P (Gone (peer.Client c.serial) why))
     t.clients
     (λ c some is. on c is
     (some_weaken (λ d. d ≡ c) (λ (d : Client). (d.serial ≡ c.serial) × (goes d ≡ true)) t.clients
@@ -103,11 +106,12 @@ without_serials (w ∷ ws) cs = without_serials ws (map (without_window w.serial
 
 quit_clients : (t : Tables) (k : Caller) (ws : List Window)
     → AllByRecursion (IsDoneBy t (giving k command.Quit) command.Quit)
-    (map (λ (c : Client). GoneClient c.serial Quit) (filter (λ (c : Client). true) (without_windows ws t.clients)))
+    (map (λ (c : Client). Gone (peer.Client c.serial) Quit)
+      (filter (λ (c : Client). true) (without_windows ws t.clients)))
 quit_clients t k ws =
     let P : Effect → Type 0 = IsDoneBy t (giving k command.Quit) command.Quit in
     let cs : List Client = without_windows ws t.clients in
-    let Is : ℕ → Type 0 = λ n. P (GoneClient n Quit) in
+    let Is : ℕ → Type 0 = λ n. P (Gone (peer.Client n) Quit) in
     let there : AllByRecursion Is (map (λ (c : Client). c.serial) t.clients) =
     all_map Is (λ (c : Client). c.serial) t.clients
     (all_weaken (λ c. SomeOf (λ d. d ≡ c) t.clients) (λ (c : Client). Is c.serial) t.clients
@@ -117,13 +121,13 @@ quit_clients t k ws =
       refl,
     ))
     (members t.clients)) in
-    subst (λ xs. AllByRecursion P (map (λ (c : Client). GoneClient c.serial Quit) xs)) (sym (filter_all cs))
+    subst (λ xs. AllByRecursion P (map (λ (c : Client). Gone (peer.Client c.serial) Quit) xs)) (sym (filter_all cs))
     (back cs (subst (λ ns. AllByRecursion Is ns) (sym (without_serials ws t.clients)) there)) where
       back : (cs : List Client)
-          → AllByRecursion (λ n. IsDoneBy t (giving k command.Quit) command.Quit (GoneClient n Quit))
+          → AllByRecursion (λ n. IsDoneBy t (giving k command.Quit) command.Quit (Gone (peer.Client n) Quit))
           (map (λ (c : Client). c.serial) cs)
           → AllByRecursion (IsDoneBy t (giving k command.Quit) command.Quit)
-          (map (λ (c : Client). GoneClient c.serial Quit) cs)
+          (map (λ (c : Client). Gone (peer.Client c.serial) Quit) cs)
       back [] all = tt
       back (c ∷ cs) all = (all.0, back cs all.1)
 
@@ -193,7 +197,7 @@ module _ (t : Tables) (k : Caller) where
   quit_done : HasDone t k command.Quit (both (closes (λ w. true) Quit t) (parts (λ d. true) Quit))
   quit_done = record {
     effects = all_append (IsDoneBy t (giving k command.Quit) command.Quit)
-        (map (λ (w : Window). GoneWindow w.serial Quit) (filter (λ (w : Window). true) t.windows)) _
+        (map (λ (w : Window). Gone (peer.Window w.serial) Quit) (filter (λ (w : Window). true) t.windows)) _
         (gone_windows (IsDoneBy t (giving k command.Quit) command.Quit) t (λ (w : Window). true) Quit
         (λ w goes some. (some, refl)))
         (quit_clients t k (filter (λ (w : Window). true) t.windows));

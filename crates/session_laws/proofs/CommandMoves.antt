@@ -12,7 +12,8 @@ use Rattle.command_lang.specs.declared.command.Command.{Command as Order}
 use Rattle.regions.specs.Layouts.{Arrangement}
 use Rattle.terminal_model.specs.Writing as written
 use Rattle.session_model.specs.declared.event.Effect.{Effect}
-use Rattle.session_model.specs.declared.event.Effect.TheVariants.{Input, Say, Size, GoneWindow, GoneClient}
+use Rattle.session_model.specs.declared.event.Effect.TheVariants.{Input, Say, Size, Gone}
+use Rattle.session_model.specs.declared.event.Peer.TheVariants as peer
 use Rattle.session_model.specs.declared.event.Reason.{Reason}
 use Rattle.session_model.specs.declared.event.Reason.TheVariants.{Detached, Killed, Removed, SingleUser, Quit}
 use Rattle.session_model.specs.declared.message.StatusMessage.TheVariants.{Text}
@@ -155,7 +156,8 @@ parts_moves t goes why more aside = record {
   clients = filter_map id_of (λ p. not (goes p)) t.clients;
   next_window = refl;
   next_client = refl;
-  few = let le : length (map (λ (c : Client). GoneClient c.serial why) (filter (gone_by goes) t.clients)) ≤ length
+  few = let le : length (map (λ (c : Client). Gone (peer.Client c.serial) why) (filter (gone_by goes) t.clients))
+    ≤ length
       t.clients = length_gone _ (gone_by goes) t.clients in omega (arith, le);
   numbers = λ differ numbers. numbers;
 }
@@ -184,7 +186,8 @@ closes_moves t goes why = record {
   next_window = refl;
   next_client = refl;
   few = let le : length
-      (map (λ (w : Window). GoneWindow w.serial why) (filter (λ (w : Window). goes w.serial) t.windows)) ≤ length
+      (map (λ (w : Window). Gone (peer.Window w.serial) why) (filter (λ (w : Window). goes w.serial) t.windows))
+        ≤ length
       t.windows = length_gone _ (λ (w : Window). goes w.serial) t.windows in omega (arith, le);
   numbers = λ differ numbers. fewer_numbers (λ w. not (goes w.serial)) t.windows numbers;
 }
@@ -200,8 +203,10 @@ quit_moves : (t : Tables) → DeedMoves t (both (closes (λ w. true) Quit t) (pa
 quit_moves t =
     let cs : List Client = without_windows (filter (λ (w : Window). true) t.windows) t.clients in
     let same_ids : map id_of cs ≡ ids t = without_ids (filter (λ (w : Window). true) t.windows) t.clients in
-    let ws : List Effect = map (λ (w : Window). GoneWindow w.serial Quit) (filter (λ (w : Window). true) t.windows) in
-    let gone : List Effect = map (λ (c : Client). GoneClient c.serial Quit) (filter (λ (c : Client). true) cs) in
+    let ws : List Effect = map (λ (w : Window). Gone (peer.Window w.serial) Quit) (filter
+      (λ (w : Window). true) t.windows) in
+    let gone : List Effect = map (λ (c : Client). Gone (peer.Client c.serial) Quit) (filter
+      (λ (c : Client). true) cs) in
     record {
       closing = λ n. true;
       parting = λ p. true;

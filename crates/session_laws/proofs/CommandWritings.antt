@@ -11,7 +11,8 @@ use Rattle.command_lang.specs.declared.command.Command.TheVariants as command
 use Rattle.terminal_model.specs.Writing.{Writing}
 use Rattle.terminal_model.specs.Writing as written
 use Rattle.session_model.specs.declared.event.Effect.{Effect}
-use Rattle.session_model.specs.declared.event.Effect.TheVariants.{Input, Deliver, Say, Size, GoneWindow, GoneClient}
+use Rattle.session_model.specs.declared.event.Effect.TheVariants.{Input, Deliver, Say, Size, Gone}
+use Rattle.session_model.specs.declared.event.Peer.TheVariants as peer
 use Rattle.session_model.specs.declared.event.Reason.{Reason}
 use Rattle.session_model.specs.declared.event.Reason.TheVariants.{Detached, Killed, Quit, Removed, SingleUser}
 use Rattle.session_model.specs.declared.refusal.Refusal.{Refusal}
@@ -181,8 +182,8 @@ sizes_append (Size at rows columns ∷ xs) ys n =
 sizes_append (Input at bytes ∷ xs) ys n = sizes_append xs ys n
 sizes_append (Deliver to bytes ∷ xs) ys n = sizes_append xs ys n
 sizes_append (Say to bytes ∷ xs) ys n = sizes_append xs ys n
-sizes_append (GoneWindow at why ∷ xs) ys n = sizes_append xs ys n
-sizes_append (GoneClient at why ∷ xs) ys n = sizes_append xs ys n
+sizes_append (Gone (peer.Window at) why ∷ xs) ys n = sizes_append xs ys n
+sizes_append (Gone (peer.Client at) why ∷ xs) ys n = sizes_append xs ys n
 
 -- an effect that is dropped because it was said before is no size
 sizes_one : (e : Effect) (said es : List Effect) (n : ℕ) → sizes_of (unsaid said es) n ≡ sizes_of es n
@@ -210,12 +211,14 @@ sizes_one (Deliver at bytes) said es n rest = on (list_any (says_same (Deliver a
   on : (b : Bool) → sizes_of (if not b then Deliver at bytes ∷ unsaid said es else unsaid said es) n ≡ sizes_of es n
   on true = rest
   on false = rest
-sizes_one (GoneWindow at why) said es n rest = on (list_any (says_same (GoneWindow at why)) said) where
-  on : (b : Bool) → sizes_of (if not b then GoneWindow at why ∷ unsaid said es else unsaid said es) n ≡ sizes_of es n
+sizes_one (Gone (peer.Window at) why) said es n rest = on (list_any (says_same (Gone (peer.Window at) why)) said) where
+  on : (b : Bool) → sizes_of (if not b then Gone (peer.Window at) why ∷ unsaid said es else unsaid said es) n
+    ≡ sizes_of es n
   on true = rest
   on false = rest
-sizes_one (GoneClient at why) said es n rest = on (list_any (says_same (GoneClient at why)) said) where
-  on : (b : Bool) → sizes_of (if not b then GoneClient at why ∷ unsaid said es else unsaid said es) n ≡ sizes_of es n
+sizes_one (Gone (peer.Client at) why) said es n rest = on (list_any (says_same (Gone (peer.Client at) why)) said) where
+  on : (b : Bool) → sizes_of (if not b then Gone (peer.Client at) why ∷ unsaid said es else unsaid said es) n
+    ≡ sizes_of es n
   on true = rest
   on false = rest
 
@@ -224,12 +227,12 @@ sizes_unsaid said [] n = refl
 sizes_unsaid said (e ∷ es) n = sizes_one e said es n (sizes_unsaid said es n)
 
 pub sizes_gone : (why : Reason) (cs : List Client) (n : ℕ)
-    → sizes_of (map (λ (c : Client). GoneClient c.serial why) cs) n ≡ []
+    → sizes_of (map (λ (c : Client). Gone (peer.Client c.serial) why) cs) n ≡ []
 sizes_gone why [] n = refl
 sizes_gone why (c ∷ cs) n = sizes_gone why cs n
 
 pub sizes_closed : (why : Reason) (ws : List Window) (n : ℕ)
-    → sizes_of (map (λ (w : Window). GoneWindow w.serial why) ws) n ≡ []
+    → sizes_of (map (λ (w : Window). Gone (peer.Window w.serial) why) ws) n ≡ []
 sizes_closed why [] n = refl
 sizes_closed why (w ∷ ws) n = sizes_closed why ws n
 

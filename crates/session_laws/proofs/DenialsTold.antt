@@ -18,7 +18,8 @@ use Rattle.keys.specs.Grammar.{Item, typed, bound, line}
 use Rattle.acl.specs.declared.act.Act.{Act}
 use Rattle.session_model.specs.declared.verdict.Verdict.{Verdict}
 use Rattle.session_model.specs.declared.event.Effect.{Effect}
-use Rattle.session_model.specs.declared.event.Effect.TheVariants.{Input, Deliver, Say, Size, GoneWindow, GoneClient}
+use Rattle.session_model.specs.declared.event.Effect.TheVariants.{Input, Deliver, Say, Size, Gone}
+use Rattle.session_model.specs.declared.event.Peer.TheVariants as peer
 use Rattle.session_model.specs.declared.refusal.Refusal.{Refusal}
 use Rattle.session_model.specs.declared.refusal.Refusal.TheVariants.{NoWindow, UnknownUser}
 use Rattle.session_model.specs.Trace.{EventValue, Keys, Command, Reply, Entry}
@@ -62,8 +63,8 @@ same_say (Say at said) to bytes is =
 same_say (Input at said) to bytes is = absurd (cc (is))
 same_say (Deliver at said) to bytes is = absurd (cc (is))
 same_say (Size at rows columns) to bytes is = absurd (cc (is))
-same_say (GoneWindow at why) to bytes is = absurd (cc (is))
-same_say (GoneClient at why) to bytes is = absurd (cc (is))
+same_say (Gone (peer.Window at) why) to bytes is = absurd (cc (is))
+same_say (Gone (peer.Client at) why) to bytes is = absurd (cc (is))
 
 said_there : (to : ℕ) (bytes : List ℕ) (said : List Effect) → list_any (says_same (Say to bytes)) said ≡ true
     → Says to bytes said

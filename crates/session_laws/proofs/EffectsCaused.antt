@@ -10,7 +10,8 @@ use Rattle.command_lang.specs.declared.fault.ParseFault.{ParseFault}
 use Rattle.keys.specs.Grammar.{Item, typed, bound, line}
 use Rattle.terminal_model.specs.Reading.{reads}
 use Rattle.session_model.specs.declared.event.Effect.{Effect}
-use Rattle.session_model.specs.declared.event.Effect.TheVariants.{Input, Deliver, Say, GoneWindow, GoneClient}
+use Rattle.session_model.specs.declared.event.Effect.TheVariants.{Input, Deliver, Say, Gone}
+use Rattle.session_model.specs.declared.event.Peer.TheVariants as peer
 use Rattle.session_model.specs.declared.event.Reason.TheVariants as reason
 use Rattle.session_model.specs.declared.message.StatusMessage.{StatusMessage}
 use Rattle.session_model.specs.declared.refusal.Refusal.{Refusal}
@@ -268,13 +269,14 @@ pub fits : (t : Tables) (event : EventValue) → AllByRecursion (Fits t event) (
 fits t (Detach client) =
     outcomes.found (λ o. AllByRecursion (Fits t (Detach client)) o.effects) t
     (λ c. finished t [] done (parts (λ d. d.serial == client) reason.Detached t)) (client_at t client) tt
-    (λ c is. all_map (Fits t (Detach client)) (λ (d : Client). GoneClient d.serial reason.Detached)
+    (λ c is. all_map (Fits t (Detach client)) (λ (d : Client). Gone (peer.Client d.serial) reason.Detached)
     (filter (λ (d : Client). d.serial == client) t.clients)
-    (all_passed (λ (d : Client). Fits t (Detach client) (GoneClient d.serial reason.Detached))
+    (all_passed (λ (d : Client). Fits t (Detach client) (Gone (peer.Client d.serial) reason.Detached))
     (λ (d : Client). d.serial == client) t.clients
-    (all_of (λ (d : Client). (d.serial == client) ≡ true → Fits t (Detach client) (GoneClient d.serial reason.Detached))
+    (all_of
+      (λ (d : Client). (d.serial == client) ≡ true → Fits t (Detach client) (Gone (peer.Client d.serial) reason.Detached))
     t.clients
-    (λ d same. (ap (λ n. GoneClient n reason.Detached) (equal d.serial client same), tt, tt)))))
+    (λ d same. (ap (λ n. Gone (peer.Client n) reason.Detached) (equal d.serial client same), tt, tt)))))
 fits t (Keys client bytes) =
     outcomes.found (λ o. AllByRecursion (Fits t (Keys client bytes)) o.effects) t
     (λ c. keys_outcome t c (take (taken c.keys bytes) bytes)) (client_at t client) tt
@@ -289,13 +291,14 @@ fits t (Output window bytes) =
 fits t (Closed window) =
     outcomes.found (λ o. AllByRecursion (Fits t (Closed window)) o.effects) t
     (λ v. finished t [] done (closes (λ x. x.serial == window) reason.Detached t)) (window_at t window) tt
-    (λ v is. all_map (Fits t (Closed window)) (λ (x : Window). GoneWindow x.serial reason.Detached)
+    (λ v is. all_map (Fits t (Closed window)) (λ (x : Window). Gone (peer.Window x.serial) reason.Detached)
     (filter (λ (x : Window). x.serial == window) t.windows)
-    (all_passed (λ (x : Window). Fits t (Closed window) (GoneWindow x.serial reason.Detached))
+    (all_passed (λ (x : Window). Fits t (Closed window) (Gone (peer.Window x.serial) reason.Detached))
     (λ (x : Window). x.serial == window) t.windows
-    (all_of (λ (x : Window). (x.serial == window) ≡ true → Fits t (Closed window) (GoneWindow x.serial reason.Detached))
+    (all_of
+      (λ (x : Window). (x.serial == window) ≡ true → Fits t (Closed window) (Gone (peer.Window x.serial) reason.Detached))
     t.windows
-    (λ x same. (ap (λ n. GoneWindow n reason.Detached) (equal x.serial window same), tt, tt)))))
+    (λ x same. (ap (λ n. Gone (peer.Window n) reason.Detached) (equal x.serial window same), tt, tt)))))
 fits t event = subst (λ es. AllByRecursion (Fits t event) es) (sym (outcomes.quiet t event refl)) tt
 
 drawn_fits : (t : Tables) (client : ℕ) (effects : List Effect) (o : Option Client) → client_at t client ≡ o

@@ -4,7 +4,8 @@ use Rattle.std.proofs.Common.{ap, sym, ◌∙◌, append_assoc}
 use Rattle.std.specs.Prelude.{if◌then◌else◌, ◌==◌}
 use Rattle.std.specs.List.{list_any}
 use Rattle.session_model.specs.declared.event.Effect.{Effect}
-use Rattle.session_model.specs.declared.event.Effect.TheVariants.{Input, Deliver, Say, Size, GoneWindow, GoneClient}
+use Rattle.session_model.specs.declared.event.Effect.TheVariants.{Input, Deliver, Say, Size, Gone}
+use Rattle.session_model.specs.declared.event.Peer.TheVariants as peer
 use Rattle.session_model.specs.declared.refusal.Refusal.{Refusal}
 use Rattle.session_model.specs.declared.verdict.Verdict.{Verdict}
 use Rattle.session_model.specs.declared.message.StatusMessage.{StatusMessage}
@@ -31,8 +32,8 @@ inputs_append (Input at bytes ∷ a) b w = ap (λ bs. (if at == w then bytes els
 inputs_append (Deliver to bytes ∷ a) b w = inputs_append a b w
 inputs_append (Say to bytes ∷ a) b w = inputs_append a b w
 inputs_append (Size at rows columns ∷ a) b w = inputs_append a b w
-inputs_append (GoneWindow at why ∷ a) b w = inputs_append a b w
-inputs_append (GoneClient at why ∷ a) b w = inputs_append a b w
+inputs_append (Gone (peer.Window at) why ∷ a) b w = inputs_append a b w
+inputs_append (Gone (peer.Client at) why ∷ a) b w = inputs_append a b w
 
 -- an effect that isn't a Say is never dropped
 never_same : (e : Effect) (said : List Effect) → is_say e ≡ false → list_any (says_same e) said ≡ false
@@ -41,8 +42,8 @@ never_same e [] is = refl
 never_same (Input at bytes) (s ∷ said) is = never_same (Input at bytes) said is
 never_same (Deliver at bytes) (s ∷ said) is = never_same (Deliver at bytes) said is
 never_same (Size at rows columns) (s ∷ said) is = never_same (Size at rows columns) said is
-never_same (GoneWindow at why) (s ∷ said) is = never_same (GoneWindow at why) said is
-never_same (GoneClient at why) (s ∷ said) is = never_same (GoneClient at why) said is
+never_same (Gone (peer.Window at) why) (s ∷ said) is = never_same (Gone (peer.Window at) why) said is
+never_same (Gone (peer.Client at) why) (s ∷ said) is = never_same (Gone (peer.Client at) why) said is
 
 kept_inputs : (b : Bool) (e : Effect) (fs es : List Effect) (w : ℕ) → b ≡ false → inputs fs w ≡ inputs es w
     → inputs (if not b then e ∷ fs else fs) w ≡ inputs (e ∷ es) w

@@ -8,7 +8,8 @@ use Rattle.command_lang.specs.declared.command.Command.{Command as Order}
 use Rattle.command_lang.specs.declared.fault.ParseFault.{ParseFault}
 use Rattle.keys.specs.Grammar.{Item, typed, bound, line}
 use Rattle.session_model.specs.declared.event.Effect.{Effect}
-use Rattle.session_model.specs.declared.event.Effect.TheVariants.{Input, Deliver, Say, Size, GoneWindow, GoneClient}
+use Rattle.session_model.specs.declared.event.Effect.TheVariants.{Input, Deliver, Say, Size, Gone}
+use Rattle.session_model.specs.declared.event.Peer.TheVariants as peer
 use Rattle.session_model.specs.declared.message.StatusMessage.{StatusMessage}
 use Rattle.session_model.specs.declared.refusal.Refusal.{Refusal}
 use Rattle.session_model.specs.Trace.{EventValue, Detach, Keys, Command, Closed, Draw, Reply}
@@ -112,8 +113,8 @@ none_delivered (Deliver to bytes ∷ effects) all n = absurd all.0
 none_delivered (Input at bytes ∷ effects) all n = none_delivered effects all.1 n
 none_delivered (Say to bytes ∷ effects) all n = none_delivered effects all.1 n
 none_delivered (Size at rows columns ∷ effects) all n = none_delivered effects all.1 n
-none_delivered (GoneWindow at why ∷ effects) all n = none_delivered effects all.1 n
-none_delivered (GoneClient at why ∷ effects) all n = none_delivered effects all.1 n
+none_delivered (Gone (peer.Window at) why ∷ effects) all n = none_delivered effects all.1 n
+none_delivered (Gone (peer.Client at) why ∷ effects) all n = none_delivered effects all.1 n
 
 not_by_right : (t : Tables) (to : ℕ) (bytes : List ℕ) (gs : List Given) → SomeOf (IsDoneByRight t (Deliver to bytes)) gs
     → ⊥

@@ -4,7 +4,8 @@ use Rattle.std.proofs.Common.{filter, refl, ap, sym, ◌∙◌, true≢false}
 use Rattle.std.specs.Prelude.{◌==◌, codes}
 use Rattle.command_lang.specs.declared.command.Command.{Command}
 use Rattle.command_lang.specs.declared.command.Command.TheVariants as command
-use Rattle.session_model.specs.declared.event.Effect.TheVariants.{Say, GoneWindow, GoneClient}
+use Rattle.session_model.specs.declared.event.Effect.TheVariants.{Say, Gone}
+use Rattle.session_model.specs.declared.event.Peer.TheVariants as peer
 use Rattle.session_model.specs.declared.event.Reason.{Reason}
 use Rattle.session_model.specs.declared.event.Reason.TheVariants.{Detached, Killed, Removed, SingleUser, Quit}
 use Rattle.acl.specs.declared.user_id.UserId.{UserId}
@@ -26,17 +27,18 @@ abbrev pub IsQuiet : Deed → Type 0
 IsQuiet d = (w : ℕ) → inputs d.effects w ≡ []
 
 pub gone_windows : (why : Reason) (ws : List Window) (v : ℕ)
-    → inputs (map (λ (w : Window). GoneWindow w.serial why) ws) v ≡ []
+    → inputs (map (λ (w : Window). Gone (peer.Window w.serial) why) ws) v ≡ []
 gone_windows why [] v = refl
 gone_windows why (w ∷ ws) v = gone_windows why ws v
 
 pub gone_clients : (why : Reason) (cs : List Client) (v : ℕ)
-    → inputs (map (λ (c : Client). GoneClient c.serial why) cs) v ≡ []
+    → inputs (map (λ (c : Client). Gone (peer.Client c.serial) why) cs) v ≡ []
 gone_clients why [] v = refl
 gone_clients why (c ∷ cs) v = gone_clients why cs v
 
 gone_both : (why : Reason) (ws : List Window) (cs : List Client) (v : ℕ)
-    → inputs (map (λ (w : Window). GoneWindow w.serial why) ws ++ map (λ (c : Client). GoneClient c.serial why) cs) v ≡
+    → inputs (map (λ (w : Window). Gone (peer.Window w.serial) why) ws ++ map
+      (λ (c : Client). Gone (peer.Client c.serial) why) cs) v ≡
     []
 gone_both why [] cs v = gone_clients why cs v
 gone_both why (w ∷ ws) cs v = gone_both why ws cs v

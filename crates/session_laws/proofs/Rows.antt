@@ -18,7 +18,8 @@ use Rattle.regions.specs.Layouts.{Arrangement}
 use Rattle.terminal_model.specs.Writing.{Writing}
 use Rattle.terminal_model.specs.Writing as written
 use Rattle.session_model.specs.declared.event.Effect.{Effect}
-use Rattle.session_model.specs.declared.event.Effect.TheVariants.{GoneClient, GoneWindow, Say, Size}
+use Rattle.session_model.specs.declared.event.Effect.TheVariants.{Gone, Say, Size}
+use Rattle.session_model.specs.declared.event.Peer.TheVariants as peer
 use Rattle.session_model.specs.declared.event.Reason.{Reason}
 use Rattle.session_model.specs.declared.event.Reason.TheVariants as reason
 use Rattle.session_model.specs.declared.refusal.Refusal.{Refusal}
@@ -158,28 +159,28 @@ module _ (shown : ℕ → Bool) (seeing : UserId → Bool) where
         tables = record (less t)
             { clients = filter (λ c. not (p c)) (map g t.clients) };
         effects = map
-            (λ (c : Client). GoneClient c.serial why) cs;
+            (λ (c : Client). Gone (peer.Client c.serial) why) cs;
         lists = None;
       }) (left t.clients)
       ∙ ap (λ cs. record {
         acts = map (λ (c : Client). act.Parted c.serial) (map g (filter p t.clients));
         tables = record (less t)
             { clients = cs };
-        effects = map (λ (c : Client). GoneClient c.serial why) (map g (filter p t.clients));
+        effects = map (λ (c : Client). Gone (peer.Client c.serial) why) (map g (filter p t.clients));
         lists
             = None;
       }) kept
       ∙ ap (λ acts. record {
         acts = acts;
         tables = less (parts p why t).tables;
-        effects = map (λ (c : Client). GoneClient c.serial why)
+        effects = map (λ (c : Client). Gone (peer.Client c.serial) why)
             (map g (filter p t.clients));
         lists = None;
       })
       (read_all g (λ (c : Client). act.Parted c.serial) (filter p t.clients) (λ c. refl))
       ∙ ap (λ es. record
       { acts = (parts p why t).acts; tables = less (parts p why t).tables; effects = es; lists = None })
-      (read_all g (λ (c : Client). GoneClient c.serial why) (filter p t.clients) (λ c. refl))
+      (read_all g (λ (c : Client). Gone (peer.Client c.serial) why) (filter p t.clients) (λ c. refl))
 
   emptied_cut : (ws : List Window) (cs : List Client)
       → without_windows (map f ws) (map g cs) ≡ map g (without_windows ws cs)
@@ -198,20 +199,20 @@ module _ (shown : ℕ → Bool) (seeing : UserId → Bool) where
       → Deed = λ acts ws cs es. record
       { acts = acts; tables = record (less t) { windows = ws; clients = cs }; effects = es; lists = None } in
       ap (λ ws. made (map (λ (w : Window). act.Closed w.serial) ws) (filter (λ w. not (p w)) (map f t.windows))
-      (without_windows ws (map g t.clients)) (map (λ (w : Window). GoneWindow w.serial why) ws)) gone
+      (without_windows ws (map g t.clients)) (map (λ (w : Window). Gone (peer.Window w.serial) why) ws)) gone
       ∙ ap (λ ws. made (map (λ (w : Window). act.Closed w.serial) (map f (filter p t.windows))) ws
       (without_windows (map f (filter p t.windows)) (map g t.clients))
-      (map (λ (w : Window). GoneWindow w.serial why) (map f (filter p t.windows)))) kept
+      (map (λ (w : Window). Gone (peer.Window w.serial) why) (map f (filter p t.windows)))) kept
       ∙ ap (λ cs. made (map (λ (w : Window). act.Closed w.serial) (map f (filter p t.windows)))
       (less (closes p why t).tables).windows cs
-      (map (λ (w : Window). GoneWindow w.serial why) (map f (filter p t.windows))))
+      (map (λ (w : Window). Gone (peer.Window w.serial) why) (map f (filter p t.windows))))
       (emptied_cut (filter p t.windows) t.clients)
       ∙ ap (λ acts. made acts (less (closes p why t).tables).windows (less (closes p why t).tables).clients
-      (map (λ (w : Window). GoneWindow w.serial why) (map f (filter p t.windows))))
+      (map (λ (w : Window). Gone (peer.Window w.serial) why) (map f (filter p t.windows))))
       (read_all f (λ (w : Window). act.Closed w.serial) (filter p t.windows) (λ w. refl))
       ∙ ap (λ es. made (closes p why t).acts (less (closes p why t).tables).windows
       (less (closes p why t).tables).clients es)
-      (read_all f (λ (w : Window). GoneWindow w.serial why) (filter p t.windows) (λ w. refl))
+      (read_all f (λ (w : Window). Gone (peer.Window w.serial) why) (filter p t.windows) (λ w. refl))
 
   removes_cut : (t : Tables) (o : Option UserId) → removes o (less t) ≡ cut_deed shown seeing (removes o t)
   removes_cut t None = refl

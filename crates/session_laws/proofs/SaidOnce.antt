@@ -13,7 +13,8 @@ use Rattle.command_lang.specs.declared.fault.ParseFault.{ParseFault}
 use Rattle.keys.specs.Grammar.{Item, typed, bound, line}
 use Rattle.terminal_model.specs.Reading.{reads}
 use Rattle.session_model.specs.declared.event.Effect.{Effect}
-use Rattle.session_model.specs.declared.event.Effect.TheVariants.{Input, Deliver, Say, GoneWindow, GoneClient}
+use Rattle.session_model.specs.declared.event.Effect.TheVariants.{Input, Deliver, Say, Gone}
+use Rattle.session_model.specs.declared.event.Peer.TheVariants as peer
 use Rattle.session_model.specs.declared.event.Reason.TheVariants as reason
 use Rattle.session_model.specs.declared.message.StatusMessage.{StatusMessage}
 use Rattle.session_model.specs.declared.refusal.Refusal.{Refusal}
@@ -247,11 +248,11 @@ deed_once : (a : Answer) (d : Deed) → a ≡ Ok d → Either SaysOnce a → Are
 deed_once (Ok e) d is all = let same : e ≡ d = cc (is) in subst (λ (x : Deed). AreSaidOnce x.effects) same all.effects
 deed_once (Err r) d is all = absurd (cc (is))
 
-gone_clients : (cs : List Client) → AreSaidOnce (map (λ (c : Client). GoneClient c.serial reason.Detached) cs)
+gone_clients : (cs : List Client) → AreSaidOnce (map (λ (c : Client). Gone (peer.Client c.serial) reason.Detached) cs)
 gone_clients [] = tt
 gone_clients (c ∷ cs) = (tt, gone_clients cs)
 
-gone_windows : (ws : List Window) → AreSaidOnce (map (λ (w : Window). GoneWindow w.serial reason.Detached) ws)
+gone_windows : (ws : List Window) → AreSaidOnce (map (λ (w : Window). Gone (peer.Window w.serial) reason.Detached) ws)
 gone_windows [] = tt
 gone_windows (w ∷ ws) = (tt, gone_windows ws)
 

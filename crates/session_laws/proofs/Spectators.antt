@@ -19,7 +19,8 @@ use Rattle.session_model.specs.declared.check.Check.TheVariants.{Must as must}
 use Rattle.session_model.specs.Naming.{is_title}
 use Rattle.session_model.specs.windows_fault.WindowsFault.TheVariants.{Full, BadTitle}
 use Rattle.session_model.specs.declared.event.Effect.{Effect}
-use Rattle.session_model.specs.declared.event.Effect.TheVariants.{Input, Deliver, Say, Size, GoneWindow, GoneClient}
+use Rattle.session_model.specs.declared.event.Effect.TheVariants.{Input, Deliver, Say, Size, Gone}
+use Rattle.session_model.specs.declared.event.Peer.TheVariants as peer
 use Rattle.session_model.specs.declared.event.Reason.TheVariants as reason
 use Rattle.session_model.specs.declared.refusal.Refusal.{Refusal}
 use Rattle.session_model.specs.declared.refusal.Refusal.TheVariants.{Line, BadSize, NoWindow, UnknownUser, NotMultiuser}
@@ -66,10 +67,10 @@ for_theirs : (t : Tables) (user : UserId) (own : Option ℕ) (f : Effect)
     → ((n : ℕ) → is_it own n ≡ true → is_client_of t user n ≡ true) → is_to own f ≡ true → is_for_theirs t user f ≡ true
 for_theirs t user own (Say n bytes) mine is = mine n is
 for_theirs t user own (Deliver n bytes) mine is = mine n is
-for_theirs t user own (GoneClient n why) mine is = mine n is
+for_theirs t user own (Gone (peer.Client n) why) mine is = mine n is
 for_theirs t user own (Input w bytes) mine is = is
 for_theirs t user own (Size w rows columns) mine is = is
-for_theirs t user own (GoneWindow w why) mine is = is
+for_theirs t user own (Gone (peer.Window w) why) mine is = is
 
 all_for_theirs : (t : Tables) (user : UserId) (own : Option ℕ) (fs : List Effect)
     → ((n : ℕ) → is_it own n ≡ true → is_client_of t user n ≡ true) → AllTo own fs
@@ -209,8 +210,8 @@ module _ (t : Tables) (user : UserId) (fit : AreFit t) (watches : IsSpectator t 
     drew (Input w bytes ∷ fs) draws = absurd draws
     drew (Say to bytes ∷ fs) draws = absurd draws
     drew (Size w rows columns ∷ fs) draws = absurd draws
-    drew (GoneWindow w why ∷ fs) draws = absurd draws
-    drew (GoneClient d why ∷ fs) draws = absurd draws
+    drew (Gone (peer.Window w) why ∷ fs) draws = absurd draws
+    drew (Gone (peer.Client d) why ∷ fs) draws = absurd draws
 
     with_own : (effects : List Effect) (v : Tables) → Still user (Some client) t v
         → Still user (Some client) t (with_client v (with_drawn effects (granted_view v c) c))

@@ -7,7 +7,8 @@ use Rattle.acl.specs.declared.user_id.UserId.{UserId}
 use Rattle.acl.specs.Same.{same_user}
 use Rattle.terminal_model.specs.Reading.{reads}
 use Rattle.session_model.specs.declared.event.Effect.{Effect}
-use Rattle.session_model.specs.declared.event.Effect.TheVariants.{Input, Deliver, Say, Size, GoneWindow, GoneClient}
+use Rattle.session_model.specs.declared.event.Effect.TheVariants.{Input, Deliver, Say, Size, Gone}
+use Rattle.session_model.specs.declared.event.Peer.TheVariants as peer
 use Rattle.session_model.specs.declared.refusal.Refusal.TheVariants.{NoWindow}
 use Rattle.session_model.specs.Trace.{EventValue, Output, Draw, Reply}
 use Rattle.session_model.specs.Tables.{Tables, Window, Client, client_at, window_at}
@@ -38,8 +39,8 @@ only_delivered opened t x user c (Deliver to bytes ∷ f ∷ fs) draws = absurd 
 only_delivered opened t x user c (Input w bytes ∷ fs) draws = absurd draws
 only_delivered opened t x user c (Say to bytes ∷ fs) draws = absurd draws
 only_delivered opened t x user c (Size w rows columns ∷ fs) draws = absurd draws
-only_delivered opened t x user c (GoneWindow w why ∷ fs) draws = absurd draws
-only_delivered opened t x user c (GoneClient d why ∷ fs) draws = absurd draws
+only_delivered opened t x user c (Gone (peer.Window w) why ∷ fs) draws = absurd draws
+only_delivered opened t x user c (Gone (peer.Client d) why ∷ fs) draws = absurd draws
 
 draw_tells : (opened : ℕ → Bool) (t : Tables) (user : UserId) (o : Option Client) (effects : List Effect)
     → MatchOption o (effects ≡ []) (IsDraw t effects) → filter (is_for opened t user) effects ≡ []
@@ -150,9 +151,9 @@ module _ (shown : ℕ → Bool) (seeing : UserId → Bool) (t u : Tables) (same 
       same_for : (f : Effect) → is_for opened t user f ≡ is_for opened u user f
       same_for (Input w bytes) = refl
       same_for (Size w rows columns) = refl
-      same_for (GoneWindow w why) = refl
+      same_for (Gone (peer.Window w) why) = refl
       same_for (Say client bytes) = same_owner client
-      same_for (GoneClient client why) = same_owner client
+      same_for (Gone (peer.Client client) why) = same_owner client
       same_for (Deliver client bytes) = refl
 
       all_for : (fs : List Effect) → filter (is_for opened t user) fs ≡ filter (is_for opened u user) fs

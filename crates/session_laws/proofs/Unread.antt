@@ -8,7 +8,8 @@ use Rattle.acl.specs.declared.act.Act.TheVariants.{Left}
 use Rattle.command_lang.specs.declared.command.Command.{Command as Order}
 use Rattle.command_lang.specs.declared.command.Command.TheVariants as command
 use Rattle.session_model.specs.declared.event.Effect.{Effect}
-use Rattle.session_model.specs.declared.event.Effect.TheVariants.{Say, GoneClient}
+use Rattle.session_model.specs.declared.event.Effect.TheVariants.{Say, Gone}
+use Rattle.session_model.specs.declared.event.Peer.TheVariants as peer
 use Rattle.session_model.specs.declared.message.StatusMessage.{StatusMessage}
 use Rattle.session_model.specs.declared.message.StatusMessage.TheVariants.{Text}
 use Rattle.session_model.specs.declared.refusal.Refusal.{Refusal}
@@ -139,10 +140,10 @@ pub done_in : (t : Tables) (cs : List Client) → SameClients t cs → (g : Give
     → IsDoneBy (record t { clients = cs }) g c f → IsDoneBy t g c f
 done_in t cs same g (command.Wall text) (Say client said) is =
     (client_in t cs same (λ c. true) (λ c. refl) client is.0, is.1)
-done_in t cs same g command.Quit (GoneClient client why) is =
+done_in t cs same g command.Quit (Gone (peer.Client client) why) is =
     (client_in t cs same (λ c. true) (λ c. refl) client is.0, is.1)
-done_in t cs same g (command.Acldel word) (GoneClient client why) is =
+done_in t cs same g (command.Acldel word) (Gone (peer.Client client) why) is =
     (client_in t cs same (is_named word) (λ c. refl) client is.0, is.1)
-done_in t cs same g (command.Multiuser false) (GoneClient client why) is =
+done_in t cs same g (command.Multiuser false) (Gone (peer.Client client) why) is =
     (client_in t cs same (λ c. Rattle.std.specs.Prelude.not (is_owners t c)) (λ c. refl) client is.0, is.1)
 done_in t cs same g c f is = is

@@ -13,7 +13,8 @@ use Rattle.command_lang.specs.declared.command.Command.TheVariants as command
 use Rattle.command_lang.specs.Names.{name_of}
 use Rattle.regions.specs.Layouts.{Arrangement}
 use Rattle.session_model.specs.declared.event.Effect.{Effect}
-use Rattle.session_model.specs.declared.event.Effect.TheVariants.{Deliver, Say, GoneClient}
+use Rattle.session_model.specs.declared.event.Effect.TheVariants.{Deliver, Say, Gone}
+use Rattle.session_model.specs.declared.event.Peer.TheVariants as peer
 use Rattle.session_model.specs.declared.event.Reason.TheVariants as reason
 use Rattle.session_model.specs.declared.message.StatusMessage.{StatusMessage}
 use Rattle.session_model.specs.Tables.{Tables, Client, row_of, with_row, client_at, with_client, with_layout}
@@ -49,7 +50,7 @@ is_it (Some s) n = n == s
 abbrev pub is_to : Option ℕ → Effect → Bool
 is_to o (Say n bytes) = is_it o n
 is_to o (Deliver n bytes) = is_it o n
-is_to o (GoneClient n why) = is_it o n
+is_to o (Gone (peer.Client n) why) = is_it o n
 is_to o _ = false
 
 abbrev pub AllTo : Option ℕ → List Effect → Type 0
@@ -223,7 +224,7 @@ module _ (user : UserId) (own : Option ℕ) where
             (parted_all (λ d. not (p d)) v.clients still.all);
         acts = all_map (λ a. is_presence a ≡ true) (λ (d : Client). act.Parted d.serial) (filter p v.clients)
             (all_of (λ (d : Client). true ≡ true) (filter p v.clients) (λ d. refl));
-        effects = all_map (λ f. is_to own f ≡ true) (λ (d : Client). GoneClient d.serial reason.Detached)
+        effects = all_map (λ f. is_to own f ≡ true) (λ (d : Client). Gone (peer.Client d.serial) reason.Detached)
             (filter p v.clients)
             (all_passed (λ (d : Client). is_it own d.serial ≡ true) p v.clients
             (all_of (λ (d : Client). p d ≡ true → is_it own d.serial ≡ true) v.clients goes));

@@ -7,7 +7,8 @@ use Rattle.acl.specs.Same.{same_user}
 use Rattle.terminal_model.specs.Shows.{View}
 use Rattle.session_model.specs.declared.event.Effect.{Effect}
 use Rattle.session_model.specs.declared.event.Effect.TheVariants.{Input, Deliver, Say, Size}
-use Rattle.session_model.specs.declared.event.Effect.TheVariants.{GoneWindow, GoneClient}
+use Rattle.session_model.specs.declared.event.Effect.TheVariants.{Gone}
+use Rattle.session_model.specs.declared.event.Peer.TheVariants as peer
 use Rattle.session_model.specs.Trace.{EventValue, Draw, Reply, Entry}
 use Rattle.session_model.specs.Tables.{Client, Tables, client_at}
 use Rattle.session_model.specs.Granted.{granted_view}
@@ -34,9 +35,9 @@ is_client_of t user client =
 abbrev pub is_for : (ℕ → Bool) → Tables → UserId → Effect → Bool
 is_for opened t user (Input window bytes) = opened window
 is_for opened t user (Size window rows columns) = opened window
-is_for opened t user (GoneWindow window why) = opened window
+is_for opened t user (Gone (peer.Window window) why) = opened window
 is_for opened t user (Say client bytes) = is_client_of t user client
-is_for opened t user (GoneClient client why) = is_client_of t user client
+is_for opened t user (Gone (peer.Client client) why) = is_client_of t user client
 is_for opened t user (Deliver client bytes) = false
 
 abbrev pub replied_to : Tables → UserId → Entry → List Observation

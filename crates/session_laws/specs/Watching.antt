@@ -11,7 +11,8 @@ use Rattle.command_lang.specs.Rows.{row}
 use Rattle.command_lang.specs.declared.needs.Needs.{Needs}
 use Rattle.writelock.specs.Holding.{mode_of, default_of}
 use Rattle.session_model.specs.declared.event.Effect.{Effect}
-use Rattle.session_model.specs.declared.event.Effect.TheVariants.{Deliver, Say, GoneClient}
+use Rattle.session_model.specs.declared.event.Effect.TheVariants.{Deliver, Say, Gone}
+use Rattle.session_model.specs.declared.event.Peer.TheVariants as peer
 use Rattle.session_model.specs.declared.message.StatusMessage.{StatusMessage}
 use Rattle.session_model.specs.declared.message.StatusMessage.TheVariants as message
 use Rattle.session_model.specs.Trace.{Entry}
@@ -51,7 +52,7 @@ others_clients user clients = filter (λ (c : Client). not (same_user c.user use
 abbrev pub is_for_theirs : Tables → UserId → Effect → Bool
 is_for_theirs t user (Say client bytes) = is_client_of t user client
 is_for_theirs t user (Deliver client bytes) = is_client_of t user client
-is_for_theirs t user (GoneClient client why) = is_client_of t user client
+is_for_theirs t user (Gone (peer.Client client) why) = is_client_of t user client
 is_for_theirs t user _ = false
 
 -- whether a message is the list of clients, which each draw makes again

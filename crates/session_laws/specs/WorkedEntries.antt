@@ -7,7 +7,8 @@ use Rattle.acl.specs.declared.faults.AclFault.TheVariants as fault
 use Rattle.command_lang.specs.declared.command.Command.TheVariants as command
 use Rattle.command_lang.specs.declared.command.Mask.{Mask}
 use Rattle.command_lang.specs.declared.command.Users.TheVariants.{Listed}
-use Rattle.session_model.specs.declared.event.Effect.TheVariants.{Input, Say, GoneClient}
+use Rattle.session_model.specs.declared.event.Effect.TheVariants.{Input, Say, Gone}
+use Rattle.session_model.specs.declared.event.Peer.TheVariants as peer
 use Rattle.session_model.specs.declared.event.Reason.TheVariants as reason
 use Rattle.session_model.specs.declared.refusal.Refusal.TheVariants.{Acl}
 use Rattle.session_model.specs.Trace.{Keys}
@@ -135,7 +136,7 @@ LeaderRemoved =
 abbrev pub Removed : Type 0
 Removed =
     (ordered (several Second) own None (command.Acldel (codes "bob"))).effects
-    ≡ GoneClient 2 reason.Removed ∷ []
+    ≡ Gone (peer.Client 2) reason.Removed ∷ []
 
 -- `acldel own`: the owner isn't removed, and nothing changes
 abbrev pub OwnerKept : Type 0

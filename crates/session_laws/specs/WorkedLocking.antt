@@ -4,7 +4,8 @@ use Rattle.acl.specs.declared.edition.Edition.TheVariants.{Second}
 use Rattle.acl.specs.declared.bits.Bit.TheVariants.{Write}
 use Rattle.acl.specs.declared.act.LockMode.TheVariants.{Off, Auto, On}
 use Rattle.command_lang.specs.declared.command.Command.TheVariants as command
-use Rattle.session_model.specs.declared.event.Effect.TheVariants.{Input, Say, GoneClient}
+use Rattle.session_model.specs.declared.event.Effect.TheVariants.{Input, Say, Gone}
+use Rattle.session_model.specs.declared.event.Peer.TheVariants as peer
 use Rattle.session_model.specs.declared.event.Reason.TheVariants.{Detached}
 use Rattle.session_model.specs.Trace.{Keys, Detach}
 use Rattle.session_model.specs.Tables.{Tables}
@@ -98,7 +99,7 @@ WithdrawnEverywhere =
 -- the lock is freed when the holder's last client goes
 abbrev pub LastClient : Type 0
 LastClient =
-    ((outcome locked (Detach 3)).effects ≡ GoneClient 3 Detached ∷ [])
+    ((outcome locked (Detach 3)).effects ≡ Gone (peer.Client 3) Detached ∷ [])
     × (typed (then_comes locked (Detach 3)) 2 (codes "x") ≡ Input 2 (codes "x") ∷ [])
 
 -- `defwritelock on`

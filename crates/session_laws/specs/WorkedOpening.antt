@@ -4,8 +4,8 @@ use Rattle.std.specs.Prelude.{Err, codes, map}
 use Rattle.std.specs.List.{range_with_len}
 use Rattle.acl.specs.declared.edition.Edition.TheVariants.{Second}
 use Rattle.command_lang.specs.declared.command.Command.TheVariants as command
-use Rattle.session_model.specs.declared.event.Effect.TheVariants.{Input, Say, GoneWindow}
-use Rattle.session_model.specs.declared.event.Effect.TheVariants.{GoneClient}
+use Rattle.session_model.specs.declared.event.Effect.TheVariants.{Input, Say, Gone}
+use Rattle.session_model.specs.declared.event.Peer.TheVariants as peer
 use Rattle.session_model.specs.declared.event.Reason.TheVariants as reason
 use Rattle.session_model.specs.declared.refusal.Refusal.TheVariants.{NotMultiuser, UnknownUser}
 use Rattle.session_model.specs.declared.refusal.Refusal.TheVariants.{BadSize, NoWindow, Windows}
@@ -39,7 +39,7 @@ NoMore =
 -- `kill`
 abbrev pub Kill : Type 0
 Kill =
-    (ordered (several Second) own (Some 2) command.Kill).effects ≡ GoneWindow 2 reason.Killed ∷ []
+    (ordered (several Second) own (Some 2) command.Kill).effects ≡ Gone (peer.Window 2) reason.Killed ∷ []
 
 -- a closed window leaves its regions empty
 abbrev pub NoneInFocus : Type 0
@@ -93,8 +93,8 @@ KeysCut =
 abbrev pub SingleUser : Type 0
 SingleUser =
     (ordered (several Second) own None (command.Multiuser false)).effects
-    ≡ GoneClient 1 reason.SingleUser ∷ GoneClient 2 reason.SingleUser
-    ∷ GoneClient 3 reason.SingleUser ∷ []
+    ≡ Gone (peer.Client 1) reason.SingleUser ∷ Gone (peer.Client 2) reason.SingleUser
+    ∷ Gone (peer.Client 3) reason.SingleUser ∷ []
 
 -- in single-user mode other users can't attach
 abbrev pub NotLetIn : Type 0

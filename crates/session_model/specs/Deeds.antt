@@ -18,7 +18,8 @@ use Rattle.terminal_model.specs.Writing.{Writing}
 use Rattle.terminal_model.specs.Writing as written
 use Rattle.session_model.specs.declared.event.Effect.{Effect}
 use Rattle.session_model.specs.declared.event.Effect.TheVariants.{Input, Say, Size}
-use Rattle.session_model.specs.declared.event.Effect.TheVariants.{GoneWindow, GoneClient}
+use Rattle.session_model.specs.declared.event.Effect.TheVariants.{Gone}
+use Rattle.session_model.specs.declared.event.Peer.TheVariants as peer
 use Rattle.session_model.specs.declared.event.Reason.{Reason}
 use Rattle.session_model.specs.declared.event.Reason.TheVariants as reason
 use Rattle.session_model.specs.declared.refusal.Refusal.{Refusal}
@@ -89,7 +90,7 @@ abbrev pub parts : (Client → Bool) → Reason → Tables → Deed
 parts goes why t = record {
   acts = map (λ (c : Client). act.Parted c.serial) (filter goes t.clients);
   tables = record t { clients = filter (λ c. not (goes c)) t.clients };
-  effects = map (λ (c : Client). GoneClient c.serial why) (filter goes t.clients);
+  effects = map (λ (c : Client). Gone (peer.Client c.serial) why) (filter goes t.clients);
   lists = None;
 }
 
@@ -120,7 +121,7 @@ closes goes why t = record {
     windows = filter (λ w. not (goes w)) t.windows;
     clients = without_windows (filter goes t.windows) t.clients;
   };
-  effects = map (λ (w : Window). GoneWindow w.serial why) (filter goes t.windows);
+  effects = map (λ (w : Window). Gone (peer.Window w.serial) why) (filter goes t.windows);
   lists = None;
 }
 

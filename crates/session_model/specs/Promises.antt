@@ -16,7 +16,8 @@ use Rattle.terminal_model.specs.Reading.{reads}
 use Rattle.terminal_model.specs.Shows.{ShowsFromAny}
 use Rattle.session_model.specs.declared.event.Effect.{Effect}
 use Rattle.session_model.specs.declared.event.Effect.TheVariants.{Input, Deliver, Say, Size}
-use Rattle.session_model.specs.declared.event.Effect.TheVariants.{GoneWindow, GoneClient}
+use Rattle.session_model.specs.declared.event.Effect.TheVariants.{Gone}
+use Rattle.session_model.specs.declared.event.Peer.TheVariants as peer
 use Rattle.session_model.specs.declared.event.Reason.TheVariants as reason
 use Rattle.session_model.specs.declared.message.StatusMessage.TheVariants as message
 use Rattle.session_model.specs.declared.refusal.Refusal.{Refusal}
@@ -205,16 +206,16 @@ IsDoneBy t g (command.Stuff text) (Input window bytes) =
 IsDoneBy t g (command.Wall text) (Say client said) =
     IsClient t (λ c. true) client × (said ≡ name_of g.caller.user ++ (codes ": " ++ text))
 IsDoneBy t g command.Fit (Size window rows columns) = IsOn g.caller.window window
-IsDoneBy t g command.Kill (GoneWindow window why) =
+IsDoneBy t g command.Kill (Gone (peer.Window window) why) =
     IsOn g.caller.window window × (why ≡ reason.Killed)
-IsDoneBy t g command.Quit (GoneWindow window why) = IsOpen t window × (why ≡ reason.Quit)
-IsDoneBy t g command.Quit (GoneClient client why) =
+IsDoneBy t g command.Quit (Gone (peer.Window window) why) = IsOpen t window × (why ≡ reason.Quit)
+IsDoneBy t g command.Quit (Gone (peer.Client client) why) =
     IsClient t (λ c. true) client × (why ≡ reason.Quit)
-IsDoneBy t g command.Detach (GoneClient client why) =
+IsDoneBy t g command.Detach (Gone (peer.Client client) why) =
     (g.caller.client ≡ Some client) × (why ≡ reason.Detached)
-IsDoneBy t g (command.Acldel word) (GoneClient client why) =
+IsDoneBy t g (command.Acldel word) (Gone (peer.Client client) why) =
     IsClient t (is_named word) client × (why ≡ reason.Removed)
-IsDoneBy t g (command.Multiuser false) (GoneClient client why) =
+IsDoneBy t g (command.Multiuser false) (Gone (peer.Client client) why) =
     IsClient t (λ c. not (is_owners t c)) client × (why ≡ reason.SingleUser)
 IsDoneBy t g _ _ = ⊥
 
@@ -235,8 +236,8 @@ IsEffectOf t (Keys client bytes) f =
     IsByKeys t client f ⊎ SomeOf (IsDoneByRight t f) (commands_of t (Keys client bytes))
 IsEffectOf t (Command user number line) f =
     SomeOf (IsDoneByRight t f) (commands_of t (Command user number line))
-IsEffectOf t (Detach client) f = f ≡ GoneClient client reason.Detached
-IsEffectOf t (Closed window) f = f ≡ GoneWindow window reason.Detached
+IsEffectOf t (Detach client) f = f ≡ Gone (peer.Client client) reason.Detached
+IsEffectOf t (Closed window) f = f ≡ Gone (peer.Window window) reason.Detached
 IsEffectOf t (Output window bytes) (Input to reports) = to ≡ window
 IsEffectOf t (Draw client) (Deliver to bytes) = to ≡ client
 IsEffectOf t _ _ = ⊥

@@ -75,6 +75,13 @@ pub enum Reason {
     Quit,
 }
 
+/// A window or a client, by its serial.
+#[derive(Clone, Copy, PartialEq, Eq, Debug)]
+pub enum Peer {
+    Window(u32),
+    Client(u32),
+}
+
 /// What a step does outside of the session.
 #[derive(Debug, Drop)]
 pub enum Effect {
@@ -87,10 +94,8 @@ pub enum Effect {
     Say(u32, Bytes),
     /// From now on, a window's program has this many lines and columns.
     Size(u32, u16, u16),
-    /// A window is closed.
-    GoneWindow(u32, Reason),
-    /// A client goes.
-    GoneClient(u32, Reason),
+    /// A window is closed, or a client goes.
+    Gone(Peer, Reason),
 }
 
 /// What a step did that wasn't refused.

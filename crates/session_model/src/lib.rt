@@ -12,7 +12,7 @@ mod text;
 mod verdict;
 
 pub use check::Check;
-pub use event::{Done, Effect, Event, Ran, Reason, Reply};
+pub use event::{Done, Effect, Event, Peer, Ran, Reason, Reply};
 pub use limits::{CLIENTS, SERIALS};
 pub use message::StatusMessage;
 pub use refusal::{Denied, EntryDenied, LockDenied, Refusal};

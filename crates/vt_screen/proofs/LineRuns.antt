@@ -115,7 +115,10 @@ module _ (x : Screen) (bytes : List ℕ) (count : ℕ) (h : list_all is_plain (t
 
   made : Makes w (prints cs) (cells_placed fresh w)
   made =
-      let takes : TakesRuns w.state = record { ascii = t.ascii; unshifted = t.unshifted; replaces = t.replaces } in
+      let takes : TakesRuns w.state = record {
+        prints = record { ascii = t.prints.ascii; unshifted = t.prints.unshifted };
+        replaces = t.replaces;
+      } in
       let cells : text_cells cs w.state.rendition w.state.is_protecting ≡ fresh = plain_cells w.state.rendition
       w.state.is_protecting cs h in
       subst (λ (v : List Cell). Makes w (prints cs) (cells_placed v w)) cells

@@ -71,15 +71,16 @@ known_acted : (x : Screen) (c n : ℕ) → TakesRuns x.state → IsKnown c n →
 unfolding acted_from
 known_acted x c n t k =
     ap (λ (o : Option ℕ). printed o (with_state x (record x.state { shifts = spent x.state.shifts (Code c) })))
-    (mapped-ascii x.state.shifts c t.ascii t.unshifted k.graphic)
+    (mapped-ascii x.state.shifts c t.prints.ascii t.prints.unshifted k.graphic)
     ∙ ap (λ (v : Shifts). printed (Some c) (with_state x (record x.state { shifts = v })))
-    (spent-none x.state.shifts c t.unshifted)
+    (spent-none x.state.shifts c t.prints.unshifted)
     ∙ printed_known x c n k
 
 known_places : (s : State) (c n : ℕ) (places : List ℕ) → TakesRuns s → IsKnown c n
     → acted_places s (Print (Code c)) places ≡ wrapped_places (is_wrapped n s) s places
 known_places s c n places t k =
-    ap (λ (o : Option ℕ). printed_places o s places) (mapped-ascii s.shifts c t.ascii t.unshifted k.graphic)
+    ap (λ (o : Option ℕ). printed_places o s places)
+      (mapped-ascii s.shifts c t.prints.ascii t.prints.unshifted k.graphic)
     ∙ places_known s c n places k
 
 module _ (x : Screen) (c : ℕ) (t : TakesRuns x.state) (settled : x.state.is_wrap_pending ≡ false) where
@@ -163,7 +164,10 @@ module _ (x : Screen) (cell : Cell) (ready : IsReady x) (first : is_right cell.s
 
   ready_behind : IsReady y
   ready_behind = record {
-    takes = record { ascii = ready.takes.ascii; unshifted = ready.takes.unshifted; replaces = ready.takes.replaces };
+    takes = record {
+      prints = record { ascii = ready.takes.prints.ascii; unshifted = ready.takes.prints.unshifted };
+      replaces = ready.takes.replaces;
+    };
     sized = IsPage-page_over x.state.rows x.state.columns x.state.line x.page ready.sized ready.line x.state.column
         (whole cell);
     line = ready.line;

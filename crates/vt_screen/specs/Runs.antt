@@ -12,10 +12,14 @@ use Rattle.terminal_model.specs.declared.state.State.{State}
 abbrev pub prints : List ℕ → List Action
 prints characters = map (λ character. Print (Code character)) characters
 
--- 20 to 7E stand for themselves, and each is put over an old cell
-pub record TakesRuns (s : State) : Type 0 where
+-- 20 to 7E stand for themselves: GL is ASCII, and no single shift is pending (ECMA-35, 7.3)
+pub record PrintsAscii (s : State) : Type 0 where
   pub ascii : set_at s.shifts s.shifts.gl ≡ Ascii
   pub unshifted : s.shifts.single ≡ None
+
+-- 20 to 7E stand for themselves, and each is put over an old cell
+pub record TakesRuns (s : State) : Type 0 where
+  pub prints : PrintsAscii s
   pub replaces : s.modes.inserts ≡ false
 
 -- an index scrolls the page from its first line on, and new characters have neither rendition nor

@@ -5,7 +5,7 @@ ghost use Rattle.charsets.specs.Shifts.{set_at};
 ghost use Rattle.charsets.specs.Units.{is_plain};
 ghost use Rattle.vt_screen.specs.Acting.{ActsByAll, MovesLinesByAll};
 ghost use Rattle.vt_screen.specs.Displays.{IsFit};
-ghost use Rattle.vt_screen.specs.Runs.{TakesRuns, prints};
+ghost use Rattle.vt_screen.specs.Runs.{PrintsAscii, TakesRuns, prints};
 
 use crate::display::Display;
 use charsets::{CharacterSet, Place, Shifts};
@@ -35,9 +35,15 @@ impl Display {
 pub fn takes_runs(state: &State) -> bool
     ensures { IsTrue result ↔ TakesRuns state.now }
 {
-    matches!(set_in_use(&state.shifts), CharacterSet::Ascii)
-        && state.shifts.single.is_none()
-        && !state.modes.inserts
+    prints_ascii(state) && !state.modes.inserts
+}
+
+/// Whether characters 20 to 7E stand for themselves: GL is ASCII, and no single shift is pending.
+#[inline(always)]
+pub fn prints_ascii(state: &State) -> bool
+    ensures { IsTrue result ↔ PrintsAscii state.now }
+{
+    matches!(set_in_use(&state.shifts), CharacterSet::Ascii) && state.shifts.single.is_none()
 }
 
 /// The set that 21 to 7E go through if no single shift is pending: mostly that of G0.

@@ -1,6 +1,6 @@
 //! The screen of a VT220.
 
-ghost use Rattle.std.specs.Prelude.{◌≡◌, ℕ, ◌<◌, ◌≤◌, ◌↔◌, true, Err, IfOk, OnOk, OnErr, ◌∷◌, []};
+ghost use Rattle.std.specs.Prelude.{◌≡◌, ℕ, ◌<◌, ◌≤◌, ◌↔◌, true, IsTrue, Err, IfOk, OnOk, OnErr, ◌∷◌, []};
 ghost use Rattle.std.specs.Prelude.{length, option_copied, slice_get, slice_index, take};
 ghost use Rattle.std.specs.List.{list_all, range_with_len};
 ghost use Rattle.charsets.specs.Text.{IsText, text};
@@ -10,11 +10,12 @@ ghost use Rattle.cells.specs.Line.{cell_at};
 ghost use Rattle.terminal_model.specs.Screen.{IsSound, starting};
 ghost use Rattle.terminal_model.specs.Sizing.{resized};
 ghost use Rattle.terminal_model.specs.declared.action.Action.TheVariants.{CarriageReturn, LineFeed};
-ghost use Rattle.vt_screen.specs.Runs.{prints};
+ghost use Rattle.vt_screen.specs.Runs.{PrintsAscii, prints};
 ghost use Rattle.vt_screen.specs.Stored.{Performs};
 ghost use Rattle.vt_screen.specs.Sizes.{IsScreenSize};
 
 use crate::display::Display;
+use crate::runs::prints_ascii;
 use cells::{Cell, GridFault};
 use charsets::Coding;
 use std::alloc::Global;
@@ -56,6 +57,23 @@ impl Screen {
         }
         let display = Display::new(alloc, rows, columns, keep)?;
         Ok(Screen { display })
+    }
+
+    /// Whether characters 20 to 7E are printed as themselves: GL is ASCII, and no single shift is pending.
+    pub fn prints_ascii(&self) -> bool
+        ensures { IsTrue result ↔ PrintsAscii self.now.screen.state }
+    {
+        prints_ascii(&self.display.state)
+    }
+
+    /// Prints characters 20 to 7E, one after another, as `apply` does. It needs no memory.
+    pub fn print_run(&mut self, codes: &[u8])
+        requires { list_all is_plain codes.now ≡ true }
+        ensures { Performs self.old (prints codes.now) self.new }
+    {
+        for code in codes {
+            self.print_one(*code);
+        }
     }
 
     /// Prints one character 20 to 7E. It needs no memory.

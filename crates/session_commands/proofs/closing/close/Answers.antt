@@ -1,7 +1,8 @@
 use Rattle.std.proofs.Common.{◌∙◌, ◌++◌, ◌∷◌, [], ap, inr, arith}
 use Rattle.std.proofs.lemmas.Result.{err_from_is_err_and}
 use Rattle.acl.specs.declared.act.Act.TheVariants.{Closed}
-use Rattle.session_model.specs.declared.event.Effect.TheVariants.{GoneWindow}
+use Rattle.session_model.specs.declared.event.Effect.TheVariants.{Gone}
+use Rattle.session_model.specs.declared.event.Peer.TheVariants as peer
 use Rattle.session_commands.proofs.Pushed.{pushed}
 use Rattle.session_commands.proofs.Ending.{closing_done, closing_refused}
 use Rattle.session_commands.proofs.closing.close.Goals as goal
@@ -28,6 +29,6 @@ returns-clause-answer c = λ t st fit.
     (pushed c.push.result c.reserve.new.self.items c.push.new.self.items (Closed window)
     (c.push.ensures.succeeds (omega (arith, c.in_ok-reserve.ensures.ok))) c.push.ensures.items
     ∙ ap (λ xs. xs ++ Closed window ∷ []) c.reserve.ensures.items)
-    (pushed c.push-2.result c.reserve-2.new.self.items c.push-2.new.self.items (GoneWindow window c.args.why)
+    (pushed c.push-2.result c.reserve-2.new.self.items c.push-2.new.self.items (Gone (peer.Window window) c.args.why)
     (c.push-2.ensures.succeeds (omega (arith, c.in_ok-reserve-2.ensures.ok))) c.push-2.ensures.items
-    ∙ ap (λ xs. xs ++ GoneWindow window c.args.why ∷ []) c.reserve-2.ensures.items)
+    ∙ ap (λ xs. xs ++ Gone (peer.Window window) c.args.why ∷ []) c.reserve-2.ensures.items)

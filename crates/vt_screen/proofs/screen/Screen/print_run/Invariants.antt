@@ -1,0 +1,8 @@
+use Rattle.std.proofs.Common.{drop}
+use Rattle.vt_screen.specs.Runs.{prints}
+use Rattle.vt_screen.specs.Stored.{Stored, Performs}
+use Rattle.vt_screen.proofs.screen.Screen.print_run.Given as goal
+
+abbrev pub invariant-loop-code : goal.invariant-loop-code
+invariant-loop-code l = (new : Stored) → Performs l.self (prints (drop l.code-index l.codes)) new
+    → Performs l.fn.self (prints l.codes) new
