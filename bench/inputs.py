@@ -59,6 +59,18 @@ def edits(rng):
     return place(rng) + rng.choice(WORDS).encode() + b"\x1b[" + number + last
 
 
+def short(rng):
+    """One short function before two letters: tabs, saved places, margins, index both ways, cells and lines that are
+    inserted, deleted and erased within a region that scrolls."""
+    count = rng.randint(1, 9)
+    function = rng.choice((
+        b"\t", b"\x1bH", b"\x1b7", b"\x1b8", b"\x1bD", b"\x1bE", b"\x1bM", b"\x1b[K", b"\x1b[1K", b"\x1b[J",
+        b"\x1b[%d@" % count, b"\x1b[%dP" % count, b"\x1b[%dX" % count, b"\x1b[%dL" % count, b"\x1b[%dM" % count,
+        b"\x1b[%d;%dr" % (rng.randint(1, ROWS // 3), rng.randint(ROWS // 2, ROWS)),
+    ))
+    return function + bytes(rng.choices(b"abcdefghij", k=2))
+
+
 def latin(rng):
     """Lines of letters with diacritics, in UTF-8."""
     words = ("".join(rng.choice(LATIN) for _ in range(6)) for _ in range(11))
@@ -91,6 +103,7 @@ INPUTS = {
     "tabs": tabs,
     "dense": dense,
     "edits": edits,
+    "short": short,
     "latin": latin,
     "marks": marks,
     "wide": wide,

@@ -1,7 +1,9 @@
 //! Complete functions at the beginning of a list of bytes, which are performed at once.
 
-ghost use Rattle.std.specs.Prelude.{◌≡◌, ◌≤◌, ◌<◌, ℕ, List, [], ◌∷◌, length, take};
+ghost use Rattle.std.specs.Prelude.{◌≡◌, ◌≤◌, ◌<◌, ℕ, List, [], ◌∷◌, IsTrue, length, take};
 ghost use Rattle.charsets.specs.declared.unit.Coding.TheVariants.{Utf8};
+ghost use Rattle.control_parser.specs.Spelling.{IsGiven};
+ghost use Rattle.control_parser.specs.declared.func.Func.TheVariants.{Esc};
 ghost use Rattle.emulator.specs.Standing.{HasTaken, TakesPiece, TakesWhole, IsBetween};
 
 use crate::emulator::Emulator;
@@ -54,10 +56,11 @@ impl Emulator {
     }
 
     /// Reads one complete function at the beginning of some bytes, or some characters, and returns
-    /// its number of bytes. The function is a control, a designation to G0, or a control sequence
-    /// that isn't answered. A single character 20 to 7E before a control or a sequence has a path of
-    /// its own, since most are such. CR and LF are read with the characters 20 to 7E of the line
-    /// after them. None if the bytes begin with anything else.
+    /// its number of bytes. The function is a control, an escape sequence without intermediates, a
+    /// designation to G0, or a control sequence that isn't answered. A single character 20 to 7E
+    /// before a control or a sequence has a path of its own, since most are such. CR and LF are read
+    /// with the characters 20 to 7E of the line after them. None if the bytes begin with anything
+    /// else.
     #[inline(always)]
     fn read_piece(&mut self, bytes: &[u8]) -> Option<usize>
         requires some { 0 < length bytes.now }
@@ -111,8 +114,8 @@ impl Emulator {
         Some(2 + found.size)
     }
 
-    /// Reads a designation to G0 and returns its number of bytes. None if the bytes begin with no
-    /// whole one.
+    /// Reads an escape sequence without intermediates, or a designation to G0, and returns its number of bytes. None
+    /// if the bytes begin with no whole one.
     #[inline(never)]
     fn read_other_escape(&mut self, bytes: &[u8]) -> Option<usize>
         requires begins { take 1 bytes.now ≡ 0x1B ∷ [] }
@@ -123,6 +126,19 @@ impl Emulator {
             self.screen.designate(bytes[2]);
             return Some(3);
         }
-        None
+        if bytes.len() < 2 || !ends_escape(bytes[1]) {
+            return None;
+        }
+        self.screen.escape(bytes[1]);
+        Some(2)
     }
+}
+
+/// Whether ESC and this byte are a complete function: the byte is a final byte, and begins no control sequence and no
+/// string.
+fn ends_escape(byte: u8) -> bool
+    ensures { IsTrue result → IsGiven (Esc [] byte) }
+{
+    let begins = matches!(byte, b'[' | b']' | b'P' | b'X' | b'^' | b'_' | b'k');
+    b'0' <= byte && byte < DEL && !begins
 }

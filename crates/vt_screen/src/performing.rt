@@ -82,6 +82,16 @@ impl Screen {
         }
     }
 
+    /// Performs the escape sequence without intermediates that has this final byte. It isn't answered.
+    #[inline(never)]
+    pub fn escape(&mut self, last: u8)
+        ensures { Performs self.old (actions_of (Esc [] last)) self.new }
+    {
+        if let Some(action) = escape_action(b"", last) {
+            self.perform(action);
+        }
+    }
+
     /// Designates a set to G0, by its final byte: performs ESC ( and this byte. It isn't answered.
     #[inline(never)]
     pub fn designate(&mut self, last: u8)

@@ -3,7 +3,7 @@ use Rattle.std.proofs.lemmas.List.{take_more}
 use Rattle.charsets.specs.declared.unit.Coding.TheVariants.{Utf8}
 use Rattle.control_parser.specs.declared.func.Func.TheVariants.{Esc}
 use Rattle.control_parser.proofs.Spelled.{spelled_reads}
-use Rattle.terminal_model.proofs.Codings.{escape-coding}
+use Rattle.terminal_model.proofs.Codings.{effect-coding, escape-coding}
 use Rattle.emulator.specs.Standing.{TakesWhole}
 use Rattle.emulator.proofs.Wholes.{one-taken, front-two, nothing-whole}
 use Rattle.emulator.proofs.emulator.Emulator.read_other_escape.Goals as goal
@@ -21,5 +21,16 @@ returns-then-bytes-lt-DEL c =
     c.designate.ensures.silent c.designate.ensures.screen in
     (omega arith, read)
 
+pub returns-then-bytes-lt2 : goal.returns-then-bytes-lt2
+returns-then-bytes-lt2 c = nothing-whole c.args.self.now c.args.bytes.now
+
 pub returns : goal.returns
-returns c = nothing-whole c.args.self.now c.args.bytes.now
+returns c =
+    let bytes : List ℕ = c.args.bytes.now in
+    let last : ℕ = get_or bytes 1 0 in
+    let read : TakesWhole c.args.self.now bytes 2 _ =
+    one-taken Utf8 _ _ _ _ c.args.self.now bytes (0x1B ∷ last ∷ []) 2 (Esc [] last) c.self.view_is c.requires.idle
+    (omega arith) (front-two bytes 0x1B last (omega arith) c.requires.begins refl)
+    (spelled_reads (Esc [] last) (c.ends_escape.ensures c.if-not-ends_escape.false))
+    (effect-coding _ (Esc [] last) refl) c.escape.ensures.silent c.escape.ensures.screen in
+    (omega arith, read)
