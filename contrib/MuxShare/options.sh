@@ -49,13 +49,14 @@ next_option() {
     esac
 }
 
-# Waits until a key is pressed, or for two seconds, so that people can read what stands there before a page comes.
+# Waits until a key is pressed, or for two seconds, so that people can read what stands there before a page comes.  The
+# key isn't read here: it is the first one of what comes.
 wait_for_reader() (
     settings=$(stty -g) || exit 0
     trap 'stty "$settings"' EXIT
     trap 'exit 129' HUP
     trap 'exit 130' INT
     trap 'exit 143' TERM
-    stty -icanon -echo min 0 time 20
-    dd bs=1 count=1 >/dev/null 2>&1 || :
+    stty -icanon -echo
+    perl -e 'vec(my $in, 0, 1) = 1; select($in, undef, undef, 2)' 2>/dev/null || sleep 2
 )
