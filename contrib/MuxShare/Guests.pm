@@ -68,7 +68,8 @@ sub give_all {
     return '';
 }
 
-sub show_typing { my ($self) = @_; $self->{session}->show_typing($self->typists) }
+# The title says soon who may type (keep_time): nobody waits for it.
+sub show_typing { my ($self) = @_; $self->{is_title_due} = 1 }
 
 sub no_shell { return 'window 0 is no longer the shared shell (its number or title was changed)' }
 
@@ -197,9 +198,10 @@ sub announce {
     # A page in a browser can come and go without the door.
     return if $guest->{is_web} && $self->must_wait($key);
     my $count = $self->{session}->clients_of($name);
-    my $what = $came ? 'has joined' . ($guest->{is_web} ? ' in a browser' : '') : 'has left';
-    if ($came && $count > 1) { $what .= " again, and is here $count times" }
-    elsif ($count > 0) { $what .= ' one terminal, and is still here' if !$came }
+    my $how = $guest->{is_web} ? ' in a browser' : '';
+    my $more = $guest->{types} ? ', and may type' : '';
+    my $what = $came ? $count > 1 ? "has joined again$how, and is here $count times" : "has joined$how$more"
+        : $count > 0 ? 'has left one terminal, and is still here' : 'has left';
     $self->{session}->tell("$guest->{account} $what");
 }
 
@@ -208,6 +210,7 @@ sub announce {
 sub keep_time {
     my ($self) = @_;
     my $next = LOOK;
+    $self->{session}->show_typing($self->typists) if delete $self->{is_title_due};
     $self->take_unwatched if $self->{is_pending};
     $next = 1 if $self->{is_pending} || $self->{session}->keep_users;
     for my $key (keys %{ $self->{guests} }) {
@@ -225,7 +228,7 @@ sub keep_time {
         my $wait = $guest->{is_warned} ? $left : $left - WARNING;
         $next = $wait if $wait < $next;
     }
-    return $next;
+    return $self->{is_title_due} ? 0 : $next;
 }
 
 # Returns until when a guest may stay, or ''.
