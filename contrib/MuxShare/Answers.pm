@@ -49,9 +49,11 @@ sub greeting {
 # Returns the line that the owner's terminal shows at first.
 sub first_line {
     my ($keeper) = @_;
-    my @here = grep { !$_->{is_web} } $keeper->{guests}->all;
-    return undef unless @here;
-    return join(', ', map { $_->{account} } @here) . ' can join with: ' . join_line($keeper);
+    my @all = $keeper->{guests}->all;
+    my $here = join ', ', map { $_->{account} } grep { !$_->{is_web} } @all;
+    my $web = join ', ', map { $_->{account} } grep { $_->{is_web} } @all;
+    my $line = $here eq '' ? '' : "$here can join with: " . join_line($keeper);
+    return $web eq '' ? $line : $line . ($line eq '' ? '' : '; ') . "$web can join in a browser";
 }
 
 # Returns what it means that a guest may type.

@@ -88,8 +88,7 @@ sub free_name {
 sub add {
     my ($self, $account, $uid, $types, $seconds, $by) = @_;
     my $key = $uid eq 'web' ? "web $account" : $uid;
-    return "$account is your own account" if $uid eq $>;
-    return "$account can't be told from other accounts (uid $uid)" if $uid eq NOBODY;
+    return "$account can't be invited (uid $uid)" if $uid eq $> || $uid eq NOBODY;
     my $name = $self->free_name($account, $key) // return "somebody else has the name $account here";
     return no_shell() unless $self->{session}->has_shell;
     my $guest = $self->{guests}{$key};

@@ -179,12 +179,12 @@ sub hear {
     }
 }
 
-# Tells the owner, who is attached again or for the first time, what they have to know.
+# Tells the owner, who is attached for the first time or came back, what they have to know.
 sub greet {
     my ($self) = @_;
-    my $line = first_line($self) if !$self->{was_attached}++;
+    my $line = $self->{was_attached}++ ? $self->{is_away} ? 'back here' : '' : first_line($self);
     $line = 'no guest can type since you were away: mux-share --give NAME' if $self->{guests}->was_taken;
-    $self->{session}->tell($line // 'back here') if defined $line || $self->{is_away};
+    $self->{session}->tell($line) if $line ne '';
     $self->{is_away} = 0;
 }
 

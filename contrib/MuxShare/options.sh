@@ -20,7 +20,8 @@ next_option() {
         exit 0
         ;;
     -V | --version)
-        version=$("${MUX:-mux}" --version) || fault "can't ask mux for its version: install mux, or put it into the PATH"
+        version=$("${MUX:-mux}" --version) ||
+            fault "can't ask mux for its version: install mux, or put it into the PATH"
         printf '%s of %s\n' "$program" "$version"
         exit 0
         ;;
