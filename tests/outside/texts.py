@@ -334,8 +334,8 @@ def surprises(on):
 def first_session(play):
     """docs/FIRST-SESSION.md: two terminals of 8 lines by 44 columns."""
     on = play.on
-    for line in ("mux-share --give cole", "mux-share --take", "mux-share --with eve --for 30m", "mux-share --drop cole",
-                 "mux-share --end", "mux-join dana@host"):
+    for line in ("mux-share --give cole", "mux-share --take", "mux-share --with eve --for 30m", "mux-share --list",
+                 "mux-share --drop cole", "mux-share --end", "mux-join dana@host"):
         play.text.leave(line, "tests/outside/share plays it, with three accounts")
     play.text.leave("mux-share --web fay", "tests/outside/web plays it")
     on.open("ann", 8, 44)
