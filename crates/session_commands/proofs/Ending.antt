@@ -130,7 +130,7 @@ module _ (t : Tables) (why : Reason) (window : ℕ) where
       let closed_are : d.acts ≡ Closed window ∷ [] = ap (map (λ (v : model.Window). Closed v.serial)) one
       ∙ ap (λ n. Closed n ∷ []) same in
       let gone : d.effects ≡ Gone (peer.Window window) why ∷ [] = ap (map
-        (λ (v : model.Window). Gone (peer.Window v.serial) why)) one
+      (λ (v : model.Window). Gone (peer.Window v.serial) why)) one
       ∙ ap (λ n. Gone (peer.Window n) why ∷ []) same in (
         d,
         given_some (window_at t window) NoWindow (λ w. Ok (closes (λ v. v.serial == window) why t)) w there.1,
@@ -220,7 +220,7 @@ module _ (t : Tables) (ws : List Window) (cs : List Client) (windows : StandFor 
       (quits t).effects
   effects_are =
       ap (λ xs. xs ++ map (gone_now reason.Quit) (filter (goes_now All) cs)) (rows_are
-        (λ n. Gone (peer.Window n) reason.Quit))
+      (λ n. Gone (peer.Window n) reason.Quit))
       ∙ ap (λ xs. map (λ (m : model.Window). Gone (peer.Window m.serial) reason.Quit) closed_in ++ xs)
       (gone_are All t.clients cs clients reason.Quit ∙ clients_are (λ n. Gone (peer.Client n) reason.Quit))
 

@@ -67,7 +67,9 @@ pub(crate) fn close(
     made.effects.reserve(1)?;
     state.windows.close(window)?;
     made.acts.push(Act::Closed { window }).unwrap();
-    made.effects.push(Effect::Gone(Peer::Window(window), why)).unwrap();
+    made.effects
+        .push(Effect::Gone(Peer::Window(window), why))
+        .unwrap();
     state.acl.window_closed(window);
     state.locks.closed(window);
     state.clients.close_window(window);

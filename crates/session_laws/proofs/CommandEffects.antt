@@ -53,7 +53,7 @@ gone_windows P t goes why on =
     all_map P (λ (w : Window). Gone (peer.Window w.serial) why) (filter goes t.windows)
     (all_passed (λ (w : Window). P (Gone (peer.Window w.serial) why)) goes t.windows
     (all_weaken (λ w. SomeOf (λ v. v ≡ w) t.windows)
-      (λ (w : Window). goes w ≡ true → P (Gone (peer.Window w.serial) why))
+    (λ (w : Window). goes w ≡ true → P (Gone (peer.Window w.serial) why))
     t.windows
     (λ w some is. on w is
     (some_weaken (λ v. v ≡ w) (λ (v : Window). v.serial ≡ w.serial) t.windows
@@ -67,7 +67,7 @@ gone_clients P t goes why on =
     all_map P (λ (c : Client). Gone (peer.Client c.serial) why) (filter goes t.clients)
     (all_passed (λ (c : Client). P (Gone (peer.Client c.serial) why)) goes t.clients
     (all_weaken (λ c. SomeOf (λ d. d ≡ c) t.clients)
-      (λ (c : Client). goes c ≡ true → P (Gone (peer.Client c.serial) why))
+    (λ (c : Client). goes c ≡ true → P (Gone (peer.Client c.serial) why))
     t.clients
     (λ c some is. on c is
     (some_weaken (λ d. d ≡ c) (λ (d : Client). (d.serial ≡ c.serial) × (goes d ≡ true)) t.clients
@@ -107,7 +107,7 @@ without_serials (w ∷ ws) cs = without_serials ws (map (without_window w.serial
 quit_clients : (t : Tables) (k : Caller) (ws : List Window)
     → AllByRecursion (IsDoneBy t (giving k command.Quit) command.Quit)
     (map (λ (c : Client). Gone (peer.Client c.serial) Quit)
-      (filter (λ (c : Client). true) (without_windows ws t.clients)))
+    (filter (λ (c : Client). true) (without_windows ws t.clients)))
 quit_clients t k ws =
     let P : Effect → Type 0 = IsDoneBy t (giving k command.Quit) command.Quit in
     let cs : List Client = without_windows ws t.clients in

@@ -157,7 +157,7 @@ parts_moves t goes why more aside = record {
   next_window = refl;
   next_client = refl;
   few = let le : length (map (λ (c : Client). Gone (peer.Client c.serial) why) (filter (gone_by goes) t.clients))
-    ≤ length
+      ≤ length
       t.clients = length_gone _ (gone_by goes) t.clients in omega (arith, le);
   numbers = λ differ numbers. numbers;
 }
@@ -187,7 +187,7 @@ closes_moves t goes why = record {
   next_client = refl;
   few = let le : length
       (map (λ (w : Window). Gone (peer.Window w.serial) why) (filter (λ (w : Window). goes w.serial) t.windows))
-        ≤ length
+      ≤ length
       t.windows = length_gone _ (λ (w : Window). goes w.serial) t.windows in omega (arith, le);
   numbers = λ differ numbers. fewer_numbers (λ w. not (goes w.serial)) t.windows numbers;
 }
@@ -204,9 +204,9 @@ quit_moves t =
     let cs : List Client = without_windows (filter (λ (w : Window). true) t.windows) t.clients in
     let same_ids : map id_of cs ≡ ids t = without_ids (filter (λ (w : Window). true) t.windows) t.clients in
     let ws : List Effect = map (λ (w : Window). Gone (peer.Window w.serial) Quit) (filter
-      (λ (w : Window). true) t.windows) in
+    (λ (w : Window). true) t.windows) in
     let gone : List Effect = map (λ (c : Client). Gone (peer.Client c.serial) Quit) (filter
-      (λ (c : Client). true) cs) in
+    (λ (c : Client). true) cs) in
     record {
       closing = λ n. true;
       parting = λ p. true;

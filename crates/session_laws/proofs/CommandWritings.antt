@@ -213,12 +213,12 @@ sizes_one (Deliver at bytes) said es n rest = on (list_any (says_same (Deliver a
   on false = rest
 sizes_one (Gone (peer.Window at) why) said es n rest = on (list_any (says_same (Gone (peer.Window at) why)) said) where
   on : (b : Bool) → sizes_of (if not b then Gone (peer.Window at) why ∷ unsaid said es else unsaid said es) n
-    ≡ sizes_of es n
+      ≡ sizes_of es n
   on true = rest
   on false = rest
 sizes_one (Gone (peer.Client at) why) said es n rest = on (list_any (says_same (Gone (peer.Client at) why)) said) where
   on : (b : Bool) → sizes_of (if not b then Gone (peer.Client at) why ∷ unsaid said es else unsaid said es) n
-    ≡ sizes_of es n
+      ≡ sizes_of es n
   on true = rest
   on false = rest
 

@@ -274,7 +274,7 @@ fits t (Detach client) =
     (all_passed (λ (d : Client). Fits t (Detach client) (Gone (peer.Client d.serial) reason.Detached))
     (λ (d : Client). d.serial == client) t.clients
     (all_of
-      (λ (d : Client). (d.serial == client) ≡ true → Fits t (Detach client) (Gone (peer.Client d.serial) reason.Detached))
+    (λ (d : Client). (d.serial == client) ≡ true → Fits t (Detach client) (Gone (peer.Client d.serial) reason.Detached))
     t.clients
     (λ d same. (ap (λ n. Gone (peer.Client n) reason.Detached) (equal d.serial client same), tt, tt)))))
 fits t (Keys client bytes) =
@@ -296,7 +296,7 @@ fits t (Closed window) =
     (all_passed (λ (x : Window). Fits t (Closed window) (Gone (peer.Window x.serial) reason.Detached))
     (λ (x : Window). x.serial == window) t.windows
     (all_of
-      (λ (x : Window). (x.serial == window) ≡ true → Fits t (Closed window) (Gone (peer.Window x.serial) reason.Detached))
+    (λ (x : Window). (x.serial == window) ≡ true → Fits t (Closed window) (Gone (peer.Window x.serial) reason.Detached))
     t.windows
     (λ x same. (ap (λ n. Gone (peer.Window n) reason.Detached) (equal x.serial window same), tt, tt)))))
 fits t event = subst (λ es. AllByRecursion (Fits t event) es) (sym (outcomes.quiet t event refl)) tt

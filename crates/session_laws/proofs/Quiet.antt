@@ -38,7 +38,7 @@ gone_clients why (c ∷ cs) v = gone_clients why cs v
 
 gone_both : (why : Reason) (ws : List Window) (cs : List Client) (v : ℕ)
     → inputs (map (λ (w : Window). Gone (peer.Window w.serial) why) ws ++ map
-      (λ (c : Client). Gone (peer.Client c.serial) why) cs) v ≡
+    (λ (c : Client). Gone (peer.Client c.serial) why) cs) v ≡
     []
 gone_both why [] cs v = gone_clients why cs v
 gone_both why (w ∷ ws) cs v = gone_both why ws cs v

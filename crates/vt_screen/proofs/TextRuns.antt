@@ -80,7 +80,7 @@ known_places : (s : State) (c n : ℕ) (places : List ℕ) → TakesRuns s → I
     → acted_places s (Print (Code c)) places ≡ wrapped_places (is_wrapped n s) s places
 known_places s c n places t k =
     ap (λ (o : Option ℕ). printed_places o s places)
-      (mapped-ascii s.shifts c t.prints.ascii t.prints.unshifted k.graphic)
+    (mapped-ascii s.shifts c t.prints.ascii t.prints.unshifted k.graphic)
     ∙ places_known s c n places k
 
 module _ (x : Screen) (c : ℕ) (t : TakesRuns x.state) (settled : x.state.is_wrap_pending ≡ false) where
