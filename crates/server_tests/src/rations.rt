@@ -74,7 +74,8 @@ fn are_dropped(rt: &impl System) -> Option<bool> {
         Act::Send(BOB, b"K\0\x01z"),
         Act::Turns(1),
         Act::Note(0),
-    ]).ok()?;
+    ])
+    .ok()?;
     let seen = play(rt, &acts)?;
     let first = told(alloc, &seen, 0, BOB)?;
     let second = told(alloc, &seen, 1, BOB)?;
@@ -101,7 +102,8 @@ fn are_joined(rt: &impl System) -> Option<bool> {
         Act::Note(0),
         Act::Turns(20),
         Act::Note(0),
-    ]).ok()?;
+    ])
+    .ok()?;
     let seen = play(rt, &acts)?;
     let first = told(alloc, &seen, 0, BOB)?;
     let second = typed(alloc, seen.bytes(1, 0))?;
