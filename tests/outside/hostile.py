@@ -1,5 +1,6 @@
 #!/usr/bin/env python3
-"""One user without any right tries to end a session, to fill its memory and its disk, and to take all seats.
+"""One user without any right tries to end a session, to fill its memory and its disk, to take all seats, and to have done
+later what is denied now; and a guest who may only read tries the same.
 
 tests/outside/hostile.py [--muxd PATH] [--seconds N] [PART..] prints a line for each check, and ends with status 1 if
 one failed.
@@ -17,7 +18,8 @@ from pathlib import Path
 
 sys.dont_write_bytecode = True
 import strain
-from peer import DETACH, DONE, KEYS, NO_WINDOW, attach, command, frame, window
+from peer import (DETACH, DONE, DRAW, KEYS, NO_WINDOW, OUTPUT, RESIZE, SAY, attach, command, cut, frame, pieces, two,
+                  window)
 from strain import Server, all_of, check, has_come, welcome
 
 GUEST, STRANGER = (b"eve", b"1" * 64), (b"zoe", b"2" * 64)
@@ -231,7 +233,179 @@ def works_on():
               f"{typed} in {time.monotonic() - begin:.1f} s")
 
 
-PARTS = (seats, works_on, attacked)
+class Listener(threading.Thread):
+    """Reads a connection on and on: the frames that came, each with the time at which it came."""
+
+    def __init__(self, it):
+        super().__init__(daemon=True)
+        self.it, self.frames = it, []
+        it.settimeout(None)
+        self.start()
+
+    def run(self):
+        rest = b""
+        try:
+            while piece := self.it.recv(1 << 16):
+                now, rest = time.monotonic(), rest + piece
+                while found := cut(rest):
+                    kind, payload, rest = found
+                    self.frames.append((now, kind, payload))
+        except OSError:
+            pass
+
+    def typed(self):
+        """What a window's program was sent."""
+        return b"".join(payload for _, kind, payload in self.frames if kind == b"i")
+
+    def said(self, text):
+        return [at for at, kind, payload in self.frames if kind == SAY and text in payload]
+
+
+def spent(server):
+    """A window, and a guest who may not type there and has spent all units: what each of them is sent."""
+    shell = server.connect(window())
+    assert welcome(shell)
+    client = server.connect(attach(*GUEST))
+    assert welcome(client)
+    shell, heard = Listener(shell), Listener(client)
+    for _ in range(1_120):
+        client.sendall(frame(KEYS, b"x"))
+        time.sleep(0.002)
+    return shell, client, heard
+
+
+def denied_later():
+    """Keys that were typed more than a second before a right is granted never reach the window, however they come."""
+    numbers = lambda begin, count: [b"<%d>" % number for number in range(begin, begin + count)]
+    for name in ("a command", "a flood of short frames", "a flood of long frames", "commands that are granted"):
+        with Server() as server:
+            admit(server)
+            if name == "commands that are granted":
+                assert server.give(b"aclchg eve +x next").endswith(DONE)
+            shell, client, _ = spent(server)
+            client.settimeout(30)
+            if name == "commands that are granted":
+                data = frame(KEYS, b"\x01n") * 20_000
+            else:
+                data = {"a command": b"", "a flood of short frames": frame(KEYS, b"x") * 100_000,
+                        "a flood of long frames": pieces(KEYS, b"x" * 3_000_000)}[name]
+            begin = time.monotonic()
+            try:
+                client.sendall(data + frame(KEYS, b"evil\r"))
+                took = time.monotonic() - begin
+            except TimeoutError:
+                took = None
+            check(f"{name}: a client that has no unit left is read on", took is not None, f"{len(data)} bytes")
+            if took is None:
+                continue
+            time.sleep(1.2)
+            assert server.give(b"aclchg eve +w 0").endswith(DONE)
+            time.sleep(6)
+            typed = shell.typed()
+            check(f"{name}: what was typed before a grant isn't typed after it", not typed, str(typed[:40]))
+            client.sendall(frame(KEYS, b"good"))
+            time.sleep(1.3)
+            check(f"{name}: what is typed after it is", shell.typed() == b"good", str(shell.typed()[:40]))
+    with Server() as server:
+        admit(server)
+        shell, client, heard = spent(server)
+        times, granted = [], None
+        for number, word in enumerate(numbers(100, 180)):
+            if number == 90:
+                assert server.give(b"aclchg eve +w 0").endswith(DONE)
+                granted = time.monotonic()
+            times.append(time.monotonic())
+            client.sendall(frame(KEYS, word))
+            time.sleep(1 / 30)
+        time.sleep(1.3)
+        typed = shell.typed()
+        words = [it for it in numbers(100, 180) if it in typed]
+        first = times[int(words[0][1:-1]) - 100] if words else 0
+        check("of 30 keys a second none from more than a second before a grant arrives", granted - first <= 1.02,
+              f"{granted - first:.2f} s")
+        late = [it for it, at in zip(numbers(100, 180), times) if at > granted + 1.1 and it not in typed]
+        check("all that is typed a second after it does", words and not late, f"{len(words)} words")
+        check("in order", typed.endswith(b"".join(words)), str(typed[:60]))
+        said = heard.said(b"denied: w on window 0")
+        check("the guest read why", len(said) > 900, str(len(said)))
+    with Server() as server:
+        admit(server)
+        assert server.give(b"aclchg eve +x detach").endswith(DONE)
+        shell, client, heard = spent(server)
+        for _ in range(60):
+            client.sendall(frame(KEYS, b"x") * 5_000)
+            time.sleep(0.02)
+        time.sleep(2.5)
+        said = heard.said(b"keys were dropped")
+        check("a guest whose keys are dropped is told so, at most once a second",
+              said and all(b - a >= 0.99 for a, b in zip(said, said[1:])), str([round(it - said[0], 2) for it in said]))
+        begin = time.monotonic()
+        client.sendall(frame(KEYS, b"xx\x01d"))
+        while b"g" not in [kind for _, kind, _ in heard.frames] and time.monotonic() - begin < 20:
+            time.sleep(0.01)
+        took = time.monotonic() - begin
+        check("a command by keys waits for a second at most", took < 1.5, f"{took:.2f} s")
+
+
+def sizes():
+    """Sizes of one user slow nobody down; the last one counts, and at most ten a second are done."""
+    with Server() as server:
+        admit(server)
+        shell = server.connect(window(rows=200, cols=300))
+        assert welcome(shell)
+        shell.sendall(pieces(OUTPUT, b"".join(b"\x1b[%d;1H" % row + b"\x1b[31mab\x1b[32mcd" * 75 for row in range(1, 201))))
+        client = server.connect(attach())
+        assert welcome(client) and server.give(b"aclchg eve +r 0").endswith(DONE)
+        client.settimeout(20)
+        idle, _ = key_times(client, shell)
+        many = (frame(RESIZE, two(200) + two(300)) + frame(RESIZE, two(199) + two(299))) * 300
+        attack = Attack(server.path, 8, lambda _: attach(*GUEST), many)
+        time.sleep(1)
+        median, longest = key_times(client, shell)
+        attack.stop()
+        check("while 8 clients tell sizes on and on the owner's keys take their time as ever",
+              median < max(2, 5 * idle), f"{idle:.2f} ms before; {median:.2f} and at most {longest:.1f} ms")
+    with Server() as server:
+        admit(server)
+        client = server.connect(attach())
+        assert welcome(client)
+        heard = Listener(client)
+        time.sleep(0.5)
+        before, begin = len(heard.frames), time.monotonic()
+        while time.monotonic() - begin < 2:
+            client.sendall((frame(RESIZE, two(50) + two(90)) + frame(RESIZE, two(51) + two(91))) * 20)
+            time.sleep(0.005)
+        client.sendall(frame(RESIZE, two(33) + two(77)))
+        time.sleep(0.5)
+        # The first draw after a change of size begins with a reset, and its caption stands in the last line but one.
+        draws = [payload for _, kind, payload in heard.frames[before:] if kind == DRAW and b"\x1bc" in payload]
+        check("in two seconds a client is drawn anew at most 25 times", 15 <= len(draws) <= 25, str(len(draws)))
+        check("and the last size counts", draws and b"\x1b[32" in draws[-1], str(draws[-1:]))
+
+
+def reads_only():
+    """A guest who may only read, and may give the commands of our recipes, fills no trail."""
+    scroll = frame(KEYS, b"\x01:scrollview 0\r")
+    prompt = frame(KEYS, b"\x01:") + frame(KEYS, b"x") * 600 + frame(KEYS, b"\x1b") + scroll
+    for name, data in (("a command that is granted", scroll * 100), ("the prompt, and then such a command", prompt)):
+        with tempfile.TemporaryDirectory() as folder:
+            path = f"{folder}/trail"
+            with Server(words=("--trail", path)) as server:
+                admit(server)
+                shell = server.connect(window())
+                assert welcome(shell)
+                for line in (b"aclchg eve +x detach,scrollview", b"aclchg eve +r 0"):
+                    assert server.give(line).endswith(DONE), line
+                attack = Attack(server.path, 4, lambda _: attach(*GUEST), data)
+                time.sleep(WORDS.seconds)
+                attack.stop()
+                assert server.give(b"quit").endswith(DONE) and server.ends_within(10) == 0
+            entries = Path(path).read_bytes().count(b"\n")
+            most = 2_000 + 6 * (WORDS.seconds + 5) + 50
+            check(f"{name}: at most 2,000 entries at once, then six a second", entries < most, f"{entries}")
+
+
+PARTS = (seats, works_on, denied_later, sizes, reads_only, attacked)
 
 
 def main():

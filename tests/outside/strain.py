@@ -7,6 +7,7 @@ tests/outside/strain.py [--muxd PATH] [PART..] prints a line for each check, and
 import argparse
 import os
 import select
+import shutil
 import socket
 import stat
 import subprocess
@@ -19,7 +20,7 @@ from pathlib import Path
 sys.dont_write_bytecode = True
 import peer
 from peer import (DONE, DRAW, KEYS, NO_WINDOW, OUTPUT, OWNER, REFUSED, SAY, TOKEN, WELCOME, Flood, attach, command,
-                  draws_within, frame, window)
+                  draws_within, frame, pieces, window)
 
 WORDS = None
 failed = 0
@@ -274,7 +275,21 @@ def at_once():
 
 
 def one_who_floods():
-    """One user's entries have a rate in the long run; the user's keys wait, and nobody is cut off."""
+    """One user's entries have a rate in the long run, and nobody is cut off. Keys alone are joined, and all arrive."""
+    with Server() as server:
+        shell = server.connect(window())
+        assert welcome(shell)
+        client = server.connect(attach())
+        assert welcome(client)
+        sender = threading.Thread(target=lambda: client.sendall(frame(KEYS, b"x") * 50_000))
+        sender.start()
+        typed, begin = 0, time.time()
+        while typed < 50_000 and has_come(shell, 5):
+            typed += shell.recv(1 << 20).count(b"x")
+            if has_come(client, 0):
+                client.recv(1 << 20)
+        sender.join()
+        check("50,000 keys, each in a frame, arrive", typed == 50_000, f"{typed} in {time.time() - begin:.1f} s")
     with Server() as server:
         shell = server.connect(window())
         assert welcome(shell)
@@ -282,7 +297,7 @@ def one_who_floods():
         assert welcome(client)
         client.setblocking(False)
         shell.setblocking(False)
-        many = frame(KEYS, b"x") * 2000
+        many = frame(KEYS, b"x\x01n") * 2000
         typed, begin = 0, time.time()
         while time.time() - begin < 20:
             _, write, _ = select.select([], [client], [], 0)
@@ -296,10 +311,96 @@ def one_who_floods():
             if has_come(client, 0):
                 client.recv(1 << 20)
         most = 8_300 + 500 * 22
-        check("a user's keys have a rate", 8_000 < typed < most, f"{typed}")
+        check("keys with commands have a rate", 8_000 < typed < most, f"{typed}")
         begin = time.time()
         answer = server.give(b"windows")
         check("and the user's command is answered", answer.endswith(DONE) and time.time() - begin < 2)
+
+
+def calls_a_key(server, client, shell, count=100):
+    """How many system calls a key and its echo take in the server; None without strace."""
+    if not shutil.which("strace"):
+        return None
+
+    def key():
+        client.sendall(frame(KEYS, b"k"))
+        while not shell.recv(4096).endswith(b"k"):
+            pass
+        shell.sendall(frame(OUTPUT, b"k"))
+        has_come(client, 5)
+        while has_come(client, 0.003):
+            client.recv(1 << 16)
+
+    with tempfile.NamedTemporaryFile() as out:
+        words = ["strace", "-f", "-c", "-o", out.name, "-p", str(server.program.pid)]
+        tracer = subprocess.Popen(words, stderr=subprocess.PIPE, text=True)
+        while "attached" not in tracer.stderr.readline():
+            pass
+        time.sleep(0.5)
+        for _ in range(count):
+            key()
+        tracer.send_signal(2)
+        tracer.communicate()
+        rows = [line.split() for line in Path(out.name).read_text().splitlines()]
+    # The fourth column says how often, and the last one what.
+    return sum(int(row[3]) for row in rows if len(row) > 4 and row[3].isdigit() and row[-1] != "total") / count
+
+
+def stopped_clients():
+    """Clients that don't read cost no system call for a key of another one."""
+    with Server(loops=1) as server:
+        shell = server.connect(window())
+        assert welcome(shell)
+        client = server.connect(attach())
+        assert welcome(client)
+        few = calls_a_key(server, client, shell)
+        deaf = [server.connect(attach()) for _ in range(60)]
+        assert all(welcome(it) for it in deaf)
+        # Each is sent draws until its socket is full.
+        for number in range(400):
+            page = b"".join(b"\x1b[%d;1H" % row + (b"\x1b[3%dm%d" % (row % 8, (number + row) % 10)) * 80
+                            for row in range(1, 23))
+            shell.sendall(pieces(OUTPUT, page))
+            has_come(client, 5)
+            while has_come(client, 0.002):
+                client.recv(1 << 16)
+        many = calls_a_key(server, client, shell)
+        if few is None:
+            print("-- without strace it isn't counted what stopped clients cost")
+            return
+        check("beside 60 clients that don't read a key takes as many system calls", many <= few + 2,
+              f"{many:.1f} instead of {few:.1f}")
+        late = deaf[7]
+        time.sleep(0.2)
+        shell.sendall(frame(OUTPUT, b"\x1b[2J\x1b[Hthe last line"))
+        drawn = b""
+        while has_come(late, 1):
+            drawn += late.recv(1 << 20)
+        check("and one that reads again is drawn", b"the last line" in drawn, f"{len(drawn)} bytes")
+
+
+def idle_loops():
+    """Loops that have nobody aren't woken for a key."""
+    took = {}
+    for loops in (2, 8):
+        with Server(loops=loops) as server:
+            shell = server.connect(window())
+            assert welcome(shell)
+            client = server.connect(attach())
+            assert welcome(client)
+            took[loops] = calls_a_key(server, client, shell)
+            others = [server.connect(attach()) for _ in range(loops - 2)]
+            assert all(welcome(it) for it in others)
+            for it in (client, *others):
+                while has_come(it, 0.3):
+                    it.recv(1 << 16)
+            shell.sendall(frame(OUTPUT, b"hello"))
+            check(f"{loops} loops: a client of each is drawn", all(has_come(it, 1) for it in (client, *others)))
+    if took[2] is None:
+        print("-- without strace it isn't counted what idle loops cost")
+        return
+    check("with 8 loops a key takes as many system calls as with 2", took[8] <= took[2] + 1,
+          f"{took[8]:.1f} instead of {took[2]:.1f}")
 
 
 def unread_log():
@@ -355,7 +456,7 @@ def drawn_in_a_flood():
 
 
 PARTS = (dead_window, ends_behind_frames, winding_up, at_once, one_who_floods, few_descriptors, strangers, told_to_go,
-         unread_log, drawn_in_a_flood)
+         unread_log, stopped_clients, idle_loops, drawn_in_a_flood)
 
 
 def main():

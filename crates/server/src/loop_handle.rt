@@ -28,6 +28,8 @@ pub struct LoopHandle {
     pub handed: Mutex<VecDeque<Handed>>,
     is_asleep: AtomicBool,
     has_news: AtomicBool,
+    // It has connections.
+    has_peers: AtomicBool,
     // It waits for a look at the users' file.
     awaits_look: AtomicBool,
 }
@@ -39,6 +41,7 @@ impl LoopHandle {
             handed: Mutex::new(handed),
             is_asleep: AtomicBool::new(false),
             has_news: AtomicBool::new(false),
+            has_peers: AtomicBool::new(false),
             awaits_look: AtomicBool::new(false),
         }
     }
@@ -78,6 +81,11 @@ impl LoopHandle {
         self.is_asleep.store(false, Ordering::SeqCst);
     }
 
+    /// The loop has this many connections. While it has none it isn't woken for the others' steps.
+    pub fn note_peers(&self, count: usize) {
+        self.has_peers.store(count > 0, Ordering::SeqCst);
+    }
+
     /// Takes the news that came before this; what it tells of is looked at after this.
     pub fn take_news(&self) {
         self.has_news.store(false, Ordering::SeqCst);
@@ -111,9 +119,10 @@ pub struct LoopStart {
 }
 
 impl Shared {
+    /// Wakes the other loops that have connections.
     pub fn wake_others(&self, me: usize) -> io::Result<()> {
         for (place, loop_handle) in self.loop_handles.iter().enumerate() {
-            if place != me {
+            if place != me && loop_handle.has_peers.load(Ordering::SeqCst) {
                 loop_handle.wake()?;
             }
         }

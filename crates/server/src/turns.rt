@@ -162,7 +162,7 @@ fn admit<'a, J: SessionSeat + Drop, G: Gate + Drop>(
     }
 }
 
-// Marks the connections that have something to read. Returns whether a connection may wait to be
+// Marks the connections that have something to read or take bytes again. Returns whether a connection may wait to be
 // taken in.
 fn sort(events: &Events, connections: &mut Connections<Wired>) -> bool {
     let mut is_asked = false;
@@ -172,9 +172,12 @@ fn sort(events: &Events, connections: &mut Connections<Wired>) -> bool {
             LISTEN => is_asked = true,
             Token(token) => {
                 let has_hung_up = event.is_read_closed() || event.is_error();
-                if event.is_readable() || has_hung_up {
-                    if let Some(peer) = connections.touch(token.saturating_sub(FIRST)) {
+                if let Some(peer) = connections.touch(token.saturating_sub(FIRST)) {
+                    if event.is_readable() || has_hung_up {
                         peer.mark_ready(has_hung_up);
+                    }
+                    if event.is_writable() || has_hung_up {
+                        peer.mark_room();
                     }
                 }
             }
@@ -211,6 +214,7 @@ fn begin_turn<'a, J: SessionSeat + Drop, G: Gate + Drop, R: Clock + Wait>(
     let is_asked = sort(&inlet.events, &mut own.connections);
     inlet.accept(rt, is_asked)?;
     admit(rt, inlet, own);
+    inlet.loop_handle.note_peers(own.connections.len());
     Ok(now)
 }
 

@@ -2,6 +2,7 @@
 use Rattle.std.specs.Prelude.{◌≡◌, ◌⊎◌, ◌==◌, ◌&&◌, ◌||◌, ◌<◌, ◌≤◌, ℕ, Bool, true, false, not, length, vec_len}
 use Rattle.std.specs.Prelude.{Option, Some, None, is_none, IsSomeAnd}
 use Rattle.slab.specs.Slab.{Slab, get}
+use Rattle.server_connections.specs.Typed.{is_idle, may_read}
 use Rattle.server_connections.specs.declared.inbox.Inbox.{Inbox}
 use Rattle.server_connections.specs.declared.peer.Awaits.{Awaits}
 use Rattle.server_connections.specs.declared.peer.Awaits.TheVariants as awaited
@@ -29,9 +30,13 @@ abbrev pub is_closed : Stage → Bool
 is_closed stage.Closed = true
 is_closed other = false
 
--- no message is left to be done
+-- all that was read was taken out
+abbrev pub is_taken : Inbox → Bool
+is_taken inbox = (vec_len inbox.messages == 0) && is_none inbox.begun
+
+-- no message, key or size is left to be done
 abbrev pub is_empty : Inbox → Bool
-is_empty inbox = (vec_len inbox.messages == 0) && is_none inbox.begun
+is_empty inbox = (is_taken inbox && is_idle inbox.typed) && is_none inbox.sizing.wanted
 
 module _ {S : Type 0} where
   -- a new connection of this stream

@@ -1,8 +1,11 @@
 //! What a connection asked for that isn't done yet.
 
-ghost use Rattle.std.specs.Prelude.{◌≡◌};
-ghost use Rattle.server_connections.specs.Peers.{is_empty};
+ghost use Rattle.std.specs.Prelude.{◌≡◌, ◌&&◌};
+ghost use Rattle.server_connections.specs.Peers.{is_empty, is_taken};
+ghost use Rattle.server_connections.specs.Typed.{may_read};
 
+use crate::sizing::Sizing;
+use crate::typeahead::Typeahead;
 use attach_proto::{Message, Reader};
 use std::alloc::{AllocError, Global};
 
@@ -10,7 +13,7 @@ use std::alloc::{AllocError, Global};
 // frame, so only a few are made at a time.
 const PIECE: usize = 512;
 
-/// A message, and how many of its typed or printed bytes are done.
+/// A message, and how many of its printed bytes are done.
 #[derive(Drop)]
 pub struct Asked {
     pub message: Message,
@@ -18,21 +21,21 @@ pub struct Asked {
 }
 
 impl Asked {
-    /// The typed or printed bytes that aren't done yet.
+    /// The printed bytes that aren't done yet.
     pub fn rest(&self) -> &[u8] {
         match &self.message {
-            Message::Keys(bytes) | Message::Output(bytes) => {
-                bytes.as_slice().get(self.done..).unwrap_or(b"")
-            }
+            Message::Output(bytes) => bytes.as_slice().get(self.done..).unwrap_or(b""),
             _ => b"",
         }
     }
 }
 
-/// Messages that were read and aren't done yet.
+/// Messages that were read and aren't done yet. A client's keys and sizes are taken out of them.
 #[derive(Drop)]
 pub struct Inbox {
     alloc: Global,
+    pub typed: Typeahead,
+    pub sizing: Sizing,
     // In reverse: the next one is the last.
     messages: Vec<Message>,
     begun: Option<Asked>,
@@ -48,6 +51,8 @@ impl Inbox {
     pub fn new(alloc: Global) -> Inbox {
         Inbox {
             alloc,
+            typed: Typeahead::new(alloc),
+            sizing: Sizing::new(),
             messages: Vec::new(alloc),
             begun: None,
             rest: Vec::new(alloc),
@@ -56,10 +61,29 @@ impl Inbox {
         }
     }
 
+    // Whether all that was read was taken out.
+    fn is_taken(&self) -> bool
+        ensures { result ≡ is_taken self.now }
+    {
+        self.messages.is_empty() && self.begun.is_none()
+    }
+
+    /// Whether messages beside keys and sizes that were taken in aren't done yet.
+    pub fn has_messages(&self) -> bool {
+        !self.is_taken()
+    }
+
     pub fn is_empty(&self) -> bool
         ensures { result ≡ is_empty self.now }
     {
-        self.messages.is_empty() && self.begun.is_none()
+        self.is_taken() && self.typed.is_empty() && self.sizing.wanted.is_none()
+    }
+
+    /// Whether more is to be read, at this time in milliseconds.
+    pub fn may_read(&self, now: u64) -> bool
+        ensures { result ≡ (is_taken self.now && may_read now self.now.typed) }
+    {
+        self.is_taken() && self.typed.may_read(now)
     }
 
     // Looks at the next piece of the bytes that are left, and adds the messages that it completes.
@@ -118,6 +142,33 @@ impl Inbox {
     /// Whether all messages are done, and bytes came that are no frame.
     pub fn is_faulty(&self) -> bool {
         self.is_broken && self.is_empty()
+    }
+
+    // Takes in the keys or the size of the next message, unless these keys stay where they are.
+    // Returns whether it did.
+    fn gather_one(&mut self, now: u64) -> Result<bool, AllocError> {
+        match self.messages.last() {
+            Some(Message::Keys(keys)) if self.typed.takes(now, keys.as_slice().len()) => {
+                self.typed.put(now, keys.as_slice())?;
+            }
+            Some(Message::Resize { rows, columns }) => self.sizing.want((*rows, *columns)),
+            _ => return Ok(false),
+        }
+        let _ = self.messages.pop();
+        Ok(true)
+    }
+
+    /// Takes in a client's keys and sizes that come next, at this time in milliseconds. Then drops keys
+    /// that wait too long.
+    pub fn gather(&mut self, reader: &mut Reader, now: u64) -> Result<(), AllocError> {
+        for _ in 0..u64::MAX {
+            if !self.gather_one(now)? {
+                break;
+            }
+            self.refill(reader);
+        }
+        self.typed.expire(now);
+        Ok(())
     }
 
     /// Takes out the next message, or the one that was put back.

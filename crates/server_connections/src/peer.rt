@@ -6,9 +6,10 @@ ghost use Rattle.server_connections.specs.Peers.{is_closed, is_done, is_due, is_
 ghost use Rattle.server_connections.specs.Peers.{listens};
 
 use crate::frames::gone_frame;
-use crate::inbox::{Asked, Inbox};
+use crate::inbox::Inbox;
 use crate::news::Guest;
 use crate::turn::Turn;
+use crate::typeahead::Typeahead;
 use acl::UserId;
 use attach_proto::{Reader, Side, Why};
 use session_model::Event;
@@ -87,8 +88,7 @@ impl Stage {
 pub enum Awaits {
     /// Its turn: it has something to read or to do, and no event will tell of it.
     Work,
-    /// Leave for what it asked: until its user may cause more entries, or until the users' file was
-    /// looked at.
+    /// Leave for what it asked (`Peer::is_held`).
     Ration,
     /// A look at the users' file, which nobody asked for yet.
     Look,
@@ -116,9 +116,11 @@ pub struct Peer<S> {
     pub has_more: bool,
     /// Its other end was closed.
     pub has_hung_up: bool,
+    /// It took no more bytes, and no event told of room since.
+    pub is_full: bool,
     pub inbox: Inbox,
-    /// What it asked for waits until its user may cause more entries, or until the users' file was
-    /// looked at.
+    /// What it asked for waits until its user may cause more entries, until the users' file was looked
+    /// at, or until its size may change again.
     pub is_held: bool,
     /// The number of the look at the users' file that its first message waits for.
     pub look: Option<u64>,
@@ -148,6 +150,7 @@ impl<S: Drop> Peer<S> {
             is_extra,
             has_more: true,
             has_hung_up: false,
+            is_full: false,
             inbox: Inbox::new(alloc),
             is_held: false,
             look: None,
@@ -193,6 +196,11 @@ impl<S: Drop> Peer<S> {
         self.has_hung_up |= has_hung_up;
     }
 
+    /// It may take bytes again.
+    pub fn mark_room(&mut self) {
+        self.is_full = false;
+    }
+
     /// Whether messages of it aren't done yet.
     pub fn has_asked(&self) -> bool
         ensures { result ≡ not (is_empty self.now.inbox) }
@@ -200,10 +208,14 @@ impl<S: Drop> Peer<S> {
         !self.inbox.is_empty()
     }
 
-    /// Puts back a message to be done later: in the next turn, or if it is held, when its user may.
-    pub fn put_back(&mut self, asked: Asked, is_held: bool) {
-        self.inbox.put_back(asked);
-        self.is_held = is_held;
+    /// Takes in the keys and the sizes that come next, at this time in milliseconds.
+    pub fn gather(&mut self, now: u64) -> Result<(), AllocError> {
+        self.inbox.gather(&mut self.reader, now)
+    }
+
+    /// Takes out the keys that wait, to be put back when some of them were judged.
+    pub fn take_keys(&mut self, alloc: Global) -> Typeahead {
+        std::mem::replace(&mut self.inbox.typed, Typeahead::new(alloc))
     }
 
     /// Whether it is open and sent bytes that are no frame, and all messages before them are done.

@@ -37,11 +37,11 @@ impl<S: Read + Write + Drop> Peer<S> {
         self.inbox.next(&mut self.reader)
     }
 
-    /// Reads once, if the connection is open. The caller does so only when all that was read before is
-    /// done. If fewer bytes came than the buffer takes, nothing is left for now; but if the other end
-    /// was closed, the end comes after them.
-    pub fn read(&mut self, buffer: &mut [u8]) -> Arrival {
-        if !self.stage.is_open() || !self.has_more() {
+    /// Reads once, if the connection is open and may be read at this time in milliseconds. If fewer
+    /// bytes came than the buffer takes, nothing is left for now; but if the other end was closed, the end
+    /// comes after them.
+    pub fn read(&mut self, buffer: &mut [u8], now: u64) -> Arrival {
+        if !self.stage.is_open() || !self.has_more() || !self.inbox.may_read(now) {
             return Arrival::Nothing;
         }
         let Some(stream) = &mut self.stream else {
@@ -52,6 +52,7 @@ impl<S: Read + Write + Drop> Peer<S> {
             Ok(0) => Arrival::End,
             Ok(count) => {
                 let is_much = count == buffer.len();
+                self.inbox.typed.note_read(now, is_much);
                 self.feed(&buffer[..count], is_much || self.has_hung_up);
                 if is_much {
                     Arrival::Much
@@ -60,7 +61,10 @@ impl<S: Read + Write + Drop> Peer<S> {
                 }
             }
             Err(error) => match error.kind() {
-                ErrorKind::WouldBlock => Arrival::Nothing,
+                ErrorKind::WouldBlock => {
+                    self.inbox.typed.note_read(now, false);
+                    Arrival::Nothing
+                }
                 ErrorKind::Interrupted => {
                     self.has_more = true;
                     Arrival::Some
@@ -70,9 +74,12 @@ impl<S: Read + Write + Drop> Peer<S> {
         }
     }
 
-    /// Writes what waits, until the connection takes no more for now. It is given up if a write
-    /// fails.
+    /// Writes what waits, until the connection takes no more for now. Until an event tells of room it
+    /// isn't tried again, but for the last time. It is given up if a write fails.
     pub fn write(&mut self) {
+        if self.is_full && self.stage != Stage::Cut {
+            return;
+        }
         for _ in 0..u64::MAX {
             let Some(stream) = &mut self.stream else {
                 return;
@@ -88,6 +95,7 @@ impl<S: Read + Write + Drop> Peer<S> {
                 Ok(_) => {}
                 Err(error) => match error.kind() {
                     ErrorKind::WouldBlock => {
+                        self.is_full = true;
                         if self.stage == Stage::Cut {
                             self.close();
                         }

@@ -148,6 +148,7 @@ impl<S: Read + Write + Drop, G: Gate + Drop, J: SessionSeat + Drop> Loop<S, G, J
                 }
                 peer.role = Role::Stranger;
                 peer.leaves = Role::Stranger;
+                peer.mark_room();
                 peer.write();
             }
         }

@@ -11,6 +11,7 @@ mod requests;
 mod sending;
 mod submitting;
 mod turn;
+mod typing;
 
 pub use gate::{Gate, Open};
 pub use own::{Loop, Pending};

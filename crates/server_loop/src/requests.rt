@@ -56,19 +56,8 @@ impl<S: Read + Write + Drop, G: Gate + Drop, J: SessionSeat + Drop> Loop<S, G, J
     pub(crate) fn obey(&mut self, rt: &impl Wait, key: usize, asked: &mut Asked) -> Progress {
         match (self.role_of(key), &asked.message) {
             (Role::Stranger, _) => return self.begin(rt, key, &asked.message),
-            (Role::Client(client), Message::Keys(_)) => {
-                return self.keys(rt, key, client, asked);
-            }
             (Role::Window(window), Message::Output(_)) => {
                 return self.output(rt, key, window, asked);
-            }
-            (Role::Client(client), Message::Resize { rows, columns }) => {
-                let event = Event::Resize {
-                    client,
-                    rows: *rows,
-                    columns: *columns,
-                };
-                self.change(rt, key, event)
             }
             (Role::Client(_) | Role::Window(_), Message::Detach) => self.detach(rt, key),
             _ => self.fault(rt, key),
@@ -78,7 +67,7 @@ impl<S: Read + Write + Drop, G: Gate + Drop, J: SessionSeat + Drop> Loop<S, G, J
 
     // Submits an event whose answer nobody waits for. A refusal is passed over, unless there was no
     // memory.
-    fn change(&mut self, rt: &impl Wait, key: usize, event: Event) {
+    pub(crate) fn change(&mut self, rt: &impl Wait, key: usize, event: Event) {
         if let Err(SeatFault::NoMemory) = self.submit(rt, event) {
             self.fault(rt, key);
         }
@@ -86,7 +75,7 @@ impl<S: Read + Write + Drop, G: Gate + Drop, J: SessionSeat + Drop> Loop<S, G, J
 
     // Tries a step for a user, and counts what comes of it. There is no answer yet while the user has
     // to wait: too much was counted, or there is no memory to count.
-    fn try_for(
+    pub(crate) fn try_for(
         &mut self,
         rt: &impl Wait,
         user: UserId,
@@ -106,34 +95,6 @@ impl<S: Read + Write + Drop, G: Gate + Drop, J: SessionSeat + Drop> Loop<S, G, J
         };
         self.seat.settle(rt, user, cost, outcome);
         answer.map(|answer| Some(answer))
-    }
-
-    // A step reads keys up to the first command; the rest is the next step's.
-    fn keys(&mut self, rt: &impl Wait, key: usize, client: u32, asked: &mut Asked) -> Progress {
-        let peer = self.connections.get(key);
-        let Some(user) = peer.and_then(|peer| peer.user) else {
-            return Progress::Done;
-        };
-        let bytes = asked.rest();
-        let taken = match self.try_for(rt, user, Event::Keys { client, bytes }) {
-            Ok(None) => return Progress::Held,
-            Ok(Some(answer)) => match &answer.reply {
-                Ok(done) => done.taken,
-                Err(_) => 0,
-            },
-            Err(SeatFault::NoMemory) => {
-                self.fault(rt, key);
-                0
-            }
-            Err(SeatFault::Over(_)) => 0,
-        };
-        self.reading.has_typed = true;
-        asked.done = asked.done.saturating_add(taken);
-        if taken == 0 || asked.rest().is_empty() {
-            Progress::Done
-        } else {
-            Progress::Part
-        }
     }
 
     // A step takes a piece of a window's output.

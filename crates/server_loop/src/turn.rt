@@ -69,23 +69,40 @@ impl<S: Read + Write + Drop, G: Gate + Drop, J: SessionSeat + Drop> Loop<S, G, J
         peer.is_some_and(|peer| peer.is_due_again())
     }
 
+    // Does the message of a connection that comes next, or a step of it, if there is one.
+    fn obey_next(&mut self, rt: &impl Wait, key: usize) -> Option<Progress> {
+        let peer = self.connections.touch(key)?;
+        let mut asked = peer.next_asked()?;
+        let progress = self.obey(rt, key, &mut asked);
+        if progress != Progress::Done {
+            if let Some(peer) = self.connections.touch(key) {
+                peer.inbox.put_back(asked);
+            }
+        }
+        Some(progress)
+    }
+
     // Does some of what a connection asked for. Returns whether all of it is done.
     fn obey_some(&mut self, rt: &impl Wait, key: usize) -> bool {
         for _ in 0..STEPS {
             if self.reading.output_left == 0 && self.is_window(key) {
                 break;
             }
-            let peer = self.connections.touch(key);
-            let Some(mut asked) = peer.and_then(|peer| peer.next_asked()) else {
-                break;
+            let typed = match self.role_of(key) {
+                Role::Client(client) => self.typed(rt, key, client),
+                _ => None,
             };
-            let progress = self.obey(rt, key, &mut asked);
-            if progress != Progress::Done {
-                if let Some(peer) = self.connections.touch(key) {
-                    peer.put_back(asked, progress == Progress::Held);
-                }
-            }
+            let progress = match typed {
+                Some(progress) => progress,
+                None => match self.obey_next(rt, key) {
+                    Some(progress) => progress,
+                    None => break,
+                },
+            };
             if progress == Progress::Held {
+                if let Some(peer) = self.connections.touch(key) {
+                    peer.is_held = true;
+                }
                 break;
             }
         }
@@ -93,15 +110,19 @@ impl<S: Read + Write + Drop, G: Gate + Drop, J: SessionSeat + Drop> Loop<S, G, J
         if peer.is_some_and(|peer| peer.is_faulty()) {
             self.fault(rt, key);
         }
-        let peer = self.connections.get(key);
-        !peer.is_some_and(|peer| peer.has_asked())
+        !self.has_asked(key)
     }
 
-    // Reads a connection once, if all that it asked for before is done.
+    fn has_asked(&self, key: usize) -> bool {
+        let peer = self.connections.get(key);
+        peer.is_some_and(|peer| peer.has_asked())
+    }
+
+    // Reads a connection once, if more of it is to be read.
     fn read_at(&mut self, key: usize) -> Arrival {
+        let now = self.millis();
         match self.connections.touch(key) {
-            Some(peer) if peer.has_asked() => Arrival::Some,
-            Some(peer) => peer.read(self.reading.buffer.as_mut_slice()),
+            Some(peer) => peer.read(self.reading.buffer.as_mut_slice(), now),
             None => Arrival::Nothing,
         }
     }
@@ -111,14 +132,27 @@ impl<S: Read + Write + Drop, G: Gate + Drop, J: SessionSeat + Drop> Loop<S, G, J
         self.reading.output_left < OUTPUT - PIECE
     }
 
-    // Reads what a connection sent, once all that it asked for before is done, and does some of it.
+    // A connection sent much. It isn't a flood if that is dropped.
+    fn note_much(&mut self, key: usize) {
+        let peer = self.connections.get(key);
+        if !peer.is_some_and(|peer| peer.inbox.typed.drains()) {
+            self.reading.has_much = true;
+        }
+    }
+
+    // Reads what a connection sent, once all that it asked for before is done or is late, and does some
+    // of it.
     fn serve(&mut self, rt: &impl Wait, key: usize) {
         for _ in 0..READS {
             let arrival = self.read_at(key);
             match arrival {
                 Arrival::Some => {}
-                Arrival::Much => self.reading.has_much = true,
-                Arrival::Nothing => return,
+                Arrival::Much => self.note_much(key),
+                Arrival::Nothing => {
+                    if !self.has_asked(key) {
+                        return;
+                    }
+                }
                 Arrival::End => {
                     self.lose(rt, key);
                     return;

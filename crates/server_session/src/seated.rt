@@ -2,7 +2,7 @@
 
 use crate::accounts::Accounts;
 use crate::shared_session::SharedSession;
-use acl::UserId;
+use acl::{Bit, UserId};
 use hub::{Begun, FULL, HubFault, Seat};
 use server_connections::{End, GuestKind, SeatAnswer, SeatFault, SessionSeat};
 use server_users::{Outcome, Users};
@@ -31,14 +31,23 @@ fn is_passed(verdict: &Verdict) -> bool {
     }
 }
 
+// Whether a check was made for a command.
+fn is_of_command(verdict: &Verdict) -> bool {
+    match verdict {
+        Verdict::Right { bit, .. } => *bit == Bit::Execute,
+        Verdict::Lock { .. } => false,
+    }
+}
+
 // What came of a step, from its reply and the checks that were made for it.
 fn outcome_of(reply: &Reply, verdicts: &[Verdict]) -> Outcome {
     match reply {
         Err(Refusal::NoMemory) => Outcome::Untaken,
         Err(_) => Outcome::Denied,
         Ok(_) if verdicts.is_empty() => Outcome::Unchecked,
-        Ok(_) if verdicts.iter().all(|verdict| is_passed(verdict)) => Outcome::Granted,
-        Ok(_) => Outcome::Denied,
+        Ok(_) if !verdicts.iter().all(|verdict| is_passed(verdict)) => Outcome::Denied,
+        Ok(_) if verdicts.iter().any(|verdict| is_of_command(verdict)) => Outcome::Granted,
+        Ok(_) => Outcome::Typed,
     }
 }
 

@@ -16,7 +16,7 @@ pub enum Act<'a> {
     /// The one that came last ends, and its number is free.
     Leave,
     SetHabit(usize, Habit),
-    /// This many turns, in each of which all connections are ready.
+    /// This many turns, in each of which all connections may be read and written.
     Turns(usize),
     /// At most this many turns in which nothing comes, while the loop has something to do.
     QuietTurns(usize),

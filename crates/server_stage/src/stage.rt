@@ -67,6 +67,7 @@ fn take<G: Gate + Drop, J: SessionSeat + Drop>(
         for key in 0..keys {
             if let Some(peer) = own.connections.touch(key) {
                 peer.mark_ready(true);
+                peer.mark_room();
             }
         }
         own.now = own.now.saturating_add(tick);

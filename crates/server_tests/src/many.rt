@@ -49,12 +49,12 @@ static TOO_FAR: [Row; 4] = [
     (1, Wanted::LastEntries(b"KX")),
 ];
 
-// In the last frame's turn nothing is taken before the third write.
+// In the last frame's turn nothing is taken before the second write.
 fn goes_too_far(rt: &impl System) -> Result<bool, AllocError> {
     let frame = full_frame(rt.alloc())?;
     let rest = [
         Act::Note(0),
-        Act::SetHabit(0, Habit::Later(2)),
+        Act::SetHabit(0, Habit::Later(1)),
         Act::Send(1, &frame),
         Act::Turns(1),
         Act::Note(0),
@@ -112,8 +112,9 @@ static SHARES: [Row; 4] = [
 
 // A window prints this between two questions for its state, and a client types these commands in
 // one frame and then a letter; another client types a letter.
-fn busy<'a>(output: &'a [u8], commands: &'a [u8]) -> [Act<'a>; 19] {
+fn busy<'a>(output: &'a [u8], commands: &'a [u8]) -> [Act<'a>; 20] {
     [
+        Act::SetTime(0, 0),
         Act::Connect(Habit::Whole, WINDOW),
         Act::Turns(2),
         Act::Connect(Habit::Whole, ATTACH),
@@ -184,18 +185,18 @@ fn shares_a_turn(rt: &impl System) -> Result<bool, AllocError> {
     Ok(is_played(rt, &shared(&output, &frame), &SHARED))
 }
 
-// 8,192 entries at once, and 1,000 more a second. A second before, the attach and the window took
+// 8,192 entries at once, and one more each millisecond. A second before, the attach and the window took
 // entries, which have come back. Between, the loop waits.
 static RATE: [Row; 4] = [
     (0, Wanted::TypedLen(0, 8_193)),
     (0, Wanted::IsDue(false)),
     (0, Wanted::HasWaiting(true)),
-    (1, Wanted::TypedLen(0, 9_193)),
+    (1, Wanted::TypedLen(0, 8_243)),
 ];
 
-// A client types 10,000 frames of one letter within a second, and goes on later.
+// A client types 10,000 letters, each with a command, within a second, and time goes on later.
 fn has_a_rate(rt: &impl System) -> Result<bool, AllocError> {
-    let letters = often(rt.alloc(), b"", b"K\0\x01x", 10_000)?;
+    let letters = often(rt.alloc(), b"", b"K\0\x03x\x01n", 10_000)?;
     let acts = [
         Act::SetTime(0, 0),
         Act::Connect(Habit::Whole, WINDOW),
@@ -206,8 +207,8 @@ fn has_a_rate(rt: &impl System) -> Result<bool, AllocError> {
         Act::SetTime(1, 0),
         Act::Turns(1_400),
         Act::Note(0),
-        Act::SetTime(2, 0),
-        Act::Turns(200),
+        Act::SetTime(1, 1),
+        Act::Turns(50),
         Act::Note(0),
     ];
     Ok(is_played(rt, &acts, &RATE))

@@ -1,4 +1,4 @@
-//! What a user tries in vain.
+//! What a user tries in vain, and what becomes of keys that wait.
 
 use crate::rows::{play, typed};
 use server_stage::{
@@ -16,12 +16,14 @@ const GIVE: &[u8] = b"C\0\x54\xff00000000000000000000000000000000000000000000000
 // The connection of bob's client.
 const BOB: usize = 4;
 
-// This many frames of one letter are typed.
-const LETTERS: usize = 1_500;
+// Bob attaches and is denied this many letters, each in a turn of its own: the attach cost two units.
+const DENIED: usize = 998;
 
-// Bob's client types all its letters while bob may not type, waits some seconds, and then bob may.
-fn acts(letters: &[u8]) -> [Act<'_>; 19] {
-    [
+const LETTER: &[u8] = b"K\0\x01x";
+
+// Bob may not type, and spends all his units.
+fn spend<'a>(alloc: Global) -> Result<Vec<Act<'a>>, AllocError> {
+    let first = [
         Act::SetTime(0, 0),
         Act::Connect(Habit::Whole, WINDOW),
         Act::Turns(2),
@@ -32,24 +34,13 @@ fn acts(letters: &[u8]) -> [Act<'_>; 19] {
         Act::Connect(Habit::Whole, TAKE),
         Act::Turns(2),
         Act::Connect(Habit::Whole, ATTACH_BOB),
-        Act::Send(BOB, letters),
-        Act::Turns(200),
-        Act::Note(0),
-        Act::SetTime(5, 0),
-        Act::Turns(20),
-        Act::Note(0),
-        Act::Connect(Habit::Whole, GIVE),
         Act::Turns(2),
-        Act::SetTime(6, 0),
-    ]
-}
-
-fn letters(alloc: Global) -> Result<Vec<u8>, AllocError> {
-    let mut letters = Vec::new(alloc);
-    for _ in 0..LETTERS {
-        letters.extend_from_slice(b"K\0\x01x")?;
+    ];
+    let mut acts = Vec::from_slice(alloc, &first)?;
+    for _ in 0..DENIED {
+        acts.extend_from_slice(&[Act::Send(BOB, LETTER), Act::Turns(1)])?;
     }
-    Ok(letters)
+    Ok(acts)
 }
 
 // How many texts a connection was sent up to a note.
@@ -64,24 +55,68 @@ fn told(alloc: Global, seen: &Seen, note: usize, connection: usize) -> Option<us
     Some(count)
 }
 
-// Of 1,000 units two are paid for the attach, and 998 for denied letters; in five seconds five come
-// back. The next one pays for a letter that is granted, so all that are left go at once.
-fn are_rationed(rt: &impl System) -> Option<bool> {
+// Letters that wait for a unit for a second are dropped, and bob is told so. They don't reach the window
+// once bob may type; what bob types then does.
+fn are_dropped(rt: &impl System) -> Option<bool> {
     let alloc = rt.alloc();
-    let letters = letters(alloc).ok()?;
-    let mut played = Vec::from_slice(alloc, &acts(&letters)).ok()?;
-    played
-        .extend_from_slice(&[Act::Turns(200), Act::Note(0)])
-        .ok()?;
-    let seen = play(rt, &played)?;
+    let mut acts = spend(alloc).ok()?;
+    acts.extend_from_slice(&[
+        Act::Send(BOB, LETTER),
+        Act::Turns(1),
+        Act::Send(BOB, LETTER),
+        Act::Turns(1),
+        Act::Note(0),
+        Act::SetTime(1, 0),
+        Act::Turns(1),
+        Act::Note(0),
+        Act::Connect(Habit::Whole, GIVE),
+        Act::Turns(2),
+        Act::Send(BOB, b"K\0\x01z"),
+        Act::Turns(1),
+        Act::Note(0),
+    ])
+    .ok()?;
+    let seen = play(rt, &acts)?;
     let first = told(alloc, &seen, 0, BOB)?;
     let second = told(alloc, &seen, 1, BOB)?;
-    let third = told(alloc, &seen, 2, BOB)?;
     let typed = typed(alloc, seen.bytes(2, 0))?;
-    Some((first, second, third, typed.len()) == (998, 1_003, 1_003, LETTERS - 1_003))
+    Some(first == DENIED && second == DENIED + 1 && typed.as_slice() == b"z")
+}
+
+// Letters that wait for a unit are judged by one step, by the rights of then. A unit is there after a
+// millisecond, and the next one a second after that.
+fn are_joined(rt: &impl System) -> Option<bool> {
+    let alloc = rt.alloc();
+    let mut acts = spend(alloc).ok()?;
+    acts.extend_from_slice(&[
+        Act::SetTime(0, 1),
+        Act::Send(BOB, LETTER),
+        Act::Turns(1),
+        Act::Note(0),
+        Act::Send(BOB, LETTER),
+        Act::Turns(1),
+        Act::Send(BOB, b"K\0\x02yz"),
+        Act::Turns(1),
+        Act::Connect(Habit::Whole, GIVE),
+        Act::Turns(990),
+        Act::Note(0),
+        Act::Turns(20),
+        Act::Note(0),
+    ])
+    .ok()?;
+    let seen = play(rt, &acts)?;
+    let first = told(alloc, &seen, 0, BOB)?;
+    let second = typed(alloc, seen.bytes(1, 0))?;
+    let third = typed(alloc, seen.bytes(2, 0))?;
+    Some(first == DENIED + 1 && second.is_empty() && third.as_slice() == b"xyz")
 }
 
 #[test]
-fn denials_are_rationed(rt: HostRuntime) {
-    assert!(rt; are_rationed(&rt) == Some(true));
+fn keys_that_wait_are_dropped(rt: HostRuntime) {
+    assert!(rt; are_dropped(&rt) == Some(true));
+}
+
+#[test]
+fn keys_that_wait_are_joined(rt: HostRuntime) {
+    assert!(rt; are_joined(&rt) == Some(true));
 }

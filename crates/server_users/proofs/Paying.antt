@@ -5,7 +5,7 @@ use Rattle.std.specs.Prelude.{unwrap_or, option_map, IfSome, IsTrue}
 use Rattle.acl.specs.Same.{same_user}
 use Rattle.acl.specs.declared.user_id.UserId.{UserId}
 use Rattle.server_users.specs.declared.allowances.Account.{Account}
-use Rattle.server_users.specs.Allowances.{Purse, fresh, stands_at}
+use Rattle.server_users.specs.Allowances.{MayPay, Purse, fresh, stands_at}
 use Rattle.server_users.specs.Accounts.{account_of, IsFirst}
 use Rattle.server_users.proofs.Places.{is_of, account_at, set_own, set_other}
 
@@ -46,17 +46,20 @@ settled_is o f p new own is = ap Some is ∙ sym (ap (option_map f) own)
 pub none_settled : (o : Option Purse) (f : Purse → Purse) → o ≡ None → o ≡ option_map f o
 none_settled o f none = none ∙ sym (ap (option_map f) none)
 
+pub may_fresh : (now : ℕ) (a : Purse) → a ≡ fresh → MayPay (stands_at now a)
+may_fresh now a e =
+    subst (λ (p : Purse). MayPay (stands_at now p)) (sym e) (omega arith, omega arith)
+
 -- a user who has no account has enough for a step
 pub unpaid_is : (o : Option Purse) (now : ℕ) (new a : Purse) → a ≡ unwrap_or o fresh
-    → new ≡ stands_at now a → ((stands_at now a).spent < 1000000 → ⊥)
+    → new ≡ stands_at now a → (MayPay (stands_at now a) → ⊥)
     → Some new ≡ option_map (stands_at now) o
 unpaid_is None now new a e is spent =
-    absurd (spent (omega (arith, ap (λ (p : Purse). p.spent) e)))
+    absurd (spent (may_fresh now a e))
 unpaid_is (Some p) now new a e is spent = ap Some (is ∙ ap (stands_at now) e)
 
 pub waits_is : (o : Option Purse) (now : ℕ) (a : Purse) → a ≡ unwrap_or o fresh
-    → ((stands_at now a).spent < 1000000 → ⊥)
-    → IfSome o (λ p. 1000000 ≤ (stands_at now p).spent)
+    → (MayPay (stands_at now a) → ⊥)
+    → IfSome o (λ p. MayPay (stands_at now p) → ⊥)
 waits_is None now a e spent = tt
-waits_is (Some p) now a e spent =
-    subst (λ (q : Purse). 1000000 ≤ (stands_at now q).spent) e (omega (arith, spent))
+waits_is (Some p) now a e spent = subst (λ (q : Purse). MayPay (stands_at now q) → ⊥) e spent

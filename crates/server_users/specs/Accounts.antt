@@ -13,10 +13,12 @@ abbrev pub account_of : List Account → UserId → Option Purse
 account_of [] u = None
 account_of (a ∷ more) u = if same_user a.user u then Some a.allowance else account_of more u
 
--- an outcome as it counts for this user: nothing needs to be checked for what the owner does
+-- an outcome as it counts for this user: what the owner has done costs as little as typing
 abbrev pub judged : UserId → UserId → Outcome → Outcome
 judged owner user outcome.Unchecked =
-    if same_user user owner then outcome.Granted else outcome.Unchecked
+    if same_user user owner then outcome.Typed else outcome.Unchecked
+judged owner user outcome.Granted =
+    if same_user user owner then outcome.Typed else outcome.Granted
 judged owner user o = o
 
 -- how many of the guests are this user's

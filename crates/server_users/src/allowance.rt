@@ -1,7 +1,7 @@
-//! What a user may still try in vain.
+//! What a user may still try in vain, and which commands they may still have done.
 
-ghost use Rattle.std.specs.Prelude.{◌≡◌, ◌↔◌, ◌<◌, ◌+◌, ◌*◌, ◌/◌, IsTrue, min, true, false};
-ghost use Rattle.server_users.specs.Allowances.{fresh, paid, settled, stands_at};
+ghost use Rattle.std.specs.Prelude.{◌≡◌, ◌↔◌, ◌<◌, ◌≤◌, ◌+◌, ◌*◌, ◌/◌, IsTrue, min, true, false};
+ghost use Rattle.server_users.specs.Allowances.{MayPay, fresh, given_back, paid, settled, stands_at};
 
 use std::marker::Model;
 
@@ -10,6 +10,8 @@ use std::marker::Model;
 pub enum Outcome {
     /// It was done, and the rights or locks that were checked for it allowed it.
     Granted,
+    /// The same, and it only typed into a window.
+    Typed,
     /// It was done, and nothing was checked for it.
     Unchecked,
     /// It was refused, or a right or a lock didn't allow it.
@@ -23,6 +25,12 @@ pub const UNIT: u32 = 1_000;
 
 // A user may spend at most 1,000 units, which come back in this number of milliseconds.
 const MOST: u64 = 1_000_000;
+
+// Units that commands use come back this many times faster.
+const FASTER: u64 = 5;
+
+// Commands may use at most 1,000 units, which come back in this number of milliseconds.
+const MOST_USED: u64 = MOST / FASTER;
 
 // How many of the bytes that the trail keeps cost one unit.
 const BYTES: u32 = 128;
@@ -39,13 +47,15 @@ pub fn price(entries: u16, bytes: usize) -> u32
     UNIT * (u32::from(entries) + bytes / BYTES)
 }
 
-/// What a user may still try in vain: 1,000 units at once, then one a second. Each step is paid for
-/// before it is tried. A step that is granted gives back its cost and the costs of the unchecked steps
-/// before it.
+/// What a user may still try. Steps in vain spend units: 1,000 at once, then one a second. Each step is
+/// paid for before it is tried. A step that is granted gives back its cost and the costs of the unchecked
+/// steps before it. Unless it only typed, these costs use a second ration: 1,000 units at once, then five
+/// a second.
 #[derive(Debug)]
 pub struct Allowance {
     spent: u64,
     lent: u64,
+    used: u64,
     seen: u64,
 }
 
@@ -54,6 +64,7 @@ impl Drop for Allowance {
         let Allowance {
             spent: _,
             lent: _,
+            used: _,
             seen: _,
         } = self;
     }
@@ -65,9 +76,9 @@ impl Model for Allowance {
 
     ghost Value = { Purse };
 
-    ghost view = { λ a. record { spent = a.spent; lent = a.lent; seen = a.seen } };
+    ghost view = { λ a. record { spent = a.spent; lent = a.lent; used = a.used; seen = a.seen } };
 
-    ghost invariant = { λ a. (a.lent ≤ a.spent) × (a.spent < 8589934592) };
+    ghost invariant = { λ a. (a.lent ≤ a.spent) × (a.spent < 8589934592) × (a.used ≤ 1000000) };
 }
 
 impl Allowance {
@@ -78,6 +89,7 @@ impl Allowance {
         Allowance {
             spent: 0,
             lent: 0,
+            used: 0,
             seen: 0,
         }
     }
@@ -86,23 +98,37 @@ impl Allowance {
     fn pass(&mut self, now: u64)
         ensures { self.new ≡ stands_at now self.old }
     {
-        self.spent = self.spent.saturating_sub(now.saturating_sub(self.seen));
+        let passed = now.saturating_sub(self.seen);
+        self.spent = self.spent.saturating_sub(passed);
         self.lent = self.lent.min(self.spent);
+        self.used = self.used.saturating_sub(passed);
         self.seen = self.seen.max(now);
     }
 
-    /// Pays for a step at this time, in milliseconds, unless all is spent. The answer is whether it did.
+    /// Pays for a step at this time, in milliseconds, unless all is spent or used. The answer is whether
+    /// it did.
     pub fn pay(&mut self, now: u64, cost: u32) -> bool
-        ensures answer { IsTrue result ↔ ((stands_at now self.old).spent < 1000000) }
+        ensures answer { IsTrue result ↔ MayPay (stands_at now self.old) }
         ensures paid { result ≡ true → self.new ≡ paid cost (stands_at now self.old) }
         ensures unpaid { result ≡ false → self.new ≡ stands_at now self.old }
     {
         self.pass(now);
-        if self.spent >= MOST {
+        if self.spent >= MOST || self.used >= MOST_USED {
             return false;
         }
         self.spent += u64::from(cost);
         true
+    }
+
+    // Gives back a cost and those of the unchecked steps before it. So much of them is used.
+    fn give_back(&mut self, cost: u64, used: u64)
+        requires cost { cost < 4294967296 }
+        requires used { used ≤ cost + self.now.lent }
+        ensures { self.new ≡ given_back cost used self.old }
+    {
+        self.spent = self.spent.saturating_sub(cost + self.lent);
+        self.lent = 0;
+        self.used = (self.used + used / FASTER).min(MOST);
     }
 
     /// Settles what came of a step that was paid for at this cost.
@@ -111,10 +137,8 @@ impl Allowance {
     {
         let cost = u64::from(cost);
         match outcome {
-            Outcome::Granted => {
-                self.spent = self.spent.saturating_sub(cost + self.lent);
-                self.lent = 0;
-            }
+            Outcome::Granted => self.give_back(cost, cost + self.lent),
+            Outcome::Typed => self.give_back(cost, self.lent),
             Outcome::Unchecked => self.lent = (self.lent + cost).min(self.spent),
             Outcome::Denied => {}
             Outcome::Untaken => {

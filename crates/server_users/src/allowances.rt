@@ -1,26 +1,26 @@
-//! What each user may still try in vain.
+//! What each user may still try.
 
-ghost use Rattle.std.specs.Prelude.{◌≡◌, ◌<◌, ◌≤◌, IfSome, IfOk, OnErr, Some, None, length, true, false};
+ghost use Rattle.std.specs.Prelude.{◌≡◌, ◌<◌, IfSome, IfOk, OnErr, Some, None, length, true, false};
 ghost use Rattle.std.specs.Prelude.{option_map, unwrap_or, IsOk, vec_len, vec_capacity};
 ghost use Rattle.std.specs.List.{position};
 ghost use Rattle.acl.specs.Same.{same_user};
 ghost use Rattle.acl.specs.declared.user_id.UserId.{UserId};
 ghost use Rattle.server_users.specs.declared.allowances.Account.{Account};
-ghost use Rattle.server_users.specs.Allowances.{fresh, paid, settled, stands_at};
+ghost use Rattle.server_users.specs.Allowances.{MayPay, fresh, paid, settled, stands_at};
 ghost use Rattle.server_users.specs.Accounts.{account_of, judged, IsFirst};
 
 use crate::allowance::{Allowance, Outcome};
 use acl::UserId;
 use std::alloc::{AllocError, Global};
 
-/// A user who tried something, and what they may still try in vain.
+/// A user who tried something, and what they may still try.
 #[derive(Debug, Drop)]
 pub struct Account {
     user: UserId,
     allowance: Allowance,
 }
 
-/// What each user may still try in vain. A user who has no account hasn't tried anything yet.
+/// What each user may still try. A user who has no account hasn't tried anything yet.
 #[derive(Debug, Drop)]
 pub struct Allowances {
     // The session's owner.
@@ -36,13 +36,12 @@ fn place_of(accounts: &[Account], user: UserId) -> Option<usize>
     accounts.iter().position(|account| account.user == user)
 }
 
-// What an outcome counts as for this user. The owner has every right, so nothing needs to be checked
-// for what the owner does.
+// What an outcome counts as for this user. What the owner has done costs as little as typing.
 fn judged(owner: UserId, user: UserId, outcome: Outcome) -> Outcome
     ensures { result ≡ judged owner user outcome }
 {
     match outcome {
-        Outcome::Unchecked if user == owner => Outcome::Granted,
+        Outcome::Unchecked | Outcome::Granted if user == owner => Outcome::Typed,
         outcome => outcome,
     }
 }
@@ -85,8 +84,8 @@ impl Allowances {
     }
 
     /// Pays for a step that a user is about to try at this time, in milliseconds. The answer is
-    /// whether it did. If not, the user has to wait: all is spent that they may spend, or there is no
-    /// memory for their account.
+    /// whether it did. If not, the user has to wait: all is spent that they may spend, or used that they
+    /// may use, or there is no memory for their account.
     pub fn pay(&mut self, user: UserId, now: u64, cost: u32) -> bool
         ensures others { (u : UserId) → (u ≡ user → ⊥)
             → account_of self.new.accounts.items u ≡ account_of self.old.accounts.items u }
@@ -95,12 +94,12 @@ impl Allowances {
         ensures unpaid { result ≡ false → account_of self.new.accounts.items user
             ≡ option_map (stands_at now) (account_of self.old.accounts.items user) }
         ensures may { result ≡ true
-            → (stands_at now (unwrap_or (account_of self.old.accounts.items user) fresh)).spent < 1000000 }
+            → MayPay (stands_at now (unwrap_or (account_of self.old.accounts.items user) fresh)) }
         // A user without an account pays if there is room for one more account in memory.
         ensures room { account_of self.old.accounts.items user ≡ None
             → vec_len self.old.accounts < vec_capacity self.old.accounts → result ≡ true }
         ensures waits { result ≡ false → IfSome (account_of self.old.accounts.items user)
-            (λ purse. 1000000 ≤ (stands_at now purse).spent) }
+            (λ purse. ¬ (MayPay (stands_at now purse))) }
         ensures owner { self.new.owner ≡ self.old.owner }
     {
         match self.open(user) {

@@ -1,7 +1,7 @@
 use Rattle.std.proofs.Common.{◌<◌, Some, Option, ap, sym, subst, ◌∙◌, arith}
 use Rattle.std.specs.Prelude.{unwrap_or}
-use Rattle.server_users.specs.Allowances.{Purse, fresh, paid, stands_at}
-use Rattle.server_users.proofs.Paying.{own_is, other_is, held_is, not_true, unpaid_is, waits_is}
+use Rattle.server_users.specs.Allowances.{MayPay, Purse, fresh, paid, stands_at}
+use Rattle.server_users.proofs.Paying.{own_is, other_is, held_is, may_fresh, not_true, unpaid_is, waits_is}
 use Rattle.server_users.proofs.allowances.Allowances.pay.Goals as goal
 
 pub returns-in-Ok-clause-others : goal.returns-in-Ok-clause-others
@@ -28,7 +28,7 @@ returns-in-Ok-clause-unpaid c = λ not.
 
 pub returns-in-Ok-clause-may : goal.returns-in-Ok-clause-may
 returns-in-Ok-clause-may c = λ did.
-    subst (λ (p : Purse). (stands_at c.args.now p).spent < 1000000)
+    subst (λ (p : Purse). MayPay (stands_at c.args.now p))
     (held_is c.open.new.self.accounts.items c.args.user c.in-Ok.place c.index_mut.result.now c.in-Ok.ensures.place
     c.index_mut.ensures.value _ c.in-Ok.ensures.own) (c.pay.ensures.answer.0 did)
 
@@ -42,7 +42,6 @@ returns-in-Ok-clause-waits c = λ not.
 pub returns-in-Ok-clause-room : goal.returns-in-Ok-clause-room
 returns-in-Ok-clause-room c = λ none room.
     c.pay.ensures.answer.1
-    (subst (λ (p : Purse). (stands_at c.args.now p).spent < 1000000)
-    (sym (held_is c.open.new.self.accounts.items c.args.user c.in-Ok.place c.index_mut.result.now c.in-Ok.ensures.place
+    (may_fresh c.args.now _
+    (held_is c.open.new.self.accounts.items c.args.user c.in-Ok.place c.index_mut.result.now c.in-Ok.ensures.place
     c.index_mut.ensures.value _ c.in-Ok.ensures.own ∙ ap (λ (o : Option Purse). unwrap_or o fresh) none))
-    (omega arith))
