@@ -27,13 +27,14 @@ _mux() {
     --loops) words='1 2 3 4 5 6 7 8' ;;
     --term) words='mux mux-8color vt220' ;;
     --leave) words='none' ;;
-    --login)
+    --login | --to)
         mapfile -t COMPREPLY < <(compgen -u -- "$current")
         return
         ;;
     --user | --rows | --cols | --title | --keep | --window | --read | --session | --for | --wait | --owner | --at | --since) return ;;
     --web | --listen | --origin | --watch | --most) return ;;
-    --presets) return ;;
+    --presets | --guest | --again | --number | --first) return ;;
+    --writers) words='all one' ;;
     *)
         # mux and mux-trail have subcommands, each with its own options.
         if [[ ${program##*/} == mux || ${program##*/} == mux-trail ]]; then
@@ -49,6 +50,7 @@ _mux() {
             fi
         else
             words=$("$program" --help 2>/dev/null | _mux_listed)
+            [[ ${program##*/} != mux-user || $current == -* ]] || words='add replace remove give show list'
         fi
         ;;
     esac

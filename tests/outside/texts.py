@@ -784,6 +784,7 @@ def operating(play):
         """Lines that change the system; tests/outside/consoles plays what they set up."""
         why = "it needs systemd, another login or another host; tests/outside/consoles plays what it sets up"
         for words, better in (("mux-web", "tests/outside/boot plays it"),
+                              ("mux-console", "tests/outside/boot plays it"),
                               ("/etc/mux/web", "tests/outside/boot plays it"),
                               ("tic ", "make lint compiles it"), ("mux-over-ssh", "tests/outside/terminals plays it"),
                               ("mux-user", "tests/outside/consoles plays it"),
@@ -802,8 +803,8 @@ def operating(play):
 
     on.open("root")
     on.run("root", "export MUX_USER=own; cd")
-    leave_until("$ export MUX_SOCKET=/run/mux/ops/socket")
-    text.leave(text.lines[0][0], "it is played below")
+    leave_until("$ mux-console web1")
+    text.leave(text.lines[0][0], "tests/outside/boot plays it")
     on.run("root", play.real("(umask 007; setsid -f muxd-run --socket /run/mux/ops/socket --users /var/lib/mux/ops/users"
                              " --rights /etc/mux/ops/rights > ~/log 2>&1); muxd-wait --socket /run/mux/ops/socket"))
     leave_until("# export MUX_SOCKET=/run/mux/ops/socket MUX_TOKEN=/var/lib/mux/ops/own.token MUX_LOCK=/etc/mux/ops")
