@@ -83,6 +83,7 @@ sub relay {
     my $server = connected($of{socket}) // leave();
     write_all($server, frame(ATTACH, substr($payload, 0, SIZE) . $of{token} . $of{name})) or leave();
     my $back = copy_back($server, $of{client});
+    local $SIG{TERM} = sub { shutdown($_, 2) for $server, $of{client}; leave() };
     copy_forth($of{client}, $server, $of{life});
     shutdown($server, 2);
     waitpid($back, 0);
