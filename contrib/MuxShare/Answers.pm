@@ -20,12 +20,11 @@ sub join_line {
 sub may {
     my (@guests) = @_;
     my $names = join ', ', map { MuxShare::Guests::called($_) } @guests;
-    my $limit = MuxShare::Guests::limit($guests[0]);
-    $limit = $limit eq '' ? '' : " $limit";
+    my $limit = ucfirst MuxShare::Guests::limit($guests[0]);
     my $act = @guests > 1 ? 'act' : 'acts';
-    return $guests[0]{types}
-        ? "$names can type here$limit, and so $act as " . me() . ": files, keys, everything.\n"
-        : "$names can see what this window shows and keeps$limit, and nothing else of yours.\n";
+    my $what = $guests[0]{types} ? "can type here, and so $act as " . me() . ': files, keys, everything'
+        : 'can see what this window shows and keeps, and nothing else of yours';
+    return ($limit eq '' ? '' : "$limit ") . "$names $what.\n";
 }
 
 # Returns what holds for guests who were just invited.

@@ -12,17 +12,18 @@ use MuxShare::Relay;
 use MuxShare::Session;
 use MuxShare::Wire;
 
-# How many seconds the owner has to attach at first, and how many connections a guest may have open at once.
-use constant { COME => 5, PENDING => 12 };
+# How many seconds mux-share has to come at first, how often it is looked for until then, and how many connections a
+# guest may have open at once.
+use constant { COME => 5, LOOK => 0.2, PENDING => 12 };
 
-# PLACE is the folder, LOCK its lock, READY what gets the line 'ready' once it serves, SCRIPTS the folder of mux-shell,
-# NAME the session's, TITLE the shell's, KEEP the number of its kept lines.
+# PLACE is the folder, LOCK its lock, READY what gets the line 'ready' once it serves, CALLER the process of mux-share,
+# SCRIPTS the folder of mux-shell, NAME the session's, TITLE the shell's, KEEP the number of its kept lines.
 sub new {
     my ($class, %given) = @_;
     my ($owner) = mux_names(getpwuid($>) // '', $>);
     my $session = MuxShare::Session->new(%given{qw(place scripts title keep)}, owner => $owner);
     return bless {
-        %given{qw(place lock ready name)},
+        %given{qw(place lock ready caller name)},
         session => $session,
         guests  => MuxShare::Guests->new($session),
         relays  => {},   # the guest's uid, by process
@@ -128,8 +129,8 @@ sub close_door {
     close $self->{door};
 }
 
-# Lets nobody in before the owner is here.  If the owner doesn't come, because they were interrupted, the session ends.
-# No fault of a turn ends it.
+# Lets nobody in before the owner is here.  If mux-share was interrupted before it came, the session ends.  No fault of
+# a turn ends it.
 sub serve {
     my ($self) = @_;
     my $latest = now() + COME;
@@ -143,9 +144,9 @@ sub serve {
 # Waits until something comes, and handles it.  LEFT are the seconds that the owner has to come, if they haven't yet.
 sub turn {
     my ($self, $left) = @_;
-    return $self->{ending} = 1 if defined $left && $left <= 0;
+    return $self->{ending} = 1 if defined $left && ($left <= 0 || !kill 0, $self->{caller});
     my $wait = $self->{guests}->keep_time;
-    $wait = $left if defined $left && $left < $wait;
+    $wait = LOOK if defined $left && LOOK < $wait;
     my $ready = '';
     my @news = $self->{session}->news_pipes;
     vec($ready, fileno $_, 1) = 1 for @$self{qw(door came here)}, @news;
@@ -243,7 +244,8 @@ sub let_in {
     return if $attached >= PENDING;
     my $wait = $self->{guests}->must_wait($uid);
     my $guest = $self->{guests}->guest($uid);
-    my %answers = (hello => [welcome($self, $guest)], list => [list_for_guest($self)]);
+    my %answers = (hello => [welcome($self, $guest)], list => [list_for_guest($self)], ask => ['the owner was asked']);
+    my $line = "$guest->{account} asks for the keyboard: mux-share --give $guest->{account}";
     my $process = fork;
     return unless defined $process;
     if ($process) {
@@ -255,7 +257,7 @@ sub let_in {
         relay(
             client => $peer, life => $self->{life}, socket => "$self->{place}/own/socket", name => $guest->{name},
             token => $self->{session}->token($guest->{name}), wait => $wait, attached_now => $attached,
-            answers => \%answers,
+            answers => \%answers, ask => sub { $self->{session}->tell($line) },
         );
     };
     POSIX::_exit(0);

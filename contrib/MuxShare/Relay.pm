@@ -66,12 +66,15 @@ sub line_of { my ($payload) = @_; return (unpack 'C a64 C/a a*', $payload)[3] //
 
 # Serves one connection of a guest, CLIENT, and ends this process.  SOCKET is muxd's, TOKEN the guest's, WAIT the
 # seconds until the guest may join again or 0, and ATTACHED_NOW their number of connections.  ANSWERS are lists of texts
-# for mux-join, by the words with which it asks.
+# for mux-join, by the words with which it asks; at the word ask it also calls ASK.
 sub relay {
     my (%of) = @_;
     my ($kind, $payload) = first_frame($of{client});
-    # mux-join asks whether it would be let in.  The session doesn't have to know.
-    if ($kind == COMMAND && (my $texts = $of{answers}{ line_of($payload) })) {
+    # mux-join asks whether it would be let in, and the like.  It isn't in the session then.
+    my $word = $kind == COMMAND ? line_of($payload) : '';
+    if (my $texts = $of{answers}{$word}) {
+        refuse($of{client}, "you asked too often: try again in $of{wait} s") if $word eq 'ask' && $of{wait};
+        $of{ask}->() if $word eq 'ask';
         write_all($of{client}, join '', frame(WELCOME, "\0"), (map { frame(SAY, $_) } @$texts), frame(GONE, DONE));
         leave();
     }
@@ -83,6 +86,7 @@ sub relay {
     my $server = connected($of{socket}) // leave();
     write_all($server, frame(ATTACH, substr($payload, 0, SIZE) . $of{token} . $of{name})) or leave();
     my $back = copy_back($server, $of{client});
+    local $SIG{TERM} = sub { shutdown($_, 2) for $server, $of{client}; leave() };
     copy_forth($of{client}, $server, $of{life});
     shutdown($server, 2);
     waitpid($back, 0);

@@ -80,7 +80,8 @@ sub has_shell {
 # Shows in the shell's title who may type there, besides the owner.
 sub show_typing {
     my ($self, @names) = @_;
-    my $more = @names == 0 ? '' : @names == 1 ? " ($names[0] types)" : ' (' . @names . ' guests type)';
+    my $who = @names == 1 ? substr($names[0], 0, 20) . ' types' : @names . ' guests type';
+    my $more = @names ? " ($who)" : '';
     my $title = $self->{title};
     utf8::decode($title);
     $title = substr($title, 0, LONGEST_TITLE - length $more) . $more;
