@@ -71,10 +71,11 @@ judged count t = record t { keys = drop count t.keys }
 abbrev pub drains : Typed → Bool
 drains t = t.denied && not t.drained
 
--- the socket is to be read: no key waits; or it drains, or keys wait for a tenth of a second, and the last read is 20
--- milliseconds ago
-abbrev pub may_read : ℕ → Typed → Bool
-may_read now t = if drains t || waits now 100 t then nat_le 20 (now - t.read) else is_idle t
+-- the socket is to be read: no key waits; or it drains, or a size or keys of a tenth of a second ago wait, and the last
+-- read is 20 milliseconds ago
+abbrev pub may_read : ℕ → Bool → Typed → Bool
+may_read now sizes t =
+    if (sizes || drains t) || waits now 100 t then nat_le 20 (now - t.read) else is_idle t
 
 -- the socket was read, and may hold much more
 abbrev pub after_read : ℕ → Bool → Typed → Typed

@@ -1,6 +1,6 @@
 //! What a connection asked for that isn't done yet.
 
-ghost use Rattle.std.specs.Prelude.{◌≡◌, ◌&&◌};
+ghost use Rattle.std.specs.Prelude.{◌≡◌, ◌&&◌, is_some};
 ghost use Rattle.server_connections.specs.Peers.{is_empty, is_taken};
 ghost use Rattle.server_connections.specs.Typed.{may_read};
 
@@ -12,6 +12,9 @@ use std::alloc::{AllocError, Global};
 // This many bytes are looked at together: a message of a short frame takes far more memory than the
 // frame, so only a few are made at a time.
 const PIECE: usize = 512;
+
+// At most this many messages are taken in at a time.
+const GATHERED: usize = 64;
 
 /// A message, and how many of its printed bytes are done.
 #[derive(Drop)]
@@ -81,9 +84,10 @@ impl Inbox {
 
     /// Whether more is to be read, at this time in milliseconds.
     pub fn may_read(&self, now: u64) -> bool
-        ensures { result ≡ (is_taken self.now && may_read now self.now.typed) }
+        ensures { result ≡ (is_taken self.now
+            && may_read now (is_some self.now.sizing.wanted) self.now.typed) }
     {
-        self.is_taken() && self.typed.may_read(now)
+        self.is_taken() && self.typed.may_read(now, self.sizing.wanted.is_some())
     }
 
     // Looks at the next piece of the bytes that are left, and adds the messages that it completes.
@@ -159,16 +163,18 @@ impl Inbox {
     }
 
     /// Takes in a client's keys and sizes that come next, at this time in milliseconds. Then drops keys
-    /// that wait too long.
-    pub fn gather(&mut self, reader: &mut Reader, now: u64) -> Result<(), AllocError> {
-        for _ in 0..u64::MAX {
+    /// that wait too long. Returns whether no more are there.
+    pub fn gather(&mut self, reader: &mut Reader, now: u64) -> Result<bool, AllocError> {
+        let mut is_through = false;
+        for _ in 0..GATHERED {
             if !self.gather_one(now)? {
+                is_through = true;
                 break;
             }
             self.refill(reader);
         }
         self.typed.expire(now);
-        Ok(())
+        Ok(is_through)
     }
 
     /// Takes out the next message, or the one that was put back.

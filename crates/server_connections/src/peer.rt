@@ -208,8 +208,9 @@ impl<S: Drop> Peer<S> {
         !self.inbox.is_empty()
     }
 
-    /// Takes in the keys and the sizes that come next, at this time in milliseconds.
-    pub fn gather(&mut self, now: u64) -> Result<(), AllocError> {
+    /// Takes in keys and sizes that come next, at this time in milliseconds. Returns whether no more are
+    /// there.
+    pub fn gather(&mut self, now: u64) -> Result<bool, AllocError> {
         self.inbox.gather(&mut self.reader, now)
     }
 

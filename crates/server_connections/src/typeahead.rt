@@ -174,11 +174,11 @@ impl Typeahead {
         self.denied && !self.drained
     }
 
-    /// Whether the socket is to be read.
-    pub fn may_read(&self, now: u64) -> bool
-        ensures { result ≡ may_read now self.now }
+    /// Whether the socket is to be read, beside a size that waits or without one.
+    pub fn may_read(&self, now: u64, sizes: bool) -> bool
+        ensures { result ≡ may_read now sizes self.now }
     {
-        if self.drains() || self.waits(now, LATE) {
+        if sizes || self.drains() || self.waits(now, LATE) {
             now.saturating_sub(self.read) >= PAUSE
         } else {
             self.is_empty()

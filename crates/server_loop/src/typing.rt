@@ -25,12 +25,15 @@ impl<S: Read + Write + Drop, G: Gate + Drop, J: SessionSeat + Drop> Loop<S, G, J
         if !peer.stage.is_open() {
             return None;
         }
-        if peer.gather(now).is_err() {
+        let Ok(is_through) = peer.gather(now) else {
             self.fault(rt, key);
             return Some(Progress::Done);
-        }
+        };
         self.resize(rt, key, client);
         self.say_dropped(rt, key);
+        if !is_through {
+            return Some(Progress::Part);
+        }
         let peer = self.connections.touch(key)?;
         if !peer.inbox.typed.is_empty() {
             return Some(self.judge(rt, key, client));
