@@ -650,8 +650,7 @@ def policies(play):
     on = play.on
     text = play.text
     text.leave("mux-shell --title shop sudo -iu lab", "it is played with docs/TEACHING.md")
-    for line in ("$ mux-guest --read shop --for 30m sue", "mux-guest --read shop --for 30m sue"):
-        text.leave(line, "tests/outside/policies plays it, for a shorter time")
+    text.leave("$ mux-guest --read shop --for 30m sue", "tests/outside/policies plays it, for a shorter time")
     text.leave("mux-shell --title shop podman run --rm -it debian bash", "it needs podman, and fetches an image")
     on.open("own")
     on.run("own", "for name in own sue pia ben kay fay ann bob jo lee kim; do"
