@@ -30,7 +30,7 @@ from strain import Server, check
 
 TOP = Path(__file__).resolve().parent.parent.parent
 LEAVE = b"\x1c"
-WELCOME = b"y\0\1\0"
+WELCOME, GONE = b"y\0\1\0", b"g\0\1\0"
 
 
 class Fake:
@@ -59,9 +59,13 @@ class Fake:
     def serve(self, answer):
         it, _ = self.listener.accept()
         self.kept.append(it)
-        it.sendall(answer)
-        while piece := it.recv(65536):
-            self.data += piece
+        try:
+            it.sendall(answer)
+            while piece := it.recv(65536):
+                self.data += piece
+        except OSError:
+            # the client ended, or the play did
+            pass
         self.is_over.set()
 
     def __enter__(self):
@@ -436,8 +440,8 @@ def commands():
               run([*words, "windows x"])[:3]
               == (1, b"line: 3 at 8\n", b"mux: line: 3 at 8 (a word too many: x): windows x\n"),
               str(run([*words, "windows x"])))
-        check("one without a number, too", run([*words, "kill"])[:3] == (1, b"no window\n", b"mux: no window: kill\n"),
-              str(run([*words, "kill"])))
+        wanted = (1, b"no window\n", b"mux: no window: kill: 'windows' lists them\n")
+        check("one without a number, too", run([*words, "kill"])[:3] == wanted, str(run([*words, "kill"])))
         said = run([*words, "windows \u00e9"])[2]
         check("in place of a line with other characters, it has the user and the socket",
               said.endswith(f": own at {server.path}\n".encode()), str(said))
@@ -535,8 +539,119 @@ def detached_windows():
             check("the window is there", b"late" in server.give(b"windows"))
 
 
-PARTS = (exact_input, hanging_servers, no_right_to_detach, stopped_server, nothing_cleared, suspended, killed_script,
-         nested, commands, waits, terms, detached_windows)
+# What draws consist of (docs/SPECIFICATION.md, 8.2 and 8.6), function by function, and what no draw has.
+DRAWN = (
+    b"\x18\x1bc\x1b%G\x1b[?7l", b"plain", "\u00e9\u2192\u4e16\U0001f600e\u0301".encode(), b"\x1b[3H", b"\x1b[24;80H",
+    b"\x1b[12C", b"\x1bE", b"\x1b[m", b"\x1b[;1;4;5;7;31;44m", b"\x1b[22;39m", b"\x1b[11X", b"\x1b[K", b"\x1b[?1h",
+    b"\x1b[?1l", b"\x1b[?25h", b"\x1b[?25l", b"\x1b=", b"\x1b>",
+)
+FOREIGN = (
+    # strings: the clipboard, titles, questions
+    b"\x1b]52;c;AAAA\x07", b"\x1b]0;title\x07", b"\x1b]2;t\x1b\\", b"\x1bktitle\x1b\\",
+    b"\x1bP$q m\x1b\\", b"\x1b_x\x1b\\",
+    # questions that the terminal answers
+    b"\x1b[c", b"\x1b[>c", b"\x1b[5n", b"\x1b[6n", b"\x1b[21t",
+    # modes
+    b"\x1b[?1000h", b"\x1b[?1003h", b"\x1b[?1006h", b"\x1b[?2004h", b"\x1b[?1049h", b"\x1b[?7h", b"\x1b[?25;1000h",
+    b"\x1b[4h", b"\x1b[>4;2m",
+    # other functions
+    b"\x1b[2;5r", b"\x1b[2J", b"\x1b[9b", b"\x1b[1;2:3m", b"\x1b[!p", b"\x1b(0", b"\x1bN", b"\x1bM", b"\x1b7",
+    b"\x1b#8", b"\x1b F", b"\n", b"\r", b"\x07", b"\x0e", b"\x7f", b"\x9b21t", "\u009b21t".encode(),
+    # bytes that aren't UTF-8, and a sequence without end
+    b"\xc0\x80", b"\xed\xa0\x80", b"\xf4\x90\x80\x80", b"\xff", b"\xc3(", b"\x1b[" + b"1" * 80 + b"m",
+)
+
+
+def drawn(frames):
+    """What mux attach writes to a terminal of this server: its status, standard output and error."""
+    with Fake(WELCOME + frames + GONE) as fake:
+        status, out, said, _ = run(fake.words(), 10, stdin=subprocess.DEVNULL)
+        return status, out, said
+
+
+def draws_only():
+    """A client passes on what draws consist of, however it is cut, and nothing else."""
+    whole = b"".join(DRAWN)
+    wrong = [part for part in DRAWN if drawn(frame(b"d", part))[:2] != (0, part)]
+    check("each function of a draw is passed on", not wrong, str(wrong))
+    cut = b"".join(frame(b"d", whole[at : at + 1]) for at in range(len(whole)))
+    check("all of them byte by byte", drawn(cut)[:2] == (0, whole), str(drawn(cut)))
+    wrong = []
+    for part in FOREIGN:
+        for name, frames in (("whole", frame(b"d", b"first" + part + b"last")),
+                             ("cut", b"".join(frame(b"d", bytes([byte])) for byte in part + b"last"))):
+            status, out, said = drawn(frame(b"d", b"kept") + frames)
+            passed = out.removeprefix(b"kept")
+            whole_part = name == "whole" and passed
+            is_wrong = whole_part or part in out or b"last" in out
+            if status != 1 or is_wrong or b"sent what no draw has" not in said:
+                wrong.append((name, part, status, out, said))
+    check("nothing else is, and the client ends with status 1 and says why", not wrong, str(wrong))
+    status, out, said = drawn(frame(b"i", b"\x1b]0;t\x07"))
+    is_refused = (status, out) == (1, b"") and b"doesn't speak this protocol" in said
+    check("nor what is for windows", is_refused, f"{out} {said}")
+    with Fake(frame(b"d", b"\x1b]0;t\x07") + GONE) as fake:
+        words = ["command", *fake.words()[1:7], "windows"]
+        status, out, said, _ = run(words, 10)
+        check("a command prints no draw", (status, out) == (1, b""), f"{status} {out} {said}")
+
+
+def terminal_reset():
+    """At the end of mux-attach no mode stays, and the shell gets nothing of what the terminal sent."""
+    with Server() as server, tempfile.TemporaryDirectory() as folder:
+        fake = Path(folder, "fake-mux")
+        modes = "".join(rf"\033[?{mode}h" for mode in (1000, 1003, 1006, 2004, 1049))
+        fake.write_text(f"#!/bin/sh\nprintf '{modes}'\nsleep 1\n")
+        fake.chmod(0o755)
+        with Terminal(["bash", "--norc", "-i"]) as it:
+            it.shows(b"ready>")
+            it.type(f"MUX={fake} ".encode() + " ".join(attach_words(server)).encode() + b"; echo status $?\n")
+            assert it.shows(b"\x1b[?1049h"), "the program wasn't started"
+            it.type(b"\x1b[?62;6cid\r")
+            check("mux-attach ends", it.shows(b"status 0"), str(it.out[-200:]))
+            it.read(0.5)
+            after = it.out[it.out.rfind(b"\x1b[?1049h") :]
+            modes = (b"1000", b"1003", b"1006", b"2004", b"1049")
+            left = [mode for mode in modes if b"\x1b[?" + mode + b"l" not in after]
+            check("what may have been set is reset", not left, str(left))
+            check("and an answer of the terminal isn't a command line", b"uid=" not in after and b"62;6c" not in after,
+                  str(after[-200:]))
+
+
+def no_folder():
+    """Without a place for their files the scripts say so and what to do, under their own name."""
+    with Server() as server:
+        for name in ("mux-attach", "mux-watch"):
+            words = [script(name), "--socket", server.path, "--user", "own", "--token", token_of(server)]
+            with Terminal(words, TMPDIR="/nope") as it:
+                status = it.ends_within(5)
+                wanted = f"{name}: can't make a folder for its files in /nope: No such file or directory: set TMPDIR"
+                is_said = wanted.encode() in it.out
+                check(f"{name} without a TMPDIR that is there", status == 1 and is_said, f"{status} {it.out}")
+
+
+# Characters that turn the direction of text, or end a line or a paragraph (Unicode, UAX #9 and UAX #14).
+TURNING = [0x61C, 0x200E, 0x200F, *range(0x2028, 0x202F), *range(0x2066, 0x206A)]
+
+
+def turned_text():
+    """What a server or a command line says can't turn what is read."""
+    for name, code in (("done", 0), ("refused", 6)):
+        for number in TURNING:
+            text = f"a{chr(number)}b \u00e9\u200b\u202f\u2065 \u0628".encode()
+            wanted = text.replace(chr(number).encode(), b"\\u{%x}" % number)
+            with Fake(WELCOME + frame(b"s", text) + frame(b"g", bytes([code]))) as fake:
+                _, out, said, _ = run(["command", *fake.words()[1:7], f"wall {chr(number)}"], 10)
+            both = out + said
+            if wanted + b"\n" not in out or chr(number).encode() in both:
+                check(f"U+{number:04X} of a command that is {name}", False, f"{out} {said}")
+                return
+    check("characters that turn text are printed as their numbers, others as they are", True)
+
+
+PARTS = (draws_only, terminal_reset, turned_text, no_folder, exact_input, hanging_servers, no_right_to_detach,
+         stopped_server, nothing_cleared, suspended,
+         killed_script, nested, commands, waits, terms, detached_windows)
 
 
 def main():

@@ -1,8 +1,12 @@
 //! What the threads of a peer share.
 
+ghost use Rattle.std.specs.Prelude.{◌≡◌, []};
+ghost use Rattle.draw_check.specs.Places.{place_after};
+
 use crate::opening::SizesFiles;
 use attach_proto::{Reader, Side, Why};
 use client_words::{Fault, InputStage, LeaveReader, Way, Words};
+use draw_check::DrawCheck;
 use std::alloc::Global;
 use std::fs::File;
 use std::os::unix::net::UnixStream;
@@ -17,6 +21,8 @@ pub struct Standing {
     pub columns: u16,
     /// Bytes for standard output.
     pub bytes: Vec<u8>,
+    /// Checks what the server sends for a client's terminal.
+    pub draws: DrawCheck,
     /// Lines for the sizes' file.
     pub sizes: Vec<u8>,
     /// A thread is writing. Before it stops, it takes the bytes that wait.
@@ -42,12 +48,17 @@ pub struct Standing {
 }
 
 impl Standing {
-    pub fn new(alloc: Global, words: &Words<'_>) -> Standing {
+    pub fn new(alloc: Global, words: &Words<'_>) -> Standing
+        ensures way { result.way ≡ words.now.way }
+        ensures none { result.bytes.items ≡ [] }
+        ensures unread { result.draws ≡ place_after [] }
+    {
         Standing {
             way: words.way,
             rows: words.rows,
             columns: words.columns,
             bytes: Vec::new(alloc),
+            draws: DrawCheck::new(),
             sizes: Vec::new(alloc),
             is_writing: false,
             writings: 0,

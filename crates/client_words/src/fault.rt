@@ -16,6 +16,8 @@ pub enum Fault {
     Writable,
     NoServer,
     NoServerOfOurs,
+    /// The server sent bytes for the terminal that no draw has.
+    NoDraw,
     /// The server didn't answer in time.
     NoAnswer,
     Ended,
@@ -120,6 +122,10 @@ impl Told<'_> {
                 f,
                 "the server at {socket} doesn't speak this protocol: is it another program or version?"
             ),
+            Fault::NoDraw => write!(
+                f,
+                "the server sent what no draw has: {socket}: nothing of it was shown (ask who runs it)"
+            ),
             Fault::NoAnswer => {
                 let wait = self.words.wait;
                 write!(
@@ -166,9 +172,11 @@ impl fmt::Display for Told<'_> {
                 self.words.place()
             ),
             Fault::Writable | Fault::NoToken => self.token(f),
-            Fault::NoServer | Fault::NoServerOfOurs | Fault::NoAnswer | Fault::Ended => {
-                self.server(f)
-            }
+            Fault::NoServer
+            | Fault::NoServerOfOurs
+            | Fault::NoDraw
+            | Fault::NoAnswer
+            | Fault::Ended => self.server(f),
             Fault::Gone(why) => self.gone(why, f),
             Fault::NoMemory => write!(f, "out of memory: {}", self.words.place()),
             Fault::Refused(part, error) => {

@@ -17,6 +17,19 @@ fn bounds(way: Way) -> &'static [u8] {
     }
 }
 
+// What to do about a refusal.
+fn advice(said: &str) -> &'static [u8] {
+    if said == "no window" {
+        b": 'windows' lists them"
+    } else if said == "unknown user" {
+        b": the session's owner makes a user known with acladd"
+    } else if said == "unknown user or wrong token" {
+        b": compare the token's file with the users' file of muxd"
+    } else {
+        b""
+    }
+}
+
 // Whether a terminal shows each byte of a command line as itself.
 fn is_plain(line: &str) -> bool {
     line.as_bytes()
@@ -32,14 +45,16 @@ fn put_explanation(said: &str, words: &Words<'_>, out: &mut Vec<u8>) -> io::Resu
         explain_number(said, words.line, out)?;
     }
     if words.way.is_command() && is_plain(words.line) {
-        return write!(out, ": {}", words.line);
+        write!(out, ": {}", words.line)?;
+    } else {
+        write!(out, ": {}", words.place())?;
     }
-    write!(out, ": {}", words.place())
+    out.write_all(advice(said))
 }
 
 /// Writes what follows a refusal's text: in parentheses what it means, if it is a number or a bad
-/// size, and then what was refused, which is the command line, or the user at the socket. The
-/// user's own words may have control characters, which are written as `\xNN`.
+/// size, then what was refused, which is the command line, or the user at the socket, and what to do
+/// about it. The user's own words may have control characters, which are written as `\xNN`.
 pub fn explain<E: Write>(
     alloc: Global,
     said: &str,

@@ -1,14 +1,28 @@
-//! Text of another program for a terminal, with control characters written as `\xNN`.
+//! Text of another program for a terminal: control characters are written as `\xNN`, and characters
+//! that turn the direction of text or end a line as `\u{NNNN}`.
 
-ghost use Rattle.std.specs.Prelude.{◌≡◌, ◌++◌, ◌<◌, ℕ, List, IfOk, OnOk, if◌then◌else◌, false, [], ◌∷◌};
-ghost use Rattle.std.specs.List.{list_any};
-ghost use Rattle.client_words.specs.Visible.{is_control, is_lead, is_second, digit, escaped, shown};
-ghost use Rattle.client_words.specs.Visible.{visible, has_c1, put_now, holds_after};
+ghost use Rattle.std.specs.Prelude.{◌≡◌, ◌++◌, ◌<◌, ℕ, List, OnOk, true};
+ghost use Rattle.client_words.specs.Visible.{is_control, is_c1, is_mark, is_general, is_isolate};
+ghost use Rattle.client_words.specs.Visible.{is_turn, third, longer, piece, digit, written, further};
+ghost use Rattle.client_words.specs.Visible.{visible, are_kept};
+ghost use Rattle.client_words.specs.declared.visible.Piece.TheVariants.{Control, Turn};
 
 use std::alloc::AllocError;
 
-// The first byte of each control character of C1 in UTF-8.
-const LEAD: u8 = 0xC2;
+/// What begins at a byte of a text.
+#[derive(Clone, Copy, Debug)]
+pub enum Piece {
+    /// Nothing that is hidden or turns text: the byte is written as it is.
+    Kept,
+    /// A control character of one byte.
+    Control(u8),
+    /// A control character of C1, with its second byte.
+    C1(u8),
+    /// U+061C.
+    Mark,
+    /// Another character that turns text or ends a line, with its second and third byte.
+    Turn(u8, u8),
+}
 
 fn digit(n: u8) -> u8
     requires { n < 16 }
@@ -23,64 +37,139 @@ fn is_control(byte: u8) -> bool
     byte < 0x20 || byte == 0x7F
 }
 
-fn is_second(byte: u8) -> bool
-    ensures { result ≡ is_second byte }
+fn is_c1(first: u8, second: u8) -> bool
+    ensures { result ≡ is_c1 first second }
 {
-    (0x80..=0x9F).contains(&byte)
+    first == 0xC2 && (0x80..=0x9F).contains(&second)
 }
 
-fn put_escaped(byte: u8, out: &mut Vec<u8>) -> Result<(), AllocError>
-    ensures { OnOk result (out.new.items ≡ out.old.items ++ escaped byte) }
+fn is_mark(first: u8, second: u8) -> bool
+    ensures { result ≡ is_mark first second }
+{
+    first == 0xD8 && second == 0x9C
+}
+
+fn is_general(second: u8, third: u8) -> bool
+    ensures { result ≡ is_general second third }
+{
+    second == 0x80 && ((0x8E..=0x8F).contains(&third) || (0xA8..=0xAE).contains(&third))
+}
+
+fn is_isolate(second: u8, third: u8) -> bool
+    ensures { result ≡ is_isolate second third }
+{
+    second == 0x81 && (0xA6..=0xA9).contains(&third)
+}
+
+fn is_turn(first: u8, second: u8, third: u8) -> bool
+    ensures { result ≡ is_turn first second third }
+{
+    first == 0xE2 && (is_general(second, third) || is_isolate(second, third))
+}
+
+fn third(first: u8, second: u8, rest: &[u8]) -> Piece
+    ensures { result ≡ third first second rest.now }
+{
+    match rest {
+        [third, ..] if is_turn(first, second, *third) => Piece::Turn(second, *third),
+        _ => Piece::Kept,
+    }
+}
+
+fn longer(first: u8, rest: &[u8]) -> Piece
+    ensures { result ≡ longer first rest.now }
+{
+    match rest {
+        [] => Piece::Kept,
+        [second, _rest @ ..] if is_c1(first, *second) => Piece::C1(*second),
+        [second, _rest @ ..] if is_mark(first, *second) => Piece::Mark,
+        [second, rest @ ..] => third(first, *second, rest),
+    }
+}
+
+fn put_control(byte: u8, out: &mut Vec<u8>) -> Result<(), AllocError>
+    ensures { OnOk result (out.new.items ≡ out.old.items ++ written (Control byte) byte) }
 {
     let bytes = [b'\\', b'x', digit(byte / 16), digit(byte % 16)];
     out.extend_from_slice(&bytes)
 }
 
-fn put_shown(byte: u8, out: &mut Vec<u8>) -> Result<(), AllocError>
-    ensures { OnOk result (out.new.items ≡ out.old.items ++ shown byte) }
+fn put_turn(second: u8, third: u8, out: &mut Vec<u8>) -> Result<(), AllocError>
+    ensures { OnOk result (out.new.items ≡ out.old.items ++ written (Turn second third) second) }
 {
-    if is_control(byte) {
-        return put_escaped(byte, out);
-    }
-    out.push(byte)?;
-    Ok(())
+    let code = (second % 64) as u16 * 64 + (third % 64) as u16;
+    let bytes = [
+        b'\\',
+        b'u',
+        b'{',
+        b'2',
+        digit((code / 256) as u8),
+        digit((code / 16 % 16) as u8),
+        digit((code % 16) as u8),
+        b'}',
+    ];
+    out.extend_from_slice(&bytes)
 }
 
-/// Appends a byte, before which a `LEAD` may be held back. Returns whether one is held back now.
-fn put(holds: bool, byte: u8, out: &mut Vec<u8>) -> Result<bool, AllocError>
-    ensures shown { OnOk result (out.new.items ≡ out.old.items ++ put_now holds byte) }
-    ensures holds { IfOk result (λ now. now ≡ holds_after holds byte) }
-{
-    if holds && is_second(byte) {
-        put_escaped(byte, out)?;
-        return Ok(false);
+impl Piece {
+    /// What begins with a byte and those after it.
+    fn of(first: u8, rest: &[u8]) -> Piece
+        ensures { result ≡ piece first rest.now }
+    {
+        if is_control(first) {
+            Piece::Control(first)
+        } else {
+            longer(first, rest)
+        }
     }
-    if holds {
-        out.push(LEAD)?;
+
+    /// Writes the piece, which begins with this byte.
+    fn put(self, first: u8, out: &mut Vec<u8>) -> Result<(), AllocError>
+        ensures { OnOk result (out.new.items ≡ out.old.items ++ written self first) }
+    {
+        match self {
+            Piece::Kept => {
+                out.push(first)?;
+                Ok(())
+            }
+            Piece::Control(byte) | Piece::C1(byte) => put_control(byte, out),
+            Piece::Mark => out.extend_from_slice(b"\\u{61c}"),
+            Piece::Turn(second, third) => put_turn(second, third, out),
+        }
     }
-    if byte == LEAD {
-        return Ok(true);
+
+    /// How many bytes it has besides the first.
+    fn further(self) -> usize
+        ensures { result ≡ further self }
+    {
+        match self {
+            Piece::Kept | Piece::Control(_) => 0,
+            Piece::C1(_) | Piece::Mark => 1,
+            Piece::Turn(..) => 2,
+        }
     }
-    put_shown(byte, out)?;
-    Ok(false)
 }
 
-/// Appends a text, with its control characters as `\xNN`.
+/// Appends a text, with its control characters as `\xNN`, and those that turn the direction of text
+/// or end a line as `\u{NNNN}`.
 pub fn put_visible(text: &[u8], out: &mut Vec<u8>) -> Result<(), AllocError>
     ensures { OnOk result (out.new.items ≡ out.old.items ++ visible text.now) }
 {
-    let mut holds = false;
-    for byte in text {
-        holds = put(holds, *byte, out)?;
-    }
-    if holds {
-        out.push(LEAD)?;
+    let mut skip = 0usize;
+    for at in 0..text.len() {
+        if skip > 0 {
+            skip -= 1;
+        } else {
+            let piece = Piece::of(text[at], &text[at + 1..]);
+            piece.put(text[at], out)?;
+            skip = piece.further();
+        }
     }
     Ok(())
 }
 
-/// A law: what `put_visible` appends has no control character.
+/// A law: in what `put_visible` appends, no control character begins at any byte, and no character
+/// that turns the direction of text or ends a line.
 pub fn nothing_controls()
-    ensures single { (text : List ℕ) → list_any is_control (visible text) ≡ false }
-    ensures double { (text : List ℕ) → has_c1 (visible text) ≡ false }
+    ensures { (text : List ℕ) → are_kept (visible text) ≡ true }
 {}

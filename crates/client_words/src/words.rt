@@ -1,5 +1,8 @@
 //! The arguments of `mux`, and the first message that they make.
 
+ghost use Rattle.std.specs.Prelude.{◌≡◌, ◌↔◌, IsTrue};
+ghost use Rattle.client_words.specs.declared.words.Way.TheVariants.{Attach, Window, Command};
+
 use attach_proto::{Bytes, Message, Text, Token, WriteFault, write_message};
 use clap::ArgMatches;
 use program_words::{of_client, tell};
@@ -27,11 +30,21 @@ impl Way {
         }
     }
 
-    pub fn is_window(self) -> bool {
+    pub fn is_attach(self) -> bool
+        ensures { IsTrue result ↔ (self ≡ Attach) }
+    {
+        matches!(self, Way::Attach)
+    }
+
+    pub fn is_window(self) -> bool
+        ensures { IsTrue result ↔ (self ≡ Window) }
+    {
         matches!(self, Way::Window)
     }
 
-    pub fn is_command(self) -> bool {
+    pub fn is_command(self) -> bool
+        ensures { IsTrue result ↔ (self ≡ Command) }
+    {
         matches!(self, Way::Command)
     }
 

@@ -1,8 +1,5 @@
-use Rattle.client_words.proofs.Shown.{all-plain, all-quiet}
+use Rattle.client_words.proofs.Shown.{all_kept}
 use Rattle.client_words.proofs.visible.nothing_controls.Goals as goal
 
-pub returns-clause-single : goal.returns-clause-single
-returns-clause-single c = all-plain
-
-pub returns-clause-double : goal.returns-clause-double
-returns-clause-double c = all-quiet
+pub returns : goal.returns
+returns c = λ text. all_kept 0 text

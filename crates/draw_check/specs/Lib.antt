@@ -1,0 +1,3 @@
+pub mod Functions
+pub mod Places
+pub mod Used
