@@ -62,7 +62,7 @@ examples:
 	            | cmp - $${script%.mux}.out || exit 1; \
 	    done; \
 	done
-	@tools/pictures docs/TEACHING.md docs/pictures/*.svg
+	@tools/lint pictures docs/TEACHING.md docs/pictures/*.svg
 	@echo "make examples: $(words $(wildcard examples/*.mux contrib/policies/*.mux)) scripts and the pictures agree"
 
 # Plays all of tests/outside with the programs that make build made, or those of another folder, and says in its last
@@ -75,7 +75,7 @@ outside:
 PYTHON = $(sort $(wildcard bench/*.py tests/outside/*.py) \
     $(shell grep -s -l -m 1 '^.!.*python3' tools/* examples/* tests/outside/*))
 lint:
-	shellcheck -s sh $(SCRIPTS) $(shell grep -l -m 1 '^.!/bin/sh' examples/* tests/outside/*)
+	shellcheck -s sh $(SCRIPTS) contrib/MuxShare/options.sh $(shell grep -l -m 1 '^.!/bin/sh' examples/* tests/outside/*)
 	shellcheck -s bash contrib/completions/mux.bash
 	@for file in $(PYTHON); do \
 	    python3 -c 'import sys; compile(open(sys.argv[1]).read(), sys.argv[1], "exec")' $$file || exit 1; \
@@ -86,15 +86,11 @@ lint:
 	cd man && mandoc -T lint *.1 *.5 *.8
 	tests/outside/empty_edits
 	tools/edits --look
-	tools/crates-table > /dev/null
-	tools/proved --check docs/PROVED.md
-	tools/surface
-	tools/pages
-	tools/prose README.md docs/*.md examples/README.md
+	tools/lint
 
 # Prints each public call with its clauses, and what they say: make proved CRATE=acl for one crate.
 proved:
-	@tools/proved $(CRATE)
+	@tools/lint proved $(CRATE)
 
 # Installs what make build proved, with its man pages, scripts, completions, units, terminal descriptions and documents.
 # As root it may not find the toolchain: sudo make install RT=$$(command -v rt).

@@ -4,42 +4,59 @@ package MuxShare::Guests;
 use strict;
 use warnings;
 use Exporter qw(import);
+use POSIX ();
 use MuxShare::Wire;
 
-our @EXPORT = qw(mux_name);
+our @EXPORT = qw(mux_names);
 
-# How many seconds before its end a guest's time is announced.
-use constant WARNING => 60;
+# How many seconds before its end a guest's time is announced, and how often a clock is looked at that no timer follows.
+use constant { WARNING => 60, LOOK => 60 };
 # A guest may connect CONNECTIONS times at once, and then once in SECONDS_EACH seconds, since each attaching writes
 # entries to the session's trail.  mux-join connects twice, once to ask and once to attach.
 use constant { CONNECTIONS => 20, SECONDS_EACH => 5 };
 
-# Returns an account's name in the session: its own, or its number if mux doesn't allow that name.
-sub mux_name {
+# Returns the names that an account may have in the session, the best first: its own, one as near to it as mux allows,
+# and its number.
+sub mux_names {
     my ($account, $uid) = @_;
-    return $account if $account =~ /^[a-z][a-z0-9_]{0,19}$/ && $account ne 'none';
-    return "u$uid";
+    my $near = substr(lc($account) =~ tr/a-z0-9_/_/cr, 0, 20);
+    return grep { /^[a-z][a-z0-9_]{0,19}$/ && $_ ne 'none' } $account, $near, "u$uid";
 }
 
 sub new {
     my ($class, $session) = @_;
-    return bless { session => $session, guests => {}, was_taken => 0 }, $class;
+    return bless { session => $session, guests => {}, was_taken => 0, is_pending => 0 }, $class;
 }
 
-# Returns the key of a guest that mux-share names with a uid, or with "web" if no account has the name.
+# Returns the guest with this key, or undef: name (in the session), account, is_web, types, end, by, is_warned,
+# connections (how many are left) and counted (when that was).
+sub guest { my ($self, $key) = @_; return $self->{guests}{$key} }
+
+sub all { my ($self) = @_; return map { $self->{guests}{$_} } sort keys %{ $self->{guests} } }
+
+# Returns the key of the guest whose account or whose name in the session this is, or undef.
 sub key {
-    my ($self, $account, $uid) = @_;
-    return $self->{guests}{$uid} ? $uid : "web $account";
+    my ($self, $name) = @_;
+    my $guests = $self->{guests};
+    my ($key) = grep { $guests->{$_}{account} eq $name } keys %$guests;
+    ($key) = grep { $guests->{$_}{name} eq $name } keys %$guests unless defined $key;
+    return $key;
 }
 
-# Returns the guest with this key, or undef: name (in the session), account, types, end, is_warned, connections (how
-# many are left) and counted (when that was).
-sub guest { my ($self, $uid) = @_; return $self->{guests}{$uid} }
+# Returns a guest's name for people, with the one that pages show.
+sub called {
+    my ($guest) = @_;
+    return $guest->{account} . ($guest->{name} eq $guest->{account} ? '' : " (here $guest->{name})");
+}
 
-sub accounts { my ($self) = @_; return map { $self->{guests}{$_}{account} } sort keys %{ $self->{guests} } }
+sub names { my ($self) = @_; return join ', ', map { $_->{account} } $self->all }
 
-# Whether w was taken from all because the owner was away.
+# Returns the accounts of those who may type.
+sub typists { my ($self) = @_; my @all = grep { $_->{types} } $self->all; return map { $_->{account} } @all }
+
+# Whether w was taken from all because the owner was away, and whether that couldn't be done yet.
 sub was_taken { return $_[0]{was_taken} }
+sub is_pending { return $_[0]{is_pending} }
 
 # Gives the owner's commands in turn.  Returns the first that was refused, with the reason, or ''.
 sub give_all {
@@ -51,48 +68,61 @@ sub give_all {
     return '';
 }
 
+# The title says soon who may type (keep_time): nobody waits for it.
+sub show_typing { my ($self) = @_; $self->{is_title_due} = 1 }
+
 sub no_shell { return 'window 0 is no longer the shared shell (its number or title was changed)' }
 
-# Lets an account join, or with the uid "web" somebody with a browser, or changes what they may do.  Returns a fault,
-# or ''.
-sub add {
-    my ($self, $account, $uid, $types, $seconds) = @_;
-    my $is_web = $uid eq 'web';
-    return "$account is your own account" if !$is_web && $uid == $>;
-    return "$account can't be told from other accounts (uid $uid)" if !$is_web && $uid == NOBODY;
-    my $name = $is_web ? $account : mux_name($account, $uid);
-    my $key = $is_web ? "web $account" : $uid;
+# Returns the name that a guest has or gets in the session, or undef.
+sub free_name {
+    my ($self, $account, $key) = @_;
     my $guests = $self->{guests};
-    my $is_other = $name eq $self->{session}->owner || grep { $_ ne $key && $guests->{$_}{name} eq $name } keys %$guests;
-    return "$account would have the same name here as somebody else ($name)" if $is_other;
+    return $guests->{$key}{name} if $guests->{$key};
+    my %taken = map { $_->{name} => 1 } values %$guests;
+    $taken{ $self->{session}->owner } = 1;
+    return (grep { !$taken{$_} } $key =~ /^web / ? $account : mux_names($account, $key))[0];
+}
+
+# Lets an account join, or with the uid "web" somebody with a browser, and says what they may do, now and if they were
+# here before.  BY says who invites them.  Returns a fault, or ''.
+sub add {
+    my ($self, $account, $uid, $types, $seconds, $by) = @_;
+    my $key = $uid eq 'web' ? "web $account" : $uid;
+    return "$account can't be invited (uid $uid)" if $uid eq $> || $uid eq NOBODY;
+    my $name = $self->free_name($account, $key) // return "somebody else has the name $account here";
     return no_shell() unless $self->{session}->has_shell;
-    my $guest = $guests->{$key};
+    my $guest = $self->{guests}{$key};
     # A new guest has no right at all, here and on windows to come, before anything is granted.
     my @first = ("aclchg $name -rwx #?", "aclumask $name-rwx", "aclchg $name +x detach,scrollview");
-    my $fault = $self->give_all($guest ? () : @first, "aclchg $name +r" . ($types ? 'w' : '') . ' 0');
+    @first = ("aclchg $name -w #") if $guest && !$types;
+    @first = () if $guest && $types;
+    my $fault = $self->give_all(@first, "aclchg $name +r" . ($types ? 'w' : '') . ' 0');
+    # The token comes last: before it, the session takes nothing that the guest sends.
+    $fault = $self->{session}->add_user($name) if $fault eq '';
     if ($fault ne '') {
         $self->{session}->give("acldel $name") unless $guest;
         return $fault;
     }
-    # The token comes last: before it, the session takes nothing that the guest sends.
-    $self->{session}->add_user($name);
-    $guest = $guests->{$key} //= { name => $name, account => $account, types => 0, connections => CONNECTIONS,
-        counted => time };
-    $guest->{types} ||= $types;
-    @$guest{qw(end is_warned)} = (time + $seconds, 0) if $seconds;
+    $guest = $self->{guests}{$key} //= { name => $name, account => $account, is_web => $uid eq 'web', by => $by,
+        connections => CONNECTIONS, counted => now() };
+    @$guest{qw(types end is_warned)} = ($types, $seconds ? now() + $seconds : 0, 0);
     $self->{was_taken} = 0 if $types;
-    log_line("$account ($uid) may join" . ($types ? ' and type' : '') . ($seconds ? ", for $seconds s" : ''));
+    $self->show_typing;
+    my $how = ($types ? ' and type' : '') . ($seconds ? ", for $seconds s" : '');
+    log_line("$account ($uid) may join$how, invited by $by");
     return '';
 }
 
 # Sends a guest away for good.
 sub drop {
-    my ($self, $uid, $why) = @_;
-    my $guest = delete $self->{guests}{$uid} or return;
-    # The token goes first, so that nobody comes back between the two.
+    my ($self, $key, $why) = @_;
+    my $guest = delete $self->{guests}{$key} or return;
+    # The token goes first, so that nobody comes back between the two.  Even if the file can't be written, the session
+    # doesn't know the name any more.
     $self->{session}->remove_user($guest->{name});
     $self->{session}->give("acldel $guest->{name}");
     $self->{session}->tell("$guest->{account} $why");
+    $self->show_typing if $guest->{types};
     log_line("$guest->{account} $why");
 }
 
@@ -100,77 +130,113 @@ sub drop {
 sub take {
     my ($self) = @_;
     my $fault = %{ $self->{guests} } ? $self->give_all('aclchg * -w #') : '';
-    if ($fault eq '') { $_->{types} = 0 for values %{ $self->{guests} } }
-    return $fault;
+    return $fault if $fault ne '';
+    $_->{types} = 0 for values %{ $self->{guests} };
+    $self->show_typing;
+    return '';
 }
 
-# Takes w from all guests because the owner's last terminal is gone.
+# Takes w from all guests because the owner's last terminal is gone.  If the session refuses, nobody is let in until it
+# is done (keep_time tries again).  Returns whether somebody could type before.
 sub take_unwatched {
     my ($self) = @_;
-    return unless grep { $_->{types} } values %{ $self->{guests} };
-    $self->take;
-    $self->{was_taken} = 1;
+    my $was_possible = $self->typists > 0;
+    $self->{is_pending} = $was_possible && $self->take ne '';
+    $self->{session}->shut($self->{is_pending});
+    $self->{was_taken} ||= $was_possible;
+    return $was_possible;
 }
 
-# Takes w from all guests because the owner asks for it, and tells everybody.
+# Takes w from all guests because the owner asks for it, and tells everybody.  Returns a fault, or ''.
 sub take_back {
     my ($self) = @_;
-    $self->{was_taken} = 0;
     my $fault = $self->take;
-    $self->{session}->tell('nobody else may type') if $fault eq '';
-    return $fault;
+    return $fault if $fault ne '';
+    @$self{qw(was_taken is_pending)} = (0, 0);
+    $self->{session}->shut(0);
+    $self->{session}->tell('nobody else may type');
+    return '';
 }
 
 # Gives w to one guest, once nobody else has it.
 sub give {
-    my ($self, $uid) = @_;
-    my $guest = $self->{guests}{$uid};
+    my ($self, $key) = @_;
+    my $guest = $self->{guests}{$key};
     return no_shell() unless $self->{session}->has_shell;
     my $fault = $self->take;
     $fault = $self->give_all("aclchg $guest->{name} +w 0") if $fault eq '';
     return $fault if $fault ne '';
     $guest->{types} = 1;
-    $self->{was_taken} = 0;
+    @$self{qw(was_taken is_pending)} = (0, 0);
+    $self->{session}->shut(0);
+    $self->show_typing;
     $self->{session}->tell("$guest->{account} may type");
     return '';
 }
 
 # Returns 0 if a guest may connect now, or else the seconds until they may.
 sub must_wait {
-    my ($self, $uid) = @_;
-    my $guest = $self->{guests}{$uid};
-    my $earned = int((time - $guest->{counted}) / SECONDS_EACH);
+    my ($self, $key) = @_;
+    my $guest = $self->{guests}{$key};
+    my $earned = int((now() - $guest->{counted}) / SECONDS_EACH);
     if ($earned > 0) {
         $guest->{counted} += $earned * SECONDS_EACH;
         $guest->{connections} += $earned;
         $guest->{connections} = CONNECTIONS if $guest->{connections} > CONNECTIONS;
     }
-    return $guest->{counted} + SECONDS_EACH - time if $guest->{connections} == 0;
+    return POSIX::ceil($guest->{counted} + SECONDS_EACH - now()) || 1 if $guest->{connections} == 0;
     $guest->{connections}--;
     return 0;
 }
 
-# Drops guests whose time is over and warns those whose time is nearly over.  Returns the seconds until its next call,
-# or undef.
+# Tells everybody that a user came or went, if it is a guest.
+sub announce {
+    my ($self, $came, $name) = @_;
+    my ($key) = grep { $self->{guests}{$_}{name} eq $name } keys %{ $self->{guests} } or return;
+    my $guest = $self->{guests}{$key};
+    # A page in a browser can come and go without the door.
+    return if $guest->{is_web} && $self->must_wait($key);
+    my $count = $self->{session}->clients_of($name);
+    my $how = $guest->{is_web} ? ' in a browser' : '';
+    my $more = $guest->{types} ? ', and may type' : '';
+    my $what = $came ? $count > 1 ? "has joined again$how, and is here $count times" : "has joined$how$more"
+        : $count > 0 ? 'has left one terminal, and is still here' : 'has left';
+    $self->{session}->tell("$guest->{account} $what");
+}
+
+# Drops guests whose time is over, warns those whose time is nearly over, and tries again what couldn't be done.
+# Returns the seconds until its next call.
 sub keep_time {
     my ($self) = @_;
-    my $next;
-    for my $uid (keys %{ $self->{guests} }) {
-        my $guest = $self->{guests}{$uid};
+    my $next = LOOK;
+    $self->{session}->show_typing($self->typists) if delete $self->{is_title_due};
+    $self->take_unwatched if $self->{is_pending};
+    $next = 1 if $self->{is_pending} || $self->{session}->keep_users;
+    for my $key (keys %{ $self->{guests} }) {
+        my $guest = $self->{guests}{$key};
         next unless $guest->{end};
-        my $left = $guest->{end} - time;
+        my $left = $guest->{end} - now();
         if ($left <= 0) {
-            $self->drop($uid, 'has gone: the time is over');
+            $self->drop($key, 'has gone: the time is over');
             next;
         }
         if ($left <= WARNING && !$guest->{is_warned}) {
             $guest->{is_warned} = 1;
-            $self->{session}->tell("$guest->{account} goes in $left s");
+            $self->{session}->tell("$guest->{account} goes in " . POSIX::ceil($left) . ' s');
         }
         my $wait = $guest->{is_warned} ? $left : $left - WARNING;
-        $next = $wait if !defined $next || $wait < $next;
+        $next = $wait if $wait < $next;
     }
-    return $next;
+    return $self->{is_title_due} ? 0 : $next;
+}
+
+# Returns until when a guest may stay, or ''.
+sub limit {
+    my ($guest) = @_;
+    return '' unless $guest->{end};
+    my $left = $guest->{end} - now();
+    my $form = $left < 600 ? '%H:%M:%S' : $left < 12 * 3600 ? '%H:%M' : '%Y-%m-%d %H:%M';
+    return POSIX::strftime("until $form", localtime(time + $left));
 }
 
 1;

@@ -6,21 +6,23 @@ use warnings;
 use Fcntl qw(O_RDONLY O_NONBLOCK);
 use POSIX qw(WNOHANG);
 use Socket qw(PF_UNIX SOCK_STREAM pack_sockaddr_un);
+use MuxShare::Answers;
 use MuxShare::Guests;
 use MuxShare::Relay;
 use MuxShare::Session;
 use MuxShare::Wire;
 
 # How many seconds the owner has to attach at first, and how many connections a guest may have open at once.
-use constant { COME => 10, PENDING => 12 };
+use constant { COME => 5, PENDING => 12 };
 
-# PLACE is the folder, LOCK its lock, SCRIPTS the folder of mux-shell, TITLE the shell's.
+# PLACE is the folder, LOCK its lock, READY what gets the line 'ready' once it serves, SCRIPTS the folder of mux-shell,
+# NAME the session's, TITLE the shell's, KEEP the number of its kept lines.
 sub new {
     my ($class, %given) = @_;
-    my $owner = mux_name(getpwuid($>) // '', $>);
-    my $session = MuxShare::Session->new(%given{qw(place scripts title)}, owner => $owner);
+    my ($owner) = mux_names(getpwuid($>) // '', $>);
+    my $session = MuxShare::Session->new(%given{qw(place scripts title keep)}, owner => $owner);
     return bless {
-        %given{qw(place lock)},
+        %given{qw(place lock ready name)},
         session => $session,
         guests  => MuxShare::Guests->new($session),
         relays  => {},   # the guest's uid, by process
@@ -28,10 +30,9 @@ sub new {
     }, $class;
 }
 
-# Removes the files that a killed keeper left in the place.
+# Removes the files that an interrupted start or end left in the place.
 sub sweep {
     my ($place) = @_;
-    MuxShare::Session::end_orphan($place);
     opendir(my $inside, $place) or return;
     my @left = map { "$place/$_" } grep { !/^\.\.?$/ } readdir $inside;
     system 'rm', '-rf', '--', @left if @left;
@@ -56,27 +57,48 @@ sub open_here {
     return $fifo;
 }
 
-# Invites the first guests.  GUESTS are four words each: account, uid, 1 if they may type, seconds or 0.
+# Invites guests.  GUESTS are four words each: account, uid, 1 if they may type, seconds or 0.
 sub invite {
-    my ($self, @guests) = @_;
+    my ($self, $by, @guests) = @_;
     while (@guests >= 4) {
-        my $fault = $self->{guests}->add(splice @guests, 0, 4);
+        my $fault = $self->{guests}->add(splice(@guests, 0, 4), $by);
         return $fault if $fault ne '';
     }
     return '';
 }
 
-# Keeps the session until it ends.  READY gets the line 'ready'; if the start fails, this dies with the reason.
+# In a process of its own: waits until the keeper is gone.
+sub start_guard {
+    my ($self) = @_;
+    my $process = fork;
+    die "can't start a process: $!\n" unless defined $process;
+    return $self->{guard} = $process if $process;
+    $self->become('mux-share-guard');
+    eval { $self->{session}->guard($self->{life}) };
+    POSIX::_exit(0);
+}
+
+# Gives up what only the keeper may have, in a process that isn't the keeper.
+sub become {
+    my ($self, $name) = @_;
+    $0 = $name;
+    $SIG{$_} = 'DEFAULT' for qw(CHLD TERM HUP INT);
+    close $_ for grep { defined } @$self{qw(door came signalled alive here lock ready)}, $self->{session}->news_pipes;
+}
+
+# Keeps the session until it ends.  If the start fails, this dies with the reason.
 sub keep {
-    my ($self, $ready, %of) = @_;
+    my ($self, %of) = @_;
     umask 077;
+    $SIG{$_} = 'IGNORE' for qw(HUP PIPE);
     sweep($self->{place});
     pipe($self->{life}, $self->{alive}) or die "can't make a pipe: $!\n";
     pipe($self->{came}, $self->{signalled}) or die "can't make a pipe: $!\n";
     $self->{session}->start_server;
     POSIX::mkfifo("$self->{place}/own/here", 0600) or die "can't make $self->{place}/own/here: $!\n";
-    $self->{session}->start_shell(@of{qw(rows cols mask text)}, @{ $of{command} });
-    my $fault = $self->invite(@{ $of{guests} });
+    $self->{session}->start_shell(@of{qw(rows cols mask environment)}, @{ $of{command} });
+    $self->start_guard;
+    my $fault = $self->invite('you', @{ $of{guests} });
     if ($fault ne '') {
         die "$of{command}[0] ended at once\n" if $self->{session}->ended_at_once;
         die "$fault\n";
@@ -85,12 +107,17 @@ sub keep {
     $self->{here} = $self->open_here;
     $SIG{CHLD} = sub { syswrite($self->{signalled}, 'c') };
     $SIG{$_} = sub { $self->{ending} = 1; syswrite($self->{signalled}, 'e') } for qw(TERM INT);
-    $SIG{$_} = 'IGNORE' for qw(HUP PIPE);
-    write_all($ready, "ready\n");
-    close $ready;
-    $self->serve;
+    # If nobody reads this, the start was interrupted.
+    $self->serve if write_all($self->{ready}, "ready\n") && close $self->{ready};
     log_line('the session ends');
     $self->close_door;
+    $self->end;
+}
+
+# Ends the session, and nothing of it stays.
+sub end {
+    my ($self) = @_;
+    kill 'KILL', $self->{guard} if $self->{guard};
     $self->{session}->end;
 }
 
@@ -102,24 +129,31 @@ sub close_door {
 }
 
 # Lets nobody in before the owner is here.  If the owner doesn't come, because they were interrupted, the session ends.
+# No fault of a turn ends it.
 sub serve {
     my ($self) = @_;
-    my $latest = time + COME;
+    my $latest = now() + COME;
     until ($self->{ending}) {
-        my $wait = $self->{guests}->keep_time;
-        if (!$self->{was_here}) {
-            my $left = $latest - time;
-            return if $left <= 0;
-            $wait = $left if !defined $wait || $left < $wait;
-        }
-        my $ready = '';
-        vec($ready, fileno $_, 1) = 1 for @$self{qw(door came here)};
-        my $count = select($ready, undef, undef, $wait);
-        next if $count <= 0;
-        $self->reap if vec($ready, fileno $self->{came}, 1);
-        $self->look_here if vec($ready, fileno $self->{here}, 1);
-        $self->answer_door if vec($ready, fileno $self->{door}, 1);
+        eval { $self->turn($self->{was_here} ? undef : $latest - now()); 1 } and next;
+        log_line('fault: ' . $@ =~ s/\n$//r);
+        pause(1);
     }
+}
+
+# Waits until something comes, and handles it.  LEFT are the seconds that the owner has to come, if they haven't yet.
+sub turn {
+    my ($self, $left) = @_;
+    return $self->{ending} = 1 if defined $left && $left <= 0;
+    my $wait = $self->{guests}->keep_time;
+    $wait = $left if defined $left && $left < $wait;
+    my $ready = '';
+    my @news = $self->{session}->news_pipes;
+    vec($ready, fileno $_, 1) = 1 for @$self{qw(door came here)}, @news;
+    return if select($ready, undef, undef, $wait) <= 0;
+    $self->reap if vec($ready, fileno $self->{came}, 1);
+    $self->hear if grep { vec($ready, fileno $_, 1) } @news;
+    $self->look_here if vec($ready, fileno $self->{here}, 1);
+    $self->answer_door if vec($ready, fileno $self->{door}, 1);
 }
 
 # Handles processes that have ended.
@@ -127,23 +161,70 @@ sub reap {
     my ($self) = @_;
     sysread($self->{came}, my $signals, 512);
     while ((my $gone = waitpid(-1, WNOHANG)) > 0) {
-        if (defined(my $uid = delete $self->{relays}{$gone})) {
-            my $guest = $self->{guests}->guest($uid);
-            $self->{session}->tell("$guest->{account} has left") if $guest && $? == ATTACHED << 8;
-        }
+        next if delete $self->{relays}{$gone};
+        if ($gone == $self->{guard}) { $self->start_guard }
         elsif ($self->{session}->is_ended_by($gone)) { $self->{ending} = 1 }
     }
 }
 
-# Looks whether the owner's last terminal is gone.  Then no guest may type, since nobody watches.
+# Handles clients that came and went, as muxd says, and CHANGES that nobody has said.
+sub hear {
+    my ($self, @changes) = @_;
+    my $session = $self->{session};
+    for my $change ($session->read_news, @changes) {
+        my ($came, $name) = @$change;
+        if ($name ne $session->owner) { $self->{guests}->announce($came, $name) }
+        elsif (!$came) { $self->look_away unless $session->clients_of($name) }
+        elsif ($session->clients_of($name) == 1) { $self->greet }
+    }
+}
+
+# Tells the owner, who is attached for the first time or came back, what they have to know.
+sub greet {
+    my ($self) = @_;
+    my $line = $self->{was_attached}++ ? $self->{is_away} ? 'back here' : '' : first_line($self);
+    $line = 'no guest can type since you were away: mux-share --give NAME' if $self->{guests}->was_taken;
+    $self->{session}->tell($line) if $line ne '';
+    $self->{is_away} = 0;
+}
+
+# Looks whether the owner's last terminal is gone.  If it never was attached, the start was interrupted.
 sub look_here {
     my ($self) = @_;
     my $count = sysread($self->{here}, my $bytes, 512);
     $self->{was_here} = 1 if $count;
     return unless defined $count && $count == 0;
+    # What muxd said comes first: this terminal may have been attached for a moment.
+    $self->hear;
+    return $self->{ending} = 1 unless $self->{was_attached} || !$self->{was_here};
     # The FIFO is opened again before its old end is closed: a terminal that comes meanwhile always has a reader.
     $self->{here} = $self->open_here;
-    $self->{guests}->take_unwatched;
+    $self->look_away;
+}
+
+# Asks muxd who is there, as it is this moment.
+sub look_again {
+    my ($self) = @_;
+    $self->hear;
+    $self->hear($self->{session}->count_clients);
+    $self->look_away unless $self->{session}->clients_of($self->{session}->owner);
+}
+
+# The owner is away.  Then no guest may type, since nobody watches.
+sub look_away {
+    my ($self) = @_;
+    my $could_type = $self->{guests}->take_unwatched;
+    $self->cut_off if $self->{guests}->is_pending;
+    return if $self->{is_away} || !grep { $self->{session}->clients_of($_->{name}) } $self->{guests}->all;
+    $self->{is_away} = 1;
+    $self->{session}->tell('away now, so nobody can type' . ($could_type ? ' any more' : ''));
+}
+
+# Ends the connections of guests who may still type although nobody watches, since muxd refused to take it.
+sub cut_off {
+    my ($self) = @_;
+    kill 'TERM', keys %{ $self->{relays} };
+    $self->{session}->end_web;
 }
 
 sub answer_door {
@@ -151,7 +232,8 @@ sub answer_door {
     accept(my $peer, $self->{door}) or return;
     my $uid = peer_uid($peer);
     if ($uid == $>) { $self->answer_owner($peer) }
-    elsif ($self->{was_here} && $self->{guests}->guest($uid)) { $self->let_in($peer, $uid) }
+    elsif (!$self->{was_here} || $self->{guests}->is_pending) { return }
+    elsif ($self->{guests}->guest($uid)) { $self->let_in($peer, $uid) }
 }
 
 # Gives a guest's connection a process of its own.
@@ -161,19 +243,22 @@ sub let_in {
     return if $attached >= PENDING;
     my $wait = $self->{guests}->must_wait($uid);
     my $guest = $self->{guests}->guest($uid);
+    my %answers = (hello => [welcome($self, $guest)], list => [list_for_guest($self)]);
     my $process = fork;
     return unless defined $process;
     if ($process) {
         $self->{relays}{$process} = $uid;
         return;
     }
-    $SIG{$_} = 'DEFAULT' for qw(CHLD TERM HUP INT);
-    close $_ for @$self{qw(door came signalled alive here lock)};
-    relay(
-        client => $peer, life => $self->{life}, socket => "$self->{place}/own/socket", name => $guest->{name},
-        token => $self->{session}->token($guest->{name}), wait => $wait, attached_now => $attached,
-        joined => sub { $self->{session}->tell("$guest->{account} has joined") },
-    );
+    $self->become('mux-door');
+    eval {
+        relay(
+            client => $peer, life => $self->{life}, socket => "$self->{place}/own/socket", name => $guest->{name},
+            token => $self->{session}->token($guest->{name}), wait => $wait, attached_now => $attached,
+            answers => \%answers,
+        );
+    };
+    POSIX::_exit(0);
 }
 
 # Answers a line of mux-share, which comes at once: 'ok' and text, or 'fault' and the reason.  The answer to 'end' stays
@@ -189,52 +274,55 @@ sub answer_owner {
     };
     alarm 0;
     return unless $line =~ s/\n.*//s;
-    my ($fault, $text) = $self->command(split / /, $line);
-    write_all($peer, $fault eq '' ? "ok\n$text" : "fault\n$fault\n");
+    my $is_inside = $self->{session}->is_inside(peer_process($peer));
+    my @said = eval { $self->command($is_inside, split / /, $line) };
+    @said = ($@ =~ s/\n$//r, '') if $@ ne '';
+    write_all($peer, $said[0] eq '' ? "ok\n$said[1]" : "fault\n$said[0]\n");
     push @{ $self->{enders} }, $peer if $self->{ending};
 }
 
 # Does a request of mux-share.  Returns a fault or '', and text.
 sub command {
-    my ($self, $word, @rest) = @_;
+    my ($self, $is_inside, $word, @rest) = @_;
     my $guests = $self->{guests};
-    return ($self->invite(@rest), '') if $word eq 'with';
-    return ($guests->take_back, '') if $word eq 'take';
-    return ('', $self->state) if $word eq 'state';
-    if ($word eq 'end') {
-        $self->{ending} = 1;
-        return ('', '');
-    }
-    return $self->let_browse(@rest) if $word eq 'web';
-    return ("no such request: $word", '') if $word ne 'give' && $word ne 'drop';
-    my ($account, $uid) = @rest;
-    my $key = $guests->key($account, $uid);
-    return ("$account isn't in your session: mux-share --with $account", '') unless $guests->guest($key);
-    return ($guests->give($key), '') if $word eq 'give';
+    # Whoever may type in the shell can use mux-share there, so this says what is known of who asks.
+    my $typists = join ', ', $guests->typists;
+    my $by = $is_inside && $typists ne '' ? "somebody in the shell, while $typists could type" : 'you';
+    my %requests = (
+        with  => sub { ($self->invite($by, @rest), invited($self, map { $rest[4 * $_] } 0 .. $#rest / 4)) },
+        web   => sub { $self->let_browse($by, @rest) },
+        take  => sub { ($guests->take_back, "nobody else can type now\n") },
+        give  => sub { $self->for_guest('give', @rest) },
+        drop  => sub { $self->for_guest('drop', @rest) },
+        list  => sub { ('', list($self)) },
+        greet => sub { ('', greeting($self)) },
+        left  => sub { $self->look_again; ('', left($self)) },
+        state => sub { ('', 'attached ' . $self->{session}->clients_of($self->{session}->owner) . "\n") },
+        end   => sub { $self->{ending} = 1; ('', '') },
+    );
+    my $request = $requests{$word} // return ("no such request: $word", '');
+    return $request->();
+}
+
+# Gives the keyboard to a guest, or sends one away.  Returns a fault or '', and text.
+sub for_guest {
+    my ($self, $word, @name) = @_;
+    my $guests = $self->{guests};
+    my $name = join ' ', @name;
+    my $key = $guests->key($name);
+    return (nobody($self, $name, $word), '') unless defined $key;
+    return ($guests->give($key), given($self, $guests->guest($key))) if $word eq 'give';
     $guests->drop($key, 'was sent away');
-    return ('', '');
+    return ('', "$name was sent away\n");
 }
 
-# Lets a guest join in a browser.  Returns a fault or '', and the page's address and the guest's token.
+# Lets a guest join in a browser.  Returns a fault or '', and what mux-share prints.
 sub let_browse {
-    my ($self, $name, @rest) = @_;
-    my $address = eval { $self->{session}->web_address };
-    return ($@ =~ s/\n$//r, '') unless defined $address;
-    my $fault = $self->{guests}->add($name, 'web', @rest);
+    my ($self, $by, $name, @rest) = @_;
+    my $address = $self->{session}->web_address;
+    my $fault = $self->{guests}->add($name, 'web', @rest, $by);
     return ($fault, '') if $fault ne '';
-    return ('', "$address\n" . $self->{session}->token($name) . "\n");
-}
-
-# Returns lines for mux-share: the owner's name, how many of the owner's terminals are attached, the guests, and whether
-# w was taken from them while the owner was away.
-sub state {
-    my ($self) = @_;
-    my $owner = $self->{session}->owner;
-    my ($is_done, $said) = $self->{session}->give('displays');
-    my $attached = $is_done ? grep { $_ eq $owner } split / /, $said : 0;
-    my $names = join ',', $self->{guests}->accounts;
-    my $taken = $self->{guests}->was_taken ? 1 : 0;
-    return "owner $owner\nattached $attached\nguests $names\ntaken $taken\n";
+    return ('', page($self, $self->{guests}->guest("web $name"), $address));
 }
 
 1;

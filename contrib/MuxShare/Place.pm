@@ -1,5 +1,6 @@
-# The folder of a shared session: /tmp/mux-UID, which others can pass but not list, with the socket that they reach
-# (door) and a private folder (own).  If something of another account has that name, it is /tmp/mux-UID.XXXXXX.
+# The folder of a shared session: /tmp/mux-UID, or /tmp/mux-UID-NAME of a session with a name, which others can pass but
+# not list, with the socket that they reach (door) and a private folder (own).  If something of another account has that
+# name, it ends with a dot and six letters.
 package MuxShare::Place;
 use strict;
 use warnings;
@@ -43,11 +44,16 @@ sub lock_place {
     return $folder;
 }
 
-# Returns this account's places, the one with the plain name first.
+# Returns the path of the session NAME, or of the session without a name ('').
+sub plain { my ($name) = @_; return "$around/mux-$me" . ($name eq '' ? '' : "-$name") }
+
+# Returns this account's places of the session NAME, the one with the plain path first.
 sub own_places {
+    my ($name) = @_;
     opendir(my $all, $around) or fault("can't list $around: $!");
-    my @names = sort grep { /^mux-$me(?:\.[a-z]{6})?$/ } readdir $all;
-    return grep { is_place($_) } map { "$around/$_" } @names;
+    my $plain = plain($name);
+    my @paths = sort grep { /^\Q$plain\E(?:\.[a-z]{6})?$/ } map { "$around/$_" } readdir $all;
+    return grep { is_place($_) } @paths;
 }
 
 # Returns six letters that nobody can predict.
@@ -60,21 +66,23 @@ sub letters {
 # Makes a place, unless one was made meanwhile.  mkdir follows no link and takes no folder that is there.  The mode is
 # set at once, since another mux-share that looks just now must take the folder for a place.
 sub make_place {
+    my ($name) = @_;
     my $mask = umask 0;
-    my $path = "$around/mux-$me";
+    my $path = plain($name);
     mkdir("$path." . letters(), MODE) if !mkdir($path, MODE) && !is_place($path);
     umask $mask;
 }
 
 # Returns a place and its lock; the lock is undef if a session has the place.
 sub take_place {
+    my ($name) = @_;
     for (1 .. TRIES) {
-        for my $path (own_places()) {
+        for my $path (own_places($name)) {
             my $lock = lock_place($path);
             return ($path, $lock) if $lock;
             return ($path, undef) if is_place($path);
         }
-        make_place();
+        make_place($name);
     }
     fault("can't make a folder in $around: $!");
 }

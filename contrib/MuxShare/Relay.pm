@@ -7,25 +7,20 @@ use Exporter qw(import);
 use POSIX ();
 use MuxShare::Wire;
 
-our @EXPORT = qw(ATTACHED relay);
+our @EXPORT = qw(relay);
 
 # How many terminals a guest may have, how long a first frame may take, and how long its payload is at most.
 use constant { TERMINALS => 4, FIRST_FRAME => 10, LONGEST => 8192 };
-# Frames of muxd's protocol.
-use constant { ATTACH => 0x41, COMMAND => 0x43, SAY => 0x73, WELCOME => 0x79, GONE => 0x67 };
-use constant { DONE => "\0", REFUSED => "\6" };
 # An ATTACH has lines and columns in two bytes each, 64 digits of a token, and a name.
 use constant SIZE => 4;
 use constant SHORTEST_ATTACH => SIZE + 64 + 1;
-# The status of a relay whose guest was attached; any other relay has another one.
-use constant ATTACHED => 0;
 
-sub leave { my ($status) = @_; POSIX::_exit($status) }
+sub leave { POSIX::_exit(0) }
 
 sub refuse {
     my ($client, $why) = @_;
     write_all($client, frame(SAY, $why) . frame(GONE, REFUSED));
-    leave(1);
+    leave();
 }
 
 # Returns the first frame's kind and payload.  Ends if the frame is too slow or too long.
@@ -33,10 +28,10 @@ sub first_frame {
     my ($client) = @_;
     local $SIG{ALRM} = 'DEFAULT';
     alarm FIRST_FRAME;
-    my $head = read_exactly($client, 3) // leave(1);
+    my $head = read_exactly($client, 3) // leave();
     my ($kind, $length) = unpack 'Cn', $head;
-    leave(1) if $length > LONGEST;
-    my $payload = read_exactly($client, $length) // leave(1);
+    leave() if $length > LONGEST;
+    my $payload = read_exactly($client, $length) // leave();
     alarm 0;
     return ($kind, $payload);
 }
@@ -45,11 +40,11 @@ sub first_frame {
 sub copy_back {
     my ($server, $client) = @_;
     my $process = fork;
-    leave(1) unless defined $process;
+    leave() unless defined $process;
     return $process if $process;
     while (sysread($server, my $bytes, 65536)) { write_all($client, $bytes) or last }
     shutdown($_, 2) for $client, $server;
-    leave(0);
+    leave();
 }
 
 # Copies the guest's bytes to muxd until either side ends, or until the keeper is gone (its pipe LIFE ends).
@@ -66,30 +61,32 @@ sub copy_forth {
     }
 }
 
+# Returns the line of a COMMAND: before it are a window, a token, and a name with its length.
+sub line_of { my ($payload) = @_; return (unpack 'C a64 C/a a*', $payload)[3] // '' }
+
 # Serves one connection of a guest, CLIENT, and ends this process.  SOCKET is muxd's, TOKEN the guest's, WAIT the
-# seconds until the guest may join again or 0, and ATTACHED_NOW their number of terminals.  It calls JOINED once they are
-# in.
+# seconds until the guest may join again or 0, and ATTACHED_NOW their number of connections.  ANSWERS are lists of texts
+# for mux-join, by the words with which it asks.
 sub relay {
     my (%of) = @_;
     my ($kind, $payload) = first_frame($of{client});
-    if ($kind == COMMAND) {
-        # mux-join asks whether it would be let in.  The session doesn't have to know.
-        write_all($of{client}, frame(WELCOME, "\0") . frame(SAY, 'welcome') . frame(GONE, DONE));
-        leave(1);
+    # mux-join asks whether it would be let in.  The session doesn't have to know.
+    if ($kind == COMMAND && (my $texts = $of{answers}{ line_of($payload) })) {
+        write_all($of{client}, join '', frame(WELCOME, "\0"), (map { frame(SAY, $_) } @$texts), frame(GONE, DONE));
+        leave();
     }
     refuse($of{client}, 'guests can attach, and nothing else')
         if $kind != ATTACH || length $payload < SHORTEST_ATTACH;
     refuse($of{client}, 'you have ' . TERMINALS . ' terminals here already: leave one first')
         if $of{attached_now} >= TERMINALS;
     refuse($of{client}, "you joined too often: try again in $of{wait} s") if $of{wait};
-    my $server = connected($of{socket}) // leave(1);
-    write_all($server, frame(ATTACH, substr($payload, 0, SIZE) . $of{token} . $of{name})) or leave(1);
-    $of{joined}->();
+    my $server = connected($of{socket}) // leave();
+    write_all($server, frame(ATTACH, substr($payload, 0, SIZE) . $of{token} . $of{name})) or leave();
     my $back = copy_back($server, $of{client});
     copy_forth($of{client}, $server, $of{life});
     shutdown($server, 2);
     waitpid($back, 0);
-    leave(ATTACHED);
+    leave();
 }
 
 1;

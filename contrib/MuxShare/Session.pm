@@ -2,67 +2,92 @@
 package MuxShare::Session;
 use strict;
 use warnings;
-use Errno qw(EINTR);
-use Fcntl qw(O_WRONLY O_CREAT O_EXCL);
+use Fcntl qw(F_SETFL O_RDONLY O_WRONLY O_CREAT O_EXCL O_NOCTTY O_NONBLOCK);
 use POSIX qw(WNOHANG);
 use Socket qw(PF_INET SOCK_STREAM INADDR_LOOPBACK pack_sockaddr_in unpack_sockaddr_in);
+use MuxShare::Place;
 use MuxShare::Wire;
 
-# How long muxd, the shell and the end may take, in seconds.
-use constant { START => 10, STOP => 3, STEP => 0.01 };
+# How long muxd, the shell, the end and the answer to a command may take, in seconds.
+use constant { START => 10, STOP => 3, STEP => 0.01, ANSWER => 10 };
+# How many terminals one user may have, so that no guest takes all 64, and how long a title is at most.
+use constant { CLIENTS => 8, LONGEST_TITLE => 40 };
+# The request by which a terminal tells its size, except on alpha, mips, powerpc and sparc.
+use constant TIOCGWINSZ => 0x5413;
 
-# PLACE is the folder, OWNER the owner's name in the session, TITLE the shell's, SCRIPTS the folder of mux-shell.
+# PLACE is the folder, OWNER the owner's name in the session, TITLE the shell's, KEEP the number of its kept lines,
+# SCRIPTS the folder of mux-shell.
 sub new {
     my ($class, %given) = @_;
-    my $self = bless { %given, users => [], tokens => {} }, $class;
+    my $self = bless { %given, users => [], tokens => {}, clients => {}, news => [] }, $class;
     $self->{own} = "$self->{place}/own";
     $self->{socket} = "$self->{own}/socket";
+    $self->{shown} = $self->{title} // '';
+    return $self;
+}
+
+# Returns the session whose keeper was killed, as far as its files tell: it can be given commands.
+sub orphan {
+    my ($class, $place) = @_;
+    my $self = $class->new(place => $place);
+    my ($owner, $token) = content("$self->{own}/users") =~ /^(\S+) (\S+)$/m;
+    @$self{qw(owner tokens)} = ($owner, { $owner => $token }) if defined $token;
     return $self;
 }
 
 sub owner { return $_[0]{owner} }
 
-# Returns the options by which a program of mux reaches the session as its owner.
-sub as_owner {
-    my ($self) = @_;
-    return ('--socket', $self->{socket}, '--user', $self->{owner}, '--token', "$self->{own}/token");
+sub title { return $_[0]{title} }
+
+# Whether muxd takes connections.
+sub is_served { my ($self) = @_; return -S $self->{socket} && defined connected($self->{socket}) }
+
+# Gives a command as the owner, on a window if there is a number.  Returns whether it was done, and the answer.  No
+# process has the command as its words, so ps shows no names.
+sub give {
+    my ($self, $line, $window) = @_;
+    my $server = defined $self->{owner} ? connected($self->{socket}) : undef;
+    return (0, "muxd can't be reached: $!") unless $server;
+    limit_time($server, ANSWER);
+    my $payload = pack 'C a64 C/a* a*', $window // 255, $self->{tokens}{ $self->{owner} }, $self->{owner}, $line;
+    write_all($server, frame(COMMAND, $payload));
+    my $said = '';
+    while (defined(my $head = read_exactly($server, 3))) {
+        my ($kind, $length) = unpack 'Cn', $head;
+        my $payload = read_exactly($server, $length) // last;
+        $said .= $payload if $kind == SAY;
+        next unless $kind == GONE;
+        log_line("$line: $said") unless $payload eq DONE;
+        return ($payload eq DONE, $said);
+    }
+    log_line("$line: no answer");
+    return (0, 'muxd gave no answer');
 }
 
-# Gives a command as the owner.  Returns whether it was done, and the answer.
-sub give {
-    my ($self, $line) = @_;
-    pipe(my $from, my $to) or return (0, "can't make a pipe: $!");
-    my $to_pipe = sub { POSIX::dup2(fileno $to, 1); POSIX::dup2(fileno $to, 2) };
-    my $process = spawn($to_pipe, $ENV{MUX} // 'mux', 'command', $self->as_owner, $line);
-    close $to;
-    my $said = '';
-    while (1) {
-        my $count = sysread($from, $said, 4096, length $said);
-        next if !defined $count && $! == EINTR;
-        last unless $count;
-    }
-    waitpid($process, 0);
-    my $is_done = $? == 0;
-    chomp $said;
-    # mux prints a refusal on both streams: the line with its meaning is enough, without the command at its end.
-    $said = $1 if !$is_done && $said =~ /.*^mux: (.*)/ms;
-    $said =~ s/: \Q$line\E\z// unless $is_done;
-    log_line("$line: $said") unless $is_done;
-    return ($is_done, $said);
-}
+# Returns a text as one word of a command.
+sub quoted { my ($text) = @_; return "'" . ($text =~ s/'/'\\''/gr) . "'" }
 
 # Shows a line of text to everybody in the session.
-sub tell {
-    my ($self, $text) = @_;
-    $text =~ s/'/'\\''/g;
-    return $self->give("wall '$text'");
-}
+sub tell { my ($self, $text) = @_; return $self->give('wall ' . quoted($text)) }
 
 # Returns whether window 0 is still the shared shell: the owner can renumber and retitle windows.
 sub has_shell {
     my ($self) = @_;
     my ($is_done, $said) = $self->give('windows');
-    return $is_done && "$said  " =~ /^0 \Q$self->{title}\E  /;
+    return $is_done && "$said  " =~ /^0 \Q$self->{shown}\E  /;
+}
+
+# Shows in the shell's title who may type there, besides the owner.
+sub show_typing {
+    my ($self, @names) = @_;
+    my $more = @names == 0 ? '' : @names == 1 ? " ($names[0] types)" : ' (' . @names . ' guests type)';
+    my $title = $self->{title};
+    utf8::decode($title);
+    $title = substr($title, 0, LONGEST_TITLE - length $more) . $more;
+    utf8::encode($title);
+    return if $title eq $self->{shown} || !$self->has_shell;
+    my ($is_done) = $self->give('title ' . quoted($title), 0);
+    $self->{shown} = $title if $is_done;
 }
 
 sub write_private {
@@ -70,29 +95,50 @@ sub write_private {
     my $path = "$self->{own}/$name";
     unlink "$path.new";
     sysopen(my $file, "$path.new", O_WRONLY | O_CREAT | O_EXCL, 0600) or die "can't make $path: $!\n";
-    write_all($file, $text) && close $file or die "can't write $path: $!\n";
-    rename("$path.new", $path) or die "can't make $path: $!\n";
+    return if write_all($file, $text) && close $file && rename("$path.new", $path);
+    my $why = $!;
+    unlink "$path.new";
+    die "can't write $path: $why\n";
 }
 
+# Writes the users' file.  While the session is shut, it has the owner alone.  Returns a fault or ''; then is_unwritten
+# holds until it could be written.
 sub write_users {
     my ($self) = @_;
-    $self->write_private('users', join '', map { "$_ $self->{tokens}{$_}\n" } @{ $self->{users} });
+    my @names = $self->{is_shut} ? ($self->{owner}) : @{ $self->{users} };
+    my $text = join '', map { "$_ $self->{tokens}{$_}\n" } @names;
+    $self->{is_unwritten} = !eval { $self->write_private('users', $text); 1 };
+    return $self->{is_unwritten} ? $@ =~ s/\n$//r : '';
+}
+
+# Tries again to write a users' file that couldn't be written.  Returns whether it has to be tried again.
+sub keep_users { my ($self) = @_; return $self->{is_unwritten} && $self->write_users ne '' }
+
+# Lets nobody in but the owner, or ends this.
+sub shut {
+    my ($self, $is_shut) = @_;
+    return if !!$is_shut == !!$self->{is_shut};
+    $self->{is_shut} = $is_shut;
+    $self->write_users;
 }
 
 # Returns a user's token, 64 hexadecimal digits.  That of an account never leaves the keeper.
 sub token { my ($self, $name) = @_; return $self->{tokens}{$name} }
 
-# Gives a user a token, unless they have one.
+# Gives a user a token, unless they have one.  Returns a fault or ''.
 sub add_user {
     my ($self, $name) = @_;
-    return if $self->{tokens}{$name};
-    open(my $random, '<', '/dev/urandom') or die "can't open /dev/urandom: $!\n";
-    my $bytes = read_exactly($random, 32) // die "/dev/urandom gives no bytes\n";
+    return '' if $self->{tokens}{$name};
+    open(my $random, '<', '/dev/urandom') or return "can't open /dev/urandom: $!";
+    my $bytes = read_exactly($random, 32) // return '/dev/urandom gives no bytes';
     $self->{tokens}{$name} = unpack 'H*', $bytes;
     push @{ $self->{users} }, $name;
-    $self->write_users;
+    my $fault = $self->write_users;
+    $self->remove_user($name) if $fault ne '';
+    return $fault;
 }
 
+# Takes a user's token.  If the file can't be written, it still has the token for a while.
 sub remove_user {
     my ($self, $name) = @_;
     delete $self->{tokens}{$name};
@@ -114,42 +160,139 @@ sub wait_for {
 
 sub last_line_of_log {
     my ($self) = @_;
-    open(my $file, '<', "$self->{own}/log") or return '';
-    my @lines = <$file>;
-    chomp @lines;
-    return $lines[-1] // '';
+    $self->read_news;
+    return (split /\n/, content("$self->{own}/log"))[-1] // '';
 }
+
+# Starts a program whose standard error the keeper reads (read_news), with standard output as OUT, or there as well.
+sub start_read {
+    my ($self, $out, @words) = @_;
+    pipe(my $from, my $to) or die "can't make a pipe: $!\n";
+    my $prepare = sub {
+        chdir '/';
+        POSIX::dup2(fileno($out // $to), 1);
+        POSIX::dup2(fileno $to, 2);
+        # It outlives a keeper that is killed.
+        $SIG{PIPE} = 'IGNORE';
+    };
+    my $process = spawn($prepare, @words);
+    fcntl($from, F_SETFL, O_NONBLOCK) or die "can't read a pipe: $!\n";
+    push @{ $self->{news} }, { from => $from, rest => '' };
+    return $process;
+}
+
+# Returns the pipes that read_news reads.
+sub news_pipes { my ($self) = @_; return map { $_->{from} } @{ $self->{news} } }
+
+# Reads what muxd and mux-web say.  Returns the clients that came and went, as [1 or 0, user].
+sub read_news {
+    my ($self) = @_;
+    my @changes;
+    for my $pipe (@{ $self->{news} }) {
+        my $count;
+        1 while $count = sysread($pipe->{from}, $pipe->{rest}, 65536, length $pipe->{rest});
+        $pipe->{is_over} = defined $count;
+        push @changes, $self->take_line($1) while $pipe->{rest} =~ s/^(.*)\n//;
+        $pipe->{rest} = '' if length $pipe->{rest} > 65536;
+    }
+    $self->{news} = [grep { !$_->{is_over} } @{ $self->{news} }];
+    return @changes;
+}
+
+# Takes a line of muxd's or mux-web's log.
+sub take_line {
+    my ($self, $line) = @_;
+    return if $line =~ /^muxd: (?:\S+ a command of |ready$)/;
+    log_line($line);
+    return $self->count_clients if $line =~ /^muxd: .* lines were left out/;
+    my ($client, $user, $came) = $line =~ /^muxd: (?:\S+ )?client (\d+) of (\S+) (came|went)/ or return;
+    if ($came eq 'came') { $self->{clients}{$client} = $user }
+    else { delete $self->{clients}{$client} }
+    return [$came eq 'came' ? 1 : 0, $user];
+}
+
+# Asks who is there, since lines of the log were lost.  Returns the changes, as read_news does.
+sub count_clients {
+    my ($self) = @_;
+    my ($is_done, $said) = $self->give('displays');
+    return unless $is_done;
+    my %there = $said =~ /(?:^|  )(\d+) (\S+) \S+/g;
+    my $known = $self->{clients};
+    my @changes = map { [0, $known->{$_}] } grep { !exists $there{$_} } sort keys %$known;
+    push @changes, map { [1, $there{$_}] } grep { !exists $known->{$_} } sort keys %there;
+    $self->{clients} = \%there;
+    return @changes;
+}
+
+# Returns how many terminals and pages of a user are attached.
+sub clients_of { my ($self, $name) = @_; return scalar grep { $_ eq $name } values %{ $self->{clients} } }
 
 sub start_server {
     my ($self) = @_;
     mkdir $self->{own}, 0700 or die "can't make $self->{own}: $!\n";
     open(STDERR, '>>', "$self->{own}/log") or die "can't make $self->{own}/log: $!\n";
     open(STDOUT, '>&', \*STDERR) or die "can't write to $self->{own}/log: $!\n";
-    $self->add_user($self->{owner});
+    my $fault = $self->add_user($self->{owner});
+    die "$fault\n" if $fault ne '';
     $self->write_private('token', "$self->{tokens}{ $self->{owner} }\n");
     # A name that becomes known begins with nothing.
     $self->write_private('setup', "multiuser on\naclumask ?-rwx ??-x\n");
-    $self->{server} = spawn(sub { chdir '/' }, $ENV{MUXD} // 'muxd', '--socket', $self->{socket},
-        '--users', "$self->{own}/users", '--setup', "$self->{own}/setup");
-    my $serves = sub { -S $self->{socket} && connected($self->{socket}) };
-    return if wait_for($self->{server}, $serves, START);
+    my @words = ('--users', "$self->{own}/users", '--setup', "$self->{own}/setup", '--user-clients', CLIENTS, '--log');
+    $self->{server} = $self->start_read(undef, program('muxd'), '--socket', $self->{socket}, @words);
+    return if wait_for($self->{server}, sub { $self->is_served }, START);
     die "can't start muxd: " . $self->last_line_of_log . "\n";
 }
 
-# Starts the shell as the first window.  It prints TEXT first, and then has the environment and the umask of its owner.
+# Returns a program of mux, or what the environment names.
+sub program { my ($name) = @_; return $ENV{ uc($name =~ tr/-/_/r) } // $name }
+
+# Starts the shell as the first window, by run, which gives it the ENVIRONMENT and the umask of its owner.
 sub start_shell {
-    my ($self, $rows, $cols, $mask, $text, @command) = @_;
-    $self->write_private('shown', $text);
-    my $shown = "$self->{own}/shown";
+    my ($self, $rows, $cols, $mask, $environment, @command) = @_;
+    $self->write_private('environment', $environment);
     my $prepare = sub {
         umask $mask;
-        delete @ENV{qw(MUX_SOCKET MUX_USER MUX_TOKEN MUX_PLACES MUX_SHARE_TEXT)};
         $ENV{MUX_SHARE} = $self->{place};
+        $ENV{PATH} = "$self->{scripts}:$ENV{PATH}";
     };
-    $self->{shell} = spawn($prepare, "$self->{scripts}/mux-shell", $self->as_owner, '--rows', $rows, '--cols', $cols,
-        '--title', $self->{title}, '--', 'sh', '-c', 'cat -- "$1"; : >"$1".done; shift; exec "$@"', 'sh', $shown, @command);
-    return if wait_for($self->{shell}, sub { -e "$shown.done" }, START);
+    my @words = ('--socket', $self->{socket}, '--user', $self->{owner}, '--token', "$self->{own}/token",
+        '--rows', $rows, '--cols', $cols, '--keep', $self->{keep}, '--title', $self->{title});
+    my @in_window = ("$self->{scripts}/mux-door", 'run', $self->{own}, @command);
+    $self->{shell} = spawn($prepare, "$self->{scripts}/mux-shell", @words, '--', @in_window);
+    return if wait_for($self->{shell}, sub { !-e "$self->{own}/environment" }, START);
     die "can't open a window for $command[0]: " . $self->last_line_of_log . "\n";
+}
+
+# Becomes the command of the window, with the environment of mux-share's caller and what mux-share and mux-shell add.
+sub run {
+    my ($own, @command) = @_;
+    my $terminal = POSIX::ttyname(0) // '';
+    my %added = map { $_ => $ENV{$_} } grep { defined $ENV{$_} } qw(MUX_SESSION MUX_SHARE TERM TERMINFO_DIRS);
+    my $colours = $ENV{COLORTERM};
+    %ENV = (map({ /^([^=]+)=(.*)/s ? ($1, $2) : () } split /\0/, content("$own/environment")), %added);
+    delete @ENV{qw(COLORTERM LINES COLUMNS)};
+    $ENV{COLORTERM} = $colours if defined $colours;
+    if (open(my $file, '>', "$own/terminal")) { print $file $terminal }
+    unlink "$own/environment";
+    exec { $command[0] } @command or print STDERR "can't run $command[0]: $!\n";
+    POSIX::_exit(127);
+}
+
+# Returns the lines and columns of the shell's terminal, or nothing.
+sub size {
+    my ($self) = @_;
+    sysopen(my $terminal, content("$self->{own}/terminal"), O_RDONLY | O_NOCTTY | O_NONBLOCK) or return;
+    my $size = pack 'S4', 0, 0, 0, 0;
+    ioctl($terminal, TIOCGWINSZ, $size) or return;
+    return (unpack 'S4', $size)[0, 1];
+}
+
+# Returns whether a process runs in the shared shell, as far as its terminal tells.
+sub is_inside {
+    my ($self, $process) = @_;
+    my $number = (stat content("$self->{own}/terminal"))[6] // return 0;
+    my ($fields) = content("/proc/$process/stat") =~ /.*\) (.*)/s;
+    return ((split / /, $fields // '')[4] // 0) == $number;
 }
 
 # Returns a port of this host that nobody listens at.
@@ -167,17 +310,23 @@ sub web_address {
     die "can't find the page of mux-web beside $self->{scripts}\n" unless $page;
     my $listen = '127.0.0.1:' . free_port();
     pipe(my $from, my $to) or die "can't make a pipe: $!\n";
-    my $to_pipe = sub { chdir '/'; POSIX::dup2(fileno $to, 1) };
     my @words = ('--socket', $self->{socket}, '--listen', $listen, '--page', $page, '--log');
-    $self->{web} = spawn($to_pipe, $ENV{MUX_WEB} // 'mux-web', @words);
+    $self->{web} = $self->start_read($to, program('mux-web'), @words);
     close $to;
     if (!sysread($from, my $ready, 64)) {
         delete $self->{web};
         die "can't start mux-web: " . $self->last_line_of_log . "\n";
     }
-    $self->write_private('web', "$self->{web}\n");
+    # By this it is found if the keeper is killed.
+    if (!eval { $self->write_private('web', "$self->{web}\n"); 1 }) {
+        my $why = $@;
+        $self->end_web;
+        die $why;
+    }
     return $self->{address} = "http://$listen/";
 }
+
+sub end_web { my ($self) = @_; kill 'TERM', $self->{web} if $self->{web} }
 
 # Returns whether the command ended by itself a moment after it began.
 sub ended_at_once { my ($self) = @_; return !wait_for($self->{shell}, sub { 0 }, 1) && !kill(0, $self->{shell}) }
@@ -193,43 +342,57 @@ sub is_ended_by {
 # Ends the session and removes its files.
 sub end {
     my ($self) = @_;
-    kill 'TERM', $self->{web} if $self->{web};
+    $self->end_web;
     kill 'TERM', $self->{shell} if $self->{shell} && !$self->{server};
     $self->give('quit') if $self->{server} && -S $self->{socket};
+    # muxd doesn't wait for somebody who reads what it says.
+    $self->{news} = [];
     wait_for($self->{server}, sub { 0 }, STOP) if $self->{server};
-    # Only this account may write in the place, and the folder around lets no other account rename it.
-    system 'rm', '-rf', '--', $self->{place};
+    $self->remove;
 }
 
-# Returns the content of a file, or ''.
-sub content {
-    my ($path) = @_;
-    open(my $file, '<', $path) or return '';
-    local $/;
-    return <$file> // '';
+# Removes the place.  Only this account may write in it, and the folder around lets no other account rename it.
+sub remove { my ($self) = @_; system 'rm', '-rf', '--', $self->{place} }
+
+# Returns whether a process is one that this session started.
+sub is_own {
+    my ($self, $process) = @_;
+    return scalar grep { $_ eq $self->{socket} } split /\0/, content("/proc/$process/cmdline");
 }
 
-# Ends the mux-web that a killed keeper left, if its process is still that one.
-sub end_orphan_web {
+# Sends everybody away but the owner, for good: what a session whose keeper was killed needs.
+sub close_to_guests {
     my ($self) = @_;
-    my ($process) = content("$self->{own}/web") =~ /^(\d+)$/m or return;
-    kill 'TERM', $process if grep { $_ eq $self->{socket} } split /\0/, content("/proc/$process/cmdline");
+    my ($web) = content("$self->{own}/web") =~ /^(\d+)$/m;
+    kill 'TERM', $web if defined $web && $self->is_own($web);
+    my ($is_done) = $self->give('multiuser off');
+    return $is_done;
 }
 
-# Ends the server that a killed keeper left, by the owner's token, which is still there.
+# Ends the server that a killed keeper left, and removes its files.
 sub end_orphan {
-    my ($place) = @_;
-    my $self = MuxShare::Session->new(place => $place);
-    $self->end_orphan_web;
-    return unless -S $self->{socket} && connected($self->{socket});
-    open(my $file, '<', "$self->{own}/users") or return;
-    ($self->{owner}) = split / /, <$file> // '';
-    return unless defined $self->{owner};
-    $self->give('quit');
+    my ($self) = @_;
+    $self->close_to_guests;
+    $self->give('quit') if $self->is_served;
     for (1 .. STOP / STEP) {
         last unless -S $self->{socket};
         pause(STEP);
     }
+    $self->remove;
+}
+
+# Waits until the keeper is gone, which ends the pipe LIFE.  Then nobody keeps time and looks who watches, so it sends
+# all guests away, and ends the session when the shell ends.  It never ends the shell: somebody works there.
+sub guard {
+    my ($self, $life) = @_;
+    until (defined(my $count = sysread($life, my $none, 1))) { }
+    log_line('the keeper was killed: all guests are sent away');
+    pause(0.2) until $self->close_to_guests || !$self->is_served;
+    $self->tell('the keeper of this shell was killed, so nobody else can see it any more');
+    pause(1) while $self->is_own($self->{shell}) && $self->is_served;
+    # Somebody else may have swept the place by now.
+    my $lock = lock_place($self->{place}) or return;
+    $self->end_orphan;
 }
 
 1;

@@ -1,16 +1,22 @@
-# Sockets, frames and processes, for the parts of mux-door.
+# Sockets, frames, processes and time, for the parts of mux-door.
 package MuxShare::Wire;
 use strict;
 use warnings;
 use Errno qw(EINTR);
 use Exporter qw(import);
 use POSIX ();
-use Socket qw(PF_UNIX SOCK_STREAM SOL_SOCKET SO_PEERCRED pack_sockaddr_un);
+use Socket qw(PF_UNIX SOCK_STREAM SOL_SOCKET SO_PEERCRED SO_RCVTIMEO SO_SNDTIMEO pack_sockaddr_un);
 
-our @EXPORT = qw(NOBODY fault log_line connected peer_uid write_all read_exactly frame spawn pause);
+our @EXPORT = qw(NOBODY SAY GONE WELCOME ATTACH COMMAND DONE REFUSED fault log_line content connected peer_uid
+    peer_process limit_time write_all read_exactly frame spawn pause now);
 
 # The uid that the kernel shows for every account of a foreign user namespace, so it names no account.
 use constant NOBODY => 65534;
+# Frames of muxd's protocol, and reasons of GONE.
+use constant { ATTACH => 0x41, COMMAND => 0x43, SAY => 0x73, WELCOME => 0x79, GONE => 0x67 };
+use constant { DONE => "\0", REFUSED => "\6" };
+# The log has at most this many bytes: guests and strangers can cause lines.
+use constant LONGEST_LOG => 1 << 20;
 
 # Ends this program with a message and a status (default: 1).
 sub fault {
@@ -22,7 +28,16 @@ sub fault {
 # Writes a line with the time to standard error, which is the session's log once the keeper runs.
 sub log_line {
     my ($text) = @_;
+    return if (-s STDERR // 0) > LONGEST_LOG;
     print STDERR POSIX::strftime('%Y-%m-%dT%H:%M:%SZ', gmtime), " $text\n";
+}
+
+# Returns the content of a file, or '' if it can't be read.
+sub content {
+    my ($path) = @_;
+    open(my $file, '<', $path) or return '';
+    local $/;
+    return <$file> // '';
 }
 
 # Returns a connection to a Unix socket, or undef.
@@ -33,12 +48,20 @@ sub connected {
     return $socket;
 }
 
-# Returns the uid of the other end as the kernel knows it: of the account that connected, or that began to listen.
-sub peer_uid {
+# Returns the process and the uid of the other end as the kernel knows them: of what connected, or began to listen.
+sub peer {
     my ($socket) = @_;
-    my $answer = getsockopt($socket, SOL_SOCKET, SO_PEERCRED) or return NOBODY;
-    my (undef, $uid) = unpack 'iII', $answer;
-    return $uid;
+    my $answer = getsockopt($socket, SOL_SOCKET, SO_PEERCRED) or return (0, NOBODY);
+    return unpack 'iI', $answer;
+}
+
+sub peer_process { return (peer($_[0]))[0] }
+sub peer_uid { return (peer($_[0]))[1] }
+
+# Reads and writes of a socket fail after so many seconds.
+sub limit_time {
+    my ($socket, $seconds) = @_;
+    setsockopt($socket, SOL_SOCKET, $_, pack('l!l!', $seconds, 0)) for SO_RCVTIMEO, SO_SNDTIMEO;
 }
 
 # Returns whether all bytes were written.
@@ -87,6 +110,12 @@ sub spawn {
 sub pause {
     my ($seconds) = @_;
     select(undef, undef, undef, $seconds);
+}
+
+# Returns the seconds since the machine started, with those in which it was suspended.  Nobody can set this clock.
+sub now {
+    my ($seconds) = content('/proc/uptime') =~ /^([0-9.]+)/;
+    return $seconds // die "can't read /proc/uptime\n";
 }
 
 1;

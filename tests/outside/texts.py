@@ -334,8 +334,8 @@ def surprises(on):
 def first_session(play):
     """docs/FIRST-SESSION.md: two terminals of 8 lines by 44 columns."""
     on = play.on
-    for line in ("mux-share --give cole", "mux-share --take", "mux-share --with eve --for 30m", "mux-share --drop cole",
-                 "mux-share --end", "mux-join dana@host"):
+    for line in ("mux-share --give cole", "mux-share --take", "mux-share --with eve --for 30m", "mux-share --list",
+                 "mux-share --drop cole", "mux-share --end", "mux-join dana@host"):
         play.text.leave(line, "tests/outside/share plays it, with three accounts")
     play.text.leave("mux-share --web fay", "tests/outside/web plays it")
     on.open("ann", 8, 44)
@@ -429,28 +429,14 @@ def readme(play):
     text.leave("make demo SCRIPT=classroom", "make examples compares what it prints")
 
 
-def audit(play):
-    """docs/TEACHING.md, "The desk, audited": the trail of a script, and what mux-trail says of it."""
-    play.on.open("auditor")
-    play.on.run("auditor", "cd " + TOP)
-    for line in ("muxsim --trail ~/desk.trail own < examples/desk.mux > ~/desk.out",
-                 "mux-trail check ~/desk.trail", "grep -E '^1[4-6] ' ~/desk.trail",
-                 "mux-trail why --at 14 ~/desk.trail ann w 1", "mux-trail who --at 14 ~/desk.trail | grep ^window",
-                 "sed 's/?bob:-w:0$/?bob:+w:0 ?bob:lock:0:-/' ~/desk.trail > ~/changed.trail",
-                 "mux-trail check ~/changed.trail", "sed 17d ~/desk.trail > ~/shorter.trail",
-                 "mux-trail check ~/shorter.trail"):
-        play.run("auditor", line)
-
-
 def teaching(play):
-    """docs/TEACHING.md: a lesson in two terminals, with a shell of another login; then an audit."""
+    """docs/TEACHING.md: a lesson in two terminals, with a shell of another login."""
     for line in ("make demo SCRIPT=class", "make examples"):
         play.text.leave(line, "make examples compares what it prints")
     play.text.leave("sudo -iu lab", "it is played below")
     play.text.leave("mux-share --with ann,bob,eve", "tests/outside/share plays it, with three accounts")
     with Accounts(play) as accounts:
         lesson(play, accounts)
-        audit(play)
 
 
 class Accounts:
@@ -525,10 +511,9 @@ def lesson(play, accounts):
     if not accounts.real:
         os.mkdir(os.path.join(on.far, "class"), 0o2750)
     accounts.open("tess", "tess")
-    play.run("tess", "for name in own tess ann bob eve; do new-token --users ~/class/users $name; done")
-    for line in ("to() { runuser -l $1 -c \"umask 077; mkdir -p ~/.config/mux; cat > ~/.config/mux/$1.token\"; }",
-                 "for name in ann bob eve; do to $name < ~tess/class/$name.token; done"):
-        accounts.root(line, "it needs other logins")
+    play.run("tess", "mux-user --users ~/class/users add own tess ann bob eve")
+    accounts.root("mux-user --users ~tess/class/users give ann bob eve", "it needs other logins")
+    text.leave("mux-user replace", "tests/outside/consoles plays it")
     # The block is pasted as a whole: it waits where it has to.
     block = []
     while text.lines[0][0] != "$ mux-attach --socket /srv/class/socket --token ~/class/tess.token":
@@ -560,7 +545,7 @@ def lesson(play, accounts):
     turns(play, accounts)
     again(play, block[-2:])
     # A pupil who comes late: the server that runs reads the new token.
-    for line in ("new-token --users ~/class/users fay", "mux-command 'aclchg fay -wx #?'",
+    for line in ("mux-user --users ~/class/users add fay", "mux-command 'aclchg fay -wx #?'",
                  "mux-command 'aclumask fay-wx'", "mux-command 'aclchg fay -wx #'",
                  "mux-command 'aclchg fay +x detach,next,prev,scrollview'"):
         play.run("tess", line)
@@ -801,6 +786,7 @@ def operating(play):
         for words, better in (("mux-web", "tests/outside/boot plays it"),
                               ("/etc/mux/web", "tests/outside/boot plays it"),
                               ("tic ", "make lint compiles it"), ("mux-over-ssh", "tests/outside/terminals plays it"),
+                              ("mux-user", "tests/outside/consoles plays it"),
                               ("muxsim --setup", "tests/outside/policies plays it"),
                               ("muxd --setup", "tests/outside/policies plays it"),
                               ("mux-trail", "tests/outside/trailfile plays it"),
@@ -823,6 +809,7 @@ def operating(play):
     leave_until("# export MUX_SOCKET=/run/mux/ops/socket MUX_TOKEN=/var/lib/mux/ops/own.token MUX_LOCK=/etc/mux/ops")
     play.run("root", text.lines[0][0][2:])
     play.run("root", 'own() { mux-rights /etc/mux/ops/rights command "$@"; }')
+    play.run("root", 'user() { mux-user --users /var/lib/mux/ops/users --rights /etc/mux/ops/rights "$@"; }')
     on.run("root", "setsid -f mux-shell --title web1 -- cat; muxd-wait --window web1")
     on.run("root", play.real("clear; mux-rights /etc/mux/ops/rights window web1; echo status $?"), ["status 0"])
     play.run("root", "own windows")
@@ -862,7 +849,7 @@ def operating(play):
     on.shows("wall", "^again")
     while text.lines:
         left(text.lines[0][0])
-    for line in ("own multiuser off", "own multiuser on", "own acldel bob"):
+    for line in ("own multiuser off", "own multiuser on"):
         text.take(line)
         on.run("root", "clear; " + line + "; echo status $?", ["status 0"])
     while text.spans:
