@@ -4,3 +4,4 @@ pub mod Redoing
 pub mod Folding
 pub mod Judged
 pub mod Taken
+pub mod Unfreed

@@ -1,15 +1,19 @@
 -- What a replay stands for, and what it stands for after one act more.
-use Rattle.std.specs.Prelude.{Bool, true, ◌≡◌, ◌↔◌, List, ◌∷◌, Option, Some, Ok, IfOk}
+use Rattle.std.specs.Prelude.{Bool, true, false, ◌≡◌, ◌↔◌, List, ◌∷◌, Option, Some, Ok, IfOk}
 use Rattle.std.specs.Prelude.{Result, is_none}
 use Rattle.std.specs.declared.alloc.AllocError.{AllocError}
 use Rattle.acl.specs.declared.act.Act.{Act}
+use Rattle.acl.specs.declared.act.Object.{Object}
+use Rattle.acl.specs.declared.act.Object.TheVariants.{Window}
+use Rattle.acl.specs.declared.bits.Bit.{Bit}
+use Rattle.acl.specs.declared.bits.Bit.TheVariants.{Write}
 use Rattle.acl.specs.declared.edition.Edition.{Edition}
 use Rattle.acl.specs.declared.faults.AclFault.{AclFault}
 use Rattle.acl.specs.declared.user_id.UserId.{UserId}
 use Rattle.acl.specs.Commands.{Answers, known_name_fault}
 use Rattle.acl.specs.History.{History, followed_by, open_count, users_of}
 use Rattle.acl.specs.Table.{StandsFor}
-use Rattle.writelock.specs.Holding.{clients_of}
+use Rattle.writelock.specs.Holding.{clients_of, holder}
 use Rattle.writelock.specs.LockTable.{LocksStandFor}
 use Rattle.hub_trail.specs.Judging.{can_follow, CanFollow}
 use Rattle.hub_check.specs.declared.replay.Replay.{Replay}
@@ -56,3 +60,8 @@ Tells done result =
 -- whether a list command may name the user: the user is known, and isn't the owner
 abbrev pub is_nameable : UserId → History → UserId → Bool
 is_nameable owner h u = is_none (known_name_fault owner (users_of owner h) (Some u))
+
+-- whether setting a bit leaves each lock as it is: w is taken on no window whose lock is held
+abbrev pub leaves_locks : Edition → UserId → History → Bit → Object → Bool → Bool
+leaves_locks edition owner h Write (Window w) false = is_none (holder edition owner h w)
+leaves_locks edition owner h bit object value = true

@@ -1,4 +1,5 @@
 pub mod Clients
+pub mod Faults
 pub mod Following
 pub mod Parts
 pub mod Laws

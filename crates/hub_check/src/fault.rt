@@ -16,6 +16,20 @@ pub enum CheckFault {
     NoMemory,
 }
 
+impl CheckFault {
+    ghost use Rattle.hub_check.specs.Faults.{check_number};
+
+    /// The fault's number, 1 or 2.
+    pub fn number(self) -> u8
+        ensures { result ≡ check_number self }
+    {
+        match self {
+            CheckFault::BadEntry { .. } => 1,
+            CheckFault::NoMemory => 2,
+        }
+    }
+}
+
 impl From<AllocError> for CheckFault {
     ghost from_gives = { λ _ e. e ≡ NoMemory };
 

@@ -5,7 +5,7 @@ ghost use Rattle.acl.specs.declared.act.Act.TheVariants.{Known, Gone, Set, Group
 ghost use Rattle.acl.specs.declared.edition.Edition.{Edition};
 ghost use Rattle.acl.specs.declared.user_id.UserId.{UserId};
 ghost use Rattle.acl.specs.History.{History};
-ghost use Rattle.hub_check.specs.Following.{Redoes, Tells, StandsAfter, is_nameable};
+ghost use Rattle.hub_check.specs.Following.{Redoes, Tells, StandsAfter, is_nameable, leaves_locks};
 ghost use Rattle.hub_trail.specs.Judging.{leader_in};
 
 use crate::replay::Replay;
@@ -71,7 +71,20 @@ pub fn forget(replay: &mut Replay, user: UserId) -> Result<bool, AllocError>
     )
 }
 
-/// A user's bit on an object is set.
+/// Whether setting a bit leaves each lock as it is: it gives the bit, or it takes another one than w on
+/// a window whose lock somebody holds.
+fn leaves_locks(replay: &Replay, bit: Bit, object: Object, value: bool) -> bool
+    ensures { (edition : Edition) (owner : UserId) (h : History) →
+        StandsAfter replay.now edition owner h →
+        result ≡ leaves_locks edition owner h bit object value }
+{
+    match (bit, object, value) {
+        (Bit::Write, Object::Window(window), false) => replay.locks.holder(window).is_none(),
+        _ => true,
+    }
+}
+
+/// A user's bit on an object is set. The locks look at it only if it could free one.
 pub fn set(
     replay: &mut Replay,
     user: UserId,
@@ -88,17 +101,18 @@ pub fn set(
         return Ok(false);
     }
     replay.scratch.clear();
+    let change = RightsChange {
+        names: &[Some(user)],
+        changes: &[BitChange { bit, value }],
+        objects: &[object],
+    };
+    if leaves_locks(replay, bit, object, value) {
+        return redone(replay.acl.change(change, &mut replay.scratch, 0, &mut ()));
+    }
     redone(
-        replay.acl.change(
-            RightsChange {
-                names: &[Some(user)],
-                changes: &[BitChange { bit, value }],
-                objects: &[object],
-            },
-            &mut replay.scratch,
-            0,
-            &mut replay.locks,
-        ),
+        replay
+            .acl
+            .change(change, &mut replay.scratch, 0, &mut replay.locks),
     )
 }
 

@@ -1,9 +1,11 @@
 //! Whether a Command does to users and rights only what its line says.
 
-ghost use Rattle.std.specs.Prelude.{◌≡◌, ◌↔◌, ◌&&◌, not, true};
+ghost use Rattle.std.specs.Prelude.{◌≡◌, ◌↔◌, ◌&&◌, IfSome, not, true};
 ghost use Rattle.acl.specs.declared.edition.Edition.{Edition};
+ghost use Rattle.acl.specs.declared.user_id.UserId.{UserId};
 ghost use Rattle.acl.specs.History.{History, among, users_of};
 ghost use Rattle.acl.specs.Same.{same_user};
+ghost use Rattle.command_lang.specs.declared.command.Command.{Command};
 ghost use Rattle.hub_trail.specs.Saying.{is_named, concerns, says};
 ghost use Rattle.hub_check.specs.Following.{StandsAfter};
 ghost use Rattle.hub_check.specs.Parts.{AreSaid};
@@ -47,22 +49,58 @@ fn concerns(owner: UserId, replay: &Replay, given: &Command, user: UserId) -> bo
     }
 }
 
-/// Whether the command says the act, or the act isn't on users and rights.
-fn says(owner: UserId, replay: &Replay, given: &Command, act: Act) -> bool
+/// Whether an acladd or an aclchg names the user, if `named` is a user whom it names. The acts on one
+/// user follow one another, so this is mostly the same user.
+fn concerns_too(
+    owner: UserId,
+    replay: &Replay,
+    given: &Command,
+    named: Option<UserId>,
+    user: UserId,
+) -> bool
     ensures { (edition : Edition) (h : History) → StandsAfter replay.now edition owner h →
+        IfSome named (λ u. concerns owner h given.now u ≡ true) →
+        result ≡ concerns owner h given.now user }
+{
+    if let Some(known) = named {
+        if known == user {
+            return true;
+        }
+    }
+    concerns(owner, replay, given, user)
+}
+
+/// Whether the command says the act, or the act isn't on users and rights. `named` is a user whom an
+/// acladd or an aclchg names, if one is known.
+fn says(owner: UserId, replay: &Replay, given: &Command, named: Option<UserId>, act: Act) -> bool
+    ensures { (edition : Edition) (h : History) → StandsAfter replay.now edition owner h →
+        IfSome named (λ u. concerns owner h given.now u ≡ true) →
         result ≡ says owner h given.now act }
 {
     match act {
-        Act::Known { user } => concerns(owner, replay, given, user),
+        Act::Known { user } => concerns_too(owner, replay, given, named, user),
         Act::Set {
             user,
             bit,
             object,
             value,
-        } => concerns(owner, replay, given, user) && gives(given, bit, object, value),
+        } => concerns_too(owner, replay, given, named, user) && gives(given, bit, object, value),
         Act::Gone { user } => removes(given, user),
         Act::Grouped { user, leader } => leads(given, user, leader),
         _ => true,
+    }
+}
+
+/// A user whom a command names that says the act, if it named this one before.
+fn named_after(act: Act, named: Option<UserId>) -> Option<UserId>
+    ensures { (owner : UserId) (h : History) (given : Command) → says owner h given act ≡ true →
+        IfSome named (λ u. concerns owner h given u ≡ true) →
+        IfSome result (λ u. concerns owner h given u ≡ true) }
+{
+    match act {
+        Act::Known { user } => Some(user),
+        Act::Set { user, .. } => Some(user),
+        _ => named,
     }
 }
 
@@ -71,10 +109,12 @@ pub fn all_said(owner: UserId, replay: &Replay, given: &Command, acts: &[Act]) -
     ensures { (edition : Edition) (h : History) → StandsAfter replay.now edition owner h →
         (result ≡ true) ↔ AreSaid owner h given.now acts.now }
 {
+    let mut named = None;
     for act in acts {
-        if !says(owner, replay, given, *act) {
+        if !says(owner, replay, given, named, *act) {
             return false;
         }
+        named = named_after(*act, named);
     }
     true
 }
