@@ -80,7 +80,7 @@ fn are_dropped(rt: &impl System) -> Option<bool> {
     let first = told(alloc, &seen, 0, BOB)?;
     let second = told(alloc, &seen, 1, BOB)?;
     let typed = typed(alloc, seen.bytes(2, 0))?;
-    Some(first == DENIED && second == DENIED + 1 && typed.as_slice() == b"z")
+    Some(first == DENIED && second == DENIED + 1 && typed.as_slice() == b"z".as_slice())
 }
 
 // Letters that wait for a unit are judged by one step, by the rights of then. A unit is there after a
@@ -108,7 +108,7 @@ fn are_joined(rt: &impl System) -> Option<bool> {
     let first = told(alloc, &seen, 0, BOB)?;
     let second = typed(alloc, seen.bytes(1, 0))?;
     let third = typed(alloc, seen.bytes(2, 0))?;
-    Some(first == DENIED + 1 && second.is_empty() && third.as_slice() == b"xyz")
+    Some(first == DENIED + 1 && second.is_empty() && third.as_slice() == b"xyz".as_slice())
 }
 
 #[test]
