@@ -112,8 +112,8 @@ sub write_users {
     return $self->{is_unwritten} ? $@ =~ s/\n$//r : '';
 }
 
-# Tries again to write a users' file that couldn't be written.  Returns whether it has to be tried again.
-sub keep_users { my ($self) = @_; return $self->{is_unwritten} && $self->write_users ne '' }
+# Whether the users' file has to be written once there is room.
+sub is_unwritten { return $_[0]{is_unwritten} }
 
 # Lets nobody in but the owner, or ends this.
 sub shut {
@@ -207,9 +207,11 @@ sub take_line {
     log_line($line);
     return $self->count_clients if $line =~ /^muxd: .* lines were left out/;
     my ($client, $user, $came) = $line =~ /^muxd: (?:\S+ )?client (\d+) of (\S+) (came|went)/ or return;
+    # count_clients may have found it already.
+    return if ($came eq 'came') == exists $self->{clients}{$client};
     if ($came eq 'came') { $self->{clients}{$client} = $user }
     else { delete $self->{clients}{$client} }
-    return [$came eq 'came' ? 1 : 0, $user];
+    return [$came eq 'came', $user];
 }
 
 # Asks who is there, since lines of the log were lost.  Returns the changes, as read_news does.
