@@ -128,9 +128,11 @@ sub list_for_guest {
 # Returns what mux-join gets before it attaches: the window's size, and what the guest may do.
 sub welcome {
     my ($keeper, $guest) = @_;
+    my $session = $keeper->{session};
     my $limit = MuxShare::Guests::limit($guest);
-    my $what = $guest->{types} ? 'you can type' : 'you can look, not type';
-    return (join(' ', $keeper->{session}->size), $what . ($limit eq '' ? '' : ", $limit"));
+    my $what = ($guest->{types} ? 'you can type' : 'you can look, not type') . ($limit eq '' ? '' : ", $limit");
+    $what .= ', and ' . me() . ' is away' unless $session->clients_of($session->owner);
+    return (join(' ', $session->size), $what);
 }
 
 # Returns what somebody with a browser needs.  Only the terminal of the owner that asked shows it.

@@ -9,8 +9,9 @@ use MuxShare::Wire;
 
 our @EXPORT = qw(mux_names);
 
-# How many seconds before its end a guest's time is announced, and how often a clock is looked at that no timer follows.
-use constant { WARNING => 60, LOOK => 60 };
+# How many seconds before its end a guest's time is announced, how often a clock is looked at that no timer follows, and
+# how often something is tried again.
+use constant { WARNING => 60, LOOK => 60, AGAIN => 1 };
 # A guest may connect CONNECTIONS times at once, and then once in SECONDS_EACH seconds, since each attaching writes
 # entries to the session's trail.  mux-join connects twice, once to ask and once to attach.
 use constant { CONNECTIONS => 20, SECONDS_EACH => 5 };
@@ -204,14 +205,24 @@ sub announce {
     $self->{session}->tell("$guest->{account} $what");
 }
 
+# Tries again, at most once a second, what couldn't be done: to take w, to write the users' file.  muxd makes an owner
+# wait who is refused too often.  Returns whether something is left to do.
+sub try_again {
+    my ($self) = @_;
+    return 0 unless $self->{is_pending} || $self->{session}->is_unwritten;
+    return 1 if now() < ($self->{tried} // 0) + AGAIN;
+    $self->{tried} = now();
+    $self->take_unwatched if $self->{is_pending};
+    $self->{session}->write_users if $self->{session}->is_unwritten;
+    return $self->{is_pending} || $self->{session}->is_unwritten;
+}
+
 # Drops guests whose time is over, warns those whose time is nearly over, and tries again what couldn't be done.
 # Returns the seconds until its next call.
 sub keep_time {
     my ($self) = @_;
-    my $next = LOOK;
     $self->{session}->show_typing($self->typists) if delete $self->{is_title_due};
-    $self->take_unwatched if $self->{is_pending};
-    $next = 1 if $self->{is_pending} || $self->{session}->keep_users;
+    my $next = $self->try_again ? AGAIN : LOOK;
     for my $key (keys %{ $self->{guests} }) {
         my $guest = $self->{guests}{$key};
         next unless $guest->{end};
@@ -236,7 +247,7 @@ sub limit {
     return '' unless $guest->{end};
     my $left = $guest->{end} - now();
     my $form = $left < 600 ? '%H:%M:%S' : $left < 12 * 3600 ? '%H:%M' : '%Y-%m-%d %H:%M';
-    return POSIX::strftime("until $form", localtime(time + $left));
+    return POSIX::strftime("until $form", localtime(int(time + $left + 0.5)));
 }
 
 1;

@@ -36,7 +36,6 @@ sub orphan {
 }
 
 sub owner { return $_[0]{owner} }
-
 sub title { return $_[0]{title} }
 
 # Whether muxd takes connections.
@@ -112,8 +111,8 @@ sub write_users {
     return $self->{is_unwritten} ? $@ =~ s/\n$//r : '';
 }
 
-# Tries again to write a users' file that couldn't be written.  Returns whether it has to be tried again.
-sub keep_users { my ($self) = @_; return $self->{is_unwritten} && $self->write_users ne '' }
+# Whether the users' file has to be written once there is room.
+sub is_unwritten { return $_[0]{is_unwritten} }
 
 # Lets nobody in but the owner, or ends this.
 sub shut {
@@ -185,19 +184,22 @@ sub start_read {
 # Returns the pipes that read_news reads.
 sub news_pipes { my ($self) = @_; return map { $_->{from} } @{ $self->{news} } }
 
-# Reads what muxd and mux-web say.  Returns the clients that came and went, as [1 or 0, user].
+# Reads what muxd and mux-web have said, at most what a pipe holds: strangers can make them talk without end.  Returns
+# the clients that came and went, as [1 or 0, user].
 sub read_news {
     my ($self) = @_;
-    my @changes;
+    my ($is_lost, @changes);
     for my $pipe (@{ $self->{news} }) {
-        my $count;
-        1 while $count = sysread($pipe->{from}, $pipe->{rest}, 65536, length $pipe->{rest});
-        $pipe->{is_over} = defined $count;
-        push @changes, $self->take_line($1) while $pipe->{rest} =~ s/^(.*)\n//;
+        my $count = sysread($pipe->{from}, $pipe->{rest}, 65536, length $pipe->{rest});
+        $pipe->{is_over} = defined $count && $count == 0;
+        while ($pipe->{rest} =~ s/^(.*)\n//) {
+            push @changes, $self->take_line($1);
+            $is_lost ||= $1 =~ /^muxd: .* lines were left out/;
+        }
         $pipe->{rest} = '' if length $pipe->{rest} > 65536;
     }
     $self->{news} = [grep { !$_->{is_over} } @{ $self->{news} }];
-    return @changes;
+    return (@changes, $is_lost ? $self->count_clients : ());
 }
 
 # Takes a line of muxd's or mux-web's log.
@@ -205,11 +207,12 @@ sub take_line {
     my ($self, $line) = @_;
     return if $line =~ /^muxd: (?:\S+ a command of |ready$)/;
     log_line($line);
-    return $self->count_clients if $line =~ /^muxd: .* lines were left out/;
     my ($client, $user, $came) = $line =~ /^muxd: (?:\S+ )?client (\d+) of (\S+) (came|went)/ or return;
+    # count_clients may have found it already.
+    return if ($came eq 'came') == exists $self->{clients}{$client};
     if ($came eq 'came') { $self->{clients}{$client} = $user }
     else { delete $self->{clients}{$client} }
-    return [$came eq 'came' ? 1 : 0, $user];
+    return [$came eq 'came', $user];
 }
 
 # Asks who is there, since lines of the log were lost.  Returns the changes, as read_news does.
@@ -306,7 +309,7 @@ sub free_port {
 # Starts mux-web, unless it runs, and returns the address of its page.
 sub web_address {
     my ($self) = @_;
-    return $self->{address} if $self->{web};
+    return $self->{address} if $self->{address};
     my ($page) = grep { -d } "$self->{scripts}/web", "$self->{scripts}/../share/mux/web";
     die "can't find the page of mux-web beside $self->{scripts}\n" unless $page;
     my $listen = '127.0.0.1:' . free_port();
@@ -319,12 +322,9 @@ sub web_address {
         die "can't start mux-web: " . $self->last_line_of_log . "\n";
     }
     # By this it is found if the keeper is killed.
-    if (!eval { $self->write_private('web', "$self->{web}\n"); 1 }) {
-        my $why = $@;
-        $self->end_web;
-        die $why;
-    }
-    return $self->{address} = "http://$listen/";
+    return $self->{address} = "http://$listen/" if eval { $self->write_private('web', "$self->{web}\n"); 1 };
+    $self->end_web;
+    die $@;
 }
 
 sub end_web { my ($self) = @_; kill 'TERM', $self->{web} if $self->{web} }
