@@ -77,8 +77,7 @@ impl SeatEffects {
         }
     }
 
-    /// Hands out the effects that wait for a seat, and its mark. It needs no memory: if memory is
-    /// refused, they are handed out in the list in which they waited.
+    /// Hands out the list of effects that waits for a seat, and its mark. It takes no memory.
     pub fn take(&mut self, alloc: Global, seat: usize) -> (Vec<Effect>, bool)
         requires lists { seat < length self.old.lists.items }
         requires marks { seat < length self.old.marks.items }
@@ -88,23 +87,10 @@ impl SeatEffects {
             ≡ slice_set (views self.old.lists.items) seat [] }
         ensures marks { self.new.marks.items ≡ slice_set self.old.marks.items seat false }
     {
-        let effects = emptied(alloc, &mut self.lists[seat]);
+        let effects = mem::replace(&mut self.lists[seat], Vec::new(alloc));
         let marked = mem::replace(&mut self.marks[seat], false);
         (effects, marked)
     }
-}
-
-/// Takes all effects out of a list, which keeps its memory for those of the next steps, unless memory
-/// is refused.
-fn emptied(alloc: Global, list: &mut Vec<Effect>) -> Vec<Effect>
-    ensures effects { result.items ≡ list.old.items }
-    ensures rest { list.new.items ≡ [] }
-{
-    let mut effects = Vec::new(alloc);
-    if effects.append(list).is_err() {
-        mem::swap(&mut effects, list);
-    }
-    effects
 }
 
 fn make_room(waiting: &mut [Vec<Effect>]) -> Result<(), AllocError>

@@ -89,6 +89,13 @@ impl EntryList {
         self.codes.len()
     }
 
+    /// The number of stored forms.
+    pub fn forms(&self) -> usize
+        ensures { result ≡ self.now.forms }
+    {
+        self.forms.len()
+    }
+
     /// Makes room for one more entry. `AllocError` if memory is refused.
     pub fn reserve(&mut self) -> Result<(), AllocError>
         ensures same { self.new.entries ≡ self.old.entries }

@@ -3,6 +3,7 @@
 #![tactic(auto)]
 
 mod entry_list;
+mod equal;
 mod new_entry;
 mod receipts;
 mod refusals;

@@ -6,7 +6,7 @@ ghost use Rattle.hub_record.specs.EntryLists.{entry_in};
 use crate::new_entry::NewEntry;
 use crate::reply::KeptReply;
 use crate::trail_entry::TrailEntry;
-use acl::Object;
+use acl::{Object, UserId};
 use hub_trail::Kept;
 use session_model::Verdict;
 
@@ -16,20 +16,35 @@ pub const WAYS: usize = 4;
 /// The number of codes that are kept for the search.
 pub const KEPT: usize = 4096;
 
-/// A hash of the bytes.
-fn number_of(bytes: &[u8]) -> u32 {
-    let mut number = 0u32;
+/// A hash of what the hash `number` is of, and of this part after it.
+fn with_part(number: u32, part: u32) -> u32 {
+    number.wrapping_mul(31).wrapping_add(part)
+}
+
+/// A hash of what the hash `number` is of, and of these bytes after it.
+fn with_bytes(number: u32, bytes: &[u8]) -> u32 {
+    let mut number = number;
     for byte in bytes {
-        number = number.wrapping_mul(31).wrapping_add(*byte as u32);
+        number = with_part(number, *byte as u32);
     }
     number
+}
+
+/// A hash of a Command. It has the user in it, so that users who give one line find each their own
+/// form.
+fn number_of_command(user: &UserId, window: Option<u8>, line: &[u8]) -> u32 {
+    let number = with_bytes(with_bytes(0, line), user.as_bytes());
+    match window {
+        Some(window) => with_part(number, window as u32),
+        None => number,
+    }
 }
 
 /// A hash of the event: equal events have the same one.
 pub fn number_of_event(event: &Kept) -> u32 {
     match event {
         Kept::Keys { client } => (*client).wrapping_mul(7),
-        Kept::Command { line, .. } => number_of(line.as_slice()),
+        Kept::Command { user, window, line } => number_of_command(user, *window, line.as_slice()),
         Kept::Attach { .. } | Kept::Detach { .. } | Kept::Open { .. } => 1,
         Kept::Closed { .. } => 2,
     }
@@ -54,9 +69,7 @@ pub fn first_by(number: u32, reply: &KeptReply) -> usize
 {
     let mut number = number;
     if let Ok(finished) = reply.ending() {
-        number = number
-            .wrapping_mul(31)
-            .wrapping_add((finished.taken % 65536) as u32);
+        number = with_part(number, (finished.taken % 65536) as u32);
     }
     number as usize % (KEPT / WAYS) * WAYS
 }
@@ -67,7 +80,7 @@ pub fn first_of(entry: &NewEntry) -> usize
 {
     let mut number = number_of_event(&entry.event);
     if let Some(verdict) = entry.verdicts.first() {
-        number = number.wrapping_mul(31).wrapping_add(window_of(*verdict));
+        number = with_part(number, window_of(*verdict));
     }
     first_by(number, &entry.reply)
 }

@@ -13,3 +13,5 @@ mod layouts;
 mod lengths;
 #[cfg(test)]
 mod made_up;
+#[cfg(test)]
+mod needs;

@@ -1,7 +1,7 @@
 //! Colours of cells (ECMA-48, 8.3.117).
 
 use crate::judging::{Size, read};
-use cells::{Attribute, Cell, Colour, Rendition};
+use cells::{Attribute, Cell, Rendition};
 use emulator::MovedPage;
 use std::alloc::Global;
 use std::str::Chars;
@@ -67,27 +67,18 @@ static ROWS: [Row; 16] = [
     (b"\x1B[31;42m\x1B#8", ".....|.....|", ".....|.....|"),
 ];
 
-/// The sign of a colour.
-fn sign(colour: Colour) -> char {
-    match colour {
-        Colour::Default => '.',
-        Colour::Black => '0',
-        Colour::Red => '1',
-        Colour::Green => '2',
-        Colour::Yellow => '3',
-        Colour::Blue => '4',
-        Colour::Magenta => '5',
-        Colour::Cyan => '6',
-        Colour::White => '7',
+/// The sign of a colour: its number, or `.` for none.
+fn sign(number: Option<u8>) -> char {
+    match number {
+        Some(number) => b'0'.saturating_add(number) as char,
+        None => '.',
     }
 }
 
 /// Whether two texts continue with the foregrounds and the backgrounds of a line, each followed by `|`.
 fn go_on_with_line(fore: &mut Chars<'_>, back: &mut Chars<'_>, line: &[Cell]) -> bool {
     for cell in line {
-        if fore.next() != Some(sign(cell.rendition.fore()))
-            || back.next() != Some(sign(cell.rendition.back()))
-        {
+        if fore.next() != Some(sign(cell.fore())) || back.next() != Some(sign(cell.back())) {
             return false;
         }
     }
