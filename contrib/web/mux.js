@@ -3,12 +3,16 @@
 // through textContent alone, so none of it becomes markup, and every class name is one of a fixed list.
 (() => {
   const it = (id) => document.getElementById(id);
-  const [login, said, screen, frame, page, keys, news, bar] =
-    ["login", "said", "screen", "frame", "page", "keys", "news", "bar"].map(it);
+  const [login, said, screen, frame, page, keys, news, bar, past] =
+    ["login", "said", "screen", "frame", "page", "keys", "news", "bar", "past"].map(it);
   const watching = location.hash === "#watch";
   const ATTACH = 0x41, WATCH = 0x56, KEYS = 0x4b, RESIZE = 0x52, DETACH = 0x44, LONGEST = 8192;
   // `why` is the last text of the bridge; `app` is DECCKM: with it arrow keys send ESC O, and not ESC [.
   let socket = null, size = "", why = "", app = false;
+  const say = (text, isFault) => {
+    said.textContent = text;
+    said.classList.toggle("fault", isFault === true);
+  };
 
   // Rows.  A row is pairs of a style and a text.
   const classes = (style) => {
@@ -26,6 +30,10 @@
     made.classList.add(...names);
     return made;
   };
+  // Characters that turn the direction of text, or end a line, could show a row as another one.
+  const TURNS = /[\u061c\u200e\u200f\u202a-\u202e\u2028\u2029\u2066-\u2069]/g;
+  // Letters that are written from right to left: each stands in a cell of its own, as on a terminal.
+  const LEFTWARDS = /[\u0590-\u08ff\ufb1d-\ufdff\ufe70-\ufefc\u{10800}-\u{10fff}\u{1e800}-\u{1efff}]/u;
   // A character with its marks.  One whose width in this font isn't a cell's gets a box.
   const CLUSTERS = /[^](?:(?!\u00ad)[\p{Mn}\p{Me}\p{DI}\u1160-\u11ff])*/gu;
   const pen = document.createElement("canvas").getContext("2d");
@@ -34,7 +42,8 @@
     if (/^[ -~]$/.test(cluster)) return true;
     if (known.size > 10000) known.clear();
     if (!known.has(cluster)) {
-      known.set(cluster, Math.abs(pen.measureText(cluster).width - pen.measureText("0").width) < 0.05);
+      known.set(cluster, !LEFTWARDS.test(cluster)
+        && Math.abs(pen.measureText(cluster).width - pen.measureText("0").width) < 0.05);
     }
     return known.get(cluster);
   };
@@ -45,7 +54,7 @@
       if (plain) row.append(span(plain, names));
       plain = "";
     };
-    for (const cluster of text.match(CLUSTERS) || []) {
+    for (const cluster of text.replace(TURNS, "").match(CLUSTERS) || []) {
       if (style & 4096 || !fits(cluster)) {
         flush();
         row.append(span(cluster, [...names, style & 4096 ? "wide" : "narrow"]));
@@ -72,8 +81,17 @@
     it("cursor").hidden = !shown;
     frame.style.setProperty("--column", column);
     frame.style.setProperty("--line", line);
+    // (who may not look back is told so in the last row)
+    if (back && page.lastChild.textContent.startsWith("denied: x on scrollview")) {
+      back = asked = 0;
+      past.hidden = true;
+    }
+    // A page that is wider than its frame follows the cursor.
+    if (shown && place !== (place = `${line} ${column}`)) follow();
     timer ||= setTimeout(tell, 1000);
   };
+  let place = "";
+  const follow = () => it("cursor").scrollIntoView({ block: "nearest", inline: "nearest" });
 
   // What is new, for screen readers: once a second at most, and at most 1,000 characters then.
   let told = [], timer = 0;
@@ -98,24 +116,39 @@
     while (news.children.length > 20) news.firstChild.remove();
   };
 
-  // The size that fits, with a border of 4 pixels.
+  // The size that fits, with a border of 4 pixels.  Letters have 16 pixels.  They shrink, to 10 at least, until 80
+  // columns fit; if these still don't, the page has 80 columns and moves in its frame.  On a wall letters grow until
+  // 80 columns of 24 lines fill the page.
+  const COLS = 80, ROWS = 24, BIG = 16, SMALL = 10;
   const clamp = (n, least, most) => Math.max(least, Math.min(most, Math.floor(n)));
   const two = (n) => [n >> 8, n & 255];
-  const fitting = () => {
+  const wide = (pixels) => {
+    frame.style.setProperty("--letter", pixels + "px");
+    frame.style.setProperty("--h", Math.round(pixels * 1.25) + "px");
     const probe = span("0".repeat(50), []);
     page.append(probe);
-    const { font, lineHeight } = getComputedStyle(page);
-    const w = probe.getBoundingClientRect().width / 50 || 9, h = parseFloat(lineHeight) || 20;
+    const { font } = getComputedStyle(page), w = probe.getBoundingClientRect().width / 50 || pixels * 0.6;
     probe.remove();
     pen.font = font;
+    return w;
+  };
+  const fitting = () => {
+    const width = frame.clientWidth - 8, height = frame.clientHeight - 8;
+    let pixels = BIG, w = wide(pixels);
+    const fit = width / COLS / w * pixels;
+    if (watching) pixels = Math.max(SMALL, Math.min(fit, height / ROWS / 1.25));
+    else if (fit < pixels) pixels = Math.max(SMALL, fit);
+    pixels = Math.floor(pixels * 4) / 4;
+    if (pixels !== BIG) w = wide(pixels);
     known.clear();
     frame.style.setProperty("--w", w + "px");
-    const rows = clamp((frame.clientHeight - 8) / h, 4, 200), cols = clamp((frame.clientWidth - 8) / w, 20, 300);
-    return [...two(rows), ...two(cols)];
+    const rows = clamp(height / Math.round(pixels * 1.25), 4, 200);
+    return [...two(rows), ...two(clamp(Math.max(width / w, COLS), 20, 300))];
   };
   const resize = () => {
     if (screen.hidden) return;
     const found = fitting();
+    follow();
     if (size === String(found)) return;
     size = String(found);
     send(RESIZE, found);
@@ -126,7 +159,8 @@
     if (socket && socket.readyState === WebSocket.OPEN) socket.send(Uint8Array.of(kind, ...bytes));
   };
   const type = (text) => {
-    if (watching) return;
+    if (watching || !alive) return;
+    if (back) look(0);
     const bytes = new TextEncoder().encode(text);
     for (let at = 0; at < bytes.length; at += LONGEST) send(KEYS, bytes.subarray(at, at + LONGEST));
   };
@@ -146,6 +180,49 @@
     return shift && key === "Tab" ? "\x1b[Z" : NAMED[key];
   };
   const isMac = /Mac|iP/.test(navigator.platform);
+  // Looking back: the command scrollview, as from any client, four times a second at most.  `back` is how many lines
+  // the page looks back, as far as it has asked for it.
+  let back = 0, asked = 0, looks = 0;
+  const ask = () => {
+    looks = 0;
+    if (asked === back) return;
+    asked = back;
+    send(KEYS, new TextEncoder().encode(`\x01:scrollview ${back}\r`));
+    looks = setTimeout(ask, 250);
+  };
+  const look = (lines) => {
+    if (watching || !alive) return;
+    back = clamp(lines, 0, 2000);
+    past.hidden = !back;
+    if (looks && back) return;
+    clearTimeout(looks);
+    ask();
+  };
+  const half = () => Math.max(1, page.children.length >> 1);
+  past.addEventListener("click", () => {
+    look(0);
+    keys.focus();
+  });
+  let rest = 0;
+  frame.addEventListener("wheel", (event) => {
+    if (event.ctrlKey || event.shiftKey || Math.abs(event.deltaX) > Math.abs(event.deltaY)) return;
+    event.preventDefault();
+    rest -= event.deltaMode ? event.deltaY * 3 : event.deltaY / 20;
+    const lines = Math.trunc(rest);
+    rest -= lines;
+    if (lines) look(back + lines);
+  }, { passive: false });
+  // A finger that moves down looks back; one that moves sideways moves a page that is wider than its frame.
+  let finger = null;
+  frame.addEventListener("touchstart", (event) => {
+    const [first, second] = event.touches;
+    finger = second ? null : { y: first.clientY, back };
+  }, { passive: true });
+  frame.addEventListener("touchmove", (event) => {
+    if (!finger) return;
+    const lines = Math.trunc((event.touches[0].clientY - finger.y) / 20);
+    if (lines || back) look(finger.back + lines);
+  }, { passive: true });
   // What a key sends; undefined if the key is the browser's, or if its character comes by an input event.
   const bytesOf = (event) => {
     const { key, ctrlKey, altKey, shiftKey, metaKey } = event;
@@ -167,6 +244,9 @@
     held[name] = value;
     bar.querySelector(`[data-hold=${name}]`).setAttribute("aria-pressed", value);
   };
+  // Text that no key sent, from the clipboard or an input method: lines end with CR, and other control characters are
+  // left out, since C-a would be a command key.
+  const plain = (text) => text.replace(/\r?\n/g, "\r").replace(/[\0-\x08\x0a-\x0c\x0e-\x1f\x7f-\x9f]/g, "");
   // Sends what was typed; Ctrl and Alt of the bar hold for one key.
   const typed = (text) => {
     const sent = held.ctrl && [...text].length === 1 ? control(text) ?? text : text;
@@ -177,10 +257,19 @@
     const { value } = keys;
     empty();
     if (!value) typed("\x7f");
-    else if (value !== " ") typed(value.replace(/^ /, "").replace(/\n/g, "\r"));
+    else if (value !== " ") typed(plain(value.replace(/^ /, "")));
   };
   screen.addEventListener("keydown", (event) => {
     if (event.isComposing || event.keyCode === 229 || bar.contains(event.target)) return;
+    if (!alive && event.key === "Escape" && user) {
+      end(WHY[0]);
+      return;
+    }
+    if (event.shiftKey && !event.ctrlKey && /^Page(Up|Down)$/.test(event.key)) {
+      event.preventDefault();
+      look(back + (event.key === "PageUp" ? half() : -half()));
+      return;
+    }
     const found = bytesOf(event);
     if (found !== undefined || event.key.length === 1 && !event.ctrlKey && !event.metaKey) keys.focus();
     if (found === undefined) return;
@@ -193,106 +282,195 @@
     flush();
   });
   keys.addEventListener("input", (event) => event.isComposing || flush());
-  // Pasted lines end with CR.  Other control characters are left out: C-a would be a command key.
   document.addEventListener("paste", (event) => {
     if (screen.hidden) return;
     event.preventDefault();
-    const text = event.clipboardData.getData("text/plain").replace(/\r?\n/g, "\r");
-    type(text.replace(/[\0-\x08\x0a-\x0c\x0e-\x1f\x7f-\x9f]/g, ""));
+    type(plain(event.clipboardData.getData("text/plain")));
   });
   frame.addEventListener("mouseup", () => String(getSelection()) || keys.focus());
   // A press on the bar leaves the focus, and with it a phone's keyboard, where it is.
   for (const name of ["pointerdown", "mousedown"]) bar.addEventListener(name, (event) => event.preventDefault());
   bar.addEventListener("click", (event) => {
-    const { key, code, hold: name } = event.target.dataset;
+    const { key, code, text, hold: name, look: way } = event.target.dataset;
     if (keys.value !== " ") flush();
     if (name) hold(name, !held[name]);
+    else if (way) look(back + way * half());
     else if (key) typed(named(key, false));
     else if (code) typed(String.fromCharCode(code));
+    else if (text) typed(text);
     keys.focus();
   });
-  it("leave").addEventListener("click", () => send(DETACH, []));
+  // Leaving takes two taps.
+  let leaving = 0;
+  const ask_leave = (isAsked) => {
+    clearTimeout(leaving);
+    leaving = isAsked ? setTimeout(ask_leave, 4000, false) : 0;
+    it("leave").textContent = isAsked ? "Leave now?" : "Leave";
+  };
+  it("leave").addEventListener("click", () => {
+    const isSure = leaving !== 0;
+    ask_leave(!isSure);
+    if (isSure && !alive) end(WHY[0]);
+    else if (isSure) send(DETACH, []);
+  });
 
   // The connection.
-  const WHY = ["You have detached.", "You were removed from the session.", "The session is single-user now.",
+  const WHY = ["You have left.", "You were removed from the session.", "The session is single-user now.",
     "Your client was ended.", "The session has ended.", "This page was too slow, and the session let it go.",
     "", "The session has ended: its trail is full."];
-  const end = (text) => {
-    socket = null;
-    said.textContent = text;
+  // The name and the token of the user, from the login until they leave: so the page comes back by itself after a break
+  // and after a reload.  They are kept for this tab alone.  `alive`: the session let this connection in, and it answers.
+  let user = null, alive = false, heard = 0, beats = false, wait = 0, again = 0;
+  const remember = (name, token) => {
+    user = name ? { name, token } : null;
+    if (user) sessionStorage.setItem("mux", JSON.stringify(user));
+    else sessionStorage.removeItem("mux");
+  };
+  const clear = () => {
     for (const shown of [page, news]) shown.replaceChildren();
     told = [];
-    if (watching) return;
+    back = asked = 0;
+    past.hidden = true;
+    it("cursor").hidden = true;
+  };
+  // The session let the user go: the form is there again.
+  const end = (text, isFault) => {
+    drop();
+    clearTimeout(again);
+    say(text, isFault);
+    clear();
+    remember(null);
     screen.hidden = true;
     login.hidden = false;
-    it("token").focus();
+    it(isFault ? "token" : "file").focus();
   };
-  const attach = (user, token) => {
+  const drop = () => {
+    const old = socket;
+    socket = null;
+    alive = false;
+    frame.classList.add("dead");
+    if (old) old.close();
+  };
+  // The connection broke.  It is tried again at once, then after 1, 2, 4 seconds; a wall waits for up to a minute.
+  const lose = (text) => {
+    drop();
+    if (watching) clear();
+    const when = wait ? `Trying again in ${wait} s` : "Trying again";
+    say(`${text.replace(/\.$/, "")}. ${when}${watching ? "" : "; Escape gives up"}.`, true);
+    clearTimeout(again);
+    again = setTimeout(attach, wait * 1000);
+    wait = wait ? Math.min(watching ? 60 : 4, 2 * wait) : 1;
+  };
+  const retry = () => {
+    if (!socket && (user || watching)) {
+      wait = 0;
+      clearTimeout(again);
+      attach();
+    }
+  };
+  const attach = () => {
     login.hidden = true;
     screen.hidden = false;
-    why = "No connection: mux-web isn't there, is full, or refuses this page.";
-    const found = fitting();
-    size = String(found);
+    why = "No answer: mux-web isn't there, is full, or refuses this address of the page.";
     const mine = new WebSocket(location.origin.replace(/^http/, "ws") + "/rows");
     socket = mine;
+    heard = Date.now();
+    beats = true;
     mine.addEventListener("open", () => {
-      said.textContent = "";
-      why = "The connection ended.";
-      send(watching ? WATCH : ATTACH, [...found, ...new TextEncoder().encode(token + user)]);
+      why = "The connection broke.";
+      heard = Date.now();
+      const found = fitting();
+      size = String(found);
+      const who = watching ? "" : user.token + user.name;
+      send(watching ? WATCH : ATTACH, [...found, ...new TextEncoder().encode(who)]);
       empty();
       keys.focus();
     });
     mine.addEventListener("message", (event) => {
       if (socket !== mine) return;
       const got = JSON.parse(event.data);
-      if (Array.isArray(got)) show(got);
+      heard = Date.now();
+      if (got.welcome) welcome();
+      else if (Array.isArray(got)) show(got);
+      else if (got.here) beats = true;
       else if (got.say !== undefined) why = got.say;
-      else if (got.gone !== undefined) end(WHY[got.gone] || why);
+      else if (got.gone !== undefined && watching) lose(WHY[got.gone] || why);
+      else if (got.gone !== undefined) end(WHY[got.gone] || why, got.gone > 0);
     });
-    mine.addEventListener("close", () => {
-      if (socket === mine) end(why);
+    mine.addEventListener("close", ({ code, reason }) => {
+      if (socket !== mine) return;
+      if (code !== 1008) lose(why);
+      else if (!watching) end(reason, true);
+      else {
+        drop();
+        clear();
+        say("Nobody may watch here without a name and a key.", true);
+      }
     });
   };
-  // A wall comes back by itself: it tries again after 1, 2, 4 and at last each 60 seconds.  It also sends its size now
-  // and then, since a browser learns of a network that went away only when it sends.
-  let wait = 1;
-  const watch = () => {
-    attach("", "");
-    socket.addEventListener("message", () => { wait = page.children.length ? 1 : wait; });
-    socket.addEventListener("close", () => {
-      said.textContent += ` Trying again in ${wait} s.`;
-      setTimeout(watch, wait * 1000);
-      wait = Math.min(60, 2 * wait);
-    });
+  const welcome = () => {
+    alive = true;
+    beats = false;
+    wait = 0;
+    clear();
+    say("");
+    frame.classList.remove("dead");
+    document.title = watching ? "mux: wall" : `mux: ${user.name}`;
+  };
+  // The bridge says each few seconds that it is there.  Without a word of it the connection is dead, though the
+  // browser doesn't know yet.
+  setInterval(() => {
+    if (socket && beats && Date.now() - heard > 9000) lose("No answer from the session.");
+  }, 500);
+  addEventListener("online", retry);
+  document.addEventListener("visibilitychange", () => document.hidden || retry());
+  const join = (name, token) => {
+    remember(name, token);
+    wait = 0;
+    say("Joining ..");
+    attach();
   };
   login.addEventListener("submit", (event) => {
     event.preventDefault();
-    attach(it("name").value, it("token").value);
-    it("token").value = "";
+    const token = it("token").value.trim();
+    it("token").value = it("file").value = "";
+    it("chosen").textContent = "";
+    join(it("name").value.trim().toLowerCase(), token);
   });
+  // A file NAME.token of new-token.  It replaces what the fields had.
   it("file").addEventListener("change", async (event) => {
     const [file] = event.target.files;
     if (!file) return;
-    it("token").value = (await file.text()).trim();
-    it("name").value ||= file.name.replace(/\.token$/, "");
+    const text = (await file.slice(0, 100).text()).trim();
+    const isToken = /^[0-9a-f]{64}$/.test(text);
+    it("token").value = isToken ? text : "";
+    it("name").value = isToken ? file.name.replace(/( \(\d+\))?\.token.*$/, "") : "";
+    it("chosen").textContent = isToken ? "" : `${file.name} has no key: choose the file NAME.token that you were given.`;
+    say("");
+    if (isToken && it("name").checkValidity()) login.requestSubmit();
     event.target.value = "";
   });
   addEventListener("hashchange", () => location.reload());
   // C-w closes a tab, whatever its page does: so the browser asks first.
   addEventListener("beforeunload", (event) => {
-    if (socket && !watching) event.preventDefault();
+    if (alive && !watching) event.preventDefault();
   });
   new ResizeObserver(resize).observe(frame);
   // Some phones lay their keyboard over a page, and tell only this of it.
   const lay = () => document.body.style.setProperty("height", visualViewport.height * visualViewport.scale + "px");
   visualViewport.addEventListener("resize", lay);
-  said.textContent = "";
-  login.hidden = watching || !isSecureContext;
-  if (watching) {
-    watch();
-    setInterval(() => {
-      size = "";
-      resize();
-    }, 15000);
-  } else if (!isSecureContext) said.textContent = "This page takes no token over plain http: open it by https.";
+  document.body.classList.toggle("watching", watching);
+  say("");
+  // A link has the name and the token behind its #, which no server sees.  It leaves the address bar and the history.
+  const link = /^#([a-z][a-z0-9_]{0,19})[:=]([0-9a-f]{64})$/.exec(location.hash);
+  if (link) history.replaceState(null, "", location.pathname);
+  const kept = JSON.parse(sessionStorage.getItem("mux") || "null");
+  if (watching) attach();
+  else if (!isSecureContext) say("This page takes no key over plain http: open it by https.", true);
+  else if (link) join(link[1], link[2]);
+  else if (kept) join(kept.name, kept.token);
+  else {
+    login.hidden = false;
+    it("file").focus();
+  }
 })();

@@ -77,7 +77,7 @@ class Tab:
         self("Page.navigate", url=url)
         if ready:
             self.wait("document.readyState === 'complete' && document.getElementById('said').textContent !== "
-                      "'This page needs JavaScript.'")
+                      "'A part of this page is missing: reload it.'")
 
     def __call__(self, method, **words):
         self.count += 1
@@ -88,9 +88,13 @@ class Tab:
                 if "error" in got:
                     raise RuntimeError(f"{method}: {got['error']}")
                 return got["result"]
+            if "method" not in got:
+                continue
             self.events.append(got)
             if got["method"] == "Page.javascriptDialogOpening":
-                self.answer_later = True
+                # The page asks before it goes: it may.
+                words = {"id": 0, "method": "Page.handleJavaScriptDialog", "params": {"accept": True}}
+                self.link.send(json.dumps(words).encode(), bridge.TEXT)
 
     def size(self, width, height, mobile=False, scale=1):
         self("Emulation.setDeviceMetricsOverride", width=width, height=height, deviceScaleFactor=scale, mobile=mobile)
