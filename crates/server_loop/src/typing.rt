@@ -31,18 +31,23 @@ impl<S: Read + Write + Drop, G: Gate + Drop, J: SessionSeat + Drop> Loop<S, G, J
         };
         self.resize(rt, key, client);
         self.say_dropped(rt, key);
-        if !is_through {
-            return Some(Progress::Part);
-        }
         let peer = self.connections.touch(key)?;
-        if !peer.inbox.typed.is_empty() {
-            return Some(self.judge(rt, key, client));
-        }
         let waits = peer.inbox.sizing.wanted.is_some() || peer.inbox.typed.drains();
-        if waits && !peer.inbox.has_messages() {
-            return Some(Progress::Held);
-        }
-        None
+        let progress = if !peer.inbox.typed.is_empty() {
+            self.judge(rt, key, client)
+        } else if waits && !peer.inbox.has_messages() {
+            Progress::Held
+        } else if is_through {
+            return None;
+        } else {
+            Progress::Part
+        };
+        // What waits doesn't keep more from being taken in.
+        Some(if progress == Progress::Held && !is_through {
+            Progress::Part
+        } else {
+            progress
+        })
     }
 
     // Tells the session the last size that a client told, if it may change now.
