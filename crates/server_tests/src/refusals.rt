@@ -1,5 +1,5 @@
-//! Refused memory. When each allocation is refused in turn, at most one peer is let go, and all is as
-//! without a refusal once it is tried again. Played as it stands, the test meets no refusal.
+//! Refused memory: whichever allocation of a loop is refused, at most one peer is let go, and it is
+//! told so. What was refused of the others is done later. `tools/refusals` refuses each in turn.
 
 use server_stage::{
     ACLADD, ATTACH, ATTACH_BOB, Act, GONE_FAULT, Habit, MULTIUSER, Received, Seen, Stop, System,
@@ -91,6 +91,39 @@ fn is_shown(alloc: Global, bytes: &[u8]) -> Result<bool, Stop> {
     Ok(received.says("own: hello") && shows(alloc, (4, 20), &drawn, "hithere", "own: hello")?)
 }
 
+// Whether a peer that was let go was told so, unless the loop never took it in.
+fn is_told(seen: &Seen, note: usize, connection: usize) -> bool {
+    match seen.sent(note, connection) {
+        Some(sent) => sent.calls == 0
+            || has_stayed(&sent.bytes)
+            || sent.bytes.ends_with(GONE_FAULT),
+        None => false,
+    }
+}
+
+// Whether each peer of a scene was told so at this note, if it was let go; its window is that
+// connection.
+fn are_told(seen: &Seen, note: usize, window: usize) -> bool {
+    let (client, bob) = (window.saturating_add(1), window.saturating_add(2));
+    is_told(seen, note, window) && is_told(seen, note, client) && is_told(seen, note, bob)
+}
+
+// How many of the trail's entries have this letter.
+fn count(entries: &[u8], letter: u8) -> usize {
+    let mut count = 0usize;
+    for entry in entries {
+        if *entry == letter {
+            count = count.saturating_add(1);
+        }
+    }
+    count
+}
+
+// Whether each client that attached was detached, and each window that opened was closed.
+fn have_left(entries: &[u8]) -> bool {
+    count(entries, b'A') == count(entries, b'D') && count(entries, b'O') == count(entries, b'X')
+}
+
 // What the scene left at this note; its window is that connection.
 fn left_by(alloc: Global, seen: &Seen, note: usize, window: usize) -> Result<Left, Stop> {
     let typed = seen.bytes(note, window);
@@ -142,18 +175,20 @@ fn acts(alloc: Global) -> Result<Vec<Act<'static>>, Stop> {
     Ok(acts)
 }
 
-// Whether each command was done, and all had ended after each scene.
+// Whether each command was done, all had ended after each scene, and the trail says so.
 fn are_done(seen: &Seen) -> bool {
     let is_begun = is_done(seen, 0, 0) && is_done(seen, 0, 2);
-    let are_told = is_done(seen, 0, ONE + 3) && is_done(seen, 2, OTHER + 3);
-    is_begun && are_told && is_over(seen, 1) && is_over(seen, 3)
+    let have_called = is_done(seen, 0, ONE + 3) && is_done(seen, 2, OTHER + 3);
+    let are_over = is_over(seen, 1) && is_over(seen, 3);
+    is_begun && have_called && are_over && have_left(seen.entries.as_slice())
 }
 
 // Whether both scenes are as they should be, and at least one is as without a refusal.
 fn are_as_due(alloc: Global, seen: &Seen) -> Result<bool, Stop> {
     let first = left_by(alloc, seen, 0, ONE)?;
     let second = left_by(alloc, seen, 2, OTHER)?;
-    Ok(is_as_due(first) && is_as_due(second) && (first == ALL || second == ALL))
+    let are_told = are_told(seen, 0, ONE) && are_told(seen, 2, OTHER);
+    Ok(are_told && is_as_due(first) && is_as_due(second) && (first == ALL || second == ALL))
 }
 
 fn attempt(rt: &impl System) -> Result<bool, Stop> {
@@ -163,7 +198,7 @@ fn attempt(rt: &impl System) -> Result<bool, Stop> {
 }
 
 #[test]
-fn a_refusal_ends_one_peer_at_most(rt: HostRuntime) {
+fn one_peer_ends_at_most_though_refused_once(rt: HostRuntime) {
     let attempted = match attempt(&rt) {
         // The allocation that was refused was the test's own.
         Err(Stop::Memory) => attempt(&rt),
