@@ -1,5 +1,5 @@
 -- What is taken after an answer.
-use Rattle.std.proofs.Common.{◌≡◌, ap, refl}
+use Rattle.std.proofs.Common.{◌≡◌, Bool, ap, refl}
 use Rattle.web_client.specs.declared.site.Site.{Site}
 use Rattle.web_client.specs.declared.requests.Answer.{Answer}
 use Rattle.web_client.specs.declared.requests.Answer.TheVariants.{Part, Page, Socket}
@@ -9,15 +9,15 @@ use Rattle.web_client.specs.declared.visitor.Visitor.{Visitor}
 use Rattle.web_client.specs.Frames.{Page as Standing, Answers, TakesRequest, TakesBytes}
 
 -- an answer after which no WebSocket is open
-pub unopened : (site : Site) (answer : Answer) (old new : Visitor) → Answers answer old new
-    → (new.wire.stage ≡ stage.Socket → ⊥) → TakesRequest site answer old new
-unopened site Part old new h n = h
-unopened site (Page bytes) old new h n = h
-unopened site (Socket opening) old new h n = absurd (n (ap (λ (p : Standing). p.stage) h.0))
+pub unopened : (site : Site) (answer : Answer) (old new : Visitor) (more : Bool) → Answers answer old new
+    → (new.wire.stage ≡ stage.Socket → ⊥) → TakesRequest site answer old new more
+unopened site Part old new more h n = h
+unopened site (Page bytes) old new more h n = h
+unopened site (Socket opening) old new more h n = absurd (n (ap (λ (p : Standing). p.stage) h.0))
 
 -- a connection that has ended
-pub ended : (site : Site) (s : Stage) (v : Visitor) → (s ≡ stage.Request → ⊥) → (s ≡ stage.Socket → ⊥)
-    → TakesBytes site s v v
-ended site stage.Request v r n = absurd (r refl)
-ended site stage.Socket v r n = absurd (n refl)
-ended site stage.Last v r n = refl
+pub ended : (site : Site) (s : Stage) (v : Visitor) (more : Bool) → (s ≡ stage.Request → ⊥)
+    → (s ≡ stage.Socket → ⊥) → TakesBytes site s v v more
+ended site stage.Request v more r n = absurd (r refl)
+ended site stage.Socket v more r n = absurd (n refl)
+ended site stage.Last v more r n = refl

@@ -1,8 +1,9 @@
 -- Frames that are read one after another.
-use Rattle.std.proofs.Common.{◌≡◌, ◌⊎◌, ℕ, suc, ◌<◌, List, ◌++◌, take, drop, length, Option, option_map}
+use Rattle.std.proofs.Common.{◌≡◌, ◌⊎◌, ℕ, suc, ◌+◌, ◌<◌, Bool, true, false, List, ◌++◌, take, drop, length, Option, option_map}
 use Rattle.std.proofs.Common.{Result, Ok, Err}
-use Rattle.std.proofs.Common.{refl, sym, ap, ◌∙◌, subst, inl, inr, arith, length-drop}
+use Rattle.std.proofs.Common.{◌≤◌, ◌-◌, refl, sym, ap, ◌∙◌, subst, inl, inr, arith, length-drop, append_assoc}
 use Rattle.std.proofs.Math.Seq.{take-append_seam}
+use Rattle.std.proofs.lemmas.List.{drop-drop, drop-take, drop_at, length-take}
 use Rattle.websocket.specs.declared.error.Error.{Error}
 use Rattle.websocket.specs.declared.protocol.context.Step.{Step}
 use Rattle.websocket.specs.declared.protocol.frame.codec.FrameStatus.{FrameStatus}
@@ -13,15 +14,24 @@ use Rattle.websocket.specs.View.{Returns, ReadLeaves}
 use Rattle.websocket.proofs.StreamLemmas.{TookFrame_from_read}
 use Rattle.web_client.specs.declared.seat.Seat.{Seat}
 use Rattle.web_client.specs.declared.wire.Stage.TheVariants.{Socket, Last}
-use Rattle.web_client.specs.declared.visitor.Frame.{Frame}
-use Rattle.web_client.specs.declared.visitor.Frame.TheVariants as frame
+use Rattle.web_client.specs.declared.frame.Frame.{Frame}
+use Rattle.web_client.specs.declared.frame.Frame.TheVariants as frame
 use Rattle.web_client.specs.Frames.{Page, Says, SaysNothing, Closes, IsSaid, BeginsWith, IsRead, Reads}
-use Rattle.web_client.specs.Frames.{GoesOn, EndsWith, TakesMessage}
-use Rattle.web_client.specs.Frames.{TakesFrame, TakesFrames, EndsAt, TakesAll}
+use Rattle.web_client.specs.Frames.{GoesOn, EndsWith, TakesMessage, answered_after}
+use Rattle.web_client.specs.Frames.{TakesFrame, TakesFrames, EndsAt, TakesSome}
 
--- what was lent, in front of nothing
-pub front : (new rest : List ℕ) (n : ℕ) → length new ≡ n → take n (new ++ rest) ≡ new
-front new rest n e = subst (λ (k : ℕ). take k (new ++ rest) ≡ new) e (take-append_seam new rest)
+-- what was lent of a list from a place on, and given back
+pub behind : (n k : ℕ) (a r post rest : List ℕ) → n ≤ length a → k ≡ length a → length r ≡ length a - n
+    → drop n (take k ((take n a ++ (r ++ post)) ++ rest)) ≡ r
+behind n k a r post rest l e d =
+    let whole : k ≡ n + length r = omega (arith, l, e, d) in
+    let front : length (take n a) ≡ n = omega (arith, l, length-take n a) in
+    ap (λ (i : ℕ). drop n (take i ((take n a ++ (r ++ post)) ++ rest))) whole
+    ∙ drop-take n (length r) ((take n a ++ (r ++ post)) ++ rest)
+    ∙ ap (λ (x : List ℕ). take (length r) (drop n x)) (append_assoc (take n a) (r ++ post) rest)
+    ∙ ap (λ (x : List ℕ). take (length r) x) (drop_at (take n a) ((r ++ post) ++ rest) n front)
+    ∙ ap (λ (x : List ℕ). take (length r) x) (append_assoc r post rest)
+    ∙ take-append_seam r (post ++ rest)
 
 pub completes : (r : Result (FrameStatus (ℕ × Effect)) Error) (input : List ℕ) (step : Step)
     → Returns r input (Complete step) → (f : ℕ × Effect) × (r ≡ Ok (Complete f)) × (step.consumed ≡ f.0)
@@ -51,109 +61,151 @@ shrinks f old new h =
 
 -- ---- a loop over the frames
 
--- frames were taken, and the connection goes on or has ended
-abbrev pub Went : {A : Type 0} → Option A → Page → Page → Type 0
-Went watcher old now =
-    (n : ℕ) × (last : Page) × TakesFrames n old last
-    × (((now ≡ last) × (now.stage ≡ Socket)) ⊎ ((now.stage ≡ Last) × EndsAt watcher last now.seat))
+-- This many frames were taken, and the connection goes on; or fewer, and it has ended.
+abbrev pub Went : {A : Type 0} → Option A → ℕ → Page → Page → Type 0
+Went watcher count old now =
+    (TakesFrames count old now × (now.stage ≡ Socket))
+    ⊎ ((n : ℕ) × (last : Page) × TakesFrames n old last × (now.stage ≡ Last) × EndsAt watcher last now.seat)
 
-pub started : {A : Type 0} (watcher : Option A) (p : Page) → p.stage ≡ Socket → Went watcher p p
+pub started : {A : Type 0} (watcher : Option A) (p : Page) → p.stage ≡ Socket → Went watcher 0 p p
 unfolding TakesFrames
-started watcher p e = (0, p, refl, inl (refl, e))
+started watcher p e = inl (refl, e)
 
-going : {A : Type 0} (watcher : Option A) (old now : Page) → Went watcher old now → now.stage ≡ Socket
-    → (n : ℕ) × TakesFrames n old now
-going watcher old now w e =
-    elim w.3 [
-      | inl h ↦ (w.0, subst (λ (p : Page). TakesFrames w.0 old p) (sym h.0) w.2)
-      | inr h ↦ absurd (cc (e, h.0))
-    ]
+going : {A : Type 0} (watcher : Option A) (count : ℕ) (old now : Page) → Went watcher count old now
+    → now.stage ≡ Socket → TakesFrames count old now
+going watcher count old now w e = elim w [ inl h ↦ h.0 | inr h ↦ absurd (cc (e, h.3)) ]
 
 one_more : (n : ℕ) (old between new : Page) → TakesFrames n old between → TakesFrame between new
     → TakesFrames (suc n) old new
 unfolding TakesFrames
 one_more n old between new k t = (between, k, t)
 
-pub after_other : {A : Type 0} (watcher : Option A) (old now next : Page) → Went watcher old now
-    → now.stage ≡ Socket → Reads now frame.Other next → next.seat ≡ now.seat → Went watcher old next
-after_other watcher old now next w e r s =
-    let k = going watcher old now w e in (
-      suc k.0,
-      next,
-      one_more k.0 old now next k.1 (record { frame = r.0; read = r.1; taken = inl (r.2, s) }),
-      inl (refl, r.1.stage ∙ e),
+next_one : (n : ℕ) (old between new : Page) → TakesFrames n old between → TakesFrame between new
+    → TakesFrames (n + 1) old new
+next_one n old between new k t =
+    let e : suc n ≡ n + 1 = omega arith in
+    subst (λ (m : ℕ). TakesFrames m old new) e (one_more n old between new k t)
+
+pub after_other : {A : Type 0} (watcher : Option A) (count : ℕ) (old now next : Page) → Went watcher count old now
+    → now.stage ≡ Socket → Reads now frame.Other next → next.seat ≡ now.seat → Went watcher (count + 1) old next
+after_other watcher count old now next w e r s =
+    let k = going watcher count old now w e in
+    inl (
+      next_one count old now next k (record { frame = r.0; read = r.1; taken = inl (r.2, s) }),
+      r.1.stage ∙ e,
     )
 
-pub after_message : {A : Type 0} (watcher : Option A) (message : List ℕ) (old now read next : Page)
-    → Went watcher old now → now.stage ≡ Socket
+pub after_message : {A : Type 0} (watcher : Option A) (message : List ℕ) (count : ℕ) (old now read next : Page)
+    → Went watcher count old now → now.stage ≡ Socket
     → ((f : ℕ × Effect) × IsRead f now read × Says f.1.message message) → read.seat ≡ now.seat
-    → TakesMessage watcher message read next → Went watcher old next
-after_message watcher message old now read next w e r s t =
-    let k = going watcher old now w e in
+    → TakesMessage watcher message read next → Went watcher (count + 1) old next
+after_message watcher message count old now read next w e r s t =
+    let k = going watcher count old now w e in
     elim t [
-      | inl h ↦ (
-        suc k.0,
-        next,
-        one_more k.0 old now next k.1 (record {
+      | inl h ↦ inl (
+        next_one count old now next k (record {
           frame = r.0;
           read = record {
             next = r.1.next;
             stage = h.stage ∙ r.1.stage;
             socket = h.socket ∙ r.1.socket;
             waiting = h.waiting ∙ r.1.waiting;
+            answered = h.answered ∙ r.1.answered;
           };
           taken = inr (message, r.2, subst (λ (v : Seat). GoesOn v message next.seat) s h.seat);
         }),
-        inl (refl, h.stage ∙ (r.1.stage ∙ e)),
+        h.stage ∙ (r.1.stage ∙ e),
       )
-      | inr h ↦ (
-        k.0,
+      | inr h ↦ inr (
+        count,
         now,
-        k.1,
-        inr (
-          h.0,
-          inr (inr (
-            r.0,
-            message,
-            r.1.next,
-            r.2,
-            subst (λ (v : Seat). EndsWith watcher v message next.seat) s h.1,
-          )),
-        ),
+        k,
+        h.0,
+        inr (inr (
+          r.0,
+          message,
+          r.1.next,
+          r.2,
+          subst (λ (v : Seat). EndsWith watcher v message next.seat) s h.1,
+        )),
       )
     ]
 
+-- a message says nothing of the bytes that wait
+pub shifted : {A : Type 0} (watcher : Option A) (message : List ℕ) (old new : Page) (a b : List ℕ) → b ≡ a
+    → TakesMessage watcher message old new
+    → TakesMessage watcher message (record old { waiting = a }) (record new { waiting = b })
+shifted watcher message old new a b e t =
+    elim t [
+      | inl h ↦ inl (record {
+        stage = h.stage;
+        socket = h.socket;
+        waiting = e;
+        answered = h.answered;
+        seat = h.seat;
+      })
+      | inr h ↦ inr h
+    ]
+
 -- no frame was read any more
-pub after_none : {A : Type 0} (watcher : Option A) (old now next : Page) → Went watcher old now
-    → now.stage ≡ Socket → Reads now frame.None next → next.seat ≡ now.seat → TakesAll watcher old next
-after_none watcher old now next w e r s =
-    let k = going watcher old now w e in
+pub after_none : {A : Type 0} (watcher : Option A) (count : ℕ) (old now next : Page) → Went watcher count old now
+    → now.stage ≡ Socket → Reads now frame.None next → next.seat ≡ now.seat → TakesSome watcher old next false
+after_none watcher count old now next w e r s =
+    let k = going watcher count old now w e in
     elim r [
-      | inl h ↦ (k.0, now, k.1, inl (h.0, h.1))
+      | inl h ↦ (count, now, k, inl (h.0, h.1))
       | inr h ↦ (
-        k.0,
+        count,
         now,
-        k.1,
+        k,
         inr (h.0, elim h.1 [ inl b ↦ inl (b, s) | inr c ↦ inr (inl (c.0, c.1, c.2, s)) ]),
       )
     ]
 
--- the connection has ended
-pub after_end : {A : Type 0} (watcher : Option A) (old now : Page) → Went watcher old now
-    → (now.stage ≡ Socket → ⊥) → TakesAll watcher old now
-after_end watcher old now w n =
-    elim w.3 [ inl h ↦ absurd (n h.1) | inr h ↦ (w.0, w.1, w.2, inr (h.0, h.1)) ]
+-- 64 frames were taken, or the connection has ended
+pub after_all : {A : Type 0} (watcher : Option A) (count : ℕ) (old now : Page) (more : Bool)
+    → Went watcher count old now → (now.stage ≡ Socket → count ≡ 64) → (more ≡ true → now.stage ≡ Socket)
+    → (now.stage ≡ Socket → more ≡ true) → TakesSome watcher old now more
+after_all watcher count old now true w n f g =
+    (count, now, going watcher count old now w (f refl), (n (f refl), refl))
+after_all watcher count old now false w n f g =
+    elim w [ inl h ↦ absurd (cc (g h.1)) | inr h ↦ (h.0, h.1, h.2, inr (h.3, h.4)) ]
+
+-- bytes that were read are counted with those that were read before
+pub further : (taken count : ℕ) (old new : Page) (said : Frame) (items rest : List ℕ)
+    → new.waiting ≡ drop (taken + count) items → drop taken items ≡ rest
+    → Reads old said (record new { waiting = drop count rest }) → Reads old said new
+further taken count old new said items rest w d h =
+    let same : new.waiting ≡ drop count rest =
+    w ∙ sym (drop-drop count taken items) ∙ ap (λ (l : List ℕ). drop count l) d in
+    subst (λ (l : List ℕ). Reads old said (record new { waiting = l })) (sym same) h
 
 -- a frame was read, and this is what it says
 pub read_whole : (f : ℕ × Effect) (said : Frame) (content : Option Content) (old new : Page) → BeginsWith old f
     → content ≡ f.1.message → IsSaid content said → new.socket ≡ f.1.next → new.waiting ≡ drop f.0 old.waiting
+    → new.answered ≡ answered_after content old.answered
     → (said ≡ frame.None → new.stage ≡ Last) → ((said ≡ frame.None → ⊥) → new.stage ≡ old.stage) → Reads old said new
-read_whole f frame.None content old new b m h s w last same =
+read_whole f frame.None content old new b m h s w a last same =
     inr (last refl, inr (f, b, subst Closes m h))
-read_whole f frame.Other content old new b m h s w last same =
-    (f, record { next = b; stage = same (λ e. cc e); socket = s; waiting = w }, subst SaysNothing m h)
-read_whole f (frame.Message message) content old new b m h s w last same = (
+read_whole f frame.Other content old new b m h s w a last same = (
   f,
-  record { next = b; stage = same (λ e. cc e); socket = s; waiting = w },
+  record {
+    next = b;
+    stage = same (λ e. cc e);
+    socket = s;
+    waiting = w;
+    answered = a ∙ ap (λ (it : Option Content). answered_after it old.answered) m;
+  },
+  subst SaysNothing m h,
+)
+read_whole f (frame.Message message) content old new b m h s w a last same = (
+  f,
+  record {
+    next = b;
+    stage = same (λ e. cc e);
+    socket = s;
+    waiting = w;
+    answered = a ∙ ap (λ (it : Option Content). answered_after it old.answered) m;
+  },
   subst (λ (it : Option Content). Says it message.items) m h,
 )

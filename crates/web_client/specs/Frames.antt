@@ -1,5 +1,7 @@
 -- The frames of a page: how they are read from its WebSocket, and what their messages do.
-use Rattle.std.specs.Prelude.{◌≡◌, ◌⊎◌, ℕ, zero, suc, false, List, [], ◌++◌, drop, Option, Some, None, Ok, Err}
+use Rattle.std.specs.Prelude.{◌≡◌, ◌⊎◌, ℕ, zero, suc, ◌≤◌, nat_lt, Bool, false, cond, List, [], ◌++◌}
+use Rattle.std.specs.Prelude.{length, take, drop, MatchBool, Option, Some, None, Ok, Err}
+use Rattle.std.specs.Int.{w64, from_be_bytes}
 use Rattle.websocket.specs.declared.error.Error.{Error}
 use Rattle.websocket.specs.declared.protocol.frame.codec.FrameStatus.TheVariants.{Partial, Complete}
 use Rattle.websocket.specs.declared.protocol.config.Role.TheVariants.{Server}
@@ -8,10 +10,11 @@ use Rattle.websocket.specs.Content.{Content, text, binary, ping, pong, close}
 use Rattle.websocket.specs.Connection.{Connection, Effect, read_step, StartsWithFragment, ReadAsksReply}
 use Rattle.web_client.specs.declared.seat.Seat.{Seat}
 use Rattle.web_client.specs.declared.seat.Seat.TheVariants.{Nobody, Own, Watching, Unknown, Left}
+use Rattle.web_client.specs.declared.wire.Wire.{Wire}
 use Rattle.web_client.specs.declared.wire.Stage.{Stage}
 use Rattle.web_client.specs.declared.wire.Stage.TheVariants.{Request, Socket, Last}
-use Rattle.web_client.specs.declared.visitor.Frame.{Frame}
-use Rattle.web_client.specs.declared.visitor.Frame.TheVariants as frame
+use Rattle.web_client.specs.declared.frame.Frame.{Frame}
+use Rattle.web_client.specs.declared.frame.Frame.TheVariants as frame
 use Rattle.web_client.specs.declared.visitor.Visitor.{Visitor}
 use Rattle.web_client.specs.declared.site.Site.{Site}
 use Rattle.web_client.specs.declared.requests.Answer.{Answer}
@@ -20,15 +23,31 @@ use Rattle.web_client.specs.Serving.{AnswersBytes}
 use Rattle.web_client.specs.Asking.{Takes, Keeps}
 use Rattle.web_client.specs.Judging.{IsAllowed}
 
--- how far a page's connection is, its WebSocket, the bytes that came and weren't read, and its seat
+-- how far a page's connection is, its WebSocket, the bytes that came and weren't read, its seat, and how many bytes
+-- of rows it has answered for
 pub record Page : Type 0 where
   pub stage : Stage
   pub socket : Connection
   pub waiting : List ℕ
   pub seat : Seat
+  pub answered : ℕ
+
+-- a page with this wire, of which these bytes wait
+abbrev pub stands : Wire → List ℕ → Seat → Page
+stands wire waiting seat = record {
+  stage = wire.stage;
+  socket = wire.context;
+  waiting = waiting;
+  seat = seat;
+  answered = wire.answered;
+}
 
 abbrev pub page : Visitor → Page
-page v = record { stage = v.wire.stage; socket = v.wire.context; waiting = v.input.items; seat = v.seat }
+page v = stands v.wire v.input.items v.seat
+
+-- the first bytes of those that came are read, and still there
+abbrev pub page_after : ℕ → Visitor → Page
+page_after n v = stands v.wire (drop n v.input.items) v.seat
 
 -- a WebSocket of a server that has read nothing: frames are masked, and no message is longer than a kind and a payload
 abbrev pub fresh : Connection
@@ -41,7 +60,7 @@ fresh = record {
 
 -- a connection that has sent nothing
 abbrev pub begun : Page
-begun = record { stage = Request; socket = fresh; waiting = []; seat = Nobody }
+begun = record { stage = Request; socket = fresh; waiting = []; seat = Nobody; answered = 0 }
 
 -- ---- frames
 
@@ -68,6 +87,15 @@ IsSaid content frame.None = Closes content
 IsSaid content frame.Other = SaysNothing content
 IsSaid content (frame.Message message) = Says content message.items
 
+-- A pong answers for the number of bytes of rows that its ping had. Shorter ones answer for nothing.
+abbrev pub answered_by : List ℕ → ℕ → ℕ
+answered_by bytes before = cond (nat_lt (length bytes) 8) before (from_be_bytes w64 (take 8 bytes))
+
+-- how many bytes of rows a page has answered for after a frame
+abbrev pub answered_after : Option Content → ℕ → ℕ
+answered_after (Some (pong bytes)) before = answered_by bytes before
+answered_after _ before = before
+
 -- the bytes that wait begin with this frame: how many bytes it has, and what it does by the WebSocket's protocol
 abbrev pub BeginsWith : Page → (ℕ × Effect) → Type 0
 BeginsWith p f = read_step p.socket p.waiting ≡ Ok (Complete f)
@@ -88,6 +116,7 @@ pub record IsRead (f : ℕ × Effect) (old new : Page) : Type 0 where
   pub stage : new.stage ≡ old.stage
   pub socket : new.socket ≡ f.1.next
   pub waiting : new.waiting ≡ drop f.0 old.waiting
+  pub answered : new.answered ≡ answered_after f.1.message old.answered
 
 -- one frame: it was read, or it isn't whole, or the connection ends at it
 abbrev pub Reads : Page → Frame → Page → Type 0
@@ -120,6 +149,7 @@ pub record GoesOnBy (message : List ℕ) (old new : Page) : Type 0 where
   pub stage : new.stage ≡ old.stage
   pub socket : new.socket ≡ old.socket
   pub waiting : new.waiting ≡ old.waiting
+  pub answered : new.answered ≡ old.answered
   pub seat : GoesOn old.seat message new.seat
 
 abbrev pub TakesMessage : {A : Type 0} → Option A → List ℕ → Page → Page → Type 0
@@ -147,12 +177,16 @@ EndsAt watcher p after =
     ⊎ ((f : ℕ × Effect) × (message : List ℕ) × BeginsWith p f × Says f.1.message message
     × EndsWith watcher p.seat message after))
 
--- All frames that are whole were read, one after another, and their messages taken, up to one at which the
--- connection ends.
-abbrev pub TakesAll : {A : Type 0} → Option A → Page → Page → Type 0
-TakesAll watcher old new =
+-- no frame is left that is whole, or the connection ended at one
+abbrev pub IsDone : {A : Type 0} → Option A → Page → Page → Type 0
+IsDone watcher last new = (Waits last × (new ≡ last)) ⊎ ((new.stage ≡ Last) × EndsAt watcher last new.seat)
+
+-- Frames that are whole were read, one after another, and their messages taken: all of them, up to one at which the
+-- connection ends; or the first 64, and more may be left.
+abbrev pub TakesSome : {A : Type 0} → Option A → Page → Page → Bool → Type 0
+TakesSome watcher old new more =
     (n : ℕ) × (last : Page) × TakesFrames n old last
-    × ((Waits last × (new ≡ last)) ⊎ ((new.stage ≡ Last) × EndsAt watcher last new.seat))
+    × MatchBool more ((n ≡ 64) × (new ≡ last)) (IsDone watcher last new)
 
 -- What an answer does: nothing if the request isn't whole yet; it is the last one; or a WebSocket begins after the
 -- bytes of the request.
@@ -166,16 +200,26 @@ Answers (answer.Socket opening) old new =
     × (new.wire.output.items ≡ old.wire.output.items ++ opening.answer.items) × (new.address ≡ opening.address)
 
 -- the answer was given, and the frames that came after the request were taken
-abbrev pub TakesRequest : Site → Answer → Visitor → Visitor → Type 0
-TakesRequest site answer.Part old new = new ≡ old
-TakesRequest site (answer.Page bytes) old new = Answers (answer.Page bytes) old new
-TakesRequest site (answer.Socket opening) old new =
-    TakesAll site.watcher (record (page old) { stage = Socket; waiting = drop opening.request old.input.items })
-    (page new)
+abbrev pub TakesRequest : Site → Answer → Visitor → Visitor → Bool → Type 0
+TakesRequest site answer.Part old new more = new ≡ old
+TakesRequest site (answer.Page bytes) old new more = Answers (answer.Page bytes) old new
+TakesRequest site (answer.Socket opening) old new more =
+    TakesSome site.watcher (record (page old) { stage = Socket; waiting = drop opening.request old.input.items })
+    (page new) more
 
--- what came of a browser is taken
-abbrev pub TakesBytes : Site → Stage → Visitor → Visitor → Type 0
-TakesBytes site Request old new =
-    (a : Answer) × AnswersBytes site old.input.items a × TakesRequest site a old new
-TakesBytes site Socket old new = TakesAll site.watcher (page old) (page new)
-TakesBytes site Last old new = page new ≡ page old
+-- what came of a browser is taken, and more may be left
+abbrev pub TakesBytes : Site → Stage → Visitor → Visitor → Bool → Type 0
+TakesBytes site Request old new more =
+    (a : Answer) × AnswersBytes site old.input.items a × TakesRequest site a old new more
+TakesBytes site Socket old new more = TakesSome site.watcher (page old) (page new) more
+TakesBytes site Last old new more = page new ≡ page old
+
+-- ---- bounds
+
+-- bytes on their way to a browser, none of them taken by the system yet
+abbrev pub IsWithin : Wire → Type 0
+IsWithin w = length w.output.items ≤ 2097152
+
+-- what is kept for a browser: bytes that it sent, and bytes on their way to it
+abbrev pub IsBounded : Visitor → Type 0
+IsBounded v = (length v.input.items ≤ 32768) × IsWithin v.wire

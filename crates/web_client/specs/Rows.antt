@@ -1,7 +1,9 @@
 -- The texts and the rows that a browser is sent.
-use Rattle.std.specs.Prelude.{◌≡◌, ◌⊎◌, ℕ, true, List, [], ◌++◌, Some, IsSome}
+use Rattle.std.specs.Prelude.{◌≡◌, ◌⊎◌, ℕ, ◌+◌, ◌-◌, ◌^◌, ◌≤◌, min, true, List, [], ◌++◌, length, Some, IsSome}
+use Rattle.std.specs.Int.{w64, to_be_bytes}
 use Rattle.websocket.specs.declared.protocol.frame.coding.OpCode.TheVariants as code
 use Rattle.websocket.specs.declared.protocol.frame.coding.Data.TheVariants.{Text}
+use Rattle.websocket.specs.declared.protocol.frame.coding.Control.TheVariants.{Ping}
 use Rattle.websocket.specs.Connection.{Sends}
 use Rattle.terminal_model.specs.Reading.{Terminal}
 use Rattle.emulator.specs.Standing.{StandsFor}
@@ -15,27 +17,47 @@ use Rattle.web_page.specs.Hearing.{Display}
 pub record SendsText (text : List ℕ) (old new : Wire) : Type 0 where
   pub stage : new.stage ≡ old.stage
   pub context : new.context ≡ old.context
+  pub counts : (new.sent ≡ old.sent) × (new.answered ≡ old.answered)
   pub frame : Sends old.context.role (Some (record { opcode = code.Data Text; payload = text })) old.output.items
+      new.output.items
+
+-- The browser is asked to answer for all rows that it was sent: a ping with their number of bytes. Its pong has the
+-- same, and comes after it has read what was sent before.
+pub record Asks (old new : Wire) : Type 0 where
+  pub stage : new.stage ≡ old.stage
+  pub context : new.context ≡ old.context
+  pub counts : (new.sent ≡ old.sent) × (new.answered ≡ old.answered)
+  pub frame : Sends old.context.role
+      (Some (record { opcode = code.Control Ping; payload = to_be_bytes w64 old.sent })) old.output.items
       new.output.items
 
 -- a browser was sent nothing of a page, or all before a moment
 abbrev pub IsAsFar : ℕ → Sheet → Shown → Type 0
 IsAsFar since sheet b = (since ≡ 0) ⊎ IsShown since sheet b
 
+-- these bytes count as rows
+abbrev pub counted : ℕ → Wire → Wire
+counted n w = record w { sent = min (w.sent + n) (2 ^ 64 - 1) }
+
 -- A browser that shows this needs nothing to show a terminal's page, or it's sent the update that makes the page of
--- what it shows.
+-- what it shows, and asked to answer for it.
 abbrev pub SendsPage : Terminal → Shown → Wire → Wire → Type 0
 SendsPage t b old new =
     ((new ≡ old) × (b ≡ page_of t.screen))
-    ⊎ ((u : Update) × (laid u b ≡ page_of t.screen) × SendsText (spelled u) old new)
+    ⊎ ((u : Update) × (w : Wire) × (laid u b ≡ page_of t.screen) × SendsText (spelled u) old w
+    × Asks (counted (length (spelled u)) w) new)
 
 -- bytes come after those on their way to the browser
 abbrev pub Adds : Wire → Wire → Type 0
 Adds old new = (more : List ℕ) × (new.output.items ≡ old.output.items ++ more)
 
--- Rows are sent if the server let the client in: when the browser has taken the last ones, and at the end.
+-- Nothing waits for the browser, and it has answered for all rows but at most 4,096 bytes.
+abbrev pub HasRoom : Wire → Type 0
+HasRoom w = (w.output.items ≡ []) × (w.sent ≤ w.answered + 4096)
+
+-- Rows are sent if the server let the client in: when the browser has read the last ones, and at the end.
 abbrev pub IsDue : Display → Wire → Type 0
-IsDue d w = (d.told.is_welcome ≡ true) × ((w.output.items ≡ []) ⊎ IsSome d.told.gone)
+IsDue d w = (d.told.is_welcome ≡ true) × (HasRoom w ⊎ IsSome d.told.gone)
 
 -- What is sent makes the page of a terminal that has read all draws, of what the browser shows.
 abbrev pub Shows : (old : Display) (since : ℕ) (before : Wire) (new : Display) (later : ℕ) (after : Wire) → Type 0

@@ -3,6 +3,7 @@
 #![tactic(auto)]
 
 mod client;
+mod frame;
 mod front;
 mod laws;
 mod outgoing;

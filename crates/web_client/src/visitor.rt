@@ -1,14 +1,15 @@
 //! A browser's connection: its request, its messages, and who it is.
 
-ghost use Rattle.std.specs.Prelude.{◌≡◌, ◌↔◌, ℕ, List, drop, option_map, IfOk, IfSome, OnOk, OnErr};
-ghost use Rattle.std.specs.Prelude.{IsTrue, ◌<◌, ◌≤◌, [], length, false, true, codes};
-ghost use Rattle.websocket.specs.Content.{received_content, IsReceivedInside, HasValidText};
+ghost use Rattle.std.specs.Prelude.{◌≡◌, ◌↔◌, ℕ, List, drop, IfOk, OnOk, OnErr, IsTrue, ◌<◌, ◌≤◌, []};
+ghost use Rattle.std.specs.Prelude.{length, false, true, codes, vec_len};
 ghost use Rattle.web_client.specs.Asking.{Asks, Keeps, IsOwn, IfOwn};
 ghost use Rattle.web_client.specs.Sending.{IsReceived};
 ghost use Rattle.web_client.specs.Rows.{IsDue, Shows};
 ghost use Rattle.web_client.specs.Serving.{refusal};
-ghost use Rattle.web_client.specs.Frames.{page, begun, IsSaid, Reads, Answers, TakesMessage, TakesAll, TakesBytes};
+ghost use Rattle.web_client.specs.Frames.{page, page_after, begun, Reads, Answers, TakesMessage, TakesSome};
+ghost use Rattle.web_client.specs.Frames.{TakesBytes, IsBounded, IsWithin};
 
+use crate::frame::Frame;
 use crate::front::drop_front;
 use crate::requests::{Answer, Opening, answered, refusal};
 use crate::seat::{Seat, SeatFault};
@@ -19,10 +20,16 @@ use std::alloc::Global;
 use std::io;
 use std::io::Read;
 use web_page::Display;
-use websocket::protocol::{CloseCode, FrameStatus, Message, NoMask, Received};
+use websocket::protocol::CloseCode;
 
-/// While more bytes wait for the server, the browser isn't read.
+/// While more bytes wait for the server, or for the browser, the browser isn't read.
 const MUCH: usize = 65_536;
+
+/// A browser is given up if more bytes of it wait: no frame and no request is longer.
+const MOST_INPUT: usize = 32_768;
+
+/// How many frames are taken at once.
+const FRAMES: usize = 64;
 
 /// What is said of a name that no user can have: what the server says of others.
 const UNKNOWN: &str = "unknown user or wrong token";
@@ -37,44 +44,6 @@ pub struct Visitor {
     pub seat: Seat,
     /// The address that the web server before the bridge saw; empty if it told none.
     pub address: Vec<u8>,
-}
-
-/// What a frame of the page was.
-#[derive(Drop)]
-enum Frame {
-    /// It isn't whole, or the connection ends with it.
-    None,
-    /// It has no message for the bridge.
-    Other,
-    Message(Vec<u8>),
-}
-
-impl Frame {
-    fn is_last(&self) -> bool
-        ensures { IsTrue result ↔ (self.now ≡ Frame.None) }
-    {
-        match self {
-            Frame::None => true,
-            Frame::Other | Frame::Message(_) => false,
-        }
-    }
-}
-
-// What a frame says that was read, if it ends a message. A page sends no texts.
-fn said(alloc: Global, received: &Option<Received>, input: &[u8]) -> Result<Frame, End>
-    requires inside { IfSome received.now (IsReceivedInside input.now) }
-    requires text { IfSome received.now (λ it. HasValidText (received_content input.now it)) }
-    ensures { IfOk result (IsSaid (option_map (received_content input.now) received.now)) }
-{
-    match received {
-        Some(received) => match received.message(input) {
-            Message::Binary(bytes) => Ok(Frame::Message(bytes.to_vec(alloc)?)),
-            Message::Text(_) => Ok(Frame::Message(Vec::new(alloc))),
-            Message::Close(_) => Ok(Frame::None),
-            Message::Ping(_) | Message::Pong(_) => Ok(Frame::Other),
-        },
-        None => Ok(Frame::Other),
-    }
 }
 
 impl Visitor {
@@ -107,18 +76,19 @@ impl Visitor {
         self.wire.stage == Stage::Socket
     }
 
-    /// Whether the browser is to be read: it isn't while much waits for its client.
+    /// Whether the browser is to be read: it isn't while much waits for its client or for itself.
     pub fn can_read(&self) -> bool
         ensures last { self.now.wire.stage ≡ Stage.Last → result ≡ false }
         ensures own { IfOwn self.now.seat (λ c. 65536 < length c.outgoing → result ≡ false) }
-        ensures other { (self.now.wire.stage ≡ Stage.Last → ⊥)
+        ensures output { 65536 < length self.now.wire.output.items → result ≡ false }
+        ensures other { (self.now.wire.stage ≡ Stage.Last → ⊥) → length self.now.wire.output.items ≤ 65536
             → IfOwn self.now.seat (λ c. length c.outgoing ≤ 65536) → result ≡ true }
     {
         let waiting = match &self.seat {
             Seat::Own(client) => client.waiting(),
             _ => 0,
         };
-        !self.is_last() && waiting <= MUCH
+        !self.is_last() && waiting <= MUCH && self.wire.output.len() <= MUCH
     }
 
     /// The bytes on their way to the browser.
@@ -133,29 +103,17 @@ impl Visitor {
         self.wire.output.is_empty()
     }
 
-    // Reads one frame of the page.
-    fn read_frame(&mut self) -> Result<Frame, End>
-        ensures reads { IfOk result (λ frame. Reads (page self.old) frame (page self.new)) }
+    // Reads one frame of the page, after the bytes that were taken.
+    fn read_frame(&mut self, taken: &mut usize) -> Result<Frame, End>
+        requires { taken.old ≤ vec_len self.old.input }
+        ensures reads { IfOk result (λ frame. Reads (page_after taken.old self.old) frame
+            (page_after taken.new self.new)) }
+        ensures within { taken.new ≤ vec_len self.new.input }
         ensures seat { self.new.seat ≡ self.old.seat }
     {
-        let wire = &mut self.wire;
-        let status = wire
-            .context
-            .read(self.input.as_mut_slice(), &mut wire.output, &mut NoMask);
-        let step = match status {
-            Ok(FrameStatus::Partial(_)) => return Ok(Frame::None),
-            Ok(FrameStatus::Complete(step)) => step,
-            Err(_) => {
-                wire.close(CloseCode::Protocol, "");
-                return Ok(Frame::None);
-            }
-        };
-        let frame = said(wire.alloc, &step.message, self.input.as_slice())?;
-        drop_front(&mut self.input, step.consumed);
-        if frame.is_last() {
-            wire.stage = Stage::Last;
-        }
-        Ok(frame)
+        let read = self.wire.read(&mut self.input.as_mut_slice()[*taken..])?;
+        *taken += read.1;
+        Ok(read.0)
     }
 
     // Takes one message of the page.
@@ -183,20 +141,27 @@ impl Visitor {
         }
     }
 
-    // Takes the frames that are whole.
-    fn read_frames(&mut self, site: &Site) -> Result<(), End>
+    // Takes frames that are whole. Returns whether more may be left.
+    fn read_frames(&mut self, site: &Site) -> Result<bool, End>
         requires { self.old.wire.stage ≡ Stage.Socket }
-        ensures takes { OnOk result (TakesAll site.now.watcher (page self.old) (page self.new)) }
+        ensures takes { IfOk result (TakesSome site.now.watcher (page self.old) (page self.new)) }
         ensures asks { Asks self.old.seat self.new.seat }
     {
-        'frames: while self.is_open() {
-            match self.read_frame()? {
-                Frame::None => break,
+        let mut taken = 0;
+        let mut count = 0;
+        'frames: while self.is_open() && count < FRAMES {
+            count += 1;
+            match self.read_frame(&mut taken)? {
+                Frame::None => {
+                    drop_front(&mut self.input, taken);
+                    return Ok(false);
+                }
                 Frame::Other => {}
                 Frame::Message(message) => self.take_message(site, &message)?,
             }
         }
-        Ok(())
+        drop_front(&mut self.input, taken);
+        Ok(self.is_open())
     }
 
     // Takes the answer to a request.
@@ -239,10 +204,19 @@ impl Visitor {
         Ok(count)
     }
 
-    /// Takes what came of the browser. For its own client it adds frames that the browser may ask for,
-    /// and nothing else.
-    pub fn take(&mut self, site: &Site) -> Result<(), End>
-        ensures takes { OnOk result (TakesBytes site.now self.old.wire.stage self.old self.new) }
+    // Whether what is kept for it is within its bounds.
+    fn check_bounds(&self) -> Result<(), End>
+        ensures { OnOk result (IsBounded self.now) }
+    {
+        if self.input.len() > MOST_INPUT {
+            return Err(End::TooFarBehind);
+        }
+        self.wire.check_bound()
+    }
+
+    // Takes what came of the browser.
+    fn take_some(&mut self, site: &Site) -> Result<bool, End>
+        ensures takes { IfOk result (TakesBytes site.now self.old.wire.stage self.old self.new) }
         ensures asks { Asks self.old.seat self.new.seat }
     {
         if self.wire.stage == Stage::Request {
@@ -250,9 +224,22 @@ impl Visitor {
             self.take_answer(answer)?;
         }
         if self.is_open() {
-            self.read_frames(site)?;
+            self.read_frames(site)
+        } else {
+            Ok(false)
         }
-        Ok(())
+    }
+
+    /// Takes what came of the browser, up to 64 frames at once. Returns whether more may be left. For its own client
+    /// it adds frames that the browser may ask for, and nothing else.
+    pub fn take(&mut self, site: &Site) -> Result<bool, End>
+        ensures takes { IfOk result (TakesBytes site.now self.old.wire.stage self.old self.new) }
+        ensures asks { Asks self.old.seat self.new.seat }
+        ensures bounded { OnOk result (IsBounded self.new) }
+    {
+        let more = self.take_some(site)?;
+        self.check_bounds()?;
+        Ok(more)
     }
 
     /// Answers a browser that has just opened its page with a refusal, since the bridge is full.
@@ -279,24 +266,16 @@ impl Visitor {
         }
     }
 
-    /// Ends the connection for this reason.
-    pub fn dismiss(&mut self, reason: &str)
-        ensures stage { self.new.wire.stage ≡ Stage.Last }
+    /// Tells the page that the bridge is there, and asks whether it is.
+    pub fn ping(&mut self) -> Result<(), End>
+        ensures bounded { OnOk result (IsBounded self.new) }
         ensures seat { self.new.seat ≡ self.old.seat }
     {
         if self.is_open() {
-            self.wire.close(CloseCode::Policy, reason);
+            self.wire.send_text("{\"here\":1}")?;
+            self.wire.ask()?;
         }
-        self.wire.stage = Stage::Last;
-    }
-
-    /// Asks the browser whether it is there.
-    pub fn ping(&mut self)
-        ensures { self.new.seat ≡ self.old.seat }
-    {
-        if self.is_open() {
-            self.wire.ping();
-        }
+        self.check_bounds()
     }
 
     /// Another page is shown from now on, of which nothing was sent.
@@ -325,6 +304,7 @@ impl Visitor {
             → IfOwn self.old.seat (λ old. IsDue old.display self.old.wire
             → OnOk result (IsOwn self.new.seat (λ new. Shows old.display self.old.view.since self.old.wire
             new.display self.new.view.since self.new.wire))) }
+        ensures bound { self.old.wire.stage ≡ Stage.Socket → OnOk result (IsWithin self.new.wire) }
         ensures keeps { Keeps self.old.seat self.new.seat }
     {
         if !self.is_open() {
@@ -332,7 +312,7 @@ impl Visitor {
         }
         match &mut self.seat {
             Seat::Own(client) => self.wire.show(&mut self.view, &mut client.display),
-            _ => Ok(()),
+            _ => self.wire.check_bound(),
         }
     }
 }

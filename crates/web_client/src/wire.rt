@@ -1,23 +1,28 @@
 //! What a browser is sent over its connection.
 
-ghost use Rattle.std.specs.Prelude.{◌≡◌, ◌↔◌, [], None, OnOk, IfSome, IsTrue};
+ghost use Rattle.std.specs.Prelude.{◌≡◌, ◌↔◌, ◌+◌, ◌≤◌, [], length, drop, None, IfOk, OnOk, IfSome, IsTrue};
 ghost use Rattle.terminal_model.specs.Reading.{Terminal};
 ghost use Rattle.emulator.specs.Standing.{StandsFor};
 ghost use Rattle.web_page.specs.Laying.{Shown, page_of};
 ghost use Rattle.web_client.specs.Judging.{end_of};
-ghost use Rattle.web_client.specs.Frames.{fresh};
-ghost use Rattle.web_client.specs.Rows.{SendsText, IsAsFar, SendsPage, Adds, IsDue, Shows};
+ghost use Rattle.web_client.specs.Frames.{fresh, stands, Reads, IsWithin};
+ghost use Rattle.web_client.specs.declared.seat.Seat.{Seat};
+ghost use Rattle.web_client.specs.Rows.{SendsText, Asks, IsAsFar, SendsPage, Adds, HasRoom, IsDue, Shows};
 ghost use Rattle.web_client.specs.declared.wire.End.TheVariants as end;
 
+use crate::frame::{Frame, answered_for, said};
 use attach_proto::Why;
 use std::alloc::{AllocError, Global};
 use web_page::{Display, SheetFault, put_text};
 use websocket::protocol::{
-    CloseCode, CloseFrame, Message, NoMask, Role, WebSocketConfig, WebSocketContext,
+    CloseCode, CloseFrame, FrameStatus, Message, NoMask, Role, WebSocketConfig, WebSocketContext,
 };
 
-/// A browser for which more bytes wait is given up.
-const TOO_MUCH: usize = 1_048_576;
+/// A browser is given up if more bytes wait for it: no page is longer.
+const MOST_OUTPUT: usize = 2_097_152;
+
+/// No rows are sent while the browser hasn't answered for more bytes of rows.
+const WINDOW: u64 = 4_096;
 
 /// The longest message of a page: a kind, and the payload of a frame.
 const LONGEST: usize = 8_193;
@@ -84,6 +89,10 @@ pub struct Wire {
     /// Bytes on their way to the browser.
     pub output: Vec<u8>,
     pub context: WebSocketContext,
+    /// How many bytes of rows were sent.
+    pub sent: u64,
+    /// How many of them the browser has answered for.
+    pub answered: u64,
 }
 
 impl Wire {
@@ -92,6 +101,7 @@ impl Wire {
         ensures stage { result.stage ≡ Stage.Request }
         ensures output { result.output.items ≡ [] }
         ensures context { result.context ≡ fresh }
+        ensures answered { result.answered ≡ 0 }
     {
         let config = WebSocketConfig {
             max_message_size: Some(LONGEST),
@@ -103,13 +113,39 @@ impl Wire {
             stage: Stage::Request,
             output: Vec::new(alloc),
             context: WebSocketContext::new(alloc, Role::Server, config),
+            sent: 0,
+            answered: 0,
         }
+    }
+
+    /// Reads the frame that these bytes begin with. Returns what it was, and how many bytes it has.
+    pub fn read(&mut self, rest: &mut [u8]) -> Result<(Frame, usize), End>
+        ensures reads { (s : Seat) → IfOk result (λ read. Reads (stands self.old rest.old s) read.0
+            (stands self.new (drop read.1 rest.new) s)) }
+        ensures within { IfOk result (λ read. read.1 ≤ length rest.old) }
+    {
+        let step = match self.context.read(rest, &mut self.output, &mut NoMask) {
+            Ok(FrameStatus::Partial(_)) => return Ok((Frame::None, 0)),
+            Ok(FrameStatus::Complete(step)) => step,
+            Err(_) => {
+                self.close(CloseCode::Protocol, "");
+                return Ok((Frame::None, 0));
+            }
+        };
+        let frame = said(self.alloc, &step.message, rest)?;
+        let answered = answered_for(&step.message, rest, self.answered);
+        self.answered = answered;
+        if frame.is_last() {
+            self.stage = Stage::Last;
+        }
+        Ok((frame, step.consumed))
     }
 
     /// Sends a close frame, after which the connection ends.
     pub fn close(&mut self, code: CloseCode, reason: &str)
         ensures adds { Adds self.old self.new }
         ensures stage { self.new.stage ≡ Stage.Last }
+        ensures sent { self.new.sent ≡ self.old.sent }
     {
         let frame = CloseFrame { code, reason };
         let _ = self
@@ -119,8 +155,9 @@ impl Wire {
     }
 
     /// Sends a text.
-    fn send_text(&mut self, text: &str) -> Result<(), End>
-        ensures { OnOk result (SendsText text.now self.old self.new) }
+    pub fn send_text(&mut self, text: &str) -> Result<(), End>
+        ensures sends { OnOk result (SendsText text.now self.old self.new) }
+        ensures sent { self.new.sent ≡ self.old.sent }
     {
         match self
             .context
@@ -131,17 +168,25 @@ impl Wire {
         }
     }
 
-    /// Asks the browser whether it is there.
-    pub fn ping(&mut self) {
-        let _ = self
+    /// Asks the browser to answer for the rows that it was sent. A browser answers a ping after what came before it.
+    pub fn ask(&mut self) -> Result<(), End>
+        ensures { OnOk result (Asks self.old self.new) }
+    {
+        let count = self.sent.to_be_bytes();
+        match self
             .context
-            .write(Message::Ping(&[]), &mut self.output, &mut NoMask);
+            .write(Message::Ping(&count), &mut self.output, &mut NoMask)
+        {
+            Ok(()) => Ok(()),
+            Err(_) => Err(End::Broken),
+        }
     }
 
     /// Tells a text to the browser's user.
     #[tactic(auto, using(crate::proofs::Rows::text_adds))]
     pub fn say(&mut self, text: &str) -> Result<(), End>
-        ensures { OnOk result (Adds self.old self.new) }
+        ensures adds { OnOk result (Adds self.old self.new) }
+        ensures sent { self.new.sent ≡ self.old.sent }
     {
         let mut out = String::from_str(self.alloc, "{\"say\":\"")?;
         put_text(&mut out, text)?;
@@ -153,6 +198,7 @@ impl Wire {
     pub fn tell_gone(&mut self, why: Why) -> Result<(), End>
         ensures adds { OnOk result (Adds self.old self.new) }
         ensures stage { OnOk result (self.new.stage ≡ Stage.Last) }
+        ensures sent { self.new.sent ≡ self.old.sent }
     {
         let number = why.number();
         let text = format!(in self.alloc; "{{\"gone\":{number}}}")?;
@@ -173,6 +219,8 @@ impl Wire {
         match display.update(view.since)? {
             Some(text) => {
                 self.send_text(text.as_str())?;
+                self.sent = self.sent.saturating_add(text.len() as u64);
+                self.ask()?;
                 view.since = display.moment();
                 Ok(())
             }
@@ -180,17 +228,25 @@ impl Wire {
         }
     }
 
+    // Whether the browser has taken what was sent, but for a few rows.
+    fn has_room(&self) -> bool
+        ensures { IsTrue result ↔ HasRoom self.now }
+    {
+        self.output.is_empty() && self.sent <= self.answered.saturating_add(WINDOW)
+    }
+
     // Whether rows are sent now.
     fn is_due(&self, display: &Display) -> bool
         ensures { IsTrue result ↔ IsDue display.now self.now }
     {
-        display.is_welcome() && (self.output.is_empty() || display.gone().is_some())
+        display.is_welcome() && (self.has_room() || display.gone().is_some())
     }
 
     // Tells once that the server let the browser's client in.
     fn welcome(&mut self, view: &mut View, display: &Display) -> Result<(), End>
         ensures adds { OnOk result (Adds self.old self.new) }
         ensures since { view.new.since ≡ view.old.since }
+        ensures sent { self.new.sent ≡ self.old.sent }
     {
         if display.is_welcome() && !view.is_welcomed {
             view.is_welcomed = true;
@@ -204,6 +260,7 @@ impl Wire {
         ensures adds { OnOk result (Adds self.old self.new) }
         ensures gone { IfSome display.now.told.gone (λ _. OnOk result (self.new.stage ≡ Stage.Last)) }
         ensures stays { display.now.told.gone ≡ None → self.new ≡ self.old }
+        ensures sent { self.new.sent ≡ self.old.sent }
     {
         match display.gone() {
             Some(why) => {
@@ -216,23 +273,45 @@ impl Wire {
         }
     }
 
-    /// Sends what is new of a display. Rows wait until the last ones were taken: what is sent then is
-    /// what the page shows then.
-    pub fn show(&mut self, view: &mut View, display: &mut Display) -> Result<(), End>
+    // Sends what is new of a display.
+    fn send_new(&mut self, view: &mut View, display: &mut Display) -> Result<(), End>
         ensures due { IsDue display.old self.old → OnOk result (Shows display.old view.old.since self.old
             display.new view.new.since self.new) }
         ensures later { (IsDue display.old self.old → ⊥)
-            → (view.new.since ≡ view.old.since) × (display.new ≡ display.old) }
+            → (view.new.since ≡ view.old.since) × (display.new ≡ display.old)
+            × (self.new.sent ≡ self.old.sent) }
         ensures gone { IfSome display.old.told.gone (λ _. OnOk result (self.new.stage ≡ Stage.Last)) }
     {
-        if self.output.len() > TOO_MUCH {
-            return Err(End::TooFarBehind);
-        }
         let is_due = self.is_due(display);
         self.welcome(view, display)?;
         if is_due {
             self.send_rows(view, display)?;
         }
         self.end(display)
+    }
+
+    /// Whether what waits for the browser is within its bound: it isn't given up.
+    pub fn check_bound(&self) -> Result<(), End>
+        ensures { OnOk result (IsWithin self.now) }
+    {
+        if self.output.len() > MOST_OUTPUT {
+            return Err(End::TooFarBehind);
+        }
+        Ok(())
+    }
+
+    /// Sends what is new of a display. Rows wait until the browser has answered for the last ones: what is
+    /// sent then is what the page shows then.
+    pub fn show(&mut self, view: &mut View, display: &mut Display) -> Result<(), End>
+        ensures due { IsDue display.old self.old → OnOk result (Shows display.old view.old.since self.old
+            display.new view.new.since self.new) }
+        ensures later { (IsDue display.old self.old → ⊥)
+            → (view.new.since ≡ view.old.since) × (display.new ≡ display.old)
+            × (self.new.sent ≡ self.old.sent) }
+        ensures gone { IfSome display.old.told.gone (λ _. OnOk result (self.new.stage ≡ Stage.Last)) }
+        ensures bound { OnOk result (IsWithin self.new) }
+    {
+        self.send_new(view, display)?;
+        self.check_bound()
     }
 }

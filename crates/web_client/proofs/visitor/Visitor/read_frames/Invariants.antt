@@ -1,14 +1,16 @@
-use Rattle.std.proofs.Common.{length}
+use Rattle.std.proofs.Common.{◌≤◌, ◌-◌, length}
 use Rattle.web_client.specs.Asking.{Asks}
-use Rattle.web_client.specs.Frames.{page}
+use Rattle.web_client.specs.Frames.{page, page_after}
 use Rattle.web_client.proofs.Frames.{Went}
 use Rattle.web_client.proofs.visitor.Visitor.read_frames.Given as goal
 
 abbrev pub invariant-frames : goal.invariant-frames
 invariant-frames l = record {
-  went : Went l.site.watcher (page l.fn.self) (page l.self);
+  went : Went l.site.watcher l.count (page l.fn.self) (page_after l.taken l.self);
+  within : l.taken ≤ length l.self.input.items;
+  few : l.count ≤ 64;
   asks : Asks l.fn.self.seat l.self.seat;
 }
 
 abbrev pub decreases-frames : goal.decreases-frames
-decreases-frames l = length l.self.input.items
+decreases-frames l = 64 - l.count

@@ -1,18 +1,25 @@
-use Rattle.std.proofs.Common.{ℕ, List, inl, inr, refl, sym, ◌∙◌, subst}
+use Rattle.std.proofs.Common.{◌≡◌, ℕ, ◌+◌, ◌-◌, ◌^◌, min, List, length, inl, inr, refl, sym, ap, ◌∙◌, subst}
 use Rattle.web_page.specs.Laying.{Shown, page_of}
 use Rattle.web_page.specs.Showing.{IsShown}
-use Rattle.web_client.specs.Rows.{SendsText}
+use Rattle.web_page.specs.Updates.{spelled}
+use Rattle.web_client.specs.Rows.{SendsText, Asks}
 use Rattle.web_client.proofs.wire.Wire.send_rows.Goals as goal
 
-pub returns-in_ok-send_text-in-Some-clause-rows : goal.returns-in_ok-send_text-in-Some-clause-rows
-returns-in_ok-send_text-in-Some-clause-rows c = λ t b w h.
+pub returns-in_ok-ask-in-Some-clause-rows : goal.returns-in_ok-ask-in-Some-clause-rows
+returns-in_ok-ask-in-Some-clause-rows c = λ t b w h.
     let made = rw c.in-Some.is at (c.in_ok-text.ensures.shows t b w h) in
-    let then = c.in_ok-text.ensures.then t w in (
+    let then = c.in_ok-text.ensures.then t w in
+    let count : c.saturating_add-self.result ≡ min (c.send_text.new.self.sent + length (spelled made.0)) (2 ^ 64 - 1) =
+    c.saturating_add-self.ensures
+    ∙ ap (λ (n : ℕ). min (c.send_text.new.self.sent + n) (2 ^ 64 - 1)) (c.len.ensures ∙ c.in-Some.text.bytes.ok.0 ∙ ap length made.1) in (
       inr (
         made.0,
+        c.send_text.new.self,
         made.2,
         subst (λ (l : List ℕ). SendsText l c.args.self.now c.send_text.new.self)
-            (c.as_str.ensures.value ∙ made.1) c.in_ok-send_text-in-Some.ensures,
+            (c.as_str.ensures.value ∙ made.1) c.in_ok-send_text-in-Some.ensures.sends,
+        subst (λ (n : ℕ). Asks (record c.send_text.new.self { sent = n }) c.ask.new.self) count
+            c.in_ok-ask-in-Some.ensures,
       ),
       then.0,
       inr (subst (λ (n : ℕ). IsShown n c.update.new.self.sheet (page_of t.screen)) (sym c.moment-view.ensures) then.1),

@@ -1,12 +1,12 @@
-use Rattle.std.proofs.Common.{◌≡◌, ℕ, List, rules, sym, subst}
+use Rattle.std.proofs.Common.{◌≡◌, ℕ, List, false, rules, sym, subst}
 use Rattle.web_client.specs.declared.visitor.Visitor.{Visitor}
 use Rattle.web_client.specs.declared.wire.Stage.{Stage}
 use Rattle.web_client.specs.declared.wire.Stage.TheVariants as stage
 use Rattle.web_client.specs.Serving.{AnswersBytes}
 use Rattle.web_client.specs.Frames.{Answers, TakesBytes}
 use Rattle.web_client.proofs.Answering.{unopened, ended}
-use Rattle.web_client.proofs.visitor.Visitor.take.Goals as goal
-use Rattle.web_client.proofs.visitor.Visitor.take.Goals.{then-eq+in_ok-answer+in_ok-take_answer, else-eq}
+use Rattle.web_client.proofs.visitor.Visitor.take_some.Goals as goal
+use Rattle.web_client.proofs.visitor.Visitor.take_some.Goals.{then-eq+in_ok-answer+in_ok-take_answer, else-eq}
 
 pub returns-else-is_open-clause-takes : goal.returns-else-is_open-clause-takes
 returns-else-is_open-clause-takes c =
@@ -14,18 +14,18 @@ returns-else-is_open-clause-takes c =
     elim c.if-eq.branch [
       | then-eq+in_ok-answer+in_ok-take_answer w ↦
           let begun : c.args.self.now.wire.stage ≡ stage.Request = search rules in
-          subst (λ (s : Stage). TakesBytes c.args.site.now s c.args.self.now c.if-eq.self) (sym begun) (
+          subst (λ (s : Stage). TakesBytes c.args.site.now s c.args.self.now c.if-eq.self false) (sym begun) (
             w.in_ok-answer.answer,
             subst (λ (l : List ℕ). AnswersBytes c.args.site.now l w.in_ok-answer.answer) w.deref.ensures.value
                 w.in_ok-answer.ensures,
-            unopened c.args.site.now w.in_ok-answer.answer c.args.self.now c.if-eq.self
+            unopened c.args.site.now w.in_ok-answer.answer c.args.self.now c.if-eq.self false
                 (subst (λ (v : Visitor). Answers w.in_ok-answer.answer c.args.self.now v) (sym w.self-is)
                 w.in_ok-take_answer.ensures.ok)
                 closed,
           )
       | else-eq w ↦
-          subst (λ (v : Visitor). TakesBytes c.args.site.now c.args.self.now.wire.stage c.args.self.now v)
+          subst (λ (v : Visitor). TakesBytes c.args.site.now c.args.self.now.wire.stage c.args.self.now v false)
           (sym w.self-is)
-          (ended c.args.site.now c.args.self.now.wire.stage c.args.self.now (λ e. search rules)
+          (ended c.args.site.now c.args.self.now.wire.stage c.args.self.now false (λ e. search rules)
           (λ e. closed (subst (λ (v : Visitor). v.wire.stage ≡ stage.Socket) (sym w.self-is) e)))
     ]

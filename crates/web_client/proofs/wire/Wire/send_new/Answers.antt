@@ -1,12 +1,12 @@
-use Rattle.std.proofs.Common.{◌≡◌, ℕ, Option, IfSome, OnOk, sym, ap, ◌∙◌, subst}
+use Rattle.std.proofs.Common.{◌≡◌, ℕ, Option, IfSome, OnOk, refl, sym, ap, ◌∙◌, subst}
 use Rattle.attach_proto.specs.declared.why.Why.{Why}
 use Rattle.web_client.specs.declared.wire.Stage.TheVariants.{Last}
 use Rattle.attach_proto.specs.declared.told.Told.{Told}
 use Rattle.web_page.specs.Hearing.{Display}
 use Rattle.web_client.specs.Rows.{IsAsFar}
 use Rattle.web_client.proofs.Rows.{shows}
-use Rattle.web_client.proofs.wire.Wire.show.Goals as goal
-use Rattle.web_client.proofs.wire.Wire.show.Goals.{then-is_due+in_ok-send_rows, else-is_due}
+use Rattle.web_client.proofs.wire.Wire.send_new.Goals as goal
+use Rattle.web_client.proofs.wire.Wire.send_new.Goals.{then-is_due+in_ok-send_rows, else-is_due}
 
 pub returns-clause-due : goal.returns-clause-due
 returns-clause-due c = λ due.
@@ -29,3 +29,16 @@ returns-clause-gone c =
       | else-is_due w ↦ ap (λ (d : Display). d.told.gone) w.display-is
     ] in
     subst (λ (g : Option Why). IfSome g (λ _. OnOk c.end.result (c.end.new.self.stage ≡ Last))) same c.end.ensures.gone
+
+pub returns-in_err-welcome-clause-later : goal.returns-in_err-welcome-clause-later
+returns-in_err-welcome-clause-later c = λ n. (c.welcome.ensures.since, refl, c.welcome.ensures.sent)
+
+pub returns-clause-later : goal.returns-clause-later
+returns-clause-later c = λ n.
+    elim c.if-is_due.branch [
+      | then-is_due+in_ok-send_rows w ↦ absurd (n (w.if-is_due.ensures.0 refl))
+      | else-is_due w ↦
+          let since : c.if-is_due.view.since ≡ c.args.view.now.since = rw w.view-is c.welcome.ensures.since in
+          let sent : c.if-is_due.self.sent ≡ c.args.self.now.sent = rw w.self-is c.welcome.ensures.sent in
+          (since, w.display-is, c.end.ensures.sent ∙ sent)
+    ]
