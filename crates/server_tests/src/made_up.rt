@@ -123,10 +123,11 @@ fn lists(alloc: Global) -> Result<Vec<Vec<u8>>, AllocError> {
 }
 
 // A window and its client, which types at last. Meanwhile connections send the lists, each list cut
-// at two places.
+// at two places. A turn takes 200 milliseconds, so that no size has to wait for long.
 fn acts(alloc: Global, lists: &[Vec<u8>]) -> Result<Vec<Act<'_>>, AllocError> {
-    let mut acts = Vec::with_capacity(alloc, lists.len().saturating_mul(11).saturating_add(7))?;
+    let mut acts = Vec::with_capacity(alloc, lists.len().saturating_mul(11).saturating_add(8))?;
     acts.extend_from_slice(&[
+        Act::SetTime(0, 200),
         Act::Connect(Habit::Whole, WINDOW),
         Act::Turns(2),
         Act::Connect(Habit::Whole, ATTACH),
@@ -140,7 +141,7 @@ fn acts(alloc: Global, lists: &[Vec<u8>]) -> Result<Vec<Act<'_>>, AllocError> {
             Act::Leave,
             Act::Turns(1),
             Act::Connect(Habit::Steady, list),
-            Act::Turns(8),
+            Act::Turns(12),
             Act::Note(2),
             Act::Leave,
             Act::Turns(1),
