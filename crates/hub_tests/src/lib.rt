@@ -1,6 +1,7 @@
 //! Tests of the hub and of a trail's file: threads that share a hub, what a seat is answered and
-//! takes, and whether its trail is legal; entries that no session files; a file that is slow, one
-//! that refuses writes, how much may wait, and files that aren't the trail's.
+//! takes, whether its trail is legal, and the stored forms of its entries; entries that no session
+//! files; a file that is slow, one that refuses writes, how much may wait, and files that aren't the
+//! trail's.
 #![tactic(auto)]
 
 #[cfg(test)]
@@ -21,6 +22,8 @@ mod fresh;
 mod many;
 #[cfg(test)]
 mod refusing;
+#[cfg(test)]
+mod shared;
 #[cfg(test)]
 mod steps;
 #[cfg(test)]
