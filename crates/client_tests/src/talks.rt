@@ -1,0 +1,233 @@
+//! Talks of `mux` with a server. The frames are those of muxd(8), The protocol.
+
+use crate::calling::{NO_CALL, Stage, answer, write_file};
+use crate::line::has;
+use std::io::{Read, Write};
+use std::os::unix::net::{UnixListener, UnixStream};
+use std::sync::Wait;
+use std::thread::Threads;
+use std::{fs, io, thread};
+
+const SOCKET: &str = "client_tests.socket";
+
+const TOKEN: &str = "client_tests.token";
+
+const TOKEN_TEXT: &[u8] = b"0000000000000000000000000000000000000000000000000000000000000000
+";
+
+static ATTACH: [&str; 12] = [
+    "mux", "attach", "--socket", SOCKET, "--user", "own", "--token", TOKEN, "--rows", "24",
+    "--cols", "80",
+];
+
+static WINDOW: [&str; 14] = [
+    "mux", "window", "--socket", SOCKET, "--user", "own", "--token", TOKEN, "--rows", "24",
+    "--cols", "80", "--title", "sh",
+];
+
+static COMMAND: [&str; 9] = [
+    "mux", "command", "--socket", SOCKET, "--user", "own", "--token", TOKEN, "windows",
+];
+
+static UNFINISHED: [&str; 4] = ["mux", "command", "--socket", SOCKET];
+
+/// The peer that `mux` is.
+#[derive(Clone, Copy)]
+enum Peer {
+    Client,
+    Window,
+    Command,
+}
+
+/// A talk: what `mux` reads, and what the server sends first, waits for, and sends then.
+#[derive(Clone, Copy)]
+struct Talk {
+    peer: Peer,
+    typed: &'static [u8],
+    first: &'static [u8],
+    awaited: &'static [u8],
+    last: &'static [u8],
+    status: u8,
+    written: &'static [u8],
+    /// What must not be written.
+    kept_back: &'static [u8],
+}
+
+static TALKS: [Talk; 9] = [
+    // A client: its keys are sent, and a draw is written.
+    Talk {
+        peer: Peer::Client,
+        typed: b"typed",
+        first: b"y\0\x01\0",
+        awaited: b"K\0\x05typed",
+        last: b"d\0\x06\x1b[Hyesg\0\x01\x04",
+        status: 0,
+        written: b"\x1b[Hyes",
+        kept_back: b"g\0",
+    },
+    // Nothing is written of a draw that sets the title.
+    Talk {
+        peer: Peer::Client,
+        typed: b"",
+        first: b"y\0\x01\0d\0\x0ebad\x1b]0;title\x07x",
+        awaited: b"A\0G",
+        last: b"g\0\x01\0",
+        status: 1,
+        written: b"",
+        kept_back: b"bad",
+    },
+    // Nor of one that begins in one frame and ends in another.
+    Talk {
+        peer: Peer::Client,
+        typed: b"",
+        first: b"y\0\x01\0d\0\x05good\x1bd\0\x02]0d\0\x03;t\x07",
+        awaited: b"A\0G",
+        last: b"g\0\x01\0",
+        status: 1,
+        written: b"",
+        kept_back: b"]0",
+    },
+    // The user was removed.
+    Talk {
+        peer: Peer::Client,
+        typed: b"",
+        first: b"y\0\x01\0",
+        awaited: b"A\0G",
+        last: b"g\0\x01\x01",
+        status: 1,
+        written: b"",
+        kept_back: b"",
+    },
+    // A window: what its program prints is sent, and what is typed there is written.
+    Talk {
+        peer: Peer::Window,
+        typed: b"printed",
+        first: b"y\0\x01\0",
+        awaited: b"O\0\x07printed",
+        last: b"i\0\x05typedg\0\x01\x03",
+        status: 0,
+        written: b"typed",
+        kept_back: b"g\0",
+    },
+    // A window that isn't let in.
+    Talk {
+        peer: Peer::Window,
+        typed: b"",
+        first: b"s\0\x08bad size",
+        awaited: b"W\0",
+        last: b"g\0\x01\x06",
+        status: 1,
+        written: b"",
+        kept_back: b"bad",
+    },
+    // A command: what is said is written, a text a line.
+    Talk {
+        peer: Peer::Command,
+        typed: b"",
+        first: b"y\0\x01\0s\0\x03ones\0\x03two",
+        awaited: b"C\0L",
+        last: b"g\0\x01\0",
+        status: 0,
+        written: b"one\ntwo\n",
+        kept_back: b"g\0",
+    },
+    // A command that is refused.
+    Talk {
+        peer: Peer::Command,
+        typed: b"",
+        first: b"y\0\x01\0s\0\x09no window",
+        awaited: b"C\0L",
+        last: b"g\0\x01\x06",
+        status: 1,
+        written: b"no window\n",
+        kept_back: b"g\0",
+    },
+    // A command writes no draw.
+    Talk {
+        peer: Peer::Command,
+        typed: b"",
+        first: b"y\0\x01\0d\0\x03bad",
+        awaited: b"C\0L",
+        last: b"g\0\x01\0",
+        status: 1,
+        written: b"",
+        kept_back: b"bad",
+    },
+];
+
+// Reads until these bytes came. Returns whether they came.
+fn awaits(stream: &mut UnixStream, came: &mut Vec<u8>, bytes: &[u8]) -> io::Result<bool> {
+    let mut buffer = [0; 1024];
+    for _ in 0..1000 {
+        if has(came, bytes) {
+            return Ok(true);
+        }
+        let count = stream.read(&mut buffer)?;
+        if count == 0 {
+            break;
+        }
+        came.extend_from_slice(&buffer[..count])?;
+    }
+    Ok(false)
+}
+
+// Serves one talk. Returns whether what it waits for came.
+fn serve<R: Stage>(rt: &R, listener: &UnixListener, talk: Talk) -> io::Result<bool> {
+    let (mut stream, _) = listener.accept()?;
+    let mut came = Vec::new(rt.alloc());
+    stream.write_all(talk.first)?;
+    let has_come = awaits(&mut stream, &mut came, talk.awaited)?;
+    // The client may have gone.
+    let _ = stream.write_all(talk.last);
+    Ok(has_come)
+}
+
+// Whether `mux` ends with the status, and has written what it must write.
+fn call<R: Stage + Threads + Wait>(rt: &R, talk: Talk) -> io::Result<bool> {
+    let (status, mut output) = match talk.peer {
+        Peer::Client => answer(rt, &ATTACH, talk.typed)?,
+        Peer::Window => answer(rt, &WINDOW, talk.typed)?,
+        Peer::Command => answer(rt, &COMMAND, talk.typed)?,
+    };
+    let has_written = output.is_sent(talk.written)?;
+    let keeps_back = talk.kept_back.is_empty() || !output.has_sent(talk.kept_back)?;
+    Ok(status == talk.status && has_written && keeps_back)
+}
+
+// Whether both sides of a talk went as they must.
+fn is_right(served: io::Result<bool>, called: io::Result<bool>) -> bool {
+    matches!((served, called), (Ok(true), Ok(true)))
+}
+
+/// What is typed is sent, what is drawn or said is written, and the status is that of the end.
+#[test]
+fn talks_go_as_they_must(rt: HostRuntime) {
+    let Ok(()) = write_file(&rt, TOKEN, TOKEN_TEXT) else {
+        panic!(rt; "the token can't be written")
+    };
+    let Ok(listener) = UnixListener::bind(&rt, SOCKET) else {
+        panic!(rt; "no socket")
+    };
+    let (shared, door) = (&rt, &listener);
+    let mut wrong = None;
+    for (place, talk) in TALKS.iter().enumerate() {
+        let talk = *talk;
+        let (served, called) = thread::join(
+            shared,
+            || serve(shared, door, talk),
+            || call(shared, talk),
+        );
+        if !is_right(served, called) {
+            wrong = Some(place);
+        }
+    }
+    let status = match answer(&rt, &UNFINISHED, b"") {
+        Ok((status, _)) => status,
+        Err(_) => NO_CALL,
+    };
+    for path in [TOKEN, SOCKET] {
+        let _ = fs::remove_file(&rt, path);
+    }
+    assert_eq!(rt; wrong, None);
+    assert_eq!(rt; status, 2);
+}
