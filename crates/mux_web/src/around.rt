@@ -7,8 +7,10 @@ use std::net::Net;
 use std::time::Duration;
 use web_client::Site;
 
-/// The token of the listener.
-pub const DOOR: Token = Token(0);
+/// The token of the door of this number.
+pub fn door_token(number: usize) -> Token {
+    Token(number.saturating_mul(4))
+}
 
 /// The token of the browser at this place.
 pub fn browser_token(place: usize) -> Token {

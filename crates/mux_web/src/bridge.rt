@@ -1,30 +1,37 @@
 //! The loop of a bridge: one thread, and all connections.
 
-use crate::around::{Around, DOOR, browser_token, server_token};
+use crate::around::{Around, browser_token, door_token, server_token};
 use crate::guest::Guest;
 use crate::halls::Halls;
 use crate::log::Log;
+use crate::seating::{enter_hall, show, tell};
 use crate::streams::{Browser, Door};
 use mio::{Events, Poll, Registry, Token};
 use std::alloc::Global;
 use std::io;
-use std::io::{ErrorKind, Write};
+use std::io::ErrorKind;
 use std::net::Net;
 use std::sync::{Arc, Wait};
 use std::time::{Clock, Duration};
-use web_client::{Seat, Site, refusal};
+use web_client::Site;
 
 /// The size of a read.
 const CHUNK: usize = 16_384;
 
-/// How many connections may be there besides those of open pages.
-const SPARE: usize = 64;
+/// How many connections may be there besides those of pages that have said who they are.
+const SPARE: usize = 256;
 
 /// How many connections are taken in one turn.
 const COMERS: usize = 64;
 
 /// How many seconds pass at most between two looks at all connections.
-const LOOK: u64 = 5;
+const LOOK: u64 = 2;
+
+/// The same if something waits that no event tells of, in milliseconds.
+const SOON: u64 = 100;
+
+/// What a page is told that has said who it is when all places are taken.
+const FULL: &str = "all places are taken: try again later";
 
 /// What a bridge stands on.
 #[derive(Drop)]
@@ -32,15 +39,18 @@ pub struct Bridge<'a> {
     alloc: Global,
     site: Site,
     socket: &'a str,
-    /// How many pages may be open.
+    /// How many pages may be there that have said who they are.
     most: usize,
     /// None if it logs nothing.
     log: Option<Arc<Log>>,
     guests: Vec<Option<Guest>>,
     halls: Halls,
     buffer: Vec<u8>,
-    /// Browsers may wait at the door. It tells of those that come, and not again of those that wait.
+    /// Browsers may wait at a door. It tells of those that come, and not again of those that wait.
     has_comers: bool,
+    /// How many logins were refused since a line told of such.
+    refused: u64,
+    told_refused: Duration,
 }
 
 impl<'a> Bridge<'a> {
@@ -62,6 +72,8 @@ impl<'a> Bridge<'a> {
             halls: Halls::new(alloc),
             buffer: vec![in alloc; 0; CHUNK]?,
             has_comers: true,
+            refused: 0,
+            told_refused: Duration::ZERO,
         })
     }
 
@@ -78,12 +90,41 @@ impl<'a> Bridge<'a> {
         self.guests.iter().filter(|guest| guest.is_some()).count()
     }
 
-    // Lets a browser in, if there is memory and the system watches its connection.
+    // The place of the oldest connection that hasn't said who it is.
+    fn oldest_silent(&self) -> Option<usize> {
+        let mut oldest: Option<(usize, Duration)> = None;
+        for (place, guest) in self.guests.iter().enumerate() {
+            if let Some(guest) = guest {
+                let is_older = match oldest {
+                    Some((_, began)) => guest.began() < began,
+                    None => true,
+                };
+                if !guest.has_begun() && is_older {
+                    oldest = Some((place, guest.began()));
+                }
+            }
+        }
+        match oldest {
+            Some((place, _)) => Some(place),
+            None => None,
+        }
+    }
+
+    // Leaves a place free.
+    fn release(&mut self, place: usize) {
+        if let Some(slot) = self.guests.get_mut(place) {
+            *slot = None;
+        }
+    }
+
+    // Lets a browser in, if there is memory and the system watches its connection. If there are too many, the oldest
+    // one goes that hasn't said who it is.
     fn let_in(&mut self, browser: Browser, registry: &Registry, now: Duration) -> io::Result<()> {
         let mut browser = browser;
         if self.count() >= self.most.saturating_add(SPARE) {
-            let _ = browser.write(&refusal(self.alloc, "503 Service Unavailable")?);
-            return Ok(());
+            if let Some(place) = self.oldest_silent() {
+                self.release(place);
+            }
         }
         let place = self.free_place()?;
         browser.register(registry, browser_token(place))?;
@@ -93,8 +134,8 @@ impl<'a> Bridge<'a> {
         Ok(())
     }
 
-    // Takes browsers that wait at the door. Returns whether more may be taken at once. If the system refuses to
-    // hand one over, it is asked again in the next turn.
+    // Takes browsers that wait at a door. Returns whether more may be taken at once. If the system refuses to
+    // hand one over, it is asked again soon.
     fn accept(&mut self, door: &Door, registry: &Registry, now: Duration) -> bool {
         for _ in 0..COMERS {
             match door.accept() {
@@ -103,12 +144,50 @@ impl<'a> Bridge<'a> {
                     let _ = self.let_in(browser, registry, now);
                 }
                 Err(error) => {
-                    self.has_comers = error.kind() != ErrorKind::WouldBlock;
+                    self.has_comers |= error.kind() != ErrorKind::WouldBlock;
                     return false;
                 }
             }
         }
+        self.has_comers = true;
         true
+    }
+
+    // Takes browsers that wait at the doors. Returns whether more may be taken at once.
+    fn accept_all(&mut self, doors: &[Door], registry: &Registry, now: Duration) -> bool {
+        let mut has_more = false;
+        if self.has_comers {
+            self.has_comers = false;
+            for door in doors {
+                has_more |= self.accept(door, registry, now);
+            }
+        }
+        has_more
+    }
+
+    // How long it may sleep without an event.
+    fn longest(&self, is_busy: bool) -> Duration {
+        if is_busy {
+            Duration::ZERO
+        } else if self.has_comers || self.refused > 0 {
+            Duration::from_millis(SOON)
+        } else {
+            Duration::from_secs(LOOK)
+        }
+    }
+
+    // Logs how many logins were refused, once a second at most.
+    fn tell_refused<R: Wait>(&mut self, rt: &R, now: Duration) {
+        let Some(log) = &self.log else {
+            self.refused = 0;
+            return;
+        };
+        if self.refused > 0 && now.saturating_sub(self.told_refused) >= Duration::from_secs(1) {
+            let count = self.refused;
+            log.put(rt, &format_args!("logins refused: {count}"));
+            self.refused = 0;
+            self.told_refused = now;
+        }
     }
 
     // Notes that the connection of this token has something to read, or has room.
@@ -119,11 +198,12 @@ impl<'a> Bridge<'a> {
             (1, Some(Some(guest))) => guest.browser_ready = true,
             (2, Some(Some(guest))) => guest.server_ready = true,
             (3, _) => self.halls.mark(place),
+            (0, _) => self.has_comers = true,
             _ => {}
         }
     }
 
-    // Whether the page that has just opened at this place is one too many: of all, or of its address.
+    // Whether the page at this place is one too many: of all, or of its address.
     fn is_full(&self, place: usize) -> bool {
         let Some(Some(guest)) = self.guests.get(place) else {
             return false;
@@ -131,9 +211,9 @@ impl<'a> Bridge<'a> {
         let address = guest.visitor.address.as_slice();
         let mut all = 0usize;
         let mut same = 0usize;
-        for other in &self.guests {
+        for (number, other) in self.guests.iter().enumerate() {
             if let Some(other) = other {
-                if other.visitor.is_open() {
+                if number != place && other.has_begun() && other.visitor.is_open() {
                     all = all.saturating_add(1);
                     if other.visitor.address.as_slice() == address {
                         same = same.saturating_add(1);
@@ -141,70 +221,13 @@ impl<'a> Bridge<'a> {
                 }
             }
         }
-        all > self.most || (!address.is_empty() && same > (self.most / 2).max(1))
-    }
-}
-
-// Logs who begins: a name, and no token.
-fn tell<R: Wait>(rt: &R, log: &Option<Arc<Log>>, place: usize, guest: &Guest) {
-    let Some(log) = log else {
-        return;
-    };
-    match &guest.visitor.seat {
-        Seat::Own(client) => {
-            let name = client.display.name();
-            log.put(rt, &format_args!("{place} begins as {name}"));
-        }
-        Seat::Watching(rows, columns) => {
-            log.put(rt, &format_args!("{place} watches {rows} by {columns}"));
-        }
-        _ => {}
-    }
-}
-
-// Seats a watcher in the hall of its size.
-fn enter_hall<R: Net + Wait>(
-    rt: &R,
-    (guest, place): (&mut Guest, usize),
-    halls: &mut Halls,
-    around: Around<'_>,
-    log: &Option<Arc<Log>>,
-) {
-    let Seat::Watching(rows, columns) = guest.visitor.seat else {
-        return;
-    };
-    let found = halls.enter(rt, around, (rows, columns));
-    if found.is_none() {
-        guest.visitor.lose("no server: is muxd running?");
-    }
-    if found != guest.hall {
-        if guest.hall.is_none() {
-            tell(rt, log, place, guest);
-        }
-        guest.visitor.change_page();
-        guest.hall = found;
-    }
-}
-
-// Shows a guest the page of its own client, or of its hall.
-fn show(guest: &mut Guest, halls: &mut Halls) {
-    let Some(number) = guest.hall else {
-        return guest.show_own();
-    };
-    let Some(hall) = halls.get_mut(number) else {
-        return guest.visitor.lose("the session's connection ended");
-    };
-    hall.audience = hall.audience.saturating_add(1);
-    if guest.visitor.show_shared(&mut hall.client.display).is_err() {
-        guest.is_over = true;
-    }
-    if hall.is_lost {
-        guest.visitor.lose("the session's connection ended");
+        let share = self.most.saturating_sub(self.most / 4);
+        all >= self.most || (!address.is_empty() && same >= share)
     }
 }
 
 impl Bridge<'_> {
-    // Reads one browser. A page that is one too many is turned away.
+    // Reads one browser. A page that is one too many is turned away: when it opens, or when it says who it is.
     fn read(&mut self, registry: &Registry, place: usize, now: Duration) {
         let Some(Some(guest)) = self.guests.get_mut(place) else {
             return;
@@ -215,11 +238,11 @@ impl Bridge<'_> {
             socket: self.socket,
             now,
         };
-        if guest.read_browser(around, self.buffer.as_mut_slice()) && self.is_full(place) {
+        let opens = guest.read_browser(around, self.buffer.as_mut_slice());
+        let begins = guest.begins();
+        if (opens || begins) && self.is_full(place) {
             if let Some(Some(guest)) = self.guests.get_mut(place) {
-                if guest.visitor.turn_away().is_err() {
-                    guest.is_over = true;
-                }
+                guest.turn_away(opens, FULL);
             }
         }
     }
@@ -241,12 +264,12 @@ impl Bridge<'_> {
             socket: self.socket,
             now,
         };
-        if guest.begins() {
-            tell(rt, &self.log, place, guest);
+        if guest.wants_server() {
             guest.connect(rt, around, server_token(place));
         }
         enter_hall(rt, (guest, place), &mut self.halls, around, &self.log);
         guest.read_server(self.buffer.as_mut_slice());
+        tell(rt, &self.log, place, guest);
         guest.write_all();
         show(guest, &mut self.halls);
         guest.write_all();
@@ -259,13 +282,14 @@ impl Bridge<'_> {
         let Some(slot) = self.guests.get_mut(place) else {
             return;
         };
-        let (is_over, has_begun) = match slot {
-            Some(guest) => (guest.is_over, guest.has_begun()),
-            None => (false, false),
+        let (is_over, is_told, is_refused) = match slot {
+            Some(guest) => (guest.is_over, guest.is_told(), guest.is_refused()),
+            None => (false, false, false),
         };
         if is_over {
             *slot = None;
-            if let (true, Some(log)) = (has_begun, &self.log) {
+            self.refused = self.refused.saturating_add(u64::from(is_refused));
+            if let (true, Some(log)) = (is_told, &self.log) {
                 log.put(rt, &format_args!("{place} ends"));
             }
         }
@@ -288,6 +312,7 @@ impl Bridge<'_> {
             self.let_go(rt, place);
         }
         self.halls.close(now);
+        self.tell_refused(rt, now);
         is_busy
     }
 }
@@ -296,35 +321,28 @@ impl Bridge<'_> {
 pub fn serve<R: Net + Clock + Wait + AllocGlobal>(
     rt: &R,
     bridge: Bridge<'_>,
-    door: Door,
+    doors: Vec<Door>,
 ) -> io::Result<()> {
     let mut bridge = bridge;
-    let mut door = door;
+    let mut doors = doors;
     let mut poll = Poll::new(rt)?;
     let registry = poll.registry().try_clone()?;
-    door.register(&registry, DOOR)?;
+    for (number, door) in doors.iter_mut().enumerate() {
+        door.register(&registry, door_token(number))?;
+    }
     let mut events = Events::with_capacity(rt.alloc(), 1024)?;
     let mut is_busy = false;
     for _ in rt.forever() {
-        let longest = if is_busy {
-            Duration::ZERO
-        } else {
-            Duration::from_secs(LOOK)
-        };
-        match poll.poll(&mut events, Some(longest)) {
+        match poll.poll(&mut events, Some(bridge.longest(is_busy))) {
             Ok(()) => {}
             Err(error) if error.kind() == ErrorKind::Interrupted => continue,
             Err(error) => return Err(error),
         }
         let now = rt.monotonic()?;
         for event in &events {
-            if event.token() == DOOR {
-                bridge.has_comers = true;
-            } else {
-                bridge.mark(event.token());
-            }
+            bridge.mark(event.token());
         }
-        let has_more = bridge.has_comers && bridge.accept(&door, &registry, now);
+        let has_more = bridge.accept_all(&doors, &registry, now);
         is_busy = bridge.turn(rt, &registry, now) || has_more;
     }
     Ok(())

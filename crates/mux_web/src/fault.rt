@@ -3,6 +3,7 @@
 use server_system::ServeFault;
 use std::alloc::{AllocError, AllocFailed};
 use std::io;
+use std::net::SocketAddr;
 use thiserror::Error;
 
 /// Why `mux-web` doesn't serve, or ended.
@@ -22,13 +23,19 @@ pub enum WebFault {
     #[error("--watch takes the name of a user")]
     NoName,
     /// The value of `--listen`.
-    #[error("can't listen on {0}: it is no address of this machine, such as 127.0.0.1:8090, and no path")]
+    #[error("can't listen on {0}: give 127.0.0.1 or [::1] with a port, such as 127.0.0.1:8090, or a path")]
     NotLocal(String),
+    /// A value of `--origin`.
+    #[error("no origin: {0}: give the page's address without a path, such as https://mux.example.org")]
+    NotOrigin(String),
     #[error("--listen with a path needs --origin: the address of the page, such as https://mux.example.org")]
     NoOrigin,
     /// The value of `--listen`.
-    #[error("can't listen on {0}: {1}")]
+    #[error("can't listen on {0}: {1}: choose another port")]
     NotMade(String, io::Error),
+    /// The address of this machine at which browsers look for `localhost`, too.
+    #[error("can't listen on {0}: {1}: browsers may look there for localhost, so choose another port")]
+    Shared(SocketAddr, io::Error),
     #[error("{0}")]
     Socket(ServeFault),
     #[error("the system refused to wait: {0}")]
@@ -41,7 +48,11 @@ impl WebFault {
     /// The status to exit with.
     pub fn status(&self) -> u8 {
         match self {
-            WebFault::Alone | WebFault::NoName | WebFault::NotLocal(_) | WebFault::NoOrigin => 2,
+            WebFault::Alone
+            | WebFault::NoName
+            | WebFault::NotLocal(_)
+            | WebFault::NotOrigin(_)
+            | WebFault::NoOrigin => 2,
             _ => 1,
         }
     }

@@ -14,19 +14,26 @@ use web_client::{Seat, Visitor};
 /// A browser has this number of seconds for its request and its first message.
 const PATIENCE: u64 = 20;
 
-/// A page that says nothing for this number of seconds is asked whether it is there, and ends if it
-/// says nothing for as long again.
-const QUIET: u64 = 30;
+/// After this number of seconds a page that has taken all is told that the bridge is there, and asked whether it is.
+const ASK: u64 = 4;
+
+/// A page that has taken all and then answers nothing for this number of seconds ends.
+const DEAD: u64 = 10;
+
+/// A page that takes nothing, and of which nothing is taken, ends after this number of seconds.
+const STUCK: u64 = 60;
 
 /// How often a connection is read in one turn.
 const READS: usize = 16;
 
-/// Whether the own client of a browser is connected.
+/// The own client's connection to the server.
 #[derive(Drop)]
 enum Server {
-    /// It has none, or doesn't need one any more.
-    None,
+    /// There was none yet.
+    Unasked,
     Connected(UnixStream),
+    /// It ended.
+    Lost,
 }
 
 /// A browser, and its own client's connection.
@@ -39,10 +46,14 @@ pub struct Guest {
     pub hall: Option<HallNumber>,
     pub browser_ready: bool,
     pub server_ready: bool,
+    // Frames of it may be left that weren't taken yet.
+    has_more: bool,
     has_begun: bool,
+    // It was logged that it is there.
+    is_told: bool,
     began: Duration,
     heard: Duration,
-    asked: Option<Duration>,
+    asked: Duration,
     pub is_over: bool,
 }
 
@@ -52,23 +63,28 @@ impl Guest {
         Guest {
             visitor: Visitor::new(alloc),
             browser,
-            server: Server::None,
+            server: Server::Unasked,
             hall: None,
             browser_ready: true,
             server_ready: false,
+            has_more: false,
             has_begun: false,
+            is_told: false,
             began: now,
             heard: now,
-            asked: None,
+            asked: now,
             is_over: false,
         }
     }
 
-    /// Reads what the browser has sent. Returns whether its page opened.
+    /// Reads what the browser has sent, up to 64 frames in a turn if they are short. Returns whether its page opened.
     pub fn read_browser(&mut self, around: Around<'_>, buffer: &mut [u8]) -> bool {
         let was_open = self.visitor.is_open();
+        if self.has_more && self.visitor.can_read() {
+            self.take(around);
+        }
         for _ in 0..READS {
-            if !self.browser_ready || !self.visitor.can_read() {
+            if self.has_more || !self.browser_ready || !self.visitor.can_read() {
                 break;
             }
             match arrival_of(self.visitor.receive(&mut self.browser, buffer)) {
@@ -86,25 +102,77 @@ impl Guest {
     // Takes what came of the browser.
     fn take(&mut self, around: Around<'_>) {
         self.heard = around.now;
-        self.asked = None;
-        if self.visitor.take(around.site).is_err() {
-            self.is_over = true;
+        match self.visitor.take(around.site) {
+            Ok(has_more) => self.has_more = has_more,
+            Err(_) => self.is_over = true,
         }
     }
 
-    /// Whether its own client begins now.
+    /// Whether its page says now who it is: a user, or one who watches.
     pub fn begins(&mut self) -> bool {
         let begins = match &self.visitor.seat {
-            Seat::Own(_) => !self.has_begun && self.visitor.is_open(),
+            Seat::Own(_) | Seat::Watching(_, _) => !self.has_begun && self.visitor.is_open(),
             _ => false,
         };
         self.has_begun = self.has_begun || begins;
         begins
     }
 
+    /// There is no place for its page, which opens now or is open.
+    pub fn turn_away(&mut self, opens: bool, reason: &str) {
+        if !opens {
+            self.visitor.lose(reason);
+        } else if self.visitor.turn_away().is_err() {
+            self.is_over = true;
+        }
+    }
+
     /// Whether it has said who it is.
     pub fn has_begun(&self) -> bool {
-        self.has_begun || self.hall.is_some()
+        self.has_begun
+    }
+
+    /// When it came.
+    pub fn began(&self) -> Duration {
+        self.began
+    }
+
+    /// Whether its own client is to be connected.
+    pub fn wants_server(&self) -> bool {
+        self.has_begun
+            && self.visitor.is_open()
+            && matches!(&self.visitor.seat, Seat::Own(_))
+            && matches!(&self.server, Server::Unasked)
+    }
+
+    /// The name of its user if the server has just let it in.
+    pub fn is_let_in(&mut self) -> Option<&str> {
+        match &self.visitor.seat {
+            Seat::Own(client) if client.display.is_welcome() && !self.is_told => {
+                self.is_told = true;
+                Some(client.display.name())
+            }
+            _ => None,
+        }
+    }
+
+    /// It was logged that it watches.
+    pub fn note_told(&mut self) {
+        self.is_told = true;
+    }
+
+    /// Whether it was logged that it is there.
+    pub fn is_told(&self) -> bool {
+        self.is_told
+    }
+
+    /// Whether it gave a name and a token with which nobody is let in.
+    pub fn is_refused(&self) -> bool {
+        match &self.visitor.seat {
+            Seat::Own(client) => !self.is_told && client.display.gone().is_some(),
+            Seat::Unknown => true,
+            _ => false,
+        }
     }
 
     /// Connects its own client.
@@ -124,7 +192,7 @@ impl Guest {
         if !is_told {
             self.visitor.lose("the session's connection ended");
         }
-        self.server = Server::None;
+        self.server = Server::Lost;
         self.server_ready = false;
     }
 
@@ -186,25 +254,31 @@ impl Guest {
     pub fn is_busy(&self) -> bool {
         let has_server = matches!(&self.server, Server::Connected(_));
         !self.is_over
-            && ((self.browser_ready && self.visitor.can_read())
+            && (((self.has_more || self.browser_ready) && self.visitor.can_read())
                 || (self.server_ready && has_server))
     }
 
-    /// Ends it if it is done or was silent for too long, and asks it whether it is there if it was
-    /// silent for long.
-    pub fn look(&mut self, now: Duration) {
-        if self.visitor.is_last() && self.visitor.is_idle() {
-            self.is_over = true;
+    // Whether it was silent for too long.
+    fn is_silent(&self, now: Duration, takes: bool) -> bool {
+        let silent = now.saturating_sub(self.heard);
+        match &self.visitor.seat {
+            Seat::Nobody => now.saturating_sub(self.began) > Duration::from_secs(PATIENCE),
+            _ if takes => silent > Duration::from_secs(DEAD),
+            _ => silent > Duration::from_secs(STUCK),
         }
-        let is_quiet = now.saturating_sub(self.asked.unwrap_or(self.heard))
-            > Duration::from_secs(QUIET);
-        let is_nobody = matches!(&self.visitor.seat, Seat::Nobody);
-        let is_late = is_nobody && now.saturating_sub(self.began) > Duration::from_secs(PATIENCE);
-        if is_late || (is_quiet && self.asked.is_some()) {
+    }
+
+    /// Ends it if it is done or was silent for too long, and asks it now and then whether it is there.
+    pub fn look(&mut self, now: Duration) {
+        let takes = self.visitor.can_read() && self.visitor.is_idle();
+        if self.is_silent(now, takes) || (self.visitor.is_last() && self.visitor.is_idle()) {
             self.is_over = true;
-        } else if is_quiet {
-            self.asked = Some(now);
-            self.visitor.ping();
+        } else if takes
+            && self.has_begun
+            && now.saturating_sub(self.asked) >= Duration::from_secs(ASK)
+        {
+            self.asked = now;
+            self.is_over = self.visitor.ping().is_err();
             self.write_all();
         }
     }

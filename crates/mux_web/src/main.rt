@@ -10,6 +10,7 @@ mod guest;
 mod halls;
 mod log;
 mod options;
+mod seating;
 mod serving;
 mod streams;
 

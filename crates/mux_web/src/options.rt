@@ -6,7 +6,7 @@ use attach_proto::Token;
 use clap::ArgMatches;
 use std::alloc::{AllocError, Global};
 use std::fs::{File, Files};
-use std::net::SocketAddr;
+use std::net::{IpAddr, SocketAddr};
 use std::{env, fs};
 use web_client::{Site, Watcher};
 
@@ -51,15 +51,35 @@ impl<'a> WebOptions<'a> {
         }
     }
 
-    /// Where browsers come in. An address that others can reach is refused.
+    /// Where browsers come in. An address that others can reach is refused, and so is a part of one.
     pub fn listens(&self, alloc: Global) -> Result<Listen<'a>, WebFault> {
         match self.listen.parse::<SocketAddr>() {
-            Ok(address) if address.ip().is_loopback() => Ok(Listen::Address(address)),
-            Err(_) if self.listen.contains("/") || !self.listen.contains(":") => {
-                Ok(Listen::Path(self.listen))
-            }
-            _ => Err(WebFault::NotLocal(String::from_str(alloc, self.listen)?)),
+            Ok(address) if address.ip().is_loopback() => return Ok(Listen::Address(address)),
+            _ => {}
         }
+        let is_path = self.listen.contains("/") || !self.listen.contains(":");
+        let is_part = self.listen.parse::<IpAddr>().is_ok() || self.listen.parse::<u16>().is_ok();
+        if is_path && !is_part {
+            return Ok(Listen::Path(self.listen));
+        }
+        Err(WebFault::NotLocal(String::from_str(alloc, self.listen)?))
+    }
+}
+
+/// Whether a text is an origin as a browser sends it: http or https, and a host, maybe with a port.
+fn is_origin(text: &str) -> bool {
+    let host = match text.strip_prefix("https://") {
+        Some(host) => Some(host),
+        None => text.strip_prefix("http://"),
+    };
+    match host {
+        Some(host) => {
+            !host.is_empty()
+                && host.bytes().all(|it| {
+                    it.is_ascii_lowercase() || it.is_ascii_digit() || b".-_:[]".contains(&it)
+                })
+        }
+        None => false,
     }
 }
 
@@ -71,7 +91,11 @@ pub fn origins_of(
 ) -> Result<Vec<String>, WebFault> {
     let mut origins = Vec::new(alloc);
     for origin in named {
-        origins.push(String::from_str(alloc, origin)?)?;
+        let text = String::from_str(alloc, origin)?;
+        if !is_origin(origin) {
+            return Err(WebFault::NotOrigin(text));
+        }
+        origins.push(text)?;
     }
     if !origins.is_empty() {
         return Ok(origins);
@@ -80,7 +104,7 @@ pub fn origins_of(
         Listen::Address(address) => {
             let port = address.port();
             origins.push(format!(in alloc; "http://127.0.0.1:{port}")?)?;
-            origins.push(format!(in alloc; "http://localhost:{port}")?)?;
+            origins.push(format!(in alloc; "http://[::1]:{port}")?)?;
             Ok(origins)
         }
         Listen::Path(_) => Err(WebFault::NoOrigin),

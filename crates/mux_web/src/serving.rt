@@ -7,20 +7,28 @@ use crate::options::{Listen, WebOptions, origins_of, site_of};
 use crate::streams::Door;
 use program_words::{of_web, tell};
 use server_system::{Host, SocketPath};
-use std::io::Write;
-use std::net::SocketAddr;
+use std::fs;
+use std::io::{ErrorKind, Write};
+use std::net::{IpAddr, Ipv4Addr, Ipv6Addr, SocketAddr};
 use std::sync::Wait;
 use std::thread::Threads;
 use web_client::Site;
 
-// Serves browsers that come in through a door.
+/// The system's number for a kind of addresses that it doesn't have.
+const EAFNOSUPPORT: i32 = 97;
+
+// Serves browsers that come in through these doors.
 fn serve_at<R: Host + Threads + Wait + Eprint, O: Write>(
     rt: &R,
     options: WebOptions<'_>,
     site: Site,
-    door: Door,
+    doors: Vec<Door>,
     output: &mut O,
 ) -> Result<(), WebFault> {
+    if !fs::exists(rt, options.socket).unwrap_or(true) {
+        let path = options.socket;
+        let _ = eprintln!(rt; "mux-web: no server yet: {path}: start muxd with this --socket");
+    }
     let log = if options.tells {
         Some(start_log(rt, rt.alloc())?)
     } else {
@@ -29,7 +37,46 @@ fn serve_at<R: Host + Threads + Wait + Eprint, O: Write>(
     let bridge = Bridge::new(rt.alloc(), site, options.socket, options.most, log)?;
     writeln!(output, "mux-web: ready")?;
     output.flush()?;
-    Ok(serve(rt, bridge, door)?)
+    Ok(serve(rt, bridge, doors)?)
+}
+
+// The other address at which a browser may look for localhost.
+fn other_loopback(address: SocketAddr) -> Option<SocketAddr> {
+    let port = address.port();
+    if address.ip() == IpAddr::V4(Ipv4Addr::LOCALHOST) {
+        Some(SocketAddr::from((Ipv6Addr::LOCALHOST, port)))
+    } else if address.ip() == IpAddr::V6(Ipv6Addr::LOCALHOST) {
+        Some(SocketAddr::from((Ipv4Addr::LOCALHOST, port)))
+    } else {
+        None
+    }
+}
+
+// Doors at an address of this machine, and at the other one that localhost may be: else another account could
+// listen there. A machine that lacks that one has no such door.
+fn doors_at<R: Host>(
+    rt: &R,
+    options: WebOptions<'_>,
+    address: SocketAddr,
+) -> Result<Vec<Door>, WebFault> {
+    let mut doors = Vec::new(rt.alloc());
+    match Door::tcp(rt, address) {
+        Ok(door) => doors.push(door)?,
+        Err(error) => {
+            let name = String::from_str(rt.alloc(), options.listen)?;
+            return Err(WebFault::NotMade(name, error));
+        }
+    }
+    let Some(other) = other_loopback(address) else {
+        return Ok(doors);
+    };
+    match Door::tcp(rt, other) {
+        Ok(door) => doors.push(door)?,
+        Err(error) if error.kind() == ErrorKind::AddrNotAvailable => {}
+        Err(error) if error.raw_os_error() == Some(EAFNOSUPPORT) => {}
+        Err(error) => return Err(WebFault::Shared(other, error)),
+    }
+    Ok(doors)
 }
 
 // Serves at an address of this machine.
@@ -40,13 +87,8 @@ fn serve_address<R: Host + Threads + Wait + Eprint, O: Write>(
     address: SocketAddr,
     output: &mut O,
 ) -> Result<(), WebFault> {
-    match Door::tcp(rt, address) {
-        Ok(door) => serve_at(rt, options, site, door, output),
-        Err(error) => {
-            let name = String::from_str(rt.alloc(), options.listen)?;
-            Err(WebFault::NotMade(name, error))
-        }
-    }
+    let doors = doors_at(rt, options, address)?;
+    serve_at(rt, options, site, doors, output)
 }
 
 // Serves at a socket, which is removed if the system refuses to wait. A signal ends the program at once and
@@ -60,7 +102,9 @@ fn serve_socket<R: Host + Threads + Wait + Eprint, O: Write>(
 ) -> Result<(), WebFault> {
     match SocketPath::listen(rt, rt.alloc(), path) {
         Ok((place, listener)) => {
-            let served = serve_at(rt, options, site, Door::Unix(listener), output);
+            let mut doors = Vec::new(rt.alloc());
+            doors.push(Door::Unix(listener))?;
+            let served = serve_at(rt, options, site, doors, output);
             place.leave(rt, rt);
             served
         }
@@ -92,7 +136,12 @@ where
 {
     let matches = match of_web(rt.alloc(), words) {
         Ok(matches) => matches,
-        Err(error) => return tell(&error, output, errors),
+        Err(error) => {
+            if error.use_stderr() {
+                let _ = write!(errors, "mux-web: ");
+            }
+            return tell(&error, output, errors);
+        }
     };
     let origins = matches.get_strs("origin").unwrap_or(&[]);
     match serve_asked(rt, WebOptions::of(&matches), origins, output) {
