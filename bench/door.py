@@ -75,7 +75,7 @@ class Session:
                                 MUX=f"{words.programs}/mux", PATH=f"{TOP}/contrib:{os.environ['PATH']}",
                                 MUX_SHARE_WITH=f"{words.guest} {self.account.pw_uid} 1 0")
         program = PROGRAM % (2 * words.rounds, PASTE)
-        said = self.ask("start", ROWS, COLS, "022", "bench", "sh", "-c", program)
+        said = self.ask("start", server.ROWS, server.COLS, "022", "bench", "sh", "-c", program)
         self.place = said.split()[1]
         # While this is open, the keeper takes its owner for attached, and lets guests in.
         self.here = os.open(f"{self.place}/own/here", os.O_WRONLY)
@@ -93,7 +93,7 @@ class Session:
     def direct(self):
         connected = socket.socket(socket.AF_UNIX)
         connected.connect(f"{self.place}/own/socket")
-        size = server.two(ROWS) + server.two(COLS)
+        size = server.two(server.ROWS) + server.two(server.COLS)
         return Client(connected, server.frame(server.ATTACH, size + self.token.encode() + self.name.encode()))
 
     def through_door(self):
