@@ -68,8 +68,10 @@ fn push_effect(effect: &Effect, out: &mut String) -> Result<(), AllocError>
             push_text(bytes.as_slice(), out)
         }
         Effect::Size(window, rows, columns) => writeln!(out, "size {window} {rows} {columns}"),
-        Effect::Gone(Peer::Window(window), why) => push_gone("window", *window, *why, out),
-        Effect::Gone(Peer::Client(client), why) => push_gone("client", *client, *why, out),
+        Effect::Gone(peer, why) => match peer {
+            Peer::Window(window) => push_gone("window", *window, *why, out),
+            Peer::Client(client) => push_gone("client", *client, *why, out),
+        },
     }
 }
 

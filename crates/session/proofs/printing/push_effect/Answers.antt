@@ -1,4 +1,4 @@
 use Rattle.session.proofs.printing.push_effect.Goals as goal
 
-pub returns-in-GoneClient : goal.returns-in-GoneClient
-returns-in-GoneClient c = rw c.in-GoneClient.is c.push_gone-in-GoneClient.ensures
+pub returns-in-Client : goal.returns-in-Client
+returns-in-Client c = rw (c.in-Gone.is, c.in-Client.is) c.push_gone-in-Client.ensures
