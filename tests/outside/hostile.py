@@ -391,7 +391,7 @@ def sizes():
 def reads_only():
     """A guest who may only read, and may give the commands of our recipes, fills no trail."""
     scroll = frame(KEYS, b"\x01:scrollview 0\r")
-    prompt = frame(KEYS, b"\x01:") + frame(KEYS, b"x") * 600 + frame(KEYS, b"\x1b") + scroll
+    prompt = frame(KEYS, b"\x01:") + frame(KEYS, b"x") * 150 + frame(KEYS, b"\x1b") + scroll
     for name, data in (("a command that is granted", scroll * 100), ("the prompt, and then such a command", prompt)):
         with tempfile.TemporaryDirectory() as folder:
             path = f"{folder}/trail"
