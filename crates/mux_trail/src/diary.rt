@@ -47,6 +47,7 @@ fn choice_of(alloc: Global, asked: TrailArgs<'_>) -> Result<Choice, AllocError> 
     };
     Ok(Choice {
         since: asked.since,
+        until: asked.until,
         user: asked.user,
         window,
     })

@@ -1,6 +1,6 @@
 //! Why a file isn't read to its end, as the program tells it.
 
-use std::io::{self, Write};
+use std::io::{self, ErrorKind, Write};
 
 /// Why a file isn't read to its end.
 #[derive(Clone, Copy)]
@@ -17,8 +17,20 @@ pub enum Fault {
     NoLine(u64),
     /// `--at` names this place, and there are only this many entries.
     NoPlace(u64, u64),
+    /// `--at` gives a time before the first entry.
+    NoEntryYet,
     /// A mask wasn't looked for.
     NotSought,
+}
+
+/// Writes why a file can't be opened. The text has no number if the error has a plain name.
+fn write_unopened<W: Write>(error: io::Error, path: &str, output: &mut W) -> io::Result<()> {
+    write!(output, "can't open the file: {path}: ")?;
+    match error.kind() {
+        ErrorKind::NotFound => writeln!(output, "no such file: give the path of a trail"),
+        ErrorKind::PermissionDenied => writeln!(output, "permission denied"),
+        _ => writeln!(output, "{error}"),
+    }
 }
 
 impl Fault {
@@ -26,7 +38,7 @@ impl Fault {
     pub fn write<W: Write>(self, path: &str, output: &mut W) -> io::Result<()> {
         output.write_all(b"mux-trail: ")?;
         match self {
-            Fault::NotOpened(error) => writeln!(output, "can't open the file: {path}: {error}"),
+            Fault::NotOpened(error) => write_unopened(error, path, output),
             Fault::Io(error) => writeln!(output, "can't go on: {path}: {error}"),
             Fault::NotWritten(error) => writeln!(output, "can't write to standard output: {error}"),
             Fault::NoHeader(line) => writeln!(
@@ -44,6 +56,10 @@ impl Fault {
             Fault::NoPlace(place, count) => writeln!(
                 output,
                 "--at names no entry: {place}: {path} has {count}: give a place below {count}"
+            ),
+            Fault::NoEntryYet => writeln!(
+                output,
+                "--at is before the first entry: {path}: give a later time"
             ),
             Fault::NotSought => writeln!(
                 output,

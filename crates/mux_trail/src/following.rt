@@ -9,6 +9,12 @@ use std::{io, thread};
 /// How often the end of the file is looked at for more, in milliseconds.
 const PAUSE: u64 = 100;
 
+/// After this many looks without news the pause is longer.
+const QUIET: u64 = 100;
+
+/// The longer pause, in milliseconds.
+const LONG_PAUSE: u64 = 1000;
+
 /// A file without an end: at the end of the file, reading waits for more.
 #[derive(Drop)]
 pub struct Following<'a, R, F> {
@@ -21,12 +27,13 @@ impl<R: Clock, F: Read + Drop> Following<'_, R, F> {
     fn read_next(&mut self, buf: &mut [u8]) -> io::Result<usize>
         ensures { ReadsAtMost result buf.new }
     {
-        for _ in 0..u64::MAX {
+        for looks in 0..u64::MAX {
             let count = self.file.read(buf)?;
             if count > 0 || buf.is_empty() {
                 return Ok(count);
             }
-            thread::sleep(self.rt, Duration::from_millis(PAUSE));
+            let pause = if looks < QUIET { PAUSE } else { LONG_PAUSE };
+            thread::sleep(self.rt, Duration::from_millis(pause));
         }
         Ok(0)
     }

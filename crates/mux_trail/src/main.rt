@@ -1,4 +1,4 @@
-//! `mux-trail check|log|show|who|why FILE`: reads the trail of a session.
+//! `mux-trail check|log|show|who|setup|why FILE`: reads the trail of a session.
 #![tactic(auto)]
 
 mod ask;
@@ -7,9 +7,11 @@ mod diary;
 mod fault;
 mod following;
 mod heading;
+mod moment;
 mod outlet;
 mod program;
 mod reading;
+mod setup;
 mod tell;
 mod words;
 

@@ -6,7 +6,9 @@ use crate::diary::tell_log;
 use crate::fault::Fault;
 use crate::following::Following;
 use crate::heading::{Heading, heading_of};
+use crate::moment::place_at;
 use crate::outlet::Outlet;
+use crate::setup::tell_setup;
 use crate::tell::{ILLEGAL, LEGAL, TROUBLE, tell_back, tell_finish, tell_heading};
 use crate::words::{Given, Mistake, TrailArgs, Verb, asked_of, given_in};
 use acl::{Edition, UserId};
@@ -96,7 +98,26 @@ fn read_file<F: Read + Drop, W: Write>(
         Verb::Log => tell_log(alloc, asked, &mut reader, output),
         Verb::Show => show(alloc, asked.form, &mut reader, output),
         Verb::Ask => ask(alloc, asked, &mut reader, output),
+        Verb::Setup => tell_setup(alloc, asked, &mut reader, output),
     }
+}
+
+/// What the words ask, with the place of the last entry if they give its time. The file is read up to that
+/// entry for it.
+fn placed<'a, R: Files + AllocGlobal>(
+    rt: &R,
+    asked: TrailArgs<'a>,
+) -> Result<TrailArgs<'a>, Fault> {
+    let Some(ms) = asked.time else {
+        return Ok(asked);
+    };
+    let file = fs::open(rt, asked.path).map_err(Fault::NotOpened)?;
+    let mut reader = BufReader::new(rt.alloc(), file)?;
+    let place = place_at(rt.alloc(), ms, &mut reader)?;
+    Ok(TrailArgs {
+        place: Some(place),
+        ..asked
+    })
 }
 
 /// Does what the words ask.
@@ -105,6 +126,7 @@ fn run<R: Clock + Files + AllocGlobal, W: Write>(
     asked: TrailArgs<'_>,
     output: &mut W,
 ) -> Result<u8, Fault> {
+    let asked = placed(rt, asked)?;
     let file = fs::open(rt, asked.path).map_err(Fault::NotOpened)?;
     if asked.follows {
         return read_file(rt.alloc(), asked, Following { rt, file }, output);
@@ -172,7 +194,7 @@ fn tell_fault<E: Write>(fault: Fault, path: &str, errors: &mut E) -> u8 {
     }
 }
 
-/// `mux-trail check|log|show|who|why FILE`. The status is 0 for a legal file that is whole, and if what
+/// `mux-trail check|log|show|who|setup|why FILE`. The status is 0 for a legal file that is whole, and if what
 /// was asked for was shown; 1 for a file that isn't legal; 2 for invalid arguments and a file that can't
 /// be read; 3 for legal entries without a last line; and 4 for users who aren't confined.
 pub fn trail<R: Clock + Files + AllocGlobal, W: Write, E: Write>(

@@ -20,6 +20,8 @@ pub enum Verb {
     Log,
     /// Prints rights, or the acts that decide one.
     Ask,
+    /// Prints the setup that goes on with the rights.
+    Setup,
 }
 
 /// A window, by its serial or its title.
@@ -45,6 +47,8 @@ pub struct TrailArgs<'a> {
     pub owner: Option<UserId>,
     /// The last entry that counts.
     pub place: Option<u64>,
+    /// The time of the last entry that counts, in milliseconds since 1970, before its place is known.
+    pub time: Option<u64>,
     /// The question of `why`.
     pub question: Option<Question>,
     /// The question of `why` about a title, before it is known which window has it.
@@ -58,8 +62,9 @@ pub struct TrailArgs<'a> {
     pub user: Option<UserId>,
     /// The window whose entries are asked for.
     pub window: Option<WindowWord<'a>>,
-    /// The time from which on entries are asked for, in milliseconds since 1970.
+    /// The times between which entries are asked for, in milliseconds since 1970.
     pub since: u64,
+    pub until: u64,
 }
 
 /// The words of a way as they were given.
@@ -72,6 +77,7 @@ pub struct Given<'a> {
     confined: Option<&'a str>,
     window: Option<&'a str>,
     since: Option<&'a str>,
+    until: Option<&'a str>,
     user: Option<&'a str>,
     bit: &'a str,
     object: &'a str,
@@ -89,6 +95,7 @@ impl<'a> Given<'a> {
             confined: matches.get_str("confined"),
             window: matches.get_str("window"),
             since: matches.get_str("since"),
+            until: matches.get_str("until"),
             user: matches.get_str("user"),
             bit: matches.get_str("bit").unwrap_or(""),
             object: matches.get_str("object").unwrap_or(""),
@@ -138,17 +145,44 @@ fn user_in<'a>(name: Option<&'a str>, what: &'static str) -> Result<Option<UserI
     }
 }
 
-fn place_of(word: Option<&str>) -> Result<Option<u64>, Mistake<'_>> {
+/// The last entry that counts, by its place or its time.
+#[derive(Clone, Copy)]
+enum Last {
+    All,
+    Place(u64),
+    Time(u64),
+}
+
+fn last_of(word: Option<&str>) -> Result<Last, Mistake<'_>> {
     let Some(word) = word else {
-        return Ok(None);
+        return Ok(Last::All);
     };
-    match read_u64(word.as_bytes()) {
-        Some(place) => Ok(Some(place)),
+    if let Some(place) = read_u64(word.as_bytes()) {
+        return Ok(Last::Place(place));
+    }
+    match ms_of(word) {
+        Some(ms) => Ok(Last::Time(ms)),
         None => Err(Mistake {
             what: "--at names no entry",
             word,
-            advice: "give the place of an entry, a number from 0 on",
+            advice: "give the place of an entry, a number from 0 on, or a time as 2025-11-24T16:00:02Z",
         }),
+    }
+}
+
+impl Last {
+    fn place(self) -> Option<u64> {
+        match self {
+            Last::Place(place) => Some(place),
+            _ => None,
+        }
+    }
+
+    fn time(self) -> Option<u64> {
+        match self {
+            Last::Time(ms) => Some(ms),
+            _ => None,
+        }
     }
 }
 
@@ -232,14 +266,19 @@ fn ms_of(time: &str) -> Option<u64> {
     u64::try_from(time.as_millisecond()).ok()
 }
 
-fn since_of(word: Option<&str>) -> Result<u64, Mistake<'_>> {
+/// A time that is given, else this one.
+fn time_of<'a>(
+    word: Option<&'a str>,
+    what: &'static str,
+    else_ms: u64,
+) -> Result<u64, Mistake<'a>> {
     let Some(word) = word else {
-        return Ok(0);
+        return Ok(else_ms);
     };
     match ms_of(word) {
         Some(ms) => Ok(ms),
         None => Err(Mistake {
-            what: "--since is no time",
+            what,
             word,
             advice: "give a time as 2025-11-24T16:00:02Z",
         }),
@@ -251,6 +290,7 @@ fn way_of(name: &str) -> Verb {
         "check" => Verb::Check,
         "who" | "why" => Verb::Ask,
         "log" => Verb::Log,
+        "setup" => Verb::Setup,
         _ => Verb::Show,
     }
 }
@@ -262,16 +302,18 @@ fn form_of(is_json: bool) -> Form {
 /// What the words of a way ask, or the word that isn't understood.
 pub fn asked_of<'a>(given: Given<'a>) -> Result<TrailArgs<'a>, Mistake<'a>> {
     let owner = user_in(given.owner, "--owner names no user")?;
-    let place = place_of(given.place)?;
+    let last = last_of(given.place)?;
     let titled = titled_of(given)?;
     let user = user_of(given)?;
-    let since = since_of(given.since)?;
+    let since = time_of(given.since, "--since is no time", 0)?;
+    let until = time_of(given.until, "--until is no time", u64::MAX)?;
     let confined = names_in(given.confined)?;
     Ok(TrailArgs {
         way: way_of(given.way),
         path: given.path,
         owner,
-        place,
+        place: last.place(),
+        time: last.time(),
         question: question_of(given),
         titled,
         confined,
@@ -280,5 +322,6 @@ pub fn asked_of<'a>(given: Given<'a>) -> Result<TrailArgs<'a>, Mistake<'a>> {
         user,
         window: window_of(given.window),
         since,
+        until,
     })
 }

@@ -1,7 +1,7 @@
 -- The command lines of a setup file.
-use Rattle.std.specs.Prelude.{ℕ, ◌+◌, Bool, true, List, [], ◌∷◌, length, nat_lt, ◌==◌}
+use Rattle.std.specs.Prelude.{ℕ, ◌+◌, Bool, true, List, [], ◌∷◌, length, nat_lt, ◌==◌, take, drop}
 use Rattle.std.specs.Prelude.{if◌then◌else◌, Option, Some, None}
-use Rattle.std.specs.List.{slice_split}
+use Rattle.std.specs.List.{position, slice_split}
 use Rattle.std.specs.Option.{option_or}
 use Rattle.std.specs.Str.{is_utf8}
 use Prim.Native.Char.{code}
@@ -49,3 +49,21 @@ first_fault (line ∷ lines) = option_or (fault_of line) (first_fault lines)
 
 abbrev pub line_of : SetupLine → Line
 line_of line = numbered line.number line.text.now
+
+-- ---- `NAME: COMMAND`
+
+abbrev pub is_colon : ℕ → Bool
+is_colon byte = byte == 0x3A
+
+-- the command after a colon begins with a blank
+abbrev pub after_blank : List ℕ → List ℕ → Option (List ℕ × List ℕ)
+after_blank name [] = None
+after_blank name (byte ∷ command) = if byte == 0x20 then Some (name, command) else None
+
+abbrev pub speech_at : List ℕ → Option ℕ → Option (List ℕ × List ℕ)
+speech_at line None = None
+speech_at line (Some at) = after_blank (take at line) (drop (at + 1) line)
+
+-- what stands before the first colon, and what stands after it and a blank
+abbrev pub speech_in : List ℕ → Option (List ℕ × List ℕ)
+speech_in line = speech_at line (position is_colon line)

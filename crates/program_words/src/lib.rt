@@ -18,6 +18,6 @@ pub use mux_trail::of_trail;
 pub use mux_web::of_web;
 pub use muxd::of_server;
 pub use refusals::{RefusedLine, explain};
-pub use setup::{SetupFault, SetupLine, read_setup};
+pub use setup::{SetupFault, SetupLine, read_setup, speech_in};
 pub use table::tell;
 pub use vtcat::of_cat;

@@ -18,10 +18,10 @@ const OWNER: Word = Word {
 const AT: Word = Word {
     name: "at",
     kind: Kind::Text {
-        value: "PLACE",
+        value: "PLACE|TIME",
         need: Need::Free,
     },
-    help: "The place of the last entry that counts; without it all count",
+    help: "The place or the time of the last entry that counts; without it all count",
 };
 
 /// The users whose confinement is looked at.
@@ -78,6 +78,16 @@ const SINCE: Word = Word {
     help: "Only what was done at this time or later, such as 2025-11-24T16:00:02Z",
 };
 
+/// The time of the last entry that is printed.
+const UNTIL: Word = Word {
+    name: "until",
+    kind: Kind::Text {
+        value: "TIME",
+        need: Need::Free,
+    },
+    help: "Only what was done at this time or earlier",
+};
+
 static MUX_TRAIL: Program = Program {
     name: "mux-trail",
     version: Some(VERSION),
@@ -93,7 +103,7 @@ static MUX_TRAIL: Program = Program {
         Way {
             name: "log",
             about: "Prints who did what, a line an entry",
-            words: &[OWNER, USER, WINDOW, SINCE, FOLLOW, FILE],
+            words: &[OWNER, USER, WINDOW, SINCE, UNTIL, FOLLOW, FILE],
         },
         Way {
             name: "show",
@@ -112,6 +122,11 @@ static MUX_TRAIL: Program = Program {
             name: "who",
             about: "Prints who may do what, and who holds which lock",
             words: &[OWNER, AT, CONFINED, FILE],
+        },
+        Way {
+            name: "setup",
+            about: "Prints the setup that brings a new session to the same users and rights",
+            words: &[OWNER, AT, FILE],
         },
         Way {
             name: "why",

@@ -1,9 +1,10 @@
 //! The lines of a setup file: the commands with which its owner begins a session.
 
-ghost use Rattle.std.specs.Prelude.{◌≡◌, ◌⊎◌, ◌==◌, [], map, IfOk, IfErr, None, Some};
-ghost use Rattle.std.specs.List.{slice_split};
+ghost use Rattle.std.specs.Prelude.{◌≡◌, ◌⊎◌, ◌==◌, ◌<◌, [], map, length, IfOk, IfErr, IfSome, None, Some};
+ghost use Rattle.std.specs.Prelude.{option_map};
+ghost use Rattle.std.specs.List.{position, slice_split};
 ghost use Rattle.program_words.specs.SetupLines.{is_feed, is_skipped, numbered, fault_of, commands_in};
-ghost use Rattle.program_words.specs.SetupLines.{first_fault, line_of};
+ghost use Rattle.program_words.specs.SetupLines.{after_blank, first_fault, is_colon, line_of, speech_in};
 ghost use Rattle.program_words.specs.declared.setup.SetupFault.TheVariants.{NoMemory as OfMemory};
 
 use std::alloc::{AllocError, AllocFailed, Global};
@@ -97,4 +98,31 @@ pub fn read_setup<'a>(alloc: Global, file: &'a [u8]) -> Result<Vec<SetupLine<'a>
         }
     }
     Ok(lines)
+}
+
+/// The place of the first colon.
+fn colon_in(line: &[u8]) -> Option<usize>
+    ensures place { result ≡ position is_colon line.now }
+    ensures within { IfSome result (λ place. place < length line.now) }
+{
+    line.iter().position(|byte| *byte == b':')
+}
+
+/// A name and the command after it, if the bytes after its colon begin with a blank.
+fn after_blank<'a>(name: &'a [u8], rest: &'a [u8]) -> Option<(&'a [u8], &'a [u8])>
+    ensures { option_map (λ p. (p.0.now, p.1.now)) result ≡ after_blank name.now rest.now }
+{
+    match rest {
+        [b' ', command @ ..] => Some((name, command)),
+        _ => None,
+    }
+}
+
+/// The name and the command of a line `NAME: COMMAND`, which that user gives. None if the line has no such
+/// form: then the owner gives it.
+pub fn speech_in(line: &[u8]) -> Option<(&[u8], &[u8])>
+    ensures { option_map (λ p. (p.0.now, p.1.now)) result ≡ speech_in line.now }
+{
+    let at = colon_in(line)?;
+    after_blank(&line[..at], &line[at + 1..])
 }

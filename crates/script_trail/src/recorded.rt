@@ -2,7 +2,7 @@
 
 use crate::recorder::ScriptRecorder;
 use program_words::read_setup;
-use session::{Beginning, Event, beginning_of, read_event};
+use session::{Beginning, Event, beginning_of, read_event, spoken};
 use std::alloc::{AllocError, Global};
 
 /// The contents of the trail's file, for a session that begins so and takes the events of a script, one
@@ -15,10 +15,11 @@ fn trail_of(
 ) -> Result<Option<Vec<u8>>, AllocError> {
     let mut recorder = ScriptRecorder::new(alloc, beginning.edition, beginning.owner)?;
     for line in beginning.setup {
+        let (user, command) = spoken(beginning.owner, line.text.as_bytes());
         let event = Event::Command {
-            user: beginning.owner,
+            user,
             window: None,
-            line: line.text.as_bytes(),
+            line: command,
         };
         if recorder.step(event)?.is_err() {
             return Ok(None);

@@ -1,14 +1,27 @@
-//! What the owner commands before anybody connects.
+//! What is commanded before anybody connects.
 
 use crate::loop_body::LoopsFault;
 use crate::shared_session::SharedSession;
+use acl::UserId;
 use hub::{Begun, Seat};
-use program_words::{SetupLine, read_setup};
+use program_words::{SetupLine, read_setup, speech_in};
 use session_model::Event;
 use std::alloc::Global;
 use std::sync::Wait;
 
-// Submits a line as a command of the owner. There is no peer yet that it could act on.
+// The user who gives a line, and the command: `USER: COMMAND` is that user's, and each other line the owner's.
+fn spoken(owner: UserId, line: &[u8]) -> (UserId, &[u8]) {
+    let Some((name, command)) = speech_in(line) else {
+        return (owner, line);
+    };
+    match UserId::of(name) {
+        Some(user) => (user, command),
+        None => (owner, line),
+    }
+}
+
+// Submits a line as a command of the user whom it names, else of the owner. There is no peer yet that it
+// could act on.
 fn give<L: Begun, R: Wait>(
     rt: &R,
     alloc: Global,
@@ -16,10 +29,11 @@ fn give<L: Begun, R: Wait>(
     seat: &mut Seat<L>,
     line: &SetupLine,
 ) -> Result<(), LoopsFault> {
+    let (user, command) = spoken(shared.users.owner(), line.text.as_bytes());
     let event = Event::Command {
-        user: shared.users.owner(),
+        user,
         window: None,
-        line: line.text.as_bytes(),
+        line: command,
     };
     // Memory was refused. (The trail can't be full: that takes some four million lines.)
     let answer = match shared.submit(rt, seat, event) {

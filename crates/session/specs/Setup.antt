@@ -1,7 +1,8 @@
--- How a session begins: with the commands of its owner's setup, in their order.
-use Rattle.std.specs.Prelude.{ℕ, List, [], ◌∷◌, ◌++◌, ◌≡◌, None, Err, IsOk, map}
+-- How a session begins: with the commands of a setup, in their order.
+use Rattle.std.specs.Prelude.{ℕ, List, [], ◌∷◌, ◌++◌, ◌≡◌, Option, Some, None, Err, IsOk, map}
 use Rattle.acl.specs.declared.user_id.UserId.{UserId}
-use Rattle.program_words.specs.SetupLines.{Line, line_of}
+use Rattle.acl.specs.Names.{named_by}
+use Rattle.program_words.specs.SetupLines.{Line, line_of, speech_in}
 use Rattle.session_model.specs.declared.refusal.Refusal.{Refusal}
 use Rattle.session_model.specs.Texts.{text_of}
 use Rattle.session_model.specs.Trace.{EventValue, Command, Entry, Trace, begun}
@@ -10,9 +11,21 @@ use Rattle.session.specs.declared.setup_file.Beginning.{Beginning}
 use Rattle.session.specs.declared.setup_file.Unbegun.{Unbegun}
 use Rattle.session.specs.declared.setup_file.Unbegun.TheVariants.{Refused, NoMemory}
 
--- a line is a Command of the owner, with no window
+-- `USER: COMMAND` is that user's; the owner gives each other line
+abbrev pub if_named : UserId → List ℕ → Option UserId → List ℕ → UserId × List ℕ
+if_named owner line None command = (owner, line)
+if_named owner line (Some user) command = (user, command)
+
+abbrev pub if_spoken : UserId → List ℕ → Option (List ℕ × List ℕ) → UserId × List ℕ
+if_spoken owner line None = (owner, line)
+if_spoken owner line (Some p) = if_named owner line (named_by p.0) p.1
+
+abbrev pub spoken : UserId → List ℕ → UserId × List ℕ
+spoken owner line = if_spoken owner line (speech_in line)
+
+-- a line is a Command of the user whom it names, else of the owner, with no window
 abbrev pub command_of : UserId → Line → EventValue
-command_of owner line = Command owner None line.bytes
+command_of owner line = Command (spoken owner line.bytes).0 None (spoken owner line.bytes).1
 
 -- each line is one step, which is done
 abbrev pub AreDone : UserId → List Line → List Entry → Type 0

@@ -20,6 +20,6 @@ pub use session_model::{
     Verdict, WindowsFault,
 };
 pub use setup::{SetupUnread, setup_of};
-pub use setup_file::Beginning;
+pub use setup_file::{Beginning, spoken};
 pub use simulator::{SimulatorArgs, simulate, simulate_behind};
 pub use words::{beginning_of, path_of};

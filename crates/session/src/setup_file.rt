@@ -1,14 +1,14 @@
-//! How a session begins, with the commands of its owner's setup.
+//! How a session begins, with the commands of a setup.
 
 ghost use Rattle.std.specs.Prelude.{◌≡◌, ◌∷◌, [], IfOk, IfErr, OnOk, map};
 ghost use Rattle.program_words.specs.SetupLines.{line_of};
 ghost use Rattle.session_model.specs.Trace.{Trace, begun};
 ghost use Rattle.session_model.specs.Texts.{text_of};
 ghost use Rattle.session_core.specs.Stands.{StandsFor, wants_memory};
-ghost use Rattle.session.specs.Setup.{Behind, Begins, Refuses, StopsAt, IfRefused};
+ghost use Rattle.session.specs.Setup.{Behind, Begins, Refuses, StopsAt, IfRefused, spoken};
 
 use acl::{Edition, UserId};
-use program_words::SetupLine;
+use program_words::{SetupLine, speech_in};
 use session_core::{Notes, Session};
 use session_model::{Event, Refusal, Reply};
 use std::alloc::Global;
@@ -18,7 +18,7 @@ use std::alloc::Global;
 pub struct Beginning<'a> {
     pub edition: Edition,
     pub owner: UserId,
-    /// The commands that the owner gives before anything else.
+    /// The commands that are given before anything else: the owner's, and those of users whom lines name.
     pub setup: &'a [SetupLine<'a>],
 }
 
@@ -58,8 +58,22 @@ fn refused(alloc: Global, number: usize, refusal: &Refusal) -> Unbegun
     }
 }
 
-/// Gives a session a line as a Command of its owner. There is no client and no window that it could
-/// act on.
+/// The user who gives a line, and the command: `USER: COMMAND` is that user's, and each other line the
+/// owner's.
+pub fn spoken(owner: UserId, line: &[u8]) -> (UserId, &[u8])
+    ensures { (result.0, result.1.now) ≡ spoken owner line.now }
+{
+    let Some((name, command)) = speech_in(line) else {
+        return (owner, line);
+    };
+    match UserId::of(name) {
+        Some(user) => (user, command),
+        None => (owner, line),
+    }
+}
+
+/// Gives a session a line as a Command of the user whom it names, else of the owner. There is no client
+/// and no window that it could act on.
 fn give(
     alloc: Global,
     session: &mut Session,
@@ -72,10 +86,11 @@ fn give(
         (number ≡ line.now.number) × ((h : Trace) → StandsFor h session.old
         → Refuses h owner (line_of line.now) said))) }
 {
+    let (user, command) = spoken(owner, line.text.as_bytes());
     let event = Event::Command {
-        user: owner,
+        user,
         window: None,
-        line: line.text.as_bytes(),
+        line: command,
     };
     let mut effects = Vec::new(alloc);
     let mut notes = Notes::new(alloc);

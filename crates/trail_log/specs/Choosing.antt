@@ -1,4 +1,4 @@
--- Which entries are asked for: from a time on, of a user, and of a window.
+-- Which entries are asked for: between two times, of a user, and of a window.
 use Rattle.std.specs.Prelude.{ℕ, Bool, true, false, ◌==◌, ◌&&◌, ◌||◌, nat_le, if◌then◌else◌}
 use Rattle.std.specs.Prelude.{List, [], ◌∷◌, Option, Some, None}
 use Rattle.std.specs.List.{list_any}
@@ -84,4 +84,5 @@ is_of_wanted titles e (Some asked) = is_of_window titles e asked
 abbrev pub is_chosen : Choice → Names → Said → Bool
 is_chosen c n x =
     nat_le c.since x.1
-    && (is_user c.user (giver n.0 x.2.event) && is_of_wanted n.1 x.2 c.window)
+    && (nat_le x.1 c.until
+    && (is_user c.user (giver n.0 x.2.event) && is_of_wanted n.1 x.2 c.window))

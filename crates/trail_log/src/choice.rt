@@ -20,11 +20,12 @@ pub enum Wanted {
     Title(Bytes),
 }
 
-/// Which entries are asked for: from a time on, in milliseconds since 1970, of a user, and of a
+/// Which entries are asked for: between two times, in milliseconds since 1970, of a user, and of a
 /// window.
 #[derive(Drop)]
 pub struct Choice {
     pub since: u64,
+    pub until: u64,
     pub user: Option<UserId>,
     pub window: Option<Wanted>,
 }
@@ -167,6 +168,9 @@ impl Choice {
         ensures { result ≡ is_chosen self.now names.now (said line.now) }
     {
         if line.ms < self.since {
+            return false;
+        }
+        if self.until < line.ms {
             return false;
         }
         if !is_user(self.user, giver(names, line.entry.event())) {

@@ -1,0 +1,40 @@
+//! The last entry at a time.
+
+use crate::fault::Fault;
+use line_fields::u64_at;
+use std::alloc::Global;
+use std::io::{self, BufRead};
+use trail_lines::{NextLine, next_line};
+
+/// The place and the time of an entry's line.
+fn moment_of(line: &[u8]) -> Option<(u64, u64)> {
+    let (place, rest) = u64_at(line, b' ')?;
+    let (ms, _) = u64_at(rest, b' ')?;
+    Some((place, ms))
+}
+
+/// The place of the last entry before the first one that is later than the time.
+fn last_before<R: BufRead>(ms: u64, reader: &mut R, line: &mut Vec<u8>) -> io::Result<Option<u64>> {
+    let mut last = None;
+    for _ in 0..u64::MAX {
+        match next_line(reader, line)? {
+            NextLine::Whole => {}
+            NextLine::Torn | NextLine::Nothing => return Ok(last),
+        }
+        match moment_of(line.as_slice()) {
+            Some((place, at)) if at <= ms => last = Some(place),
+            _ => return Ok(last),
+        }
+    }
+    Ok(last)
+}
+
+/// The place of the last entry of a reader before the first one that is later than the time.
+pub fn place_at<R: BufRead>(alloc: Global, ms: u64, reader: &mut R) -> Result<u64, Fault> {
+    let mut line = Vec::new(alloc);
+    let _first = next_line(reader, &mut line)?;
+    match last_before(ms, reader, &mut line)? {
+        Some(place) => Ok(place),
+        None => Err(Fault::NoEntryYet),
+    }
+}

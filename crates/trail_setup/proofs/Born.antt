@@ -1,0 +1,37 @@
+-- What a user gets on a window that is opened under closed masks.
+use Rattle.std.proofs.Common.{◌≡◌, ◌∙◌, ◌∷◌, ◌&&◌, [], ℕ, List, Bool, true, false, Some, None, refl, ap, sym}
+use Rattle.std.proofs.Common.{unwrap_or, if◌then◌else◌, rules}
+use Rattle.std.specs.Prelude.{◌==◌}
+use Rattle.std.specs.List.{list_all, AllByRecursion}
+use Rattle.std.proofs.lemmas.Bool.{false≢true}
+use Rattle.acl.specs.declared.act.Object.TheVariants.{Window}
+use Rattle.acl.specs.declared.bits.Bit.{Bit}
+use Rattle.acl.specs.declared.user_id.UserId.{UserId}
+use Rattle.acl.specs.History.{History, decided, has, is_known, mask}
+use Rattle.acl.specs.Same.{same_user}
+use Rattle.hub_check.proofs.Folding.{all_holds}
+use Rattle.trail_setup.specs.Closing.{closed, BornClosed}
+
+right_of : (a b : Bool) → (a && b) ≡ true → b ≡ true
+right_of true b e = e
+right_of false b e = absurd (false≢true e)
+
+same_number : (w : ℕ) → (w == w) ≡ true
+same_number w = search rules
+
+pub born_closed : BornClosed
+born_closed owner h now by u bit windows w other known masked e =
+    all_holds (λ old. has owner h u bit (Window old)) windows
+    (right_of (mask h by u bit) (list_all (λ old. has owner h u bit (Window old)) windows)
+    (sym masked ∙ (sym given ∙ e)))
+  where
+    given : unwrap_or
+        (if w == w then (if same_user by u then Some true else decided (is_known owner now u) (mask now by u bit)) else None)
+        (has owner now u bit (Window w)) ≡ mask now by u bit
+    given =
+        ap (λ b. unwrap_or
+        (if b then (if same_user by u then Some true else decided (is_known owner now u) (mask now by u bit)) else None)
+        (has owner now u bit (Window w))) (same_number w)
+        ∙ (ap (λ b. unwrap_or (if b then Some true else decided (is_known owner now u) (mask now by u bit))
+        (has owner now u bit (Window w))) other
+        ∙ ap (λ b. unwrap_or (decided b (mask now by u bit)) (has owner now u bit (Window w))) known)

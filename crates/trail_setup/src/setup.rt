@@ -1,0 +1,108 @@
+//! The lines of a setup.
+
+use crate::commands::{push_commands, push_leaders};
+use crate::lines::{Form, Given, Lines, push_bits};
+use crate::masks::Masks;
+use crate::mode::ModeSeen;
+use crate::state::SetupState;
+use acl::{Bit, LockMode, PresetKind, UserId};
+use line_fields::parts::{push_mode, push_preset};
+use std::alloc::{AllocError, Global};
+use trail_rights::{RightsSetting, Settler, Watch, settings_of, settler_in, users_of};
+
+/// Stands before the lines that are for later.
+const LATER: &[u8] = b"# later: ";
+
+/// Appends the lines that make users known with nothing, in their order.
+fn push_users(alloc: Global, users: &[UserId], out: &mut Vec<u8>) -> Result<(), AllocError> {
+    out.extend_from_slice(b"multiuser on\naclumask ?-rwx ??-rwx\n")?;
+    let form = Form {
+        head: b"aclchg",
+        between: b',',
+        tail: b" -rwx ?",
+    };
+    let mut lines = Lines::new(alloc, form);
+    for user in users {
+        lines.put(user.as_bytes(), out)?;
+    }
+    lines.end(out)
+}
+
+/// Whether a preset gives the bit.
+fn presets(settlers: &[Settler], kind: PresetKind, bit: Bit) -> bool {
+    match settler_in(settlers, RightsSetting::Preset { kind, bit }) {
+        Some(settler) => settler.value(),
+        None => true,
+    }
+}
+
+/// Appends the line that sets a preset.
+fn push_preset_line(
+    settlers: &[Settler],
+    kind: PresetKind,
+    out: &mut Vec<u8>,
+) -> Result<(), AllocError> {
+    let given: Given = [
+        presets(settlers, kind, Bit::Read),
+        presets(settlers, kind, Bit::Write),
+        presets(settlers, kind, Bit::Execute),
+    ];
+    out.extend_from_slice(b"aclumask ")?;
+    push_preset(kind, out)?;
+    push_bits(given, out)?;
+    out.extend_from_slice(b"\n")
+}
+
+/// Appends the line that sets the mode of the locks of windows to come, if it isn't off.
+fn push_default(mode: LockMode, out: &mut Vec<u8>) -> Result<(), AllocError> {
+    if mode == LockMode::Off {
+        return Ok(());
+    }
+    out.extend_from_slice(b"defwritelock ")?;
+    push_mode(mode, out)?;
+    out.extend_from_slice(b"\n")
+}
+
+/// Appends the lines for later: what masks are once all windows are back, and the mode.
+fn push_later(masks: Masks<'_>, out: &mut Vec<u8>) -> Result<(), AllocError> {
+    masks.push(true, LATER, out)?;
+    match masks.state.mode {
+        ModeSeen::Multiuser => Ok(()),
+        ModeSeen::Single => out.extend_from_slice(b"# later: multiuser off\n"),
+        ModeSeen::Unsaid => out.extend_from_slice(
+            b"# later: multiuser off\n# (somebody typed multiuser on or off, which the trail doesn't have)\n",
+        ),
+    }
+}
+
+/// Appends the lines of a setup: they make the users known, mask what windows give that come back, and give
+/// leaders, commands, presets and the default lock. Lines that are for later begin with `# later: `.
+pub fn push_setup(
+    alloc: Global,
+    watch: &Watch,
+    state: &SetupState,
+    out: &mut Vec<u8>,
+) -> Result<(), AllocError> {
+    let replay = watch.replay();
+    let users = users_of(alloc, replay)?;
+    let sight = watch.sight(Vec::new(alloc), settings_of(alloc, users.as_slice())?)?;
+    let settlers = sight.settlers();
+    let masks = Masks {
+        alloc,
+        state,
+        settlers,
+        users: users.as_slice(),
+    };
+    let others = match users.as_slice() {
+        [_, others @ ..] => others,
+        [] => &[],
+    };
+    push_users(alloc, others, out)?;
+    masks.push(false, b"", out)?;
+    push_leaders(replay, others, out)?;
+    push_commands(alloc, &state.entries, others, out)?;
+    push_preset_line(settlers, PresetKind::Windows, out)?;
+    push_preset_line(settlers, PresetKind::Commands, out)?;
+    push_default(state.default, out)?;
+    push_later(masks, out)
+}
