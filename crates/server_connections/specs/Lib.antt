@@ -2,8 +2,6 @@ pub mod Frames
 pub mod Lending
 pub mod Marked
 pub mod Peers
-pub mod Sized
 pub mod Telling
-pub mod Typed
 pub mod Walking
 pub mod Written

@@ -2,7 +2,7 @@
 use Rattle.std.specs.Prelude.{◌≡◌, ◌⊎◌, ◌==◌, ◌&&◌, ◌||◌, ◌<◌, ◌≤◌, ℕ, Bool, true, false, not, length, vec_len}
 use Rattle.std.specs.Prelude.{Option, Some, None, is_none, IsSomeAnd}
 use Rattle.slab.specs.Slab.{Slab, get}
-use Rattle.server_connections.specs.Typed.{is_idle, may_read}
+use Rattle.server_typing.specs.Typed.{is_idle, may_read}
 use Rattle.server_connections.specs.declared.inbox.Inbox.{Inbox}
 use Rattle.server_connections.specs.declared.peer.Awaits.{Awaits}
 use Rattle.server_connections.specs.declared.peer.Awaits.TheVariants as awaited

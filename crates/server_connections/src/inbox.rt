@@ -2,11 +2,10 @@
 
 ghost use Rattle.std.specs.Prelude.{◌≡◌, ◌&&◌, is_some};
 ghost use Rattle.server_connections.specs.Peers.{is_empty, is_taken};
-ghost use Rattle.server_connections.specs.Typed.{may_read};
+ghost use Rattle.server_typing.specs.Typed.{may_read};
 
-use crate::sizing::Sizing;
-use crate::typeahead::Typeahead;
 use attach_proto::{Message, Reader};
+use server_typing::{Sizing, Typeahead};
 use std::alloc::{AllocError, Global};
 
 // This many bytes are looked at together: a message of a short frame takes far more memory than the

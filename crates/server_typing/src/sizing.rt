@@ -1,7 +1,7 @@
 //! Sizes of a client's terminal.
 
 ghost use Rattle.std.specs.Prelude.{◌≡◌};
-ghost use Rattle.server_connections.specs.Sized.{after_size, next_size, no_size, with_size};
+ghost use Rattle.server_typing.specs.Sized.{after_size, next_size, no_size, with_size};
 
 // A client's size changes at most once in this many milliseconds.
 const PAUSE: u64 = 100;

@@ -1,9 +1,9 @@
 //! Keys of a client that wait until a step judges them.
 
 ghost use Rattle.std.specs.Prelude.{◌≡◌, OnOk, OnErr, length};
-ghost use Rattle.server_connections.specs.Typed.{IsYoung, after_news, after_read, drains, expired, has_room};
-ghost use Rattle.server_connections.specs.Typed.{is_idle, is_news, judged, may_read, takes, typed_at, untyped};
-ghost use Rattle.server_connections.specs.Typed.{waits};
+ghost use Rattle.server_typing.specs.Typed.{IsYoung, after_news, after_read, drains, expired, has_room};
+ghost use Rattle.server_typing.specs.Typed.{is_idle, is_news, judged, may_read, takes, typed_at, untyped};
+ghost use Rattle.server_typing.specs.Typed.{waits};
 
 use std::alloc::{AllocError, Global};
 use std::marker::Model;
@@ -51,7 +51,7 @@ impl Drop for Typeahead {
 
 impl Model for Typeahead {
     ghost use Rattle.std.specs.Prelude.{◌≤◌, vec_len};
-    ghost use Rattle.server_connections.specs.Typed.{Typed};
+    ghost use Rattle.server_typing.specs.Typed.{Typed};
 
     ghost Value = { Typed };
 
