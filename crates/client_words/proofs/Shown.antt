@@ -1,13 +1,13 @@
 -- Visible text has no character that is written as an escape.
-use Rattle.std.proofs.Common.{◌≡◌, ℕ, zero, suc, ◌<◌, ◌≤◌, ◌/◌, ◌%◌, ◌+◌, ◌*◌, nat_lt, nat_le, ◌&&◌, ◌||◌, ◌==◌, Bool, true}
-use Rattle.std.proofs.Common.{false, List, [], ◌∷◌, ◌++◌, refl, sym, ap, ◌∙◌, if◌then◌else◌, arith, codes}
+use Rattle.std.proofs.Common.{◌≡◌, ℕ, zero, suc, ◌<◌, ◌≤◌, ◌/◌, ◌%◌, ◌+◌, ◌*◌, nat_lt, nat_le, ◌&&◌, ◌||◌, ◌==◌}
+use Rattle.std.proofs.Common.{Bool, true, false, List, [], ◌∷◌, ◌++◌, refl, sym, ap, ◌∙◌, if◌then◌else◌, arith, codes}
 use Rattle.std.proofs.Common.{◌⊎◌, ◌-◌, inl, inr}
 use Rattle.std.specs.List.{list_all}
 use Rattle.std.proofs.lemmas.Bool.Decides.{nat_tests}
 use Rattle.client_words.specs.declared.visible.Piece.{Piece}
 use Rattle.client_words.specs.declared.visible.Piece.TheVariants.{Kept, Control, C1, Mark, Turn}
 use Rattle.client_words.specs.Visible.{is_control, is_c1, is_mark, is_turn, third, longer, piece, digit, control_escape}
-use Rattle.client_words.specs.Visible.{turn_code, turn_escape, written, further, visible_behind, visible, is_kept, are_kept}
+use Rattle.client_words.specs.Visible.{turn_code, turn_escape, written, further, visible_behind, visible, are_kept}
 
 -- ---- signs of ASCII are kept, whatever follows
 
