@@ -5,11 +5,9 @@
 
 mod around;
 mod bridge;
-mod fault;
 mod guest;
 mod halls;
 mod log;
-mod options;
 mod seating;
 mod serving;
 mod streams;

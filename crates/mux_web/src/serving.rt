@@ -1,9 +1,7 @@
 //! `mux-web`, from its arguments to its status.
 
 use crate::bridge::{Bridge, serve};
-use crate::fault::WebFault;
 use crate::log::start_log;
-use crate::options::{Listen, WebOptions, origins_of, site_of};
 use crate::streams::Door;
 use program_words::{of_web, tell};
 use server_system::{Host, SocketPath};
@@ -13,6 +11,7 @@ use std::net::{IpAddr, Ipv4Addr, Ipv6Addr, SocketAddr};
 use std::sync::Wait;
 use std::thread::Threads;
 use web_client::Site;
+use web_options::{Listen, WebFault, WebOptions, origins_of, site_of};
 
 /// The system's number for a kind of addresses that it doesn't have.
 const EAFNOSUPPORT: i32 = 97;

@@ -1,8 +1,8 @@
 -- What is taken after an answer.
 use Rattle.std.proofs.Common.{◌≡◌, Bool, ap, refl}
-use Rattle.web_client.specs.declared.site.Site.{Site}
-use Rattle.web_client.specs.declared.requests.Answer.{Answer}
-use Rattle.web_client.specs.declared.requests.Answer.TheVariants.{Part, Page, Socket}
+use Rattle.web_requests.specs.declared.site.Site.{Site}
+use Rattle.web_requests.specs.declared.requests.Answer.{Answer}
+use Rattle.web_requests.specs.declared.requests.Answer.TheVariants.{Part, Page, Socket}
 use Rattle.web_client.specs.declared.wire.Stage.{Stage}
 use Rattle.web_client.specs.declared.wire.Stage.TheVariants as stage
 use Rattle.web_client.specs.declared.visitor.Visitor.{Visitor}

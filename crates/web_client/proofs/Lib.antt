@@ -5,5 +5,4 @@ pub mod Login
 pub mod Judging
 pub mod Frames
 pub mod Rows
-pub mod Serving
 pub mod Answering

@@ -16,10 +16,10 @@ use Rattle.web_client.specs.declared.wire.Stage.TheVariants.{Request, Socket, La
 use Rattle.web_client.specs.declared.frame.Frame.{Frame}
 use Rattle.web_client.specs.declared.frame.Frame.TheVariants as frame
 use Rattle.web_client.specs.declared.visitor.Visitor.{Visitor}
-use Rattle.web_client.specs.declared.site.Site.{Site}
-use Rattle.web_client.specs.declared.requests.Answer.{Answer}
-use Rattle.web_client.specs.declared.requests.Answer.TheVariants as answer
-use Rattle.web_client.specs.Serving.{AnswersBytes}
+use Rattle.web_requests.specs.declared.site.Site.{Site}
+use Rattle.web_requests.specs.declared.requests.Answer.{Answer}
+use Rattle.web_requests.specs.declared.requests.Answer.TheVariants as answer
+use Rattle.web_requests.specs.Serving.{AnswersBytes}
 use Rattle.web_client.specs.Asking.{Takes, Keeps}
 use Rattle.web_client.specs.Judging.{IsAllowed}
 

@@ -1,6 +1,5 @@
 pub mod Sending
 pub mod Asking
 pub mod Judging
-pub mod Serving
 pub mod Frames
 pub mod Rows

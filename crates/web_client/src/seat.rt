@@ -8,11 +8,11 @@ ghost use Rattle.web_client.specs.Judging.{IsSize, IsAttach, IsTyped, IsPublic, 
 ghost use Rattle.web_client.specs.Judging.{IsAllowed, IsJudged, fault_of};
 
 use crate::client::Client;
-use crate::site::Site;
 use acl::UserId;
 use attach_proto::{LONGEST, Token};
 use std::alloc::Global;
 use web_page::ClientFault;
+use web_requests::Site;
 
 /// The lines and columns of a page, at least and at most.
 const LEAST: (u16, u16) = (4, 20);

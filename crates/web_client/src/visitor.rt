@@ -5,21 +5,20 @@ ghost use Rattle.std.specs.Prelude.{length, false, true, codes, vec_len};
 ghost use Rattle.web_client.specs.Asking.{Asks, Keeps, IsOwn, IfOwn};
 ghost use Rattle.web_client.specs.Sending.{IsReceived};
 ghost use Rattle.web_client.specs.Rows.{IsDue, Shows};
-ghost use Rattle.web_client.specs.Serving.{refusal};
+ghost use Rattle.web_requests.specs.Serving.{refusal};
 ghost use Rattle.web_client.specs.Frames.{page, page_after, begun, Reads, Answers, TakesMessage, TakesSome};
 ghost use Rattle.web_client.specs.Frames.{TakesBytes, IsBounded, IsWithin};
 
 use crate::frame::Frame;
 use crate::front::drop_front;
-use crate::requests::{Answer, Opening, answered, refusal};
 use crate::seat::{Seat, SeatFault};
-use crate::site::Site;
 use crate::wire::{End, Stage, View, Wire};
 use attach_proto::Why;
 use std::alloc::Global;
 use std::io;
 use std::io::Read;
 use web_page::Display;
+use web_requests::{Answer, Opening, Site, answered, refusal};
 use websocket::protocol::CloseCode;
 
 /// While more bytes wait for the server, or for the browser, the browser isn't read.

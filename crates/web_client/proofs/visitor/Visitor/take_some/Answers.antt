@@ -2,7 +2,7 @@ use Rattle.std.proofs.Common.{◌≡◌, ℕ, List, false, rules, sym, subst}
 use Rattle.web_client.specs.declared.visitor.Visitor.{Visitor}
 use Rattle.web_client.specs.declared.wire.Stage.{Stage}
 use Rattle.web_client.specs.declared.wire.Stage.TheVariants as stage
-use Rattle.web_client.specs.Serving.{AnswersBytes}
+use Rattle.web_requests.specs.Serving.{AnswersBytes}
 use Rattle.web_client.specs.Frames.{Answers, TakesBytes}
 use Rattle.web_client.proofs.Answering.{unopened, ended}
 use Rattle.web_client.proofs.visitor.Visitor.take_some.Goals as goal

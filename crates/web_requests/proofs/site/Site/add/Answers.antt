@@ -1,6 +1,6 @@
 use Rattle.std.proofs.Common.{refl, ap, ◌∙◌}
-use Rattle.web_client.specs.Serving.{kind_of}
-use Rattle.web_client.proofs.site.Site.add.Goals as goal
+use Rattle.web_requests.specs.Serving.{kind_of}
+use Rattle.web_requests.proofs.site.Site.add.Goals as goal
 
 pub returns-clause-ok : goal.returns-clause-ok
 returns-clause-ok c = (

@@ -1,9 +1,9 @@
 //! What a bridge serves: files that were read when it began, and who may ask for them.
 
 ghost use Rattle.std.specs.Prelude.{◌≡◌, ◌++◌, ◌∷◌, [], OnOk, OnErr, option_copied};
-ghost use Rattle.web_client.specs.Serving.{kind_of, path_of, file_at, lets_in};
+ghost use Rattle.web_requests.specs.Serving.{kind_of, path_of, file_at, lets_in};
 ghost use Rattle.std.specs.String.{string_bytes};
-ghost use Rattle.web_client.specs.declared.site.SiteFile.{SiteFile};
+ghost use Rattle.web_requests.specs.declared.site.SiteFile.{SiteFile};
 
 use attach_proto::Token;
 use std::alloc::AllocError;

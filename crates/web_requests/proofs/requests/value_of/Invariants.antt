@@ -1,7 +1,7 @@
 use Rattle.std.proofs.Common.{◌≡◌, ◌++◌, drop, option_copied, option_to_list}
 use Rattle.websocket.specs.Headers.{fields_of}
-use Rattle.web_client.specs.Serving.{values}
-use Rattle.web_client.proofs.requests.value_of.Given as goal
+use Rattle.web_requests.specs.Serving.{values}
+use Rattle.web_requests.proofs.requests.value_of.Given as goal
 
 -- the value that was found, and those that come after it
 abbrev pub invariant-loop-span : goal.invariant-loop-span

@@ -11,10 +11,10 @@ use Rattle.httparse.specs.Spans.{span_bytes, name_and_value, RequestOverflows}
 use Rattle.websocket.specs.declared.handshake.failure.HandshakeError.{HandshakeError}
 use Rattle.websocket.specs.Headers.{Fields, fields_of, eq_ignore_case, field_line, crlf}
 use Rattle.websocket.specs.Handshake.{requested_key, IsValidKey, accept_key_of, response_bytes}
-use Rattle.web_client.specs.declared.site.SiteFile.{SiteFile}
-use Rattle.web_client.specs.declared.site.Site.{Site}
-use Rattle.web_client.specs.declared.requests.Answer.{Answer}
-use Rattle.web_client.specs.declared.requests.Answer.TheVariants.{Part, Page, Socket}
+use Rattle.web_requests.specs.declared.site.SiteFile.{SiteFile}
+use Rattle.web_requests.specs.declared.site.Site.{Site}
+use Rattle.web_requests.specs.declared.requests.Answer.{Answer}
+use Rattle.web_requests.specs.declared.requests.Answer.TheVariants.{Part, Page, Socket}
 
 -- ---- files
 

@@ -1,9 +1,9 @@
 use Rattle.std.proofs.Common.{arith, sym, ◌∙◌}
 use Rattle.websocket.specs.Headers.{fields_of}
-use Rattle.web_client.specs.Serving.{values}
-use Rattle.web_client.proofs.Serving.{second, first, other, last}
-use Rattle.web_client.proofs.requests.value_of.Goals as goal
-use Rattle.web_client.proofs.requests.value_of.Goals.{then-is_named+else-is_some, else-is_named}
+use Rattle.web_requests.specs.Serving.{values}
+use Rattle.web_requests.proofs.Serving.{second, first, other, last}
+use Rattle.web_requests.proofs.requests.value_of.Goals as goal
+use Rattle.web_requests.proofs.requests.value_of.Goals.{then-is_named+else-is_some, else-is_named}
 
 pub returns-then-is_some : goal.returns-then-is_some
 returns-then-is_some c =

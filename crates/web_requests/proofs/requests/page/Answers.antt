@@ -1,9 +1,9 @@
 use Rattle.std.proofs.Common.{◌≡◌, List, ℕ, ◌++◌, length, append_assoc, append-nil, ap, sym, ◌∙◌}
 use Rattle.std.specs.declared.alloc.Global.{Global}
 use Rattle.std.specs.declared.vec.Vec.{Vec}
-use Rattle.web_client.specs.Serving.{guards, head_of, reply}
-use Rattle.web_client.proofs.requests.page.Goals as goal
-use Rattle.web_client.proofs.requests.page.Goals.{then-is_shown+in_ok-extend_from_slice-2, else-is_shown}
+use Rattle.web_requests.specs.Serving.{guards, head_of, reply}
+use Rattle.web_requests.proofs.requests.page.Goals as goal
+use Rattle.web_requests.proofs.requests.page.Goals.{then-is_shown+in_ok-extend_from_slice-2, else-is_shown}
 
 pub returns : goal.returns
 unfolding reply

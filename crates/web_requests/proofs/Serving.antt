@@ -6,7 +6,7 @@ use Rattle.std.proofs.lemmas.List.{drop_more, drop_all}
 use Rattle.httparse.specs.declared.spans.HeaderSpan.{HeaderSpan}
 use Rattle.httparse.specs.Spans.{span_bytes}
 use Rattle.websocket.specs.Headers.{fields_of, eq_ignore_case}
-use Rattle.web_client.specs.Serving.{values, only}
+use Rattle.web_requests.specs.Serving.{values, only}
 
 abbrev blank : HeaderSpan
 blank = record { name = record { start = 0; end = 0 }; value = record { start = 0; end = 0 } }

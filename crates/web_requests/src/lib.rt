@@ -1,0 +1,8 @@
+//! Requests of browsers for the files of a page and for its WebSocket, and what answers them.
+#![tactic(auto)]
+
+mod requests;
+mod site;
+
+pub use requests::{Answer, Opening, answered, refusal};
+pub use site::{Site, SiteFile, Watcher};
