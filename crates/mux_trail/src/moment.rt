@@ -17,9 +17,8 @@ fn moment_of(line: &[u8]) -> Option<(u64, u64)> {
 fn last_before<R: BufRead>(ms: u64, reader: &mut R, line: &mut Vec<u8>) -> io::Result<Option<u64>> {
     let mut last = None;
     for _ in 0..u64::MAX {
-        match next_line(reader, line)? {
-            NextLine::Whole => {}
-            NextLine::Torn | NextLine::Nothing => return Ok(last),
+        if !matches!(next_line(reader, line)?, NextLine::Whole) {
+            break;
         }
         match moment_of(line.as_slice()) {
             Some((place, at)) if at <= ms => last = Some(place),
@@ -33,8 +32,5 @@ fn last_before<R: BufRead>(ms: u64, reader: &mut R, line: &mut Vec<u8>) -> io::R
 pub fn place_at<R: BufRead>(alloc: Global, ms: u64, reader: &mut R) -> Result<u64, Fault> {
     let mut line = Vec::new(alloc);
     let _first = next_line(reader, &mut line)?;
-    match last_before(ms, reader, &mut line)? {
-        Some(place) => Ok(place),
-        None => Err(Fault::NoEntryYet),
-    }
+    last_before(ms, reader, &mut line)?.ok_or(Fault::NoEntryYet)
 }

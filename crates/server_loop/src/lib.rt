@@ -6,7 +6,6 @@ mod gate;
 mod leaving;
 mod own;
 mod pace;
-mod ration;
 mod requests;
 mod sending;
 mod submitting;

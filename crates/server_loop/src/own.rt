@@ -1,11 +1,10 @@
 //! One loop: its connections, its seat in the session, and what it still has to do.
 
 use crate::gate::Gate;
-use crate::ration::Rations;
 use crate::submitting::Submitted;
 use crate::turn::OUTPUT;
 use server_connections::{Awaits, Connections, End, HasConnections, News, SessionSeat};
-use server_users::Users;
+use server_users::{Rations, Users};
 use std::alloc::{AllocError, Global};
 use std::time::Duration;
 
