@@ -35,6 +35,8 @@ pub enum SocketFault {
     NoLock(String),
     #[error("the path is empty")]
     NoPath,
+    #[error("the path is too long: choose one of at most 107 bytes")]
+    LongPath,
     #[error("can't make it: {0} (make its folder, see the folder's modes, or choose another path)")]
     NotMade(SystemError),
     #[error("out of memory")]
@@ -56,6 +58,12 @@ pub enum ServeFault {
     /// The users' file at this path.
     #[error("others may write the users' file: chmod go-w {0}")]
     Writable(String),
+    /// What stands at this path.
+    #[error("users' file {0} is no plain file: set --users")]
+    NotPlain(String),
+    /// The users' file at this path.
+    #[error("users' file {0} has more than 1,048,576 bytes: remove lines, or set --users")]
+    TooLarge(String),
     /// The users' file at this path.
     #[error("users' file {0}, {1}")]
     Users(String, UsersFault),

@@ -10,6 +10,9 @@ use std::os::unix::fs::{FileTypeExt, MetadataExt, OpenOptionsExt};
 use std::sync::{Mutex, Wait};
 use std::{fs, io};
 
+// The longest path of a socket, in bytes.
+const LONGEST: usize = 107;
+
 /// The path of a server's socket. Only the server that holds the lock beside it makes, replaces and
 /// removes the socket.
 #[derive(Drop)]
@@ -95,6 +98,9 @@ fn listen<R: Host>(rt: &R, alloc: Global, path: &str) -> Result<(File, UnixListe
     // Without a path the system would choose an abstract name, which any account can connect to.
     if path.is_empty() {
         return Err(SocketFault::NoPath);
+    }
+    if path.len() > LONGEST {
+        return Err(SocketFault::LongPath);
     }
     is_there(rt, path)?;
     let lock = lock(rt, alloc, path)?;

@@ -3,10 +3,14 @@
 use crate::fault::{ServeFault, SystemError};
 use server_users::{Users, UsersFault};
 use std::alloc::Global;
-use std::fs;
 use std::fs::Metadata;
+use std::io::Read;
 use std::os::unix::fs::MetadataExt;
 use std::rt::HostRuntime;
+use std::{fs, io};
+
+// A file of more bytes isn't read.
+const MOST: usize = 1_048_576;
 
 // The modes that let a file's group or others read or write it.
 const OTHERS_READ: u32 = 0o044;
@@ -54,20 +58,33 @@ impl<'p> UsersFile<'p> {
         UsersFile { files, alloc, path }
     }
 
-    /// Reads the users. A file that others may write is refused.
+    // The file's bytes, of which at most one too many is read.
+    fn bytes(&self) -> io::Result<Vec<u8>> {
+        let mut bytes = Vec::new(self.alloc);
+        let mut file = fs::open(&self.files, self.path)?.take(MOST as u64 + 1);
+        file.read_to_end(&mut bytes)?;
+        Ok(bytes)
+    }
+
+    /// Reads the users. Only a plain file is read, of at most 1,048,576 bytes, and only if others may not
+    /// write it.
     pub fn read(&self) -> Result<(Users, Stamp), ServeFault> {
         let path = String::from_str(self.alloc, self.path)?;
         let stamp = match fs::metadata(&self.files, self.path) {
-            Ok(found) => Stamp::of(&found),
+            Ok(found) if found.is_file() => Stamp::of(&found),
+            Ok(_) => return Err(ServeFault::NotPlain(path)),
             Err(error) => return Err(ServeFault::NoFile(path, SystemError(error))),
         };
         if stamp.mode & OTHERS_WRITE != 0 {
             return Err(ServeFault::Writable(path));
         }
-        let file = match fs::read(&(self.files, self.alloc), self.path) {
+        let file = match self.bytes() {
             Ok(file) => file,
             Err(error) => return Err(ServeFault::NoFile(path, SystemError(error))),
         };
+        if file.len() > MOST {
+            return Err(ServeFault::TooLarge(path));
+        }
         match Users::read(self.alloc, &file) {
             Ok(users) => Ok((users, stamp)),
             Err(UsersFault::NoMemory) => Err(ServeFault::NoMemory),

@@ -1,5 +1,6 @@
 //! A connection that a loop waits for.
 
+use crate::unread::bound_unread;
 use mio::net::UnixStream;
 use mio::{Interest, Registry, Token};
 use std::io;
@@ -21,6 +22,7 @@ impl<'a> Wired<'a> {
         token: Token,
         mut stream: UnixStream,
     ) -> io::Result<Wired<'a>> {
+        bound_unread(&stream);
         registry.register(&mut stream, token, Interest::READABLE)?;
         Ok(Wired {
             stream,
