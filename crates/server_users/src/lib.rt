@@ -14,4 +14,5 @@ pub use allowances::Allowances;
 pub use authenticating::authenticate;
 pub use fault::{AuthFault, UsersFault};
 pub use tally::Tally;
+pub use user::User;
 pub use users::Users;
