@@ -117,7 +117,8 @@ impl<S: Read + Write + Drop, G: Gate + Drop, J: SessionSeat + Drop> Loop<S, G, J
             Some(users) => users,
             None => self.seat.users(),
         };
-        authenticate(users, name.as_str().as_bytes(), token).ok()
+        let user = authenticate(users, name.as_str().as_bytes(), token).ok()?;
+        Some(user.id)
     }
 
     // A connection is told why it can't become a guest, and goes.

@@ -22,3 +22,11 @@ Breaks file NoMemory = Unit {0}
 abbrev pub Refuses : List Entry → List ℕ → AuthFault → Type 0
 Refuses us name BadUser = Contains (names us) name → ⊥
 Refuses us name BadToken = Contains (names us) name
+
+abbrev pub number_of_auth : AuthFault → ℕ
+number_of_auth BadUser = 1
+number_of_auth BadToken = 2
+
+abbrev pub number_of_users : UsersFault → ℕ
+number_of_users (BadLine n) = 1
+number_of_users NoMemory = 2

@@ -1,6 +1,7 @@
 //! Why a user isn't let in, and why a users' file isn't read.
 
 ghost use Rattle.std.specs.Prelude.{◌≡◌};
+ghost use Rattle.server_users.specs.Stands.{number_of_auth, number_of_users};
 ghost use Rattle.server_users.specs.declared.fault.UsersFault.TheVariants as users;
 
 use std::alloc::AllocFailed;
@@ -15,6 +16,18 @@ pub enum AuthFault {
     BadToken,
 }
 
+impl AuthFault {
+    /// The fault's number: 1 BadUser, 2 BadToken.
+    pub fn number(self) -> u8
+        ensures { result ≡ number_of_auth self }
+    {
+        match self {
+            AuthFault::BadUser => 1,
+            AuthFault::BadToken => 2,
+        }
+    }
+}
+
 /// Why a users' file can't be used.
 #[derive(Clone, Copy, Debug, PartialEq, Eq, Error)]
 pub enum UsersFault {
@@ -24,6 +37,18 @@ pub enum UsersFault {
     BadLine(usize),
     #[error("out of memory")]
     NoMemory,
+}
+
+impl UsersFault {
+    /// The fault's number: 1 BadLine, 2 NoMemory.
+    pub fn number(self) -> u8
+        ensures { result ≡ number_of_users self }
+    {
+        match self {
+            UsersFault::BadLine(_) => 1,
+            UsersFault::NoMemory => 2,
+        }
+    }
 }
 
 impl<T: Drop> From<AllocFailed<T>> for UsersFault {
