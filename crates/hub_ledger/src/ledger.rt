@@ -16,8 +16,6 @@ ghost use Rattle.hub_ledger.specs.declared.ledger.answer.HubFault.TheVariants.{S
 
 mod answer;
 mod trail;
-#[cfg(test)]
-mod turned;
 
 use crate::begun::Begun;
 use crate::closing::{count, first_wrong};
