@@ -101,8 +101,12 @@ pub struct Shared {
     /// How many loops much comes to.
     pub busy: AtomicU64,
     pub watched: Arc<WatchedUsers, Global>,
-    /// How many connections had a wrong token.
+    /// How many connections had a wrong token, and the second in which that was told last.
     pub wrong_tokens: AtomicU64,
+    pub wrong_tokens_told: AtomicU64,
+    /// How many connections sent no first message, and the second in which that was told last.
+    pub misfits: AtomicU64,
+    pub misfits_told: AtomicU64,
     pub log: Log,
     /// Whether news are written to the log.
     pub tells: bool,

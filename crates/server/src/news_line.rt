@@ -19,7 +19,7 @@ fn cause(why: Option<Why>) -> &'static str {
     }
 }
 
-/// News, and how many wrong tokens there were by now.
+/// News, and how many strangers of its kind there were by now.
 #[derive(Clone, Copy)]
 pub struct NewsLine(pub News, pub u64);
 
@@ -31,7 +31,7 @@ impl Display for NewsLine {
             News::Done(user) => write!(f, "a command of {}", Name(user)),
             News::Refused(user) => write!(f, "a command of {} was refused", Name(user)),
             News::WrongToken => write!(f, "unknown user or wrong token: {} by now", self.1),
-            News::Misfit => write!(f, "a connection sent no first message"),
+            News::Misfit => write!(f, "no first message: {} by now", self.1),
             News::Filled(percent) => write!(f, "the trail is full to {percent} percent"),
         }
     }

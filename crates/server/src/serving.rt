@@ -111,6 +111,9 @@ fn shared<R: Host + Threads + Wait>(
         busy: AtomicU64::new(0),
         watched,
         wrong_tokens: AtomicU64::new(0),
+        wrong_tokens_told: AtomicU64::new(0),
+        misfits: AtomicU64::new(0),
+        misfits_told: AtomicU64::new(0),
         tells: options.tells,
     };
     start_watching(rt, &shared, LastLook::read(seen))?;

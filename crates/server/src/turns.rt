@@ -12,7 +12,7 @@ use server_system::Wired;
 use std::io;
 use std::io::{ErrorKind, Read, Write};
 use std::sync::Wait;
-use std::sync::atomic::Ordering;
+use std::sync::atomic::{AtomicU64, Ordering};
 use std::time::{Clock, Duration};
 
 /// The token of a loop's waker.
@@ -186,16 +186,32 @@ fn sort(events: &Events, connections: &mut Connections<Wired>) -> bool {
     is_asked
 }
 
-/// Writes news to the log.
+// Counts one more stranger. Returns how many there were, unless that was told in this second.
+fn count<R: Clock>(rt: &R, strangers: &AtomicU64, told: &AtomicU64) -> Option<u64> {
+    let number = strangers.fetch_add(1, Ordering::SeqCst).saturating_add(1);
+    let Ok(now) = rt.monotonic() else {
+        return Some(number);
+    };
+    // (0 says that nothing was told yet.)
+    let second = now.as_secs().saturating_add(1);
+    if told.swap(second, Ordering::SeqCst) == second {
+        None
+    } else {
+        Some(number)
+    }
+}
+
+/// Writes news to the log. Strangers are counted, and have at most one line a second of each kind.
 pub fn tell_news<R: Clock + Wait>(rt: &R, shared: &Shared, happened: Vec<News>) {
     for news in happened {
-        let before = match news {
-            News::WrongToken => shared.wrong_tokens.fetch_add(1, Ordering::SeqCst),
-            _ => 0,
+        let number = match news {
+            News::WrongToken => count(rt, &shared.wrong_tokens, &shared.wrong_tokens_told),
+            News::Misfit => count(rt, &shared.misfits, &shared.misfits_told),
+            _ => Some(0),
         };
-        shared
-            .log
-            .put(rt, &NewsLine(news, before.saturating_add(1)));
+        if let Some(number) = number {
+            shared.log.put(rt, &NewsLine(news, number));
+        }
     }
 }
 
