@@ -1,5 +1,6 @@
 -- A history without leaders, clients and locks gives the same users, windows, masks, presets and entries.
-use Rattle.std.proofs.Common.{◌≡◌, ◌∙◌, ◌∷◌, ◌+◌, ◌-◌, ◌||◌, ◌&&◌, [], ℕ, List, Bool, true, false, not, Option, Some, None, refl}
+use Rattle.std.proofs.Common.{◌≡◌, ◌∙◌, ◌∷◌, ◌+◌, ◌-◌, ◌||◌, ◌&&◌, [], ℕ, List, Bool}
+use Rattle.std.proofs.Common.{true, false, not, Option, Some, None, refl}
 use Rattle.std.proofs.Common.{ap, sym, subst, filter, unwrap_or, is_none, nat_lt, if◌then◌else◌}
 use Rattle.std.specs.List.{list_any}
 use Rattle.std.proofs.lemmas.Bool.{false≢true}
@@ -14,7 +15,8 @@ use Rattle.acl.specs.declared.edition.Edition.{Edition}
 use Rattle.acl.specs.declared.user_id.UserId.{UserId}
 use Rattle.acl.specs.Commands.{new_name_fault, known_name_fault}
 use Rattle.acl.specs.History.{History, among, decided, decides_known, decides_mask, decides_open, decides_preset}
-use Rattle.acl.specs.History.{decision, has, is_known, is_open, latest, leaders_after, leaders_of, mask, may, open_count}
+use Rattle.acl.specs.History.{decision, has, is_known, is_open, latest, leaders_after, leaders_of, mask}
+use Rattle.acl.specs.History.{may, open_count}
 use Rattle.acl.specs.History.{preset_of, there, users_after, users_of}
 use Rattle.acl.specs.Same.{same_object, same_user}
 use Rattle.hub_trail.specs.Judging.{can_follow}

@@ -26,7 +26,8 @@ born_closed owner h now by u bit windows w other known masked e =
     (sym masked ∙ (sym given ∙ e)))
   where
     given : unwrap_or
-        (if w == w then (if same_user by u then Some true else decided (is_known owner now u) (mask now by u bit)) else None)
+        (if w == w then (if same_user by u then Some true
+        else decided (is_known owner now u) (mask now by u bit)) else None)
         (has owner now u bit (Window w)) ≡ mask now by u bit
     given =
         ap (λ b. unwrap_or

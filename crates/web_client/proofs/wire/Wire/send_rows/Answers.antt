@@ -11,7 +11,8 @@ returns-in_ok-ask-in-Some-clause-rows c = λ t b w h.
     let then = c.in_ok-text.ensures.then t w in
     let count : c.saturating_add-self.result ≡ min (c.send_text.new.self.sent + length (spelled made.0)) (2 ^ 64 - 1) =
     c.saturating_add-self.ensures
-    ∙ ap (λ (n : ℕ). min (c.send_text.new.self.sent + n) (2 ^ 64 - 1)) (c.len.ensures ∙ c.in-Some.text.bytes.ok.0 ∙ ap length made.1) in (
+    ∙ ap (λ (n : ℕ). min (c.send_text.new.self.sent + n) (2 ^ 64 - 1))
+    (c.len.ensures ∙ c.in-Some.text.bytes.ok.0 ∙ ap length made.1) in (
       inr (
         made.0,
         c.send_text.new.self,
