@@ -21,8 +21,12 @@ const DENIED: usize = 998;
 
 const LETTER: &[u8] = b"K\0\x01x";
 
-// Bob may not type, and spends all his units.
-fn spend<'a>(alloc: Global) -> Result<Vec<Act<'a>>, AllocError> {
+// Bob may not type, and spends all his units on this letter. Then come the rest of the acts.
+fn spend<'a>(
+    alloc: Global,
+    letter: &'a [u8],
+    rest: &[Act<'a>],
+) -> Result<Vec<Act<'a>>, AllocError> {
     let first = [
         Act::SetTime(0, 0),
         Act::Connect(Habit::Whole, WINDOW),
@@ -38,8 +42,9 @@ fn spend<'a>(alloc: Global) -> Result<Vec<Act<'a>>, AllocError> {
     ];
     let mut acts = Vec::from_slice(alloc, &first)?;
     for _ in 0..DENIED {
-        acts.extend_from_slice(&[Act::Send(BOB, LETTER), Act::Turns(1)])?;
+        acts.extend_from_slice(&[Act::Send(BOB, letter), Act::Turns(1)])?;
     }
+    acts.extend_from_slice(rest)?;
     Ok(acts)
 }
 
@@ -59,8 +64,7 @@ fn told(alloc: Global, seen: &Seen, note: usize, connection: usize) -> Option<us
 // once bob may type; what bob types then does.
 fn are_dropped(rt: &impl System) -> Option<bool> {
     let alloc = rt.alloc();
-    let mut acts = spend(alloc).ok()?;
-    acts.extend_from_slice(&[
+    let rest = [
         Act::Send(BOB, LETTER),
         Act::Turns(1),
         Act::Send(BOB, LETTER),
@@ -74,8 +78,8 @@ fn are_dropped(rt: &impl System) -> Option<bool> {
         Act::Send(BOB, b"K\0\x01z"),
         Act::Turns(1),
         Act::Note(0),
-    ])
-    .ok()?;
+    ];
+    let acts = spend(alloc, LETTER, &rest).ok()?;
     let seen = play(rt, &acts)?;
     let first = told(alloc, &seen, 0, BOB)?;
     let second = told(alloc, &seen, 1, BOB)?;
@@ -87,8 +91,7 @@ fn are_dropped(rt: &impl System) -> Option<bool> {
 // millisecond, and the next one a second after that.
 fn are_joined(rt: &impl System) -> Option<bool> {
     let alloc = rt.alloc();
-    let mut acts = spend(alloc).ok()?;
-    acts.extend_from_slice(&[
+    let rest = [
         Act::SetTime(0, 1),
         Act::Send(BOB, LETTER),
         Act::Turns(1),
@@ -102,8 +105,8 @@ fn are_joined(rt: &impl System) -> Option<bool> {
         Act::Note(0),
         Act::Turns(20),
         Act::Note(0),
-    ])
-    .ok()?;
+    ];
+    let acts = spend(alloc, LETTER, &rest).ok()?;
     let seen = play(rt, &acts)?;
     let first = told(alloc, &seen, 0, BOB)?;
     let second = typed(alloc, seen.bytes(1, 0))?;
