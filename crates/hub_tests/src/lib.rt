@@ -1,7 +1,6 @@
 //! Tests of the hub and of a trail's file: threads that share a hub, what a seat is answered and
-//! takes, whether its trail is legal, and the stored forms of its entries; entries that no session
-//! files; a file that is slow, one that refuses writes, how much may wait, and files that aren't the
-//! trail's.
+//! takes, whether its trail is legal, and the stored forms of its entries; a file that is slow, one
+//! that refuses writes, how much may wait, and files that aren't the trail's.
 #![tactic(auto)]
 
 #[cfg(test)]
@@ -14,8 +13,6 @@ mod editions;
 mod entries;
 #[cfg(test)]
 mod files;
-#[cfg(test)]
-mod forged;
 #[cfg(test)]
 mod fresh;
 #[cfg(test)]

@@ -1,6 +1,6 @@
-//! Tests of a server's loops: how they end, what refused memory does, an attachment after a broken
-//! one, two loops side by side, whose turn it is, what is rationed, streams that are slow, wait, fail
-//! or end at each place, and made-up bytes.
+//! Tests of a server's loops: how they end, an attachment after a broken one, two loops side by side,
+//! whose turn it is, what is rationed, streams that are slow, wait, fail or end at each place, and
+//! made-up bytes.
 #![tactic(auto)]
 
 #[cfg(test)]
@@ -17,7 +17,5 @@ mod many;
 mod plays;
 #[cfg(test)]
 mod rations;
-#[cfg(test)]
-mod refusals;
 #[cfg(test)]
 mod rows;
