@@ -14,7 +14,7 @@ use crate::acts::are_let;
 use crate::commands::fits_line;
 use crate::fits::{fits, is_of_known};
 use crate::replay::Replay;
-use crate::replies::{carries_failed, is_denied};
+use hub_replies::{carries_failed, is_denied};
 use crate::verdicts::{are_of, are_of_client, are_true, failed};
 use acl::{Edition, UserId};
 use hub_record::TrailEntry;

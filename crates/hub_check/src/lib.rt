@@ -14,7 +14,6 @@ mod lists;
 mod moves;
 mod names;
 mod replay;
-mod replies;
 mod says;
 mod verdicts;
 
