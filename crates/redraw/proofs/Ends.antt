@@ -30,7 +30,7 @@ reset_draws : AreDraws frame_bytes
 reset_draws = record {
   functions = (0x18 ∷ []) ∷ (0x1B ∷ 0x63 ∷ []) ∷ (0x1B ∷ 0x25 ∷ 0x47 ∷ [])
       ∷ (0x1B ∷ 0x5B ∷ 0x3F ∷ 0x37 ∷ 0x6C ∷ []) ∷ [];
-  used = (refl, refl, refl, refl, tt);
+  used = (refl, (refl, (refl, (refl, tt))));
   whole = refl;
 }
 
