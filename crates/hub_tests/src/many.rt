@@ -1,6 +1,6 @@
 //! A thousand steps of all kinds over two seats, beside a session that runs the same events: each
-//! seat takes what the session made for its own clients and windows, each answer has the session's
-//! reply, and each step but a Draw marks both seats.
+//! seat takes what the session made for its own clients and windows, with the client that typed it,
+//! each answer has the session's reply, and each step but a Draw marks both seats.
 
 ghost use Rattle.std.specs.Prelude.{◌≡◌};
 ghost use Rattle.session_model.specs.Trace.{begun};
@@ -9,7 +9,7 @@ ghost use Rattle.hub_ledger.specs.Seats.{StandsFor};
 use crate::compare::{are_same, is_same_reply, parts_of};
 use crate::turns::{STEPS, Turn, seat_of};
 use acl::UserId;
-use hub::{Begun, Hub, Seat, Session};
+use hub::{Begun, Hub, Seat, Sent, Session};
 use session_model::{Effect, Event, Reply};
 use std::alloc::Global;
 use std::marker::Brand;
@@ -19,15 +19,35 @@ use std::sync::ledger::Blank;
 /// How many turns there are.
 const TURNS: u32 = 50;
 
+/// What a step made: its effects, who typed them, and whether it marks the seats.
+#[derive(Clone, Copy)]
+struct Made<'a> {
+    effects: &'a [Effect],
+    typist: Option<u32>,
+    marks: bool,
+}
+
+fn made_by<'a>(event: Event<'_>, effects: &'a [Effect]) -> Made<'a> {
+    Made {
+        effects,
+        typist: match event {
+            Event::Keys { client, .. } => Some(client),
+            _ => None,
+        },
+        marks: !matches!(event, Event::Draw { .. }),
+    }
+}
+
 /// The kinds of effects that a seat took, if they are those that the session made for its peers, in
 /// their order: the second seat's have odd serials.
-fn kinds_of(taken: &[Effect], made: &[Effect], is_second: bool) -> Option<u8> {
+fn kinds_of(taken: &[Sent], made: Made<'_>, is_second: bool) -> Option<u8> {
     let mut kinds = 0u8;
     let mut next = 0;
-    for effect in made {
+    for effect in made.effects {
         let effect = parts_of(effect);
         if (effect.peer % 2 == 1) == is_second {
-            if !are_same(effect, parts_of(taken.get(next)?)) {
+            let (sent, typist) = taken.get(next)?;
+            if *typist != made.typist || !are_same(effect, parts_of(sent)) {
                 return None;
             }
             kinds |= effect.kind;
@@ -47,14 +67,13 @@ fn taken<L: Begun, R: Wait>(
     rt: &R,
     hub: &Hub<L>,
     seats: &mut [Seat<L>],
-    made: &[Effect],
-    marks: bool,
+    made: Made<'_>,
 ) -> Option<u8> {
     let mut kinds = 0u8;
     for seat in seats.iter_mut() {
         let is_second = seat.number() == 1;
         let (effects, is_marked) = hub.take(rt, seat);
-        if is_marked != marks {
+        if is_marked != made.marks {
             return None;
         }
         kinds |= kinds_of(effects.as_slice(), made, is_second)?;
@@ -122,8 +141,8 @@ fn step<L: Begun, R: Wait>(
     let reply = replies.as_slice().last()?;
     let seat = pair.seats.get_mut(number)?;
     let entries = entries_of(rt, &pair.hub, seat, event, reply)?;
-    let marks = !matches!(event, Event::Draw { .. });
-    let kinds = taken(rt, &pair.hub, &mut pair.seats, made.as_slice(), marks)?;
+    let made = made_by(event, made.as_slice());
+    let kinds = taken(rt, &pair.hub, &mut pair.seats, made)?;
     Some(Counted { entries, kinds })
 }
 
