@@ -19,35 +19,20 @@ use std::sync::ledger::Blank;
 /// How many turns there are.
 const TURNS: u32 = 50;
 
-/// What a step made: its effects, who typed them, and whether it marks the seats.
-#[derive(Clone, Copy)]
-struct Made<'a> {
-    effects: &'a [Effect],
-    typist: Option<u32>,
-    marks: bool,
-}
-
-fn made_by<'a>(event: Event<'_>, effects: &'a [Effect]) -> Made<'a> {
-    Made {
-        effects,
-        typist: match event {
-            Event::Keys { client, .. } => Some(client),
-            _ => None,
-        },
-        marks: !matches!(event, Event::Draw { .. }),
-    }
-}
-
-/// The kinds of effects that a seat took, if they are those that the session made for its peers, in
-/// their order: the second seat's have odd serials.
-fn kinds_of(taken: &[Sent], made: Made<'_>, is_second: bool) -> Option<u8> {
+/// The kinds of effects that a seat took, if they are those that the session made of an event for its
+/// peers, in their order, typed by the client whose keys it is: the second seat's have odd serials.
+fn kinds_of(taken: &[Sent], event: Event<'_>, made: &[Effect], is_second: bool) -> Option<u8> {
+    let typist = match event {
+        Event::Keys { client, .. } => Some(client),
+        _ => None,
+    };
     let mut kinds = 0u8;
     let mut next = 0;
-    for effect in made.effects {
+    for effect in made {
         let effect = parts_of(effect);
         if (effect.peer % 2 == 1) == is_second {
-            let (sent, typist) = taken.get(next)?;
-            if *typist != made.typist || !are_same(effect, parts_of(sent)) {
+            let (sent, by) = taken.get(next)?;
+            if *by != typist || !are_same(effect, parts_of(sent)) {
                 return None;
             }
             kinds |= effect.kind;
@@ -67,16 +52,17 @@ fn taken<L: Begun, R: Wait>(
     rt: &R,
     hub: &Hub<L>,
     seats: &mut [Seat<L>],
-    made: Made<'_>,
+    event: Event<'_>,
+    made: &[Effect],
 ) -> Option<u8> {
     let mut kinds = 0u8;
     for seat in seats.iter_mut() {
         let is_second = seat.number() == 1;
         let (effects, is_marked) = hub.take(rt, seat);
-        if is_marked != made.marks {
+        if is_marked == matches!(event, Event::Draw { .. }) {
             return None;
         }
-        kinds |= kinds_of(effects.as_slice(), made, is_second)?;
+        kinds |= kinds_of(effects.as_slice(), event, made, is_second)?;
     }
     Some(kinds)
 }
@@ -141,8 +127,7 @@ fn step<L: Begun, R: Wait>(
     let reply = replies.as_slice().last()?;
     let seat = pair.seats.get_mut(number)?;
     let entries = entries_of(rt, &pair.hub, seat, event, reply)?;
-    let made = made_by(event, made.as_slice());
-    let kinds = taken(rt, &pair.hub, &mut pair.seats, made)?;
+    let kinds = taken(rt, &pair.hub, &mut pair.seats, event, made.as_slice())?;
     Some(Counted { entries, kinds })
 }
 
