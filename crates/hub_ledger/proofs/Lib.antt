@@ -4,7 +4,7 @@ pub mod Counting
 pub mod Tellings
 pub mod Standing
 pub mod Filing
-pub mod Foreign
+pub mod OtherOwner
 pub mod Crossing
 pub mod Places
 pub mod Queues

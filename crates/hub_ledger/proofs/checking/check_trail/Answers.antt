@@ -5,7 +5,7 @@ use Rattle.hub_trail.specs.Trails.{Entry}
 use Rattle.hub_trail.specs.Judging.{AreGood, AreJudgeable, IsBadAt, IsIllegalAt}
 use Rattle.hub_trail.specs.Legal.{AreLegal}
 use Rattle.hub_check.proofs.Judged.{bad_illegal, good_legal}
-use Rattle.hub_ledger.proofs.Foreign.{legal_until}
+use Rattle.hub_ledger.proofs.OtherOwner.{legal_until}
 use Rattle.hub_ledger.proofs.checking.check_trail.Goals as goal
 
 -- the same entries, judged by the same edition
