@@ -102,7 +102,7 @@ module _ (own user : UserId) (differ : own ≡ user → ⊥) (h : History) (bare
       [ inl none ↦ subst AreGoing (sym none) tt | inr is ↦ absurd (false≢true is) ]
   going (kept.Keys client) (Ok f) (v ∷ vs) acts mine its by let_ fits =
       let none : is_client_of h client (user_of v) ≡ false =
-      ap (list_any (λ c. (c.0 == client) && same_user c.1 (user_of v))) bare.alone in
+      ap (list_any (λ (c : ℕ × UserId). (c.0 == client) && same_user c.1 (user_of v))) bare.alone in
       absurd (false≢true (sym none ∙ by.0))
 
   entry_going : (edition : Edition) (e : Entry) → IsLegalEntry edition own h e → IsLegalEntry edition user h e
