@@ -46,7 +46,7 @@ impl Handed {
 
     /// The effects, to be moved on.
     pub fn into_items(self) -> Vec<Sent>
-        ensures { result.items ≡ self.entry }
+        ensures { result.items ≡ self }
     {
         let Handed { effects } = self;
         effects
