@@ -7,7 +7,7 @@ use Rattle.session_model.specs.Trace.{happening}
 use Rattle.session_core.specs.Stands.{entry_of, wants_memory}
 use Rattle.hub_trail.specs.Filing.{kept_of}
 use Rattle.hub_ledger.specs.Peers.{HasPeer, Owners, owners_of, with_peers}
-use Rattle.hub_ledger.specs.Routing.{Sent, views, marked, typist_of, AreRouted}
+use Rattle.hub_ledger.specs.Routing.{Sent, views, marked, typed_in, typist_of, AreRouted}
 use Rattle.hub_ledger.specs.Slips.{with_entries, written}
 use Rattle.hub_ledger.specs.States.{state_of, trail_in}
 use Rattle.hub_ledger.proofs.Steps.{few, peers_there, made_by, filed_is, kept_after}
@@ -66,7 +66,7 @@ returns-clause-step c =
             (λ (t : Option ℕ). AreRouted (owners_of c.make_room-2.new.self) t effects
             (views c.make_room-3.new.self.lists.items) (views c.route.new.self.lists.items))
             c.typist_of-typist.ensures c.route.ensures.lists)));
-        typed_is = c.typed_in-typed.ensures;
+        typed_is = c.typed_in-typed.ensures ∙ ap (typed_in event) c.as_slice.ensures.value;
         marks = c.mark.ensures.marks
             ∙ ap (λ (m : Vec Bool Global). marked event m.items) (c.route.ensures.marks ∙ c.make_room-3.ensures.marks);
       },
@@ -76,4 +76,4 @@ pub returns-clause-kept : goal.returns-clause-kept
 returns-clause-kept c =
     let here : c.args.seat < length (views c.args.self.now.waiting.lists.items) = rw length-map c.requires.seat in
     let step = returns-clause-step c in
-    kept_after (state_of c.args.self.now) _ c.args.seat _ c.requires.kept here step.2
+    kept_after (state_of c.args.self.now) _ c.args.seat _ _ c.requires.kept here step.2
