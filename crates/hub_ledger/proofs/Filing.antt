@@ -28,7 +28,8 @@ marks_stay event marks = at (is_draw event) where
   at true = refl
   at false = length-map marks (λ c. true)
 
-pub one_more : (seat : ℕ) (event : EventValue) (reply : Reply) (typed : Option ℕ) (old new : State) → Takes seat event reply typed old new
+pub one_more : (seat : ℕ) (event : EventValue) (reply : Reply) (typed : Option ℕ) (old new : State)
+    → Takes seat event reply typed old new
     → is_some (kept_of event) ≡ true → length new.trail.entries ≡ length old.trail.entries + 1
 one_more seat event reply typed old new takes writes =
     let step = entry_of event reply takes.0 takes.1 in
@@ -37,7 +38,8 @@ one_more seat event reply typed old new takes writes =
     let one : length (filed step) ≡ 1 = one_filed (kept_of event) step writes in
     omega (arith, more, one, length-append old.trail.entries (filed step))
 
-pub no_more : (seat : ℕ) (event : EventValue) (reply : Reply) (typed : Option ℕ) (old new : State) → Takes seat event reply typed old new
+pub no_more : (seat : ℕ) (event : EventValue) (reply : Reply) (typed : Option ℕ) (old new : State)
+    → Takes seat event reply typed old new
     → is_some (kept_of event) ≡ false → length new.trail.entries ≡ length old.trail.entries
 no_more seat event reply typed old new takes not =
     let step = entry_of event reply takes.0 takes.1 in
@@ -45,13 +47,15 @@ no_more seat event reply typed old new takes not =
     ∙ ap (λ (es : List trails.Entry). length (old.trail.entries ++ es)) (none_filed (kept_of event) step not)
     ∙ ap length (append-nil old.trail.entries)
 
-pub seats_stay : (seat : ℕ) (event : EventValue) (reply : Reply) (typed : Option ℕ) (old new : State) → Takes seat event reply typed old new
+pub seats_stay : (seat : ℕ) (event : EventValue) (reply : Reply) (typed : Option ℕ) (old new : State)
+    → Takes seat event reply typed old new
     → (length new.waiting ≡ length old.waiting) × (length new.marks ≡ length old.marks)
 seats_stay seat event reply typed old new takes =
     (takes.2.waiting.seats, ap length takes.2.marks ∙ marks_stay event old.marks)
 
 -- the trail is still that of the session with which the hub began
-pub begins_stay : (seat : ℕ) (event : EventValue) (reply : Reply) (typed : Option ℕ) (old new : State) → Takes seat event reply typed old new
+pub begins_stay : (seat : ℕ) (event : EventValue) (reply : Reply) (typed : Option ℕ) (old new : State)
+    → Takes seat event reply typed old new
     → (new.trail.edition ≡ old.trail.edition) × (new.trail.owner ≡ old.trail.owner)
 begins_stay seat event reply typed old new takes =
     (ap (λ (t : trails.Trail). t.edition) takes.2.trail, ap (λ (t : trails.Trail). t.owner) takes.2.trail)
@@ -115,8 +119,9 @@ step_behind (Some k) step es e writes at =
       sym (ap (λ (x : trails.Entry). x.reply) same),
     )
 
-filed_behind : (seat : ℕ) (event : EventValue) (reply : Reply) (typed : Option ℕ) (old new : State) (place : ℕ) (e : trails.Entry)
-    → Takes seat event reply typed old new → is_some (kept_of event) ≡ true → place ≡ length old.trail.entries
+filed_behind : (seat : ℕ) (event : EventValue) (reply : Reply) (typed : Option ℕ) (old new : State)
+    (place : ℕ) (e : trails.Entry) → Takes seat event reply typed old new → is_some (kept_of event) ≡ true
+    → place ≡ length old.trail.entries
     → slice_get new.trail.entries place ≡ Some e
     → (new.trail.entries ≡ old.trail.entries ++ e ∷ []) × (kept_of event ≡ Some e.event) × (e.reply ≡ ending_of reply)
 filed_behind seat event reply typed old new place e takes writes last at =
@@ -128,16 +133,17 @@ filed_behind seat event reply typed old new place e takes writes last at =
     (more ∙ ap (λ (x : List trails.Entry). es ++ x) s.0, s.1, s.2)
 
 -- the copy is of the entry at the place of the step's entry
-pub stands_last : (asks : Bool) (seat : ℕ) (event : EventValue) (reply : Reply) (typed : Option ℕ) (old new : State) (place : ℕ)
-    (entry : Option trails.Entry) → Takes seat event reply typed old new → is_some (kept_of event) ≡ true
+pub stands_last : (asks : Bool) (seat : ℕ) (event : EventValue) (reply : Reply) (typed : Option ℕ) (old new : State)
+    (place : ℕ) (entry : Option trails.Entry) → Takes seat event reply typed old new → is_some (kept_of event) ≡ true
     → place ≡ length old.trail.entries
     → IfSome entry (IsCopied asks new.trail.entries place) → StandsLast entry old.trail.entries new.trail.entries
 stands_last asks seat event reply typed old new place None takes writes last copy = tt
 stands_last asks seat event reply typed old new place (Some e) takes writes last copy =
     (filed_behind seat event reply typed old new place e takes writes last copy.1).0
 
-pub handed : (sitting : Sitting) (event : EventValue) (reply : Reply) (typed : Option ℕ) (old new : State) (place : ℕ)
-    (entry : Option trails.Entry) → Takes sitting.number event reply typed old new → is_some (kept_of event) ≡ true
+pub handed : (sitting : Sitting) (event : EventValue) (reply : Reply) (typed : Option ℕ) (old new : State)
+    (place : ℕ) (entry : Option trails.Entry) → Takes sitting.number event reply typed old new
+    → is_some (kept_of event) ≡ true
     → place ≡ length old.trail.entries
     → IfSome entry (IsCopied sitting.asks new.trail.entries place) → IfSome entry (IsHanded sitting event reply)
 handed sitting event reply typed old new place None takes writes last copy = tt

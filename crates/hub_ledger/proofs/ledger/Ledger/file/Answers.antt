@@ -35,9 +35,9 @@ returns-clause-entry g c =
     let old = state_of c.self.inside.filed in
     let new = state_of c.file.new.self in
     subst (λ (s : State). StandsLast c.copied-entry.result s.trail.entries new.trail.entries) c.self.view_is
-    (stands_last c.seat.inside.asks c.seat.inside.number (happening c.args.event) c.in_ok-made.made.0 c.in_ok-made.made.1 old new
-    c.len-place.result c.copied-entry.result c.in_ok-made.ensures.step c.requires c.len-place.ensures
-    c.copied-entry.ensures)
+    (stands_last c.seat.inside.asks c.seat.inside.number (happening c.args.event) c.in_ok-made.made.0
+    c.in_ok-made.made.1 old new c.len-place.result c.copied-entry.result c.in_ok-made.ensures.step c.requires
+    c.len-place.ensures c.copied-entry.ensures)
 
 pub returns-clause-answer : goal.returns-clause-answer
 returns-clause-answer g c =
@@ -77,9 +77,12 @@ invariant_of-self-2 g c =
     let old = state_of c.self.inside.filed in
     let new = state_of c.file.new.self in
     let takes = c.in_ok-made.ensures.step in
-    let more = one_more c.seat.inside.number (happening c.args.event) c.in_ok-made.made.0 c.in_ok-made.made.1 old new takes c.requires in
-    let stay = seats_stay c.seat.inside.number (happening c.args.event) c.in_ok-made.made.0 c.in_ok-made.made.1 old new takes in
-    let begins = begins_stay c.seat.inside.number (happening c.args.event) c.in_ok-made.made.0 c.in_ok-made.made.1 old new takes in (
+    let event = happening c.args.event in
+    let reply = c.in_ok-made.made.0 in
+    let typed = c.in_ok-made.made.1 in
+    let more = one_more c.seat.inside.number event reply typed old new takes c.requires in
+    let stay = seats_stay c.seat.inside.number event reply typed old new takes in
+    let begins = begins_stay c.seat.inside.number event reply typed old new takes in (
       c.file.ensures.kept,
       (let t = c.add.ensures.total in omega (arith, t, inv.1, more)),
       omega (arith, more, c.in_ok-made.ensures.room),
