@@ -1,6 +1,7 @@
 pub mod Drawn
 pub mod Headline
 pub mod Least
+pub mod MayType
 pub mod Stands
 pub mod Taking
 pub mod Sharing

@@ -6,6 +6,7 @@ mod coming;
 mod drawing;
 mod going;
 mod guest_runs;
+mod may_type;
 mod programs;
 mod session;
 mod sharing;

@@ -10,6 +10,7 @@ ghost use Rattle.session_model.specs.Run.{tables_of};
 ghost use Rattle.session_model.specs.Sound.{client_serials};
 ghost use Rattle.session_state.specs.declared.client.Client.{Client};
 ghost use Rattle.session_core.specs.Least.{least_from};
+ghost use Rattle.session_core.specs.MayType.{may_type};
 ghost use Rattle.session_core.specs.Stands.{StandsFor, IfTaken, Takes, wants_memory};
 ghost use Rattle.session_core.specs.Headline.{SomeRun, SomeSteps, IsRunOf, AllSteps, Keeps};
 ghost use Rattle.session_core.specs.Headline.{HasCome, run_call, take_call, IsPartOf, IsViewOf};
@@ -17,6 +18,7 @@ ghost use Rattle.session_core.specs.Headline.{read_by};
 
 use crate::coming::made_so;
 use crate::drawing::{draws_one_of, note_drawn};
+use crate::may_type::may_type;
 use crate::sharing::{Sharing, note_step};
 use crate::taking::take;
 use acl::{Edition, UserId};
@@ -193,6 +195,15 @@ impl Session {
         ensures { (h : Trace) → StandsFor h self.now → IsViewOf h client result }
     {
         view_of(&self.state, client)
+    }
+
+    /// Whether a client may type into a window at this moment: both are there, the client's user has w
+    /// on the window, and no other user holds its lock. It takes no memory.
+    pub fn may_type(&self, client: u32, window: u32) -> bool
+        ensures { (h : Trace) → StandsFor h self.now
+            → result ≡ may_type (tables_of h) client window }
+    {
+        may_type(&self.state, client, window)
     }
 
     /// The lowest serial of a client that isn't below this one.

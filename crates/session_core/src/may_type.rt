@@ -1,0 +1,54 @@
+//! Whether a client may type into a window.
+
+ghost use Rattle.std.specs.Prelude.{◌≡◌, true};
+ghost use Rattle.acl.specs.History.{is_open};
+ghost use Rattle.acl.specs.declared.act.Object.TheVariants as object;
+ghost use Rattle.acl.specs.declared.bits.Bit.TheVariants.{Write};
+ghost use Rattle.writelock.specs.LockTable.{stops_nobody_but};
+ghost use Rattle.session_model.specs.Rights.{holder_in, may_in};
+ghost use Rattle.session_model.specs.Sound.{AreFit};
+ghost use Rattle.session_model.specs.Tables.{Tables};
+ghost use Rattle.session_state.specs.Stands.{Stands};
+ghost use Rattle.session_core.specs.MayType.{lets_type, may_type};
+
+use acl::{Bit, Object, UserId};
+use session_state::State;
+
+/// Whether a user has w on an open window.
+fn may_write(state: &State, user: UserId, window: u32) -> bool
+    ensures { (t : Tables) → Stands t state.now → is_open t.acts window ≡ true
+        → result ≡ may_in t user Write (object.Window window) }
+{
+    state
+        .acl
+        .may(user, Bit::Write, Object::Window(window))
+        .is_ok()
+}
+
+/// Whether no other user holds a window's lock.
+fn is_free(state: &State, user: UserId, window: u32) -> bool
+    ensures { (t : Tables) → Stands t state.now
+        → result ≡ stops_nobody_but user (holder_in t window) }
+{
+    state.locks.may_type(user, window).is_ok()
+}
+
+/// Whether a user may type into a window: the checks of typed bytes, without verdicts.
+fn lets_type(state: &State, user: UserId, window: u32) -> bool
+    ensures { (t : Tables) → Stands t state.now → AreFit t → result ≡ lets_type t user window }
+{
+    if state.windows.get(window).is_none() {
+        return false;
+    }
+    may_write(state, user, window) && is_free(state, user, window)
+}
+
+/// Whether a client's user may type into a window.
+pub fn may_type(state: &State, client: u32, window: u32) -> bool
+    ensures { (t : Tables) → Stands t state.now → AreFit t → result ≡ may_type t client window }
+{
+    match state.clients.get(client) {
+        Some(row) => lets_type(state, row.user, window),
+        None => false,
+    }
+}
