@@ -98,6 +98,12 @@ impl<L: Begun> Hub<L> {
         self.ledger.lock(rt).take(seat)
     }
 
+    /// Whether a client may type into a window at this moment: both are there, the client's user has w
+    /// on the window, and no other user holds its lock.
+    pub fn may_type<R: Wait>(&self, rt: &R, client: u32, window: u32) -> bool {
+        self.ledger.lock(rt).may_type(client, window)
+    }
+
     /// The trail; and the lowest place for which the receipts of these seats aren't exactly one,
     /// with the event and the reply of the trail's entry there. It takes no memory.
     pub fn close(self, seats: Vec<Seat<L>>) -> (Trail, Option<usize>)

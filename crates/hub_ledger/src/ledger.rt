@@ -3,7 +3,9 @@
 ghost use Rattle.std.specs.Prelude.{◌≡◌, ◌↔◌, ◌<◌, ◌≤◌, length, IfOk, OnErr, Err, IsSome, None};
 ghost use Rattle.std.specs.Prelude.{Some, IfErr};
 ghost use Rattle.std.specs.Prelude.{[], false, is_some, slice_get, slice_set, true};
-ghost use Rattle.session_model.specs.Trace.{begun, happening};
+ghost use Rattle.session_model.specs.Trace.{Trace, begun, happening};
+ghost use Rattle.session_model.specs.Run.{tables_of};
+ghost use Rattle.session_core.specs.MayType.{may_type};
 ghost use Rattle.hub_trail.specs.Filing.{kept_of};
 ghost use Rattle.hub_trail.specs.Legal.{IsLegal};
 ghost use Rattle.hub_ledger.specs.States.{IsKept, StandsFor, Takes, begun_with, state_of};
@@ -238,6 +240,15 @@ impl<L: Begun> Ledger<L> {
         let (effects, is_told) = self.filed.waiting.take(self.filed.alloc, seat.number);
         seat.hand(&effects, is_told);
         (effects, is_told)
+    }
+
+    /// Whether a client may type into a window at this moment: both are there, the client's user has w
+    /// on the window, and no other user holds its lock. It takes no memory.
+    pub fn may_type(&self, client: u32, window: u32) -> bool
+        ensures { (h : Trace) → StandsFor h self.now.session
+            → result ≡ may_type (tables_of h) client window }
+    {
+        self.filed.session.may_type(client, window)
     }
 
     /// The state is that of a run, and its trail is legal.
