@@ -5,6 +5,7 @@ pub mod Entries
 pub mod Fitting
 pub mod Left
 pub mod Lowest
+pub mod MayTyping
 pub mod Needless
 pub mod Rests
 pub mod RunReading
