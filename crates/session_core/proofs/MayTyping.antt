@@ -8,13 +8,12 @@ use Rattle.acl.specs.declared.act.Object.TheVariants as object
 use Rattle.acl.specs.declared.bits.Bit.TheVariants.{Write}
 use Rattle.acl.specs.declared.user_id.UserId.{UserId}
 use Rattle.acl.specs.History.{is_open}
-use Rattle.writelock.specs.LockTable.{stops_nobody_but}
 use Rattle.windows.specs.declared.window.Window.{Window}
 use Rattle.windows.specs.Standing.{WindowStands}
 use Rattle.windows_model.proofs.Serials.{serial_is}
 use Rattle.windows_model.specs.Matched.{BothOrNone}
 use Rattle.session_model.specs.Checks.{passes, typing_checks}
-use Rattle.session_model.specs.Rights.{holder_in, may_in}
+use Rattle.session_model.specs.declared.check.Check.TheVariants.{Right, Unlocked}
 use Rattle.session_model.specs.Sound.{AreFit}
 use Rattle.session_model.specs.Tables as model
 use Rattle.session_model.specs.Tables.{Tables, window_at}
@@ -36,20 +35,20 @@ module _ (t : Tables) (user : UserId) (window : ℕ) where
 
   pub one_there : (found : Option Window) → BothOrNone WindowStands (window_at t window) found
       → is_some found ≡ true
-      → ((may_in t user Write (object.Window window) && stops_nobody_but user (holder_in t window))
+      → ((passes t (Right user Write (object.Window window)) && passes t (Unlocked user window))
       ≡ lets_type t user window) × (AreFit t → is_open t.acts window ≡ true)
   one_there found both some = on (window_at t window) refl found both some where
     on : (o : Option model.Window) → window_at t window ≡ o → (p : Option Window) → BothOrNone WindowStands o p
         → is_some p ≡ true
-        → ((may_in t user Write (object.Window window) && stops_nobody_but user (holder_in t window))
+        → ((passes t (Right user Write (object.Window window)) && passes t (Unlocked user window))
         ≡ lets_type t user window) × (AreFit t → is_open t.acts window ≡ true)
     on None at None both some = absurd (false≢true some)
     on None at (Some v) both some = absurd both
     on (Some w) at p both some =
         let serial : w.serial ≡ window = serial_is (λ (v : model.Window). v.serial) t.windows window w at in (
           sym (ap (λ (x : Option model.Window). list_all (passes t) (typing_checks user x)) at
-              ∙ ap (λ n. may_in t user Write (object.Window n) && (stops_nobody_but user (holder_in t n) && true)) serial
-              ∙ ap (λ b. may_in t user Write (object.Window window) && b)
-              (and_true (stops_nobody_but user (holder_in t window)))),
+              ∙ ap (λ n. passes t (Right user Write (object.Window n)) && (passes t (Unlocked user n) && true)) serial
+              ∙ ap (λ b. passes t (Right user Write (object.Window window)) && b)
+              (and_true (passes t (Unlocked user window)))),
           λ fit. fit.agree.open_is window ∙ ap is_some at,
         )
