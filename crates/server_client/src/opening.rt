@@ -1,7 +1,6 @@
 //! The connection with its first frame, and the files that the arguments name.
 
 use crate::host::PeerHost;
-use crate::outgoing::PATIENCE;
 use attach_proto::Token;
 use client_words::{Fault, Part, Way, Words};
 use std::alloc::Global;
@@ -13,6 +12,9 @@ use std::os::unix::fs::MetadataExt;
 use std::os::unix::net::UnixStream;
 use std::time::Duration;
 use std::{fs, io};
+
+// How long a socket that has a limit may take nothing, in milliseconds, before a frame waits.
+const PATIENCE: u64 = 20;
 
 // Modes of a file: those of its group and of all others.
 const OTHERS_READ: u32 = 0o044;
@@ -154,6 +156,29 @@ fn frame_for<R: fs::Files<File = File> + AllocGlobal>(
     Ok(words.first_frame(rt.alloc(), token)?)
 }
 
+fn door_for<R: fs::Files<File = File> + AllocGlobal>(
+    rt: &R,
+    words: &Words<'_>,
+) -> Result<Door, Fault> {
+    Ok(Door {
+        frame: frame_for(rt, words)?,
+        socket: String::from_str(rt.alloc(), words.socket)?,
+        can_leave: words.leave.is_some(),
+    })
+}
+
+/// A door to come back by, with the token as it is now, and this size.
+pub fn another_door<R: fs::Files<File = File> + AllocGlobal>(
+    rt: &R,
+    words: &Words<'_>,
+    (rows, columns): (u16, u16),
+) -> Result<Door, Fault> {
+    let mut words = *words;
+    words.rows = rows;
+    words.columns = columns;
+    door_for(rt, &words)
+}
+
 // Opens /dev/null in the place of a closed standard stream. Returns whether one was closed.
 fn fill<R: fs::Files<File = File>>(rt: &R, kept: &mut Vec<File>) -> io::Result<bool> {
     let file = fs::open(rt, "/dev/null")?;
@@ -183,11 +208,7 @@ pub fn prepare<R: fs::Files<File = File> + AllocGlobal>(
     kept: &mut Vec<File>,
 ) -> Result<(Door, SizesFiles), Fault> {
     fill_closed(rt, kept)?;
-    let door = Door {
-        frame: frame_for(rt, words)?,
-        socket: String::from_str(rt.alloc(), words.socket)?,
-        can_leave: words.leave.is_some(),
-    };
+    let door = door_for(rt, words)?;
     match sizes_of(rt, words) {
         Ok(files) => Ok((door, files)),
         Err(fault) => Err(fault),
