@@ -33,7 +33,7 @@ _mux() {
         ;;
     --user | --rows | --cols | --title | --keep | --window | --read | --session | --for | --wait | --owner | --at | --since) return ;;
     --web | --listen | --origin | --watch | --most) return ;;
-    --presets | --guest | --again | --number | --first) return ;;
+    --presets | --guest | --again | --stay | --number | --first) return ;;
     --writers) words='all one' ;;
     *)
         # mux and mux-trail have subcommands, each with its own options.
