@@ -110,6 +110,8 @@ class Servers:
         self.listener.close()
         try:
             self.peer.sendall(last)
+            # a thread may be reading it
+            self.peer.shutdown(socket.SHUT_RDWR)
         except OSError:
             pass
         self.peer.close()
@@ -164,10 +166,11 @@ def said_later():
     # a draw that is cut at the longest frame: the text waits for its end
     long = (b"\x1b[m" * 3000)[:8192]
     with Fake(WELCOME + frame(b"d", long) + frame(b"s", DROPPED)) as fake, Client(fake.words()) as it:
+        it.shows(long)
         time.sleep(0.5)
         check("a text waits while a draw is half there", it.out == long, str(it.out[-60:]))
-        fake.kept[-1].sendall(frame(b"d", b"[m"))
-        check("and comes after it", it.shows(DROPPED) and it.out.startswith(long + b"[m\x1b7"), str(it.out[-99:]))
+        fake.kept[-1].sendall(frame(b"d", b"m"))
+        check("and comes after it", it.shows(DROPPED) and it.out.startswith(long + b"m\x1b7"), str(it.out[-99:]))
 
 
 def slow_program():
@@ -228,8 +231,7 @@ def scrolled():
     """Shift-PgUp and Shift-PgDn give scrollview, between two keys alone; another key goes to the end first."""
     with Fake(WELCOME) as fake, Client(fake.words("--assist")) as it:
         for keys in (b"\x1b[5;2~", b"\x1b[5$", b"\x1b[6;2~", b"x", b"y"):
-            it.type(keys)
-        time.sleep(0.2)
+            it.type(keys, 0.4)
         wanted = b"".join(b"\x01:scrollview %d\r" % lines for lines in (21, 42, 21, 0)) + b"xy"
         check("pages up and down, and back by a key", fake.typed() == wanted, str(fake.typed()))
         check("with a hint", it.shows(b"42 lines back; Shift-PgDn goes forward"), str(it.out))

@@ -213,7 +213,10 @@ impl Peer {
     // Takes keys. They are dropped while no server is there, and one takes the help away.
     fn press(&mut self, keys: &[u8]) -> Result<(), Fault> {
         if self.is_lost() {
-            self.is_final |= keys.contains(&ETX);
+            if keys.contains(&ETX) {
+                self.is_final = true;
+                self.end = self.loss;
+            }
             return Ok(());
         }
         if self.is_helping {

@@ -95,6 +95,7 @@ fn come_back<R: PeerHost + Threads + Wait + Files<File = File> + AllocGlobal>(
     before: &[u8],
 ) -> Result<(), Fault> {
     thread::sleep(rt, Duration::from_millis(PAUSE));
+    shared.begin(rt);
     let named = session(rt, words);
     if !before.is_empty() && !named.is_empty() && before != named.as_slice() {
         return Err(Fault::OtherSession);
@@ -102,9 +103,7 @@ fn come_back<R: PeerHost + Threads + Wait + Files<File = File> + AllocGlobal>(
     let seat = shared.seat.lock(rt);
     let size = (seat.peer.rows, seat.peer.columns);
     drop(seat);
-    let door = another_door(rt, words, size);
-    shared.begin(rt);
-    start(rt, shared, door?)
+    start(rt, shared, another_door(rt, words, size)?)
 }
 
 // Asks whether the peer comes back after its connection has ended, and lets it.
