@@ -109,15 +109,19 @@ impl Typing {
         item
     }
 
+    fn follow_all(&mut self, keys: &[u8]) {
+        for key in keys {
+            self.follow(*key);
+        }
+    }
+
     // Gives a command by the prompt, between two keys.
     fn give(&mut self, line: &[u8], out: &mut Vec<u8>) -> Result<(), AllocError> {
         let from = out.len();
         out.extend_from_slice(b"\x01:")?;
         out.extend_from_slice(line)?;
         out.push(b'\r')?;
-        for key in out.get(from..).unwrap_or(&[]) {
-            self.follow(*key);
-        }
+        self.follow_all(out.get(from..).unwrap_or(&[]));
         Ok(())
     }
 
@@ -225,8 +229,8 @@ impl Peer {
             return self.redraw();
         }
         if !self.typing.assists {
-            for key in keys {
-                self.typing.follow(*key);
+            if self.fits {
+                self.typing.follow_all(keys);
             }
             self.put_keys(keys)?;
             return Ok(());
