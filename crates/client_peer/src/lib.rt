@@ -12,4 +12,5 @@ mod typing;
 
 pub use laws::fit_splits_nothing;
 pub use looking::Step;
+pub use outgoing::Batch;
 pub use peer::Peer;

@@ -12,6 +12,16 @@ const MOST_AHEAD: usize = 16_777_216;
 // So many bytes of what is printed while no server is there are kept: the newest ones.
 const MOST_HELD: usize = 262_144;
 
+/// Frames on their way to the server.
+#[derive(Drop)]
+pub struct Batch {
+    pub frames: Vec<u8>,
+    /// How many of their bytes were sent.
+    pub sent: usize,
+    /// The connection that they are for.
+    connection: u32,
+}
+
 impl Peer {
     // Puts bytes down as frames of a kind.
     fn put_frames(&mut self, kind: Kind, bytes: &[u8]) -> Result<(), AllocError> {
@@ -83,36 +93,30 @@ impl Peer {
     }
 
     /// Takes the frames that wait, for a thread that sends them.
-    pub fn begin_sending(&mut self) -> Option<(Vec<u8>, u32)> {
+    pub fn begin_sending(&mut self) -> Option<Batch> {
         if !self.can_send() {
             return None;
         }
         self.is_sending = true;
-        let frames = mem::replace(&mut self.frames, Vec::new(self.alloc));
-        Some((frames, self.connection))
+        Some(Batch {
+            frames: mem::replace(&mut self.frames, Vec::new(self.alloc)),
+            sent: mem::replace(&mut self.sent, 0),
+            connection: self.connection,
+        })
     }
 
-    /// Notes how many of the bytes were sent, or that the connection takes no more: then what it has
-    /// still to say tells why. The rest waits.
-    pub fn end_sending(
-        &mut self,
-        frames: &[u8],
-        connection: u32,
-        sent: Option<usize>,
-    ) -> Result<(), AllocError> {
+    /// Takes back what wasn't sent. `is_open` is false if the connection takes no more: then what it has
+    /// still to say tells why.
+    pub fn end_sending(&mut self, batch: Batch, is_open: bool) -> Result<(), AllocError> {
         self.is_sending = false;
-        if self.connection != connection {
+        if self.connection != batch.connection {
             return Ok(());
         }
-        let Some(sent) = sent else {
-            self.is_shut = true;
-            return Ok(());
-        };
-        let rest = frames.get(sent..).unwrap_or(&[]);
-        self.is_stuck = !rest.is_empty();
+        self.is_shut = !is_open;
+        self.is_stuck = batch.sent < batch.frames.len();
         if self.is_stuck {
-            let later = mem::replace(&mut self.frames, Vec::new(self.alloc));
-            self.frames.extend_from_slice(rest)?;
+            let later = mem::replace(&mut self.frames, batch.frames);
+            self.sent = batch.sent;
             self.frames.extend_from_slice(&later)?;
         }
         Ok(())

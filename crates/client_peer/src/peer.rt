@@ -43,6 +43,8 @@ pub struct Peer {
     pub is_writing: bool,
     /// Frames for the server.
     pub frames: Vec<u8>,
+    /// How many of their bytes were sent.
+    pub sent: usize,
     /// A thread is sending frames.
     pub is_sending: bool,
     /// The connection took nothing for a while: who waits for the time sends the rest.
@@ -96,6 +98,7 @@ impl Peer {
             sizes: Vec::new(alloc),
             is_writing: false,
             frames: Vec::new(alloc),
+            sent: 0,
             is_sending: false,
             is_stuck: false,
             is_shut: false,
@@ -121,6 +124,7 @@ impl Peer {
         self.is_covered = false;
         self.is_helping = false;
         self.frames.clear();
+        self.sent = 0;
         self.is_stuck = false;
         self.is_shut = false;
         self.connection = self.connection.wrapping_add(1);

@@ -2,6 +2,7 @@
 
 use crate::host::{PeerHost, Sink};
 use crate::shared::Shared;
+use client_peer::Batch;
 use client_words::{Fault, Part};
 use std::alloc::Global;
 use std::fs::File;
@@ -52,29 +53,28 @@ pub fn write_out<R: PeerHost + Wait, O: Sink>(
     }
 }
 
-// Sends all bytes, or fewer if the socket has a time limit and takes nothing for that time. Returns how
-// many were sent.
-fn send_some(stream: &UnixStream, bytes: &[u8]) -> io::Result<usize> {
+// Sends all bytes, or fewer if the socket has a time limit and takes nothing for that time. Returns
+// whether the socket is open.
+fn send_some(stream: &UnixStream, batch: &mut Batch) -> bool {
     let mut stream = stream;
-    let mut at = 0usize;
-    for _ in 0..=bytes.len() {
-        let rest = bytes.get(at..).unwrap_or(&[]);
+    for _ in 0..=batch.frames.len() {
+        let rest = batch.frames.get(batch.sent..).unwrap_or(&[]);
         if rest.is_empty() {
             break;
         }
         match stream.write(rest) {
-            Ok(0) => return Err(io::Error::from(ErrorKind::WriteZero)),
-            Ok(count) => at = at.saturating_add(count),
+            Ok(0) => return false,
+            Ok(count) => batch.sent = batch.sent.saturating_add(count),
             Err(error) if error.kind() == ErrorKind::WouldBlock => break,
             Err(error) if error.kind() == ErrorKind::Interrupted => {}
-            Err(error) => return Err(error),
+            Err(_) => return false,
         }
     }
-    Ok(at)
+    true
 }
 
 // Takes the frames that wait, with their connection.
-fn begin<R: Wait>(rt: &R, shared: &Shared) -> Option<(Vec<u8>, u32, Arc<UnixStream, Global>)> {
+fn begin<R: Wait>(rt: &R, shared: &Shared) -> Option<(Batch, Arc<UnixStream, Global>)> {
     let mut seat = shared.seat.lock(rt);
     let Some(stream) = &seat.stream else {
         return None;
@@ -82,25 +82,26 @@ fn begin<R: Wait>(rt: &R, shared: &Shared) -> Option<(Vec<u8>, u32, Arc<UnixStre
     let Ok(stream) = Arc::try_clone(stream) else {
         return None;
     };
-    let Some((frames, connection)) = seat.peer.begin_sending() else {
+    let Some(batch) = seat.peer.begin_sending() else {
         return None;
     };
-    Some((frames, connection, stream))
+    Some((batch, stream))
 }
 
 /// Sends the frames that wait, unless another thread does. Some may be left if the socket has a time
 /// limit.
 pub fn send<R: Wait>(rt: &R, shared: &Shared) {
     for _ in rt.forever() {
-        let Some((frames, connection, stream)) = begin(rt, shared) else {
+        let Some((mut batch, stream)) = begin(rt, shared) else {
             break;
         };
-        let sent = send_some(&stream, &frames).ok();
+        let is_open = send_some(&stream, &mut batch);
         let mut seat = shared.seat.lock(rt);
-        let kept = seat.peer.end_sending(&frames, connection, sent);
+        let kept = seat.peer.end_sending(batch, is_open);
+        let goes_on = kept.is_ok() && !seat.peer.is_stuck;
         drop(seat);
         shared.work.notify_all();
-        if kept.is_err() || sent != Some(frames.len()) {
+        if !goes_on {
             break;
         }
     }
