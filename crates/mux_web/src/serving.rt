@@ -33,7 +33,7 @@ fn serve_at<R: Host + Threads + Wait + Eprint, O: Write>(
     } else {
         None
     };
-    let bridge = Bridge::new(rt.alloc(), site, options.socket, options.most, log)?;
+    let bridge = Bridge::new(rt.alloc(), site, options, log)?;
     writeln!(output, "mux-web: ready")?;
     output.flush()?;
     Ok(serve(rt, bridge, doors)?)
