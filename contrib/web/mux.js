@@ -374,7 +374,7 @@
   // The name and the token of the user, from the login until they leave: so the page comes back by itself after a
   // break and after a reload.  They are kept for this tab alone.  `alive`: the session let this connection in.
   // `secret` is that of a link, and `ends` when a page gives up whose session has ended.
-  let user = null, secret = null, alive = false, heard = 0, beats = false, wait = 0, again = 0, ends = 0;
+  let user = null, secret = null, alive = false, heard = 0, wait = 0, again = 0, ends = 0;
   const remember = (name, token) => {
     user = name ? { name, token } : null;
     keep("mux", user);
@@ -442,7 +442,6 @@
     const mine = new WebSocket(location.origin.replace(/^http/, "ws") + "/rows");
     socket = mine;
     heard = Date.now();
-    beats = true;
     mine.addEventListener("open", () => {
       why = "The connection broke.";
       heard = Date.now();
@@ -462,7 +461,6 @@
       if (got.welcome) welcome();
       else if (got.user) redeem(got);
       else if (Array.isArray(got)) show(got);
-      else if (got.here) beats = true;
       else if (got.say !== undefined) why = got.say;
       else if (got.gone !== undefined && (watching || got.gone === 4)) {
         // It may begin again at once.
@@ -483,7 +481,6 @@
   };
   const welcome = () => {
     alive = true;
-    beats = false;
     wait = ends = 0;
     clear();
     say("");
@@ -493,7 +490,7 @@
   // The bridge says each few seconds that it is there.  Without a word of it the connection is dead, though the
   // browser doesn't know yet.
   setInterval(() => {
-    if (socket && beats && Date.now() - heard > 9000) lose("No answer from the session.");
+    if (socket && Date.now() - heard > 9000) lose("No answer from the session.");
   }, 500);
   addEventListener("online", probe);
   document.addEventListener("visibilitychange", () => document.hidden || probe());
