@@ -89,23 +89,25 @@
   let place = "";
   const follow = () => it("cursor").scrollIntoView({ block: "nearest", inline: "nearest" });
 
-  // What the last rows say: the message, and above it the caption.  mux-turn tells everybody who may type, and a raised
-  // hand is a wall, too.  So the page knows whose turn it is, from the first such message on that it was there for.
+  // What the last rows say: the message, and above it the caption.  mux-turn tells everybody who may type, and with
+  // --title the window's title says it, too.  A raised hand is a wall.
   const HAND = "I would like to type";
-  const GIVEN = /^\w+: (?:(\w+) may type(?: for \w+)?|nobody(?: but [\w,]+)? may type|\w+'s turn is over)$/;
-  let turn = null, hands = new Set();
+  const GIVEN = /^\w+: (?:(\w+) may type(?: for \w+)?|nobody(?: else| but \S+)? may type|(?:the|\w+'s) turn is over)$/;
+  let turn = null, hands = new Set(), marked = false;
   const keep = (name, value) => {
     if (value) sessionStorage.setItem(name, JSON.stringify(value));
     else sessionStorage.removeItem(name);
   };
   const kept = (name) => JSON.parse(sessionStorage.getItem(name) || "null");
-  const hear = (message) => {
+  const hear = (caption, message) => {
     const given = GIVEN.exec(message), [, name, text] = /^(\w+): (.*)$/.exec(message) || [];
-    if (given) {
-      turn = given[1] || "";
-      hands.delete(turn);
-    } else if (text === HAND) hands.add(name);
-    else return;
+    const titled = /^\d+ .* \((\w+) types\)$/.exec(caption);
+    if (titled) turn = titled[1];
+    else if (given) turn = given[1] || "";
+    else if (marked) turn = "";
+    marked = titled !== null;
+    if (text === HAND) hands.add(name);
+    hands.delete(turn);
     keep("mux turn", [turn, [...hands]]);
   };
   const told_turn = (me, isDenied, types) => {
@@ -120,7 +122,7 @@
       back = asked = 0;
       past.hidden = true;
     }
-    hear(message);
+    hear(caption, message);
     const me = user ? user.name : "", lock = /^denied: window \d+ locked by (\w+)$/.exec(message);
     const isDenied = lock || /^denied: w on window /.test(message), types = lock ? lock[1] : turn;
     const lines = [told_turn(me, isDenied, types)];
@@ -177,7 +179,7 @@
   const two = (n) => [n >> 8, n & 255];
   const wide = (pixels) => {
     frame.style.setProperty("--letter", pixels + "px");
-    frame.style.setProperty("--h", Math.round(pixels * 1.25) + "px");
+    frame.style.setProperty("--h", Math.floor(pixels * 1.25) + "px");
     const probe = span("0".repeat(50), []);
     page.append(probe);
     const { font } = getComputedStyle(page), w = probe.getBoundingClientRect().width / 50 || pixels * 0.6;
@@ -195,7 +197,7 @@
     if (pixels !== BIG) w = wide(pixels);
     known.clear();
     frame.style.setProperty("--w", w + "px");
-    const rows = clamp(height / Math.round(pixels * 1.25), 4, 200);
+    const rows = clamp(height / Math.floor(pixels * 1.25), 4, 200);
     return [...two(rows), ...two(clamp(Math.max(width / w, COLS), 20, 300))];
   };
   const resize = () => {
