@@ -157,12 +157,13 @@ fn watcher_of<R: Files<File = File> + AllocGlobal>(
     match (options.watch, options.watch_token) {
         (Some(name), Some(path)) => {
             if UserId::of(name.as_bytes()).is_none() {
-                return Err(WebFault::NoName);
+                return Err(WebFault::NoName(String::from_str(rt.alloc(), name)?));
             }
             let token = token_in(rt, path)?;
             let name = String::from_str(rt.alloc(), name)?;
             Ok(Some(Watcher { name, token }))
         }
+        (None, None) if options.window.is_some() => Err(WebFault::NobodyWatches),
         (None, None) => Ok(None),
         _ => Err(WebFault::Alone),
     }
