@@ -419,7 +419,7 @@
   const lose = (text) => {
     drop();
     if (watching) clear();
-    say(`${text.replace(/\.$/, "")}. Trying again${watching ? "" : "; Escape gives up"}.`, true);
+    say(`${text}${/[.?]$/.test(text) ? "" : "."} Trying again${watching ? "" : "; Escape gives up"}.`, true);
     clearTimeout(again);
     again = setTimeout(probe, wait * 1000);
     wait = wait ? Math.min(watching ? 60 : 1, 2 * wait) : 1;
