@@ -571,7 +571,7 @@ def browsers(play, accounts):
     text.leave("# usermod -aG class www-data && systemctl restart nginx", "it needs nginx; tests/outside/web plays it")
     for _ in range(2):
         play.run("tess", text.lines[0][0][2:])
-    text.leave("mux-user --users users --page $ORIGIN link ann", "tests/outside/browser plays it")
+    text.leave("$ mux-user --users users --page $ORIGIN link ann", "tests/outside/browser plays it")
     home = os.path.expanduser("~tess") if accounts.real else play.on.home
     with open(os.path.join(home, "class/ann.token"), "rb") as file:
         token = file.read().strip()
