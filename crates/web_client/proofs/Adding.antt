@@ -1,5 +1,5 @@
 -- Frames that messages add, one message after another.
-use Rattle.std.proofs.Common.{◌≡◌, ℕ, List, [], ◌∷◌, ◌++◌, Result, Ok, Err, OnOk, OnErr}
+use Rattle.std.proofs.Common.{◌≡◌, ℕ, List, [], ◌∷◌, ◌++◌, Result, Ok, Err, IfOk, OnOk, OnErr}
 use Rattle.std.proofs.Common.{inl, inr, sym, ap, ◌∙◌, subst, append_assoc, append-nil}
 use Rattle.std.proofs.lemmas.Grind.{flat_map-append}
 use Rattle.std.specs.List.{flat_map, AllByRecursion}
@@ -71,6 +71,12 @@ apart (Watching rows columns) h = tt
 apart (Link secret) h = tt
 apart Unknown h = tt
 apart Left h = tt
+
+-- a browser that shows a link begins
+pub linked : {E : Type 0} (r : Result Seat E) (message payload : List ℕ) → message ≡ 0x4C ∷ payload
+    → IfOk r (λ (s : Seat). s ≡ Link payload) → IfOk r (Begins message)
+linked (Ok s) message payload e h = (payload, inr (inr (e, h)))
+linked (Err x) message payload e h = tt
 
 begun : (message : List ℕ) (s : Seat) → Begins message s → Asks Nobody s
 begun message s h =

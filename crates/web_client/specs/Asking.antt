@@ -48,6 +48,11 @@ abbrev pub IsOwn : Seat → (Client → Type 0) → Type 0
 IsOwn (Own c) P = P c
 IsOwn _ P = ⊥
 
+-- a browser that watches a page that others watch too
+abbrev pub IsWatcher : Seat → Type 0
+IsWatcher (Watching rows columns) = Unit {0}
+IsWatcher _ = ⊥
+
 -- a fact of a seat's own client, if it has one
 abbrev pub IfOwn : Seat → (Client → Type 0) → Type 0
 IfOwn (Own c) P = P c

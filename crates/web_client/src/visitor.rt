@@ -2,7 +2,7 @@
 
 ghost use Rattle.std.specs.Prelude.{◌≡◌, ◌↔◌, ◌⊎◌, ℕ, List, drop, IfOk, OnOk, OnErr, IsTrue, ◌<◌, ◌≤◌, []};
 ghost use Rattle.std.specs.Prelude.{length, false, true, codes, vec_len};
-ghost use Rattle.web_client.specs.Asking.{Asks, Keeps, IsOwn, IfOwn};
+ghost use Rattle.web_client.specs.Asking.{Asks, Keeps, IsOwn, IfOwn, IsWatcher};
 ghost use Rattle.web_client.specs.Sending.{IsReceived};
 ghost use Rattle.web_client.specs.Rows.{Adds, IsDue, Shows, SendsAll, TellsLast, handed};
 ghost use Rattle.web_requests.specs.Serving.{refusal};
@@ -302,17 +302,28 @@ impl Visitor {
         self.view = View::NOTHING;
     }
 
-    /// Shows a page that others watch too.
+    // Whether it watches a page that others watch too.
+    fn is_watcher(&self) -> bool
+        ensures { IsTrue result ↔ IsWatcher self.now.seat }
+    {
+        match &self.seat {
+            Seat::Watching(_, _) => true,
+            Seat::Nobody | Seat::Own(_) | Seat::Link(_) | Seat::Unknown | Seat::Left => false,
+        }
+    }
+
+    /// Shows a page that others watch too, to a browser that watches. No other one is sent it.
     pub fn show_shared(&mut self, display: &mut Display) -> Result<(), End>
-        ensures shows { self.old.wire.stage ≡ Stage.Socket → IsDue display.old self.old.wire
-            → OnOk result (Shows display.old self.old.view.since self.old.wire
+        ensures apart { (IsWatcher self.old.seat → ⊥) → (self.new ≡ self.old) × (display.new ≡ display.old) }
+        ensures shows { self.old.wire.stage ≡ Stage.Socket → IsWatcher self.old.seat
+            → IsDue display.old self.old.wire → OnOk result (Shows display.old self.old.view.since self.old.wire
             display.new self.new.view.since self.new.wire) }
         ensures sends { OnOk result ((self.new.wire ≡ self.old.wire)
             ⊎ SendsAll display.old.told self.old.wire self.new.wire) }
         ensures adds { OnOk result (Adds self.old.wire self.new.wire) }
         ensures seat { self.new.seat ≡ self.old.seat }
     {
-        if !self.is_open() {
+        if !self.is_open() || !self.is_watcher() {
             return Ok(());
         }
         self.wire.show(&mut self.view, display)
