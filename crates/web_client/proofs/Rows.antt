@@ -92,12 +92,11 @@ ends (Ok u) refusal told why old v new e h k =
     subst (λ (g : Option Why). Ends refusal g old new) (sym e) (v, h, k)
 ends (Err u) refusal told why old v new e h k = tt
 
-step : (x y piece rest : List ℕ) → y ≡ x ++ piece → y ++ rest ≡ x ++ (piece ++ rest)
-step x y piece rest e = ap (λ (l : List ℕ). l ++ rest) e ∙ append_assoc x piece rest
-
 -- a text of five pieces
 pub five : (a b c d e v w x y z : List ℕ) → v ≡ a → w ≡ v ++ b → x ≡ w ++ c → y ≡ x ++ d → z ≡ y ++ e
-    → z ≡ a ++ (b ++ (c ++ (d ++ e)))
+    → z ≡ a ++ b ++ c ++ d ++ e
 five a b c d e v w x y z p q r s t =
-    t ∙ step x y d e s ∙ step w x c (d ++ e) r ∙ step v w b (c ++ (d ++ e)) q
-    ∙ ap (λ (l : List ℕ). l ++ (b ++ (c ++ (d ++ e)))) p
+    let two : w ≡ a ++ b = q ∙ ap (λ (l : List ℕ). l ++ b) p in
+    let three : x ≡ a ++ b ++ c = r ∙ ap (λ (l : List ℕ). l ++ c) two in
+    let four : y ≡ a ++ b ++ c ++ d = s ∙ ap (λ (l : List ℕ). l ++ d) three in
+    t ∙ ap (λ (l : List ℕ). l ++ e) four
