@@ -21,8 +21,8 @@ ghost use Rattle.hub_trail.specs.Filing.{kept_of};
 
 use hub_ledger::Ledger;
 pub use hub_ledger::{
-    Answer, Begun, CheckFault, FULL, Foreign, Full, Handed, HubFault, Kept, Receipt, Receipts, Seat,
-    Sent, Session, Trail, TrailEntry, check_trail, kept_trails_are_legal,
+    Answer, Begun, CheckFault, FULL, Foreign, Full, Handed, HubFault, Kept, Receipt, Receipts,
+    Seat, Sent, Session, Trail, TrailEntry, check_trail, kept_trails_are_legal,
 };
 use session_model::Event;
 use std::alloc::Global;

@@ -1,8 +1,8 @@
 -- Whether a user may type into a window, by the tables that a state stands for.
-use Rattle.std.proofs.Common.{◌≡◌, ◌∙◌, ℕ, Bool, true, false, Option, Some, None, refl, ap, sym}
+use Rattle.std.proofs.Common.{◌≡◌, ◌∙◌, ℕ, Bool, true, false, Option, Some, None, refl, ap, sym, Bor}
 use Rattle.std.specs.Prelude.{◌&&◌}
 use Rattle.std.specs.List.{list_all}
-use Rattle.std.specs.Option.{is_some}
+use Rattle.std.specs.Option.{is_some, option_copied}
 use Rattle.std.proofs.lemmas.Bool.{false≢true}
 use Rattle.acl.specs.declared.act.Object.TheVariants as object
 use Rattle.acl.specs.declared.bits.Bit.TheVariants.{Write}
@@ -22,6 +22,10 @@ use Rattle.session_core.specs.MayType.{lets_type}
 and_true : (b : Bool) → (b && true) ≡ b
 and_true true = refl
 and_true false = refl
+
+pub copied_some : {A : Type 0} (o : Option (Bor A)) → is_some o ≡ true → is_some (option_copied o) ≡ true
+copied_some None e = absurd (false≢true e)
+copied_some (Some r) e = refl
 
 module _ (t : Tables) (user : UserId) (window : ℕ) where
   pub none_there : (found : Option Window) → BothOrNone WindowStands (window_at t window) found

@@ -2,10 +2,10 @@
 
 ghost use Rattle.std.specs.Prelude.{◌≡◌, true};
 ghost use Rattle.acl.specs.History.{is_open};
-ghost use Rattle.acl.specs.declared.act.Object.TheVariants as object;
+ghost use Rattle.acl.specs.declared.act.Object.TheVariants.{Window};
 ghost use Rattle.acl.specs.declared.bits.Bit.TheVariants.{Write};
 ghost use Rattle.session_model.specs.Checks.{passes};
-ghost use Rattle.session_model.specs.declared.check.Check.TheVariants as check;
+ghost use Rattle.session_model.specs.declared.check.Check.TheVariants.{Right, Unlocked};
 ghost use Rattle.session_model.specs.Sound.{AreFit};
 ghost use Rattle.session_model.specs.Tables.{Tables};
 ghost use Rattle.session_state.specs.Stands.{Stands};
@@ -17,7 +17,7 @@ use session_state::State;
 /// Whether a user has w on an open window.
 fn may_write(state: &State, user: UserId, window: u32) -> bool
     ensures { (t : Tables) → Stands t state.now → is_open t.acts window ≡ true
-        → result ≡ passes t (check.Right user Write (object.Window window)) }
+        → result ≡ passes t (Right user Write (Window window)) }
 {
     state
         .acl
@@ -28,7 +28,7 @@ fn may_write(state: &State, user: UserId, window: u32) -> bool
 /// Whether no other user holds a window's lock.
 fn is_free(state: &State, user: UserId, window: u32) -> bool
     ensures { (t : Tables) → Stands t state.now
-        → result ≡ passes t (check.Unlocked user window) }
+        → result ≡ passes t (Unlocked user window) }
 {
     state.locks.may_type(user, window).is_ok()
 }
