@@ -150,7 +150,7 @@ sub back {
     $self->{waiting} = [grep { $_ != $it } @{ $self->{waiting} }];
     $it->{now} = $serial;
     $self->save;
-    $self->give_rights($it, $window, @same);
+    $self->give_rights($it, $window, alike($window, $old, values %{ $old->{windows} }));
     $self->give($it, $live->{owner}, 'title ' . quoted($it->{title}), $number) if $it->{title} ne $window->{title};
     $self->lock($it, $window);
     $self->{targets}{$serial} = $it;
