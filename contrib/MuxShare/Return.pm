@@ -2,11 +2,11 @@
 package MuxShare::Return;
 use strict;
 use warnings;
-use MuxShare::Trail qw(BIT bits_of quoted text_of untext);
-use MuxShare::Wire qw(COMMAND SAY GONE connected content frame limit_time read_exactly write_all);
+use MuxShare::Trail qw(BIT bits_of text_of untext);
+use MuxShare::Wire qw(DONE REFUSED ask content quoted write_all);
 
-# The number of a window in a command that names none, how many seconds an answer may take, and the most bytes of a line.
-use constant { NO_WINDOW => 255, ANSWER => 10, LONGEST_LINE => 1000 };
+# The most bytes of a line.
+use constant LONGEST_LINE => 1000;
 
 # SOCKET, USERS and PENDING are paths; TRAIL is the new file, BASE the old one; OLD is what that one leaves.
 sub new {
@@ -37,7 +37,8 @@ sub closed {
     return $bits;
 }
 
-sub log_line { print STDERR "mux-again: $_[0]\n" }
+# Says something in the log.
+sub say { print STDERR "mux-again: $_[0]\n" }
 
 # Returns a user's token, or undef.
 sub token {
@@ -45,31 +46,21 @@ sub token {
     return content($self->{users}) =~ /^\Q$user\E +([0-9a-f]{64})$/m ? $1 : undef;
 }
 
-# Gives a command and returns the reason of GONE, or undef if there was none, and what was said.
-sub ask {
+# Gives a command and returns what GONE had, or undef if it didn't come, and what was said.
+sub given {
     my ($self, $user, $line, $number) = @_;
-    my $token = $self->token($user) // return (6, 'no token');
-    my $server = connected($self->{socket}) // return (undef, "can't connect: $!");
-    limit_time($server, ANSWER);
-    write_all($server, frame(COMMAND, pack 'C a64 C/a* a*', $number // NO_WINDOW, $token, $user, $line));
-    my $said = '';
-    while (defined(my $head = read_exactly($server, 3))) {
-        my ($kind, $length) = unpack 'Cn', $head;
-        my $payload = read_exactly($server, $length) // last;
-        $said .= $payload if $kind == SAY;
-        return (ord $payload, $said) if $kind == GONE;
-    }
-    return (undef, 'no answer');
+    my $token = $self->token($user) // return (REFUSED, 'no token');
+    return ask($self->{socket}, $user, $token, $line, $number);
 }
 
 # Gives a command about an old window (undef: about none).  It counts once it is in the file: if the server has gone, it
 # never is.  Returns whether it was done, as far as the server said.
 sub give {
     my ($self, $about, $user, $line, $number) = @_;
-    my ($reason, $said) = $self->ask($user, $line, $number);
-    if ($reason) { log_line("$user: $line: $said") }
+    my ($gone, $said) = $self->given($user, $line, $number);
+    if (($gone // DONE) ne DONE) { say("$user: $line: $said") }
     else { push @{ $self->{unfiled} }, { user => $user, line => $line, about => $about } }
-    return defined $reason && $reason == 0;
+    return defined $gone && $gone eq DONE;
 }
 
 # Gives lines of USERS with one HEAD and TAIL, as many users on each as fit.
@@ -93,7 +84,7 @@ sub filed {
     $self->{unfiled} = [grep { $_ != $found } @{ $self->{unfiled} }];
     # Somebody was removed in the last moment, and the line made the name known again.
     for my $name ($line =~ / !known:(\w+)/g) {
-        log_line("$name was removed meanwhile: removed again");
+        say("$name was removed meanwhile: removed again");
         $self->give(undef, $self->{live}{owner}, "acldel $name");
     }
     $self->settle($found->{about}) if $found->{about};
@@ -187,7 +178,7 @@ sub lock {
     my ($by) = $is_held ? grep { $_ eq $holder } @able : @able;
     $self->give($it, $by // $owner, "writelock $mode", $number);
     if (!$is_held && defined $by) { $self->give($it, $owner, "aclchg $by -w+w $number") }
-    elsif (!defined $by && $holder ne $owner) { log_line("window $number: the lock is the owner's until they leave the window or take it off") }
+    elsif (!defined $by && $holder ne $owner) { say("window $number: the lock is the owner's until they leave the window or take it off") }
     return;
 }
 
@@ -278,7 +269,7 @@ sub save {
         push @lines, map { "mask $opener $_ $self->{closed}{$opener}{$_} " . $old->mask($opener, $_) }
             grep { $self->{closed}{$opener}{$_} != $old->mask($opener, $_) } $old->others;
     }
-    write_file($self->{pending}, join '', map { "$_\n" } @lines) or log_line("can't write $self->{pending}: $!");
+    write_file($self->{pending}, join '', map { "$_\n" } @lines) or say("can't write $self->{pending}: $!");
     return;
 }
 

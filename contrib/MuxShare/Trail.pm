@@ -5,7 +5,7 @@ use strict;
 use warnings;
 use Exporter qw(import);
 
-our @EXPORT_OK = qw(BIT bits_of text_of untext quoted);
+our @EXPORT_OK = qw(BIT bits_of text_of untext);
 
 # The value of each bit, and all commands.
 use constant BIT => { r => 4, w => 2, x => 1 };
@@ -27,9 +27,6 @@ sub bits_of {
     my $minus = join '', grep { !($bits & BIT->{$_}) } qw(r w x);
     return ($plus ne '' ? "+$plus" : '') . ($minus ne '' ? "-$minus" : '');
 }
-
-# Returns a text as one word of a command.
-sub quoted { return "'" . ($_[0] =~ s/'/'\\''/gr) . "'" }
 
 # Returns the words of a command's line, which is one.
 sub words {
