@@ -15,6 +15,11 @@ BIN = os.environ.get("MUX_BIN", f"{TOP}/bin")
 CONTRIB = os.environ.get("MUX_CONTRIB", f"{TOP}/contrib")
 USERS = ["own", "ann", "bob", "eve", "kim", "gus"]
 failed = []
+# Names and commands of random lines.
+NAMES = ["ann", "bob", "eve", "kim", "lee", "max", "ned", "oda", "pia", "quo", "rex", "sue"]
+COMMANDS = ("acladd aclchg acldel aclgrp aclumask writelock defwritelock multiuser wall detach select next prev other "
+            "title number kill screen split focus remove only fit scrollview clear reset encoding stuff windows displays "
+            "quit").split()
 
 
 def check(name, is_so, said=""):
@@ -79,12 +84,12 @@ class Trail:
 class Session:
     """A session of muxd-run in a folder of its own, with windows that come back."""
 
-    def __init__(self, setup="", again=20):
+    def __init__(self, setup="", again=20, users=USERS):
         self.folder = tempfile.TemporaryDirectory(prefix="mux-restart.", dir="/tmp")
         self.at, self.again, self.windows = self.folder.name, str(again), []
-        self.tokens = {user: os.urandom(32).hex() for user in USERS}
+        self.tokens = {user: os.urandom(32).hex() for user in users}
         self.socket, self.server = f"{self.at}/s", None
-        self.write_users(USERS)
+        self.write_users(users)
         peer.write_private(f"{self.at}/first", setup.encode())
         self.log = open(f"{self.at}/log", "ab")
 
@@ -242,3 +247,42 @@ def leaks(old, new):
 
 def differing(one, two):
     return [pair for pair in zip(one, two) if pair[0] != pair[1]]
+
+
+def bits(r):
+    return "".join(r.choice("+-") + "".join(r.sample("rwx", r.randint(1, 3))) for _ in range(r.randint(1, 2)))
+
+
+def users(r):
+    return "*" if r.random() < .1 else ",".join(r.sample(NAMES, r.choice([1, 1, 1, 2, 3])))
+
+
+def objects(r):
+    items = ["#", "?", "#?"] + COMMANDS * 2 + [str(number) for number in range(6)] * 6
+    return ",".join(r.choice(items) for _ in range(r.randint(1, 3)))
+
+
+def masks(r):
+    return " ".join(("" if r.random() < .1 else r.choice(["?", "??"]) if r.random() < .2 else users(r)) + bits(r)
+                    for _ in range(r.randint(1, 3)))
+
+
+def line(r, with_windows):
+    k = r.random()
+    if k < .12:
+        return "acladd " + users(r)
+    if k < .42:
+        return f"aclchg {users(r)} {bits(r)} " + (objects(r) if with_windows else r.choice(["?", r.choice(COMMANDS)]))
+    if k < .47:
+        return "acldel " + r.choice(NAMES)
+    if k < .57:
+        return f"aclgrp {r.choice(NAMES)} {r.choice(NAMES + ['none'])}"
+    if k < .77:
+        return "aclumask " + masks(r)
+    if k < .81:
+        return "multiuser " + r.choice(["on", "on", "on", "off"])
+    if k < .85:
+        return "defwritelock " + r.choice(["off", "auto", "on"])
+    if not with_windows:
+        return "wall hi"
+    return r.choice(["writelock on", "writelock auto", "title a", "kill", "windows", "wall hi"])
