@@ -7,6 +7,8 @@ use MuxShare::Wire qw(DONE REFUSED ask content quoted write_all);
 
 # The most bytes of a line.
 use constant LONGEST_LINE => 1000;
+# What is kept of a window that isn't back, besides rights.
+use constant FIELDS => qw(now opener opened_as title born number rows cols keep mode holder);
 
 # SOCKET, USERS and PENDING are paths; TRAIL is the new file, BASE the old one; OLD is what that one leaves.
 sub new {
@@ -107,9 +109,8 @@ sub settle {
 # The old windows that this one may be.
 sub alike {
     my ($window, $old, @candidates) = @_;
-    return grep {
-        $old->comes_back_as($_) eq $window->{opener} && $_->{opened_as} eq $window->{opened_as} && $_->{keep} == $window->{keep}
-    } @candidates;
+    my $same = sub { my ($it) = @_; return $it->{opened_as} eq $window->{opened_as} && $it->{keep} == $window->{keep} };
+    return grep { $old->comes_back_as($_) eq $window->{opener} && $same->($_) } @candidates;
 }
 
 # Looks at the windows that came since.  Returns how many.
@@ -133,7 +134,8 @@ sub back {
         for my $user (grep { $live->knows($_) && $_ ne $opener } $old->others) {
             my $is_closed = $live->mask($opener, $user) == ($self->{closed}{$opener}{$user} // 7);
             my $more = $is_closed ? $old->mask($opener, $user) & ~$live->bits($user, $serial) : 0;
-            $self->give(undef, $live->{owner}, "aclchg $user +" . join('', grep { $more & BIT->{$_} } qw(r w x)) . " $number") if $more;
+            my $letters = join '', grep { $more & BIT->{$_} } qw(r w x);
+            $self->give(undef, $live->{owner}, "aclchg $user +$letters $number") if $more;
         }
         return;
     }
@@ -160,7 +162,8 @@ sub give_rights {
         push @{ $users{$bits} }, $user if $bits != $live->bits($user, $serial);
     }
     for my $bits (sort keys %users) {
-        $self->give_packed($it, $live->{owner}, 'aclchg ', ',', ' ' . bits_of($bits) . " $self->{now}{$serial}", @{ $users{$bits} });
+        my $tail = ' ' . bits_of($bits) . " $self->{now}{$serial}";
+        $self->give_packed($it, $live->{owner}, 'aclchg ', ',', $tail, @{ $users{$bits} });
     }
     return;
 }
@@ -178,7 +181,7 @@ sub lock {
     my ($by) = $is_held ? grep { $_ eq $holder } @able : @able;
     $self->give($it, $by // $owner, "writelock $mode", $number);
     if (!$is_held && defined $by) { $self->give($it, $owner, "aclchg $by -w+w $number") }
-    elsif (!defined $by && $holder ne $owner) { say("window $number: the lock is the owner's until they leave the window or take it off") }
+    elsif (!defined $by && $holder ne $owner) { say("window $number: the owner has its lock until they leave it") }
     return;
 }
 
@@ -201,7 +204,8 @@ sub number_all {
             next unless $self->{targets}{$other};
             my %is_taken = map { $now->{$_} => 1 } keys %{ $live->{windows} };
             my ($free) = grep { !$is_taken{$_} } reverse 0 .. 39;
-            next unless defined $free && $self->give($self->{targets}{$other}, $live->{owner}, "number $free", $it->{number});
+            my @to_free = ($self->{targets}{$other}, $live->{owner}, "number $free", $it->{number});
+            next unless $self->give(@to_free);
             $now->{$other} = $free;
         }
         $now->{$serial} = $it->{number} if $self->give($it, $live->{owner}, "number $it->{number}", $now->{$serial});
@@ -214,7 +218,8 @@ sub is_misnumbered {
     my ($self) = @_;
     my ($now, $targets, @serials) = (@$self{qw(now targets)}, keys %{ $self->{live}{windows} });
     my %is_taken = map { $targets->{$_} ? () : ($now->{$_} => 1) } @serials;
-    return scalar grep { $targets->{$_} && $now->{$_} != $targets->{$_}{number} && !$is_taken{ $targets->{$_}{number} } } @serials;
+    my @back = grep { $targets->{$_} } @serials;
+    return scalar grep { $now->{$_} != $targets->{$_}{number} && !$is_taken{ $targets->{$_}{number} } } @back;
 }
 
 # Opens the masks that were closed, except those that somebody set meanwhile.
@@ -263,7 +268,7 @@ sub save {
     my @lines = ('trail ' . field($self->{trail}), 'base ' . field($self->{base}));
     for my $it (@{ $self->{unsure} }) {
         my $bits = join ',', map { "$_:" . $old->bits($_, $it->{serial}) } $old->others;
-        push @lines, join ' ', 'window', map({ field($it->{$_}) } qw(now opener opened_as title born number rows cols keep mode holder)), field($bits);
+        push @lines, join ' ', 'window', map({ field($it->{$_}) } FIELDS), field($bits);
     }
     for my $opener (@{ $old->{known} }) {
         push @lines, map { "mask $opener $_ $self->{closed}{$opener}{$_} " . $old->mask($opener, $_) }
@@ -317,7 +322,7 @@ sub take_pending {
 sub window_of {
     my ($fields) = @_;
     my %it;
-    @it{qw(now opener opened_as title born number rows cols keep mode holder)} = @$fields;
+    @it{ +FIELDS } = @$fields;
     $it{bits} = { map { split /:/ } split /,/, $fields->[11] // '' };
     $it{holder} //= '';
     return \%it;

@@ -1,5 +1,5 @@
-# What the file of a trail leaves, entry by entry: users, leaders, rights, masks, presets, locks, windows, and whether the
-# session is multiuser.  It judges nothing; mux-trail does.
+# What the file of a trail leaves, entry by entry: users, leaders, rights, masks, presets, locks, windows and the mode.
+# It judges nothing; mux-trail does.
 package MuxShare::Trail;
 use strict;
 use warnings;
@@ -9,9 +9,9 @@ our @EXPORT_OK = qw(BIT bits_of text_of untext);
 
 # The value of each bit, and all commands.
 use constant BIT => { r => 4, w => 2, x => 1 };
-use constant COMMANDS => qw(acladd aclchg acldel aclgrp aclumask writelock defwritelock multiuser wall detach select next
-    prev other title number kill screen split focus remove only fit scrollview clear reset encoding stuff windows displays
-    quit);
+use constant COMMANDS => qw(acladd aclchg acldel aclgrp aclumask writelock defwritelock multiuser wall detach select
+    next prev other title number kill screen split focus remove only fit scrollview clear reset encoding stuff windows
+    displays quit);
 my %lists = map { $_ => 1 } qw(acladd aclchg acldel aclgrp aclumask);
 # How many words an event has.
 my %words_of = (attach => 4, detach => 2, keys => 2, command => 4, open => 6, closed => 2);
@@ -50,8 +50,9 @@ sub new {
     my ($kind, $form, $edition, $owner, undef, $began) = split / /, $first;
     return unless ($kind // '') eq 'mux-trail' && $form eq '1' && defined $began;
     return bless {
-        edition => $edition, owner => $owner, began => $began, known => [$owner], leaders => {}, bits => {}, masks => {},
-        presets => { '?' => 7, '??' => 7 }, mode => 'off', default => 'off', windows => {}, clients => {}, opened => 0,
+        edition => $edition, owner => $owner, began => $began, known => [$owner], leaders => {}, bits => {},
+        masks => {}, presets => { '?' => 7, '??' => 7 }, mode => 'off', default => 'off', windows => {}, clients => {},
+        opened => 0,
         entries => 0, ended => '', continues => '', is_restored => 0, goes_on => 0,
     }, $class;
 }
@@ -97,7 +98,8 @@ sub take {
     $self->{entries}++;
     my $has_acts = index($line, ' !') >= 0;
     # Most entries are typed keys.
-    return if !$has_acts && $line =~ /^\d+ \d+ (?:keys|detach) / && $line !~ /:\+x:(?:title|number|multiuser|clear|reset|encoding)\b/;
+    my $is_typed = $line =~ /^\d+ \d+ keys /;
+    return if !$has_acts && $is_typed && $line !~ /:\+x:(?:title|number|multiuser)\b/;
     my (undef, undef, @words) = split / /, $line;
     my @event = splice @words, 0, $words_of{ $words[0] };
     my @reply = split /:/, shift @words;
@@ -114,7 +116,7 @@ sub take {
     return;
 }
 
-# Takes note of what an entry says of the mode, which is '' if somebody typed multiuser in a prompt: on or off isn't there.
+# Takes note of what an entry says of the mode.  It is '' if somebody typed multiuser in a prompt, without on or off.
 sub see_mode {
     my ($self, $event, $reply, $given, $acts, $said) = @_;
     if ("@$reply" eq 'no multiuser') { $self->{mode} = 'off'; return }
@@ -151,7 +153,6 @@ sub see_command {
         # A line that was typed in a prompt isn't in the trail.
         @$window{ $given, "unsaid_$given" } = ($words[1] // $window->{$given}, $is_typed);
     }
-    $window->{is_touched} = 1 if $given =~ /^(?:clear|reset|encoding)$/;
     return;
 }
 
@@ -160,7 +161,9 @@ my %does = (
         my ($self, undef, undef, $user) = @_;
         push @{ $self->{known} }, $user;
         $self->{leaders}{$user} = [];
-        $self->{bits}{$user} = { map({ $_ => $self->{presets}{'??'} } COMMANDS), map({ $_ => $self->{presets}{'?'} } keys %{ $self->{windows} }) };
+        my ($on_window, $on_command) = @{ $self->{presets} }{qw(? ??)};
+        my @windows = keys %{ $self->{windows} };
+        $self->{bits}{$user} = { map({ $_ => $on_command } COMMANDS), map({ $_ => $on_window } @windows) };
     },
     gone => sub {
         my ($self, undef, undef, $user) = @_;
@@ -192,8 +195,8 @@ my %does = (
         my $title = untext($event->[5]);
         $self->{opened} = $serial + 1;
         $self->{windows}{$serial} = {
-            serial => $serial, opener => $user, opened_as => $title, title => $title, born => $number, number => $number,
-            rows => $event->[2], cols => $event->[3], keep => $event->[4], mode => $self->{default},
+            serial => $serial, opener => $user, opened_as => $title, title => $title, number => $number,
+            born => $number, rows => $event->[2], cols => $event->[3], keep => $event->[4], mode => $self->{default},
             holder => $self->{default} eq 'on' ? $user : '',
         };
         $self->{bits}{$_}{$serial} = $_ eq $user ? 7 : $self->mask($user, $_) for $self->others;
@@ -209,7 +212,8 @@ my %does = (
     entered => sub {
         my ($self, undef, undef, $user, $serial) = @_;
         my $window = $self->{windows}{$serial} // return;
-        $window->{holder} = $user if $window->{mode} eq 'auto' && $window->{holder} eq '' && $self->may($user, 'w', $serial);
+        my $is_free = $window->{mode} eq 'auto' && $window->{holder} eq '';
+        $window->{holder} = $user if $is_free && $self->may($user, 'w', $serial);
     },
     left => sub {
         my ($self, undef, undef, $user, $serial) = @_;
@@ -245,8 +249,8 @@ sub free_locks {
     my %lost = map { /^set:(\w+):-w:([0-9]+)$/ ? ("$1 $2" => 1) : () } @acts;
     for my $window (values %{ $self->{windows} }) {
         my ($holder, $serial) = @$window{qw(holder serial)};
-        next if $holder eq '' || $self->knows($holder) && $self->may($holder, 'w', $serial) && !$lost{"$holder $serial"};
-        $window->{holder} = '';
+        my $is_held = $holder ne '' && $self->knows($holder) && !$lost{"$holder $serial"};
+        $window->{holder} = '' unless $is_held && $self->may($holder, 'w', $serial);
     }
     return;
 }

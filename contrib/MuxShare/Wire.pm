@@ -100,7 +100,7 @@ sub frame {
 # Returns a text as one word of a command.
 sub quoted { my ($text) = @_; return "'" . ($text =~ s/'/'\\''/gr) . "'" }
 
-# Gives a command to the muxd at PATH, on a window if there is a number, and returns what GONE had, or undef if it didn't
+# Gives a command to the muxd at PATH, on a window if there is a number.  Returns what GONE had, or undef if it didn't
 # come, and what was said.  No process has the command as its words, so ps shows no names.
 sub ask {
     my ($path, $user, $token, $line, $window) = @_;

@@ -17,9 +17,9 @@ USERS = ["own", "ann", "bob", "eve", "kim", "gus"]
 failed = []
 # Names and commands of random lines.
 NAMES = ["ann", "bob", "eve", "kim", "lee", "max", "ned", "oda", "pia", "quo", "rex", "sue"]
-COMMANDS = ("acladd aclchg acldel aclgrp aclumask writelock defwritelock multiuser wall detach select next prev other "
-            "title number kill screen split focus remove only fit scrollview clear reset encoding stuff windows displays "
-            "quit").split()
+COMMANDS = ("acladd aclchg acldel aclgrp aclumask writelock defwritelock multiuser wall detach select next prev "
+            "other title number kill screen split focus remove only fit scrollview clear reset encoding stuff windows "
+            "displays quit").split()
 
 
 def check(name, is_so, said=""):
@@ -123,7 +123,8 @@ class Session:
 
     def begin(self):
         env = {**os.environ, "MUXD": f"{BIN}/muxd", "MUX": f"{BIN}/mux", "MUX_TRAIL": f"{BIN}/mux-trail"}
-        words = ["--socket", self.socket, "--users", f"{self.at}/users", "--trails", f"{self.at}/trails", "--again", self.again,
+        words = ["--socket", self.socket, "--users", f"{self.at}/users", "--trails", f"{self.at}/trails", "--again",
+                 self.again,
                  "--setup", f"{self.at}/first"]
         return subprocess.Popen([f"{CONTRIB}/muxd-run", *words], env=env, stdout=subprocess.PIPE, stderr=self.log,
                                 stdin=subprocess.DEVNULL)
@@ -154,7 +155,8 @@ class Session:
 
     def give(self, user, line, window=peer.NO_WINDOW):
         """What is said to a command."""
-        asked, said = peer.Peer(self.socket, peer.command(line.encode(), window, user.encode(), self.tokens[user].encode())), []
+        asked, said = peer.Peer(self.socket, peer.command(line.encode(), window, user.encode(),
+                                                          self.tokens[user].encode())), []
         while (got := asked.next())[0]:
             said += [got[1].decode()] * (got[0] == peer.SAY)
         asked.close()
@@ -198,9 +200,11 @@ class Session:
 
     def state(self):
         """What mux-trail who says, rights by window, and the list of windows."""
-        said = subprocess.run([f"{BIN}/mux-trail", "who", self.trail()], capture_output=True, text=True, check=True).stdout
+        said = subprocess.run([f"{BIN}/mux-trail", "who", self.trail()], capture_output=True, text=True,
+                              check=True).stdout
         lists = [line for line in said.splitlines() if line.split()[0] in ("user", "commands", "masks", "newcomer")]
-        held = sorted(line.split()[4] for line in said.splitlines() if line.startswith("window ") and " held by " in line)
+        held = sorted(line.split()[4] for line in said.splitlines() if line.startswith("window ")
+                      and " held by " in line)
         return lists, held, Trail(self.trail()).end().by_window(), self.give("own", "windows")
 
 
@@ -209,7 +213,8 @@ class Window(threading.Thread):
 
     def __init__(self, session, user, title, keep=0, is_once=False):
         super().__init__(daemon=True)
-        self.session, self.user, self.is_once, self.is_over, self.held, self.times = session, user, is_once, False, False, 0
+        self.session, self.user, self.is_once = session, user, is_once
+        self.is_over, self.held, self.times = False, False, 0
         self.first = peer.window(user.encode(), session.tokens[user].encode(), keep=keep, title=title.encode())
         self.start()
         session.until(lambda: self.times, 30)
