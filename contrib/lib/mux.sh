@@ -127,3 +127,14 @@ exit_on_signals() {
     trap 'exit 131' QUIT
     trap 'exit 143' TERM
 }
+# setting NAME FILE: prints a setting of a unit's file.
+setting() {
+    sed -n "s/^$1=[\"']\{0,1\}\([^\"']*\).*/\1/p" "$2" | tail -n 1
+}
+# trails_of FOLDER: prints where the session of /etc/mux/GROUP writes its trails.
+trails_of() {
+    [ -r "$1/muxd.conf" ] || return 1
+    trails=$(setting TRAILS "$1/muxd.conf")
+    [ -n "$trails" ] || return 1
+    printf '%s\n' "$trails"
+}
