@@ -2,6 +2,7 @@
 package MuxShare::Return;
 use strict;
 use warnings;
+use Fcntl qw(O_WRONLY O_CREAT O_EXCL);
 use MuxShare::Trail qw(BIT bits_of text_of untext);
 use MuxShare::Wire qw(DONE REFUSED ask content quoted write_all);
 
@@ -174,7 +175,7 @@ sub lock {
     my ($self, $it, $window) = @_;
     my ($live, $number) = ($self->{live}, $self->{now}{ $window->{serial} });
     my ($mode, $holder, $owner) = ($it->{mode}, $it->{holder}, $live->{owner});
-    return if $mode eq $window->{mode} && $holder eq $window->{holder};
+    return if $mode eq $window->{mode} && ($mode ne 'on' || $holder eq $window->{holder});
     return $self->give($it, $owner, 'writelock off', $number) if $mode eq 'off';
     my @able = grep { $self->may_lock($_, $it) } $self->{old}->others;
     my $is_held = $mode eq 'on' && $holder ne '';
@@ -257,7 +258,7 @@ sub field { return defined $_[0] ? text_of($_[0]) : '-' }
 sub write_file {
     my ($path, $text) = @_;
     unlink "$path.new";
-    open(my $file, '>', "$path.new") or return 0;
+    sysopen(my $file, "$path.new", O_WRONLY | O_CREAT | O_EXCL, 0600) or return 0;
     return write_all($file, $text) && close $file && rename "$path.new", $path;
 }
 
