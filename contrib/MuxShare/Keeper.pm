@@ -15,8 +15,9 @@ use MuxShare::Wire;
 # How many seconds mux-share has to come at first, how often it is looked for until then, and how many connections a
 # guest may have open at once.
 use constant { COME => 5, LOOK => 0.2, PENDING => 12 };
-# How many seconds the owner's terminal may take to come back when muxd was killed, before no guest can type.
-use constant BACK => 2;
+# How many seconds the owner's terminal may take to come back when muxd was killed.  Until then no guest is let in, and
+# after that none can type.
+use constant BACK => 10;
 
 # PLACE is the folder, LOCK its lock, READY what gets the line 'ready' once it serves, CALLER the process of mux-share,
 # SCRIPTS the folder of mux-shell, NAME the session's, TITLE the shell's, KEEP the number of its kept lines.
@@ -183,6 +184,7 @@ sub hear {
     my $session = $self->{session};
     for my $change ($session->read_news, @changes) {
         my ($came, $name) = @$change;
+        $self->{look_at} = 0 if $came && $name eq $session->owner;
         if ($name ne $session->owner) { $self->{guests}->announce($came, $name) }
         elsif (!$came) { $self->look_away unless $session->clients_of($name) }
         elsif ($session->clients_of($name) == 1) { $self->greet }
@@ -242,7 +244,7 @@ sub answer_door {
     accept(my $peer, $self->{door}) or return;
     my $uid = peer_uid($peer);
     if ($uid == $>) { $self->answer_owner($peer) }
-    elsif (!$self->{was_here} || $self->{guests}->is_pending) { return }
+    elsif (!$self->{was_here} || $self->{look_at} || $self->{guests}->is_pending) { return }
     elsif ($self->{guests}->guest($uid)) { $self->let_in($peer, $uid) }
 }
 
