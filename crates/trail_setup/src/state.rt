@@ -91,7 +91,8 @@ impl SetupState {
         }
         let mut left = [true, true, true];
         set(&mut left, bit, value);
-        self.masks.push(Mask { by, user, left })
+        self.masks.push(Mask { by, user, left })?;
+        Ok(())
     }
 
     /// A user becomes known or is gone: their masks, and those for them, begin anew.
