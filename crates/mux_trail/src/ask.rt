@@ -41,8 +41,8 @@ fn write_who<W: Write>(reading: &Reading, output: &mut W) -> io::Result<u8> {
     let users = users_with(reading, &[])?;
     let settlers = settings_of(alloc, users.as_slice())?;
     let sight = watch.sight(Vec::new(alloc), settlers)?;
-    write_rights(alloc, reading.owner, watch, &sight, output)?;
     write_titles(reading, output)?;
+    write_rights(alloc, reading.owner, watch, &sight, output)?;
     Ok(LEGAL)
 }
 

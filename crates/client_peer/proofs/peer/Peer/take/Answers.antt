@@ -1,0 +1,26 @@
+use Rattle.std.proofs.Common.{sym, subst}
+use Rattle.client_peer.specs.declared.peer.Peer.{Peer}
+use Rattle.client_peer.specs.Showing.{PassesOn}
+use Rattle.client_peer.proofs.Passing.{passes_keeps, passes_same, passes_heard, passes_then}
+use Rattle.client_peer.proofs.peer.Peer.take.Goals.{then-told+in_ok-welcome, else-told}
+use Rattle.client_peer.proofs.peer.Peer.take.Goals.{in-Some+in_ok-hear, in_default}
+use Rattle.client_peer.proofs.peer.Peer.take.Goals as goal
+
+pub returns-clause-ok : goal.returns-clause-ok
+returns-clause-ok c =
+    let first : Peer = c.put_message.new.self in
+    let second : Peer = c.if-told.self in
+    let last : Peer = c.match-told-3.self in
+    let welcomed : PassesOn first second = elim c.if-told.branch [
+      | then-told+in_ok-welcome w ↦
+          subst (PassesOn first) (sym w.self-is) (passes_keeps first w.welcome.new.self w.welcome.ensures)
+      | else-told w ↦ subst (PassesOn first) (sym w.self-is) (passes_same first)
+    ] in
+    let heard : PassesOn second last = elim c.match-told-3.branch [
+      | in-Some+in_ok-hear w ↦
+          subst (PassesOn second) (sym w.self-is)
+          (passes_heard second w.hear.new.self w.hear.ensures.way w.hear.ensures.keeps)
+      | in_default w ↦ subst (PassesOn second) (sym w.self-is) (passes_same second)
+    ] in
+    passes_then c.args.self.now first last c.in_ok-put_message.ensures.ok
+    (passes_then first second last welcomed heard)

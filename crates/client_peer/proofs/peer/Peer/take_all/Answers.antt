@@ -1,0 +1,18 @@
+use Rattle.client_peer.specs.Showing.{StopsAt}
+use Rattle.client_peer.proofs.Passing.{passes_same, passes_then, stops_then, on_err_given}
+use Rattle.client_peer.proofs.peer.Peer.take_all.Goals as goal
+
+pub loop-message-init : goal.loop-message-init
+loop-message-init c = passes_same c.args.self.now
+
+pub loop-message-preserved : goal.loop-message-preserved
+loop-message-preserved c =
+    passes_then c.args.self.now c.loop-message.self c.take.new.self c.loop-message.invariant c.in_ok-why.ensures.ok
+
+pub returns-in-Some-clause-ok : goal.returns-in-Some-clause-ok
+returns-in-Some-clause-ok c =
+    passes_then c.args.self.now c.loop-message.self c.take.new.self c.loop-message.invariant c.in_ok-why.ensures.ok
+
+pub returns-in_err-why-clause-err : goal.returns-in_err-why-clause-err
+returns-in_err-why-clause-err c = on_err_given {P = StopsAt c.args.self.now c.take.new.self} c.from_residual.result
+    (stops_then c.args.self.now c.loop-message.self c.take.new.self c.loop-message.invariant c.in_err-why.ensures.err)

@@ -1,0 +1,230 @@
+//! The connection with its first frame, and the files that the arguments name.
+
+use crate::host::PeerHost;
+use attach_proto::Token;
+use client_words::{Fault, Part, Way, Words};
+use std::alloc::Global;
+use std::fs::{File, OpenOptions};
+use std::io::{ErrorKind, Write};
+use std::net::Shutdown;
+use std::os::fd::AsRawFd;
+use std::os::unix::fs::MetadataExt;
+use std::os::unix::net::UnixStream;
+use std::time::Duration;
+use std::{fs, io, thread};
+
+// How long a socket that has a limit may take nothing, in milliseconds, before a frame waits.
+const PATIENCE: u64 = 20;
+
+// How long a client that comes back lets windows go first, in milliseconds: one that comes before them
+// shows none.
+const GRACE: u64 = 300;
+
+// Modes of a file: those of its group and of all others.
+const OTHERS_READ: u32 = 0o044;
+
+const OTHERS_WRITE: u32 = 0o022;
+
+// A fault of the arguments, whatever the token is.
+fn judge_words(alloc: Global, words: &Words<'_>) -> Result<(), Fault> {
+    let Some(zeros) = Token::read(&[b'0'; 64]) else {
+        return Err(Fault::NoToken);
+    };
+    match words.first_frame(alloc, zeros) {
+        Ok(_) => Ok(()),
+        Err(fault) => Err(Fault::from(fault)),
+    }
+}
+
+// Whether a file's mode has one of these bits. A terminal or a pipe isn't a file here.
+fn is_open<R: fs::Files<File = File>>(rt: &R, path: &str, mode: u32) -> bool {
+    match fs::metadata(rt, path) {
+        Ok(found) => found.is_file() && found.mode() & mode != 0,
+        Err(_) => false,
+    }
+}
+
+/// Warns on standard error of a token's file that others may read.
+pub fn warn_of_token<R: fs::Files<File = File>, E: Write>(rt: &R, path: &str, errors: &mut E) {
+    if is_open(rt, path, OTHERS_READ) {
+        let _ = writeln!(
+            errors,
+            "mux: others may read the token's file: chmod go-r {path}"
+        );
+    }
+}
+
+fn token_of(file: &[u8]) -> Result<Token, Fault> {
+    let digits = file.strip_suffix(b"\n".as_slice()).unwrap_or(file);
+    Token::read(digits).ok_or(Fault::NoToken)
+}
+
+// Reads the token of a file; a file that others may write is refused.
+fn read_token<R: fs::Files<File = File> + AllocGlobal>(rt: &R, path: &str) -> Result<Token, Fault> {
+    if is_open(rt, path, OTHERS_WRITE) {
+        return Err(Fault::Writable);
+    }
+    match fs::read(rt, path) {
+        Ok(file) => token_of(&file),
+        Err(error) => Err(Fault::Refused(Part::Token, error)),
+    }
+}
+
+// Opens a FIFO for reading and writing: that waits for no writer, and the last writer's end isn't the
+// end of the file.
+fn open_sizes<R: fs::Files<File = File>>(rt: &R, way: Way, path: &str) -> io::Result<File> {
+    let mut options = OpenOptions::new();
+    match way {
+        Way::Attach => options.read(true).write(true),
+        _ => options.append(true),
+    };
+    options.open(rt, path)
+}
+
+/// The sizes' files of a peer.
+#[derive(Drop)]
+pub struct SizesFiles {
+    /// The file that a client's sizes are read from.
+    pub asked: Option<File>,
+    /// The file that a window's sizes are written to.
+    pub told: Option<File>,
+}
+
+// The sizes' files, of which at most one is named by the arguments.
+fn sizes_of<R: fs::Files<File = File>>(rt: &R, words: &Words<'_>) -> Result<SizesFiles, Fault> {
+    let mut files = SizesFiles {
+        asked: None,
+        told: None,
+    };
+    if let Some(path) = words.sizes {
+        let file = match open_sizes(rt, words.way, path) {
+            Ok(file) => file,
+            Err(error) => return Err(Fault::Refused(Part::Sizes, error)),
+        };
+        match words.way {
+            Way::Attach => files.asked = Some(file),
+            _ => files.told = Some(file),
+        }
+    }
+    Ok(files)
+}
+
+/// The socket to connect to, and the first frame to send.
+#[derive(Drop)]
+pub struct Door {
+    socket: String,
+    /// Empty for `mux ping`, which sends nothing.
+    frame: Vec<u8>,
+    can_leave: bool,
+    /// How long to wait between the connection and the first frame, in milliseconds.
+    grace: u64,
+}
+
+impl Door {
+    // Sends the first frame; if there is none, ends the sending side.
+    fn begin(&self, stream: &UnixStream) -> io::Result<()> {
+        if self.frame.is_empty() {
+            return stream.shutdown(Shutdown::Write);
+        }
+        let mut writer = stream;
+        writer.write_all(&self.frame)?;
+        if self.can_leave {
+            stream.set_write_timeout(Some(Duration::from_millis(PATIENCE)))?;
+        }
+        Ok(())
+    }
+
+    /// Makes the connection.
+    pub fn open(&self, rt: &impl PeerHost) -> Result<UnixStream, Fault> {
+        match rt.reach(self.socket.as_str()) {
+            Ok(stream) => {
+                thread::sleep(rt, Duration::from_millis(self.grace));
+                match self.begin(&stream) {
+                    Ok(()) => Ok(stream),
+                    Err(error) => Err(Fault::Refused(Part::Stream, error)),
+                }
+            }
+            Err(error) => Err(match error.kind() {
+                ErrorKind::NotFound | ErrorKind::ConnectionRefused => Fault::NoServer,
+                _ => Fault::Refused(Part::Socket, error),
+            }),
+        }
+    }
+}
+
+// The first frame, with the token of the file that the arguments name.
+fn frame_for<R: fs::Files<File = File> + AllocGlobal>(
+    rt: &R,
+    words: &Words<'_>,
+) -> Result<Vec<u8>, Fault> {
+    if words.way.is_ping() {
+        return Ok(Vec::new(rt.alloc()));
+    }
+    judge_words(rt.alloc(), words)?;
+    let token = read_token(rt, words.token)?;
+    Ok(words.first_frame(rt.alloc(), token)?)
+}
+
+fn door_for<R: fs::Files<File = File> + AllocGlobal>(
+    rt: &R,
+    words: &Words<'_>,
+) -> Result<Door, Fault> {
+    Ok(Door {
+        frame: frame_for(rt, words)?,
+        socket: String::from_str(rt.alloc(), words.socket)?,
+        can_leave: words.leave.is_some(),
+        grace: 0,
+    })
+}
+
+/// A door to come back by, with the token as it is now, and this size.
+pub fn another_door<R: fs::Files<File = File> + AllocGlobal>(
+    rt: &R,
+    words: &Words<'_>,
+    (rows, columns): (u16, u16),
+) -> Result<Door, Fault> {
+    let mut words = *words;
+    words.rows = rows;
+    words.columns = columns;
+    let mut door = door_for(rt, &words)?;
+    if words.way.is_attach() {
+        door.grace = GRACE;
+    }
+    Ok(door)
+}
+
+// Opens /dev/null in the place of a closed standard stream. Returns whether one was closed.
+fn fill<R: fs::Files<File = File>>(rt: &R, kept: &mut Vec<File>) -> io::Result<bool> {
+    let file = fs::open(rt, "/dev/null")?;
+    if file.as_raw_fd() > 2 {
+        return Ok(false);
+    }
+    kept.push(file)?;
+    Ok(true)
+}
+
+// Opens /dev/null for each closed standard stream, so that no other file becomes one.
+fn fill_closed<R: fs::Files<File = File>>(rt: &R, kept: &mut Vec<File>) -> io::Result<()> {
+    for _ in 0..3 {
+        if !fill(rt, kept)? {
+            break;
+        }
+    }
+    Ok(())
+}
+
+/// Reads and opens the files that the arguments name. A fault of the arguments comes before one of
+/// files. The files that replace closed standard streams are put into `kept`, and stay open as long
+/// as that list.
+pub fn prepare<R: fs::Files<File = File> + AllocGlobal>(
+    rt: &R,
+    words: &Words<'_>,
+    kept: &mut Vec<File>,
+) -> Result<(Door, SizesFiles), Fault> {
+    fill_closed(rt, kept)?;
+    let door = door_for(rt, words)?;
+    match sizes_of(rt, words) {
+        Ok(files) => Ok((door, files)),
+        Err(fault) => Err(fault),
+    }
+}
