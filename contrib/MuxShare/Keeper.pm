@@ -15,6 +15,9 @@ use MuxShare::Wire;
 # How many seconds mux-share has to come at first, how often it is looked for until then, and how many connections a
 # guest may have open at once.
 use constant { COME => 5, LOOK => 0.2, PENDING => 12 };
+# How many seconds the owner's terminal may take to come back when muxd was killed.  Until then no guest is let in, and
+# after that none can type.
+use constant BACK => 10;
 
 # PLACE is the folder, LOCK its lock, READY what gets the line 'ready' once it serves, CALLER the process of mux-share,
 # SCRIPTS the folder of mux-shell, NAME the session's, TITLE the shell's, KEEP the number of its kept lines.
@@ -95,6 +98,7 @@ sub keep {
     sweep($self->{place});
     pipe($self->{life}, $self->{alive}) or die "can't make a pipe: $!\n";
     pipe($self->{came}, $self->{signalled}) or die "can't make a pipe: $!\n";
+    $self->{session}->prepare;
     $self->{session}->start_server;
     POSIX::mkfifo("$self->{place}/own/here", 0600) or die "can't make $self->{place}/own/here: $!\n";
     $self->{session}->start_shell(@of{qw(rows cols mask environment)}, @{ $of{command} });
@@ -146,11 +150,16 @@ sub turn {
     my ($self, $left) = @_;
     return $self->{ending} = 1 if defined $left && ($left <= 0 || !kill 0, $self->{caller});
     my $wait = $self->{guests}->keep_time;
-    $wait = LOOK if defined $left && LOOK < $wait;
+    $wait = LOOK if (defined $left || $self->{look_at}) && LOOK < $wait;
     my $ready = '';
     my @news = $self->{session}->news_pipes;
     vec($ready, fileno $_, 1) = 1 for @$self{qw(door came here)}, @news;
-    return if select($ready, undef, undef, $wait) <= 0;
+    my $count = select($ready, undef, undef, $wait);
+    if ($self->{look_at} && now() > $self->{look_at}) {
+        $self->{look_at} = 0;
+        $self->look_again;
+    }
+    return if $count <= 0;
     $self->reap if vec($ready, fileno $self->{came}, 1);
     $self->hear if grep { vec($ready, fileno $_, 1) } @news;
     $self->look_here if vec($ready, fileno $self->{here}, 1);
@@ -164,8 +173,9 @@ sub reap {
     while ((my $gone = waitpid(-1, WNOHANG)) > 0) {
         next if delete $self->{relays}{$gone};
         if ($gone == $self->{guard}) { $self->start_guard }
-        elsif ($self->{session}->is_ended_by($gone)) { $self->{ending} = 1 }
+        elsif ($self->{session}->is_ended_by($gone, $?)) { $self->{ending} = 1 }
     }
+    $self->{look_at} = now() + BACK if $self->{session}->is_anew;
 }
 
 # Handles clients that came and went, as muxd says, and CHANGES that nobody has said.
@@ -174,6 +184,7 @@ sub hear {
     my $session = $self->{session};
     for my $change ($session->read_news, @changes) {
         my ($came, $name) = @$change;
+        $self->{look_at} = 0 if $came && $name eq $session->owner;
         if ($name ne $session->owner) { $self->{guests}->announce($came, $name) }
         elsif (!$came) { $self->look_away unless $session->clients_of($name) }
         elsif ($session->clients_of($name) == 1) { $self->greet }
@@ -233,7 +244,7 @@ sub answer_door {
     accept(my $peer, $self->{door}) or return;
     my $uid = peer_uid($peer);
     if ($uid == $>) { $self->answer_owner($peer) }
-    elsif (!$self->{was_here} || $self->{guests}->is_pending) { return }
+    elsif (!$self->{was_here} || $self->{look_at} || $self->{guests}->is_pending) { return }
     elsif ($self->{guests}->guest($uid)) { $self->let_in($peer, $uid) }
 }
 

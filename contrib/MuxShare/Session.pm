@@ -8,8 +8,10 @@ use Socket qw(PF_INET SOCK_STREAM INADDR_LOOPBACK pack_sockaddr_in unpack_sockad
 use MuxShare::Place;
 use MuxShare::Wire;
 
-# How long muxd, the shell, the end and the answer to a command may take, in seconds.
-use constant { START => 10, STOP => 3, STEP => 0.01, ANSWER => 10 };
+# How long muxd, the shell and the end may take, in seconds.
+use constant { START => 10, STOP => 3, STEP => 0.01 };
+# How long the shell and its terminals may take to come back when muxd was killed, and how often in a session.
+use constant { STAY => 60, OFTEN => 100 };
 # How many terminals one user may have, so that no guest takes all 64, and how long a title is at most.
 use constant { CLIENTS => 8, LONGEST_TITLE => 40 };
 # The request by which a terminal tells its size, except on alpha, mips, powerpc and sparc.
@@ -21,8 +23,7 @@ sub new {
     my ($class, %given) = @_;
     my $self = bless { %given, users => [], tokens => {}, clients => {}, news => [] }, $class;
     $self->{own} = "$self->{place}/own";
-    $self->{socket} = "$self->{own}/socket";
-    $self->{shown} = $self->{title} // '';
+    @$self{qw(socket shown)} = ("$self->{own}/socket", $self->{title} // '');
     return $self;
 }
 
@@ -36,35 +37,19 @@ sub orphan {
 }
 
 sub owner { return $_[0]{owner} }
-sub title { return $_[0]{title} }
 
 # Whether muxd takes connections.
 sub is_served { my ($self) = @_; return -S $self->{socket} && defined connected($self->{socket}) }
 
-# Gives a command as the owner, on a window if there is a number.  Returns whether it was done, and the answer.  No
-# process has the command as its words, so ps shows no names.
+# Gives a command as the owner, on a window if there is a number.  Returns whether it was done, and the answer.
 sub give {
     my ($self, $line, $window) = @_;
-    my $server = defined $self->{owner} ? connected($self->{socket}) : undef;
-    return (0, "muxd can't be reached: $!") unless $server;
-    limit_time($server, ANSWER);
-    my $payload = pack 'C a64 C/a* a*', $window // 255, $self->{tokens}{ $self->{owner} }, $self->{owner}, $line;
-    write_all($server, frame(COMMAND, $payload));
-    my $said = '';
-    while (defined(my $head = read_exactly($server, 3))) {
-        my ($kind, $length) = unpack 'Cn', $head;
-        my $payload = read_exactly($server, $length) // last;
-        $said .= $payload if $kind == SAY;
-        next unless $kind == GONE;
-        log_line("$line: $said") unless $payload eq DONE;
-        return ($payload eq DONE, $said);
-    }
-    log_line("$line: no answer");
-    return (0, 'muxd gave no answer');
+    my $owner = $self->{owner} // return (0, 'the session has no owner');
+    my ($gone, $said) = ask($self->{socket}, $owner, $self->{tokens}{$owner}, $line, $window);
+    my $is_done = ($gone // '') eq DONE;
+    log_line("$line: $said") unless $is_done;
+    return ($is_done, $said);
 }
-
-# Returns a text as one word of a command.
-sub quoted { my ($text) = @_; return "'" . ($text =~ s/'/'\\''/gr) . "'" }
 
 # Shows a line of text to everybody in the session.
 sub tell { my ($self, $text) = @_; return $self->give('wall ' . quoted($text)) }
@@ -231,7 +216,7 @@ sub count_clients {
 # Returns how many terminals and pages of a user are attached.
 sub clients_of { my ($self, $name) = @_; return scalar grep { $_ eq $name } values %{ $self->{clients} } }
 
-sub start_server {
+sub prepare {
     my ($self) = @_;
     mkdir $self->{own}, 0700 or die "can't make $self->{own}: $!\n";
     open(STDERR, '>>', "$self->{own}/log") or die "can't make $self->{own}/log: $!\n";
@@ -240,9 +225,17 @@ sub start_server {
     die "$fault\n" if $fault ne '';
     $self->write_private('token', "$self->{tokens}{ $self->{owner} }\n");
     # A name that becomes known begins with nothing.
-    $self->write_private('setup', "multiuser on\naclumask ?-rwx ??-x\n");
-    my @words = ('--users', "$self->{own}/users", '--setup', "$self->{own}/setup", '--user-clients', CLIENTS, '--log');
-    $self->{server} = $self->start_read(undef, program('muxd'), '--socket', $self->{socket}, @words);
+    $self->write_private('first', "multiuser on\naclumask ?-rwx ??-x\n");
+}
+
+# Starts muxd, which goes on where the last trail ends.  Trails are as private as the place, and go with it.
+sub start_server {
+    my ($self) = @_;
+    my @words = ('--users', "$self->{own}/users", '--setup', "$self->{own}/first", '--trails', "$self->{own}/trails",
+        '--again', STAY, '--', '--user-clients', CLIENTS, '--log');
+    $self->{server} = $self->start_read(undef, "$self->{scripts}/muxd-run", '--socket', $self->{socket}, @words);
+    # Their numbers begin anew.
+    $self->{clients} = {};
     return if wait_for($self->{server}, sub { $self->is_served }, START);
     die "can't start muxd: " . $self->last_line_of_log . "\n";
 }
@@ -260,7 +253,8 @@ sub start_shell {
         $ENV{PATH} = "$self->{scripts}:$ENV{PATH}";
     };
     my @words = ('--socket', $self->{socket}, '--user', $self->{owner}, '--token', "$self->{own}/token",
-        '--rows', $rows, '--cols', $cols, '--keep', $self->{keep}, '--title', $self->{title}, '--stay', 0);
+        '--rows', $rows, '--cols', $cols, '--keep', $self->{keep}, '--title', $self->{title},
+        '--stay', STAY);
     my @in_window = ("$self->{scripts}/mux-door", 'run', $self->{own}, @command);
     $self->{shell} = spawn($prepare, "$self->{scripts}/mux-shell", @words, '--', @in_window);
     return if wait_for($self->{shell}, sub { !-e "$self->{own}/environment" }, START);
@@ -332,13 +326,21 @@ sub end_web { my ($self) = @_; kill 'TERM', $self->{web} if $self->{web} }
 # Returns whether the command ended by itself a moment after it began.
 sub ended_at_once { my ($self) = @_; return !wait_for($self->{shell}, sub { 0 }, 1) && !kill(0, $self->{shell}) }
 
-# Notes that a process has ended, and returns whether this ends the session.
+# Notes that a process has ended, and returns whether this ends the session: so it is if muxd has status 0, after quit.
 sub is_ended_by {
-    my ($self, $process) = @_;
-    $self->{server} = undef if $process == ($self->{server} // 0);
+    my ($self, $process, $status) = @_;
     delete @$self{qw(web address)} if $process == ($self->{web} // 0);
-    return !$self->{server} || $process == $self->{shell};
+    return $process == $self->{shell} if $process != ($self->{server} // 0);
+    $self->{server} = undef;
+    return 1 if $status == 0 || ++$self->{starts} > OFTEN;
+    log_line('muxd has ended: the session goes on');
+    return 0 if eval { $self->start_server; $self->{is_anew} = 1 };
+    log_line($@ =~ s/\n$//r);
+    return 1;
 }
+
+# Whether muxd was started anew since the last call.
+sub is_anew { return delete $_[0]{is_anew} }
 
 # Ends the session and removes its files.
 sub end {
@@ -352,7 +354,7 @@ sub end {
     $self->remove;
 }
 
-# Removes the place.  Only this account may write in it, and the folder around lets no other account rename it.
+# Only this account may write in the place, and the folder around lets no other account rename it.
 sub remove { my ($self) = @_; system 'rm', '-rf', '--', $self->{place} }
 
 # Returns whether a process is one that this session started.
@@ -375,10 +377,7 @@ sub end_orphan {
     my ($self) = @_;
     $self->close_to_guests;
     $self->give('quit') if $self->is_served;
-    for (1 .. STOP / STEP) {
-        last unless -S $self->{socket};
-        pause(STEP);
-    }
+    for (1 .. STOP / STEP) { -S $self->{socket} ? pause(STEP) : last }
     $self->remove;
 }
 

@@ -8,13 +8,15 @@ use POSIX ();
 use Socket qw(PF_UNIX SOCK_STREAM SOL_SOCKET SO_PEERCRED SO_RCVTIMEO SO_SNDTIMEO pack_sockaddr_un);
 
 our @EXPORT = qw(NOBODY SAY GONE WELCOME ATTACH COMMAND DONE REFUSED fault log_line content connected peer_uid
-    peer_process limit_time write_all read_exactly frame spawn pause now);
+    peer_process limit_time write_all read_exactly frame ask quoted spawn pause now);
 
 # The uid that the kernel shows for every account of a foreign user namespace, so it names no account.
 use constant NOBODY => 65534;
 # Frames of muxd's protocol, and reasons of GONE.
 use constant { ATTACH => 0x41, COMMAND => 0x43, SAY => 0x73, WELCOME => 0x79, GONE => 0x67 };
 use constant { DONE => "\0", REFUSED => "\6" };
+# The number of a window in a command that names none, and how many seconds an answer may take.
+use constant { NO_WINDOW => 255, ANSWER => 10 };
 # The log has at most this many bytes: guests and strangers can cause lines.
 use constant LONGEST_LOG => 1 << 20;
 
@@ -93,6 +95,26 @@ sub read_exactly {
 sub frame {
     my ($kind, $payload) = @_;
     return chr($kind) . pack('n', length $payload) . $payload;
+}
+
+# Returns a text as one word of a command.
+sub quoted { my ($text) = @_; return "'" . ($text =~ s/'/'\\''/gr) . "'" }
+
+# Gives a command to the muxd at PATH, on a window if there is a number.  Returns what GONE had, or undef if it didn't
+# come, and what was said.  No process has the command as its words, so ps shows no names.
+sub ask {
+    my ($path, $user, $token, $line, $window) = @_;
+    my $server = connected($path) or return (undef, "muxd can't be reached: $!");
+    limit_time($server, ANSWER);
+    write_all($server, frame(COMMAND, pack 'C a64 C/a* a*', $window // NO_WINDOW, $token, $user, $line));
+    my $said = '';
+    while (defined(my $head = read_exactly($server, 3))) {
+        my ($kind, $length) = unpack 'Cn', $head;
+        my $payload = read_exactly($server, $length) // last;
+        $said .= $payload if $kind == SAY;
+        return ($payload, $said) if $kind == GONE;
+    }
+    return (undef, 'muxd gave no answer');
 }
 
 # Starts a program, after calling BEFORE in the new process, and returns the process.

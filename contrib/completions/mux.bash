@@ -17,7 +17,7 @@ _mux() {
     local program=$1 current=$2 previous=$3 words='' verb=''
     COMPREPLY=()
     case $previous in
-    --socket | --users | --setup | --token | --sizes | --trail | --rights | --trails | --lock | --page | --links | --watch-token)
+    --socket | --users | --setup | --token | --sizes | --trail | --seals | --state | --rights | --trails | --lock | --page | --links | --watch-token)
         mapfile -t COMPREPLY < <(compgen -f -- "$current")
         compopt -o filenames 2>/dev/null
         return

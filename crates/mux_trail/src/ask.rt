@@ -1,15 +1,15 @@
 //! Answers who may do what, and which acts decide it.
 
-use crate::fault::Fault;
 use crate::reading::{Reading, reading_of};
-use crate::tell::{ILLEGAL, LEGAL, UNCONFINED, tell_finish};
 use crate::words::{TrailArgs, users_named};
 use acl::{Object, UserId};
+use client_words::put_visible;
 use std::alloc::{AllocError, Global};
 use std::io::{self, BufRead, Write};
 use trail_confined::{
     Question, failing_of, power_deciders, push_confinement, push_reasons, write_rights,
 };
+use trail_files::{Fault, ILLEGAL, LEGAL, UNCONFINED, tell_finish};
 use trail_rights::{Decider, settings_of, users_of};
 
 /// The known users, and then the others of these users.
@@ -23,12 +23,25 @@ fn users_with(reading: &Reading, others: &[UserId]) -> Result<Vec<UserId>, Alloc
     Ok(users)
 }
 
+/// Writes the title of each open window that has one. Control characters are escaped.
+fn write_titles<W: Write>(reading: &Reading, output: &mut W) -> io::Result<()> {
+    for titled in reading.names.titles() {
+        let mut visible = Vec::new(reading.alloc);
+        put_visible(titled.title(), &mut visible)?;
+        write!(output, "title {} ", titled.window())?;
+        output.write_all(visible.as_slice())?;
+        output.write_all(b"\n")?;
+    }
+    Ok(())
+}
+
 /// Writes who may do what.
 fn write_who<W: Write>(reading: &Reading, output: &mut W) -> io::Result<u8> {
     let (alloc, watch) = (reading.alloc, &reading.watch);
     let users = users_with(reading, &[])?;
     let settlers = settings_of(alloc, users.as_slice())?;
     let sight = watch.sight(Vec::new(alloc), settlers)?;
+    write_titles(reading, output)?;
     write_rights(alloc, reading.owner, watch, &sight, output)?;
     Ok(LEGAL)
 }
@@ -82,6 +95,9 @@ fn write_why<W: Write>(reading: &Reading, question: Question, output: &mut W) ->
     let mut text = Vec::new(alloc);
     push_reasons(reading.owner, watch.replay(), &sight, question, &mut text)?;
     output.write_all(text.as_slice())?;
+    if question.user != reading.owner {
+        reading.history.write(alloc, output)?;
+    }
     Ok(LEGAL)
 }
 
@@ -93,6 +109,7 @@ fn write_titled<W: Write>(
 ) -> io::Result<u8> {
     let Some(question) = question else {
         writeln!(output, "no: no open window has this title")?;
+        reading.history.write(reading.alloc, output)?;
         return Ok(LEGAL);
     };
     if let Object::Window(window) = question.object {

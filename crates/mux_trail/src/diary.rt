@@ -1,16 +1,13 @@
 //! The log of a trail, for people: a line an entry, one line for bytes that a user types one after
 //! another, and a line for each new day.
 
-use crate::check::{Finish, finish_at, finish_of};
-use crate::fault::Fault;
-use crate::heading::heading_of;
-use crate::tell::{LEGAL, tell_finish};
 use crate::words::{TrailArgs, WindowWord};
 use acl::{Edition, UserId};
 use line_fields::push_day;
 use session_model::Bytes;
 use std::alloc::{AllocError, Global};
 use std::io::{self, BufRead, Write};
+use trail_files::{Fault, Finish, LEGAL, finish_at, finish_of, heading_of, tell_finish};
 use trail_lines::{Halt, Wrong, next_entry};
 use trail_log::{Choice, LogWriter, Wanted, push_end};
 

@@ -2,17 +2,13 @@
 #![tactic(auto)]
 
 mod ask;
-mod check;
 mod diary;
-mod fault;
 mod following;
-mod heading;
-mod moment;
+mod history;
 mod outlet;
 mod program;
 mod reading;
 mod setup;
-mod tell;
 mod words;
 
 use crate::program::trail;

@@ -2,8 +2,8 @@
 
 ghost use Rattle.std.specs.Io.{WritesAtMost};
 
-use crate::fault::Fault;
 use std::io::{self, Write};
+use trail_files::Fault;
 
 /// Standard output, and whether a write to it failed.
 #[derive(Drop)]

@@ -1,15 +1,10 @@
 //! What the program does with its words.
 
 use crate::ask::ask;
-use crate::check::check_lines;
 use crate::diary::tell_log;
-use crate::fault::Fault;
 use crate::following::Following;
-use crate::heading::{Heading, heading_of};
-use crate::moment::place_at;
 use crate::outlet::Outlet;
 use crate::setup::tell_setup;
-use crate::tell::{ILLEGAL, LEGAL, TROUBLE, tell_back, tell_finish, tell_heading};
 use crate::words::{Given, Mistake, TrailArgs, Verb, asked_of, given_in};
 use acl::{Edition, UserId};
 use clap::Error;
@@ -19,6 +14,10 @@ use std::fs;
 use std::io::{self, BufRead, BufReader, Read, Write};
 use std::rt::Files;
 use std::time::Clock;
+use trail_files::{
+    Fault, Heading, ILLEGAL, LEGAL, TROUBLE, check_lines, heading_of, place_at, tell_back,
+    tell_finish, tell_heading,
+};
 use trail_lines::Audit;
 use trail_rights::{Form, show_lines};
 

@@ -1,15 +1,15 @@
 //! What a file's entries say of rights, in one pass: the file may grow meanwhile, or be a pipe.
 
-use crate::check::{Finish, finish_of};
-use crate::fault::Fault;
-use crate::heading::heading_of;
+use crate::history::{BitAsked, History, window_titled};
 use crate::words::{TitledBit, TrailArgs};
 use acl::{Object, UserId};
-use std::alloc::Global;
+use std::alloc::{AllocError, Global};
 use std::io::{self, BufRead};
 use trail_confined::Question;
-use trail_log::Names;
-use trail_rights::{Watch, watch_entries};
+use trail_files::{Fault, Finish, finish_of, heading_of};
+use trail_lines::{EntryLine, Halt, next_entry};
+use trail_log::{Names, giver};
+use trail_rights::Watch;
 
 /// What was read of a file's entries.
 #[derive(Drop)]
@@ -17,21 +17,61 @@ pub struct Reading {
     pub alloc: Global,
     pub owner: UserId,
     pub watch: Watch,
-    names: Names,
+    pub names: Names,
+    pub history: History,
+}
+
+/// The bit that is asked about, if one is.
+fn bit_asked(asked: TrailArgs<'_>) -> BitAsked<'_> {
+    match (asked.question, asked.titled) {
+        (Some(question), _) => BitAsked::Of(question),
+        (None, Some(titled)) => BitAsked::On(titled),
+        (None, None) => BitAsked::Nothing,
+    }
 }
 
 impl Reading {
     /// The question about the open window that was given a title last, if one has it.
     pub fn question_of(&self, titled: TitledBit<'_>) -> Option<Question> {
         let TitledBit { user, bit, title } = titled;
-        let mut question = None;
-        for window in self.names.titles() {
-            if window.title() == title.as_bytes() {
-                let object = Object::Window(window.window());
-                question = Some(Question { user, bit, object });
+        let window = window_titled(&self.names, title)?;
+        let object = Object::Window(window);
+        Some(Question { user, bit, object })
+    }
+
+    /// Follows an entry that the watch has taken.
+    fn follow(&mut self, asked: BitAsked<'_>, said: &EntryLine) -> Result<(), AllocError> {
+        let by = giver(&self.names, said.entry.event());
+        self.names.take(said)?;
+        self.history.note(asked, &self.watch, &self.names, by, said)
+    }
+
+    /// Reads the entries of a reader, from the file's line 2 on, up to the entry of the place `last`. The
+    /// line that halts the reading is left in `line`.
+    fn read<R: BufRead>(
+        &mut self,
+        asked: BitAsked<'_>,
+        last: u64,
+        reader: &mut R,
+        line: &mut Vec<u8>,
+    ) -> io::Result<Halt> {
+        for number in 2..u64::MAX {
+            if self.watch.count() > last {
+                return Ok(Halt::Nothing);
+            }
+            if let Some(halt) = next_entry(reader, line, number)? {
+                return Ok(halt);
+            }
+            match self.watch.take(line.as_slice()) {
+                Ok(said) => self.follow(asked, &said)?,
+                Err(wrong) => return Ok(Halt::Stopped {
+                    line: number,
+                    wrong,
+                }),
             }
         }
-        question
+        // No file has 2^64 lines.
+        Err(io::Error::from(AllocError))
     }
 }
 
@@ -43,17 +83,16 @@ pub fn reading_of<R: BufRead>(
 ) -> Result<(Reading, Finish), Fault> {
     let heading = heading_of(alloc, reader)?;
     let owner = asked.owner.unwrap_or(heading.owner);
-    let mut watch = Watch::new(alloc, heading.edition, owner).map_err(io::Error::from)?;
-    let mut names = Names::new(alloc);
-    let mut line = Vec::new(alloc);
-    let last = asked.place.unwrap_or(u64::MAX);
-    let halt = watch_entries(&mut watch, reader, &mut line, last, |said| names.take(said))?;
-    let finish = finish_of(alloc, watch.count(), halt, reader, &mut line)?;
-    let reading = Reading {
+    let mut reading = Reading {
         alloc,
         owner,
-        watch,
-        names,
+        watch: Watch::new(alloc, heading.edition, owner).map_err(io::Error::from)?,
+        names: Names::new(alloc),
+        history: History::new(alloc),
     };
+    let mut line = Vec::new(alloc);
+    let last = asked.place.unwrap_or(u64::MAX);
+    let halt = reading.read(bit_asked(asked), last, reader, &mut line)?;
+    let finish = finish_of(alloc, reading.watch.count(), halt, reader, &mut line)?;
     Ok((reading, finish))
 }

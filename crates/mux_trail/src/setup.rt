@@ -1,12 +1,9 @@
 //! Writes the setup that brings a new session to where a trail's entries end.
 
-use crate::check::finish_of;
-use crate::fault::Fault;
-use crate::heading::heading_of;
-use crate::tell::{ILLEGAL, LEGAL, tell_finish};
 use crate::words::TrailArgs;
 use std::alloc::Global;
 use std::io::{self, BufRead, Write};
+use trail_files::{Fault, ILLEGAL, LEGAL, finish_of, heading_of, tell_finish};
 use trail_rights::{Watch, watch_entries};
 use trail_setup::{SetupState, push_setup};
 

@@ -31,7 +31,7 @@ pub struct Choice {
 }
 
 /// The user who gives an event: nobody if a window's program ended.
-fn giver(names: &Names, event: &Kept) -> Option<UserId>
+pub fn giver(names: &Names, event: &Kept) -> Option<UserId>
     ensures { result ≡ giver names.now.0 event.now }
 {
     match event {

@@ -13,7 +13,7 @@ mod names;
 mod pressed;
 mod titles;
 
-pub use choice::{Choice, Wanted};
+pub use choice::{Choice, Wanted, giver};
 pub use lines::push_end;
 pub use logging::LogWriter;
 pub use names::Names;

@@ -4,15 +4,12 @@ use crate::lines::{Form, Given, Lines, push_bits};
 use crate::state::SetupState;
 use acl::{Bit, CommandName, Object, UserId};
 use std::alloc::{AllocError, Global};
-use trail_rights::{RightsSetting, Settler, settler_in};
 
 /// What a setup knows of masks.
 #[derive(Clone, Copy)]
 pub struct Masks<'a> {
     pub alloc: Global,
     pub state: &'a SetupState,
-    /// Those of `settings_of` the users: they have looked for the masks of each opener in turn.
-    pub settlers: &'a [Settler],
     /// The known users, the owner first.
     pub users: &'a [UserId],
 }
@@ -28,14 +25,6 @@ impl Masks<'_> {
         match self.users {
             [owner, ..] => *owner == user,
             [] => false,
-        }
-    }
-
-    /// Whether an opener's mask leaves the bit to a user.
-    fn leaves(&self, by: UserId, user: UserId, bit: Bit) -> bool {
-        match settler_in(self.settlers, RightsSetting::Mask { by, user, bit }) {
-            Some(settler) => settler.value(),
-            None => false,
         }
     }
 
@@ -56,19 +45,10 @@ impl Masks<'_> {
         true
     }
 
-    /// What an opener's mask leaves to a user.
-    fn mask_of(&self, by: UserId, user: UserId) -> Given {
-        [
-            self.leaves(by, user, Bit::Read),
-            self.leaves(by, user, Bit::Write),
-            self.leaves(by, user, Bit::Execute),
-        ]
-    }
-
     /// What a closed mask leaves to a user: what the mask does, less each bit that the user lacks on a window
     /// that comes back as the opener's.
     fn closed_of(&self, by: UserId, user: UserId) -> Given {
-        let [read, write, execute] = self.mask_of(by, user);
+        let [read, write, execute] = self.state.mask_of(by, user);
         [
             read && self.has_on_all(by, user, Bit::Read),
             write && self.has_on_all(by, user, Bit::Write),
@@ -109,7 +89,7 @@ impl Masks<'_> {
             if *user == by || self.is_owner(*user) {
                 continue;
             }
-            let (own, closed) = (self.mask_of(by, *user), self.closed_of(by, *user));
+            let (own, closed) = (self.state.mask_of(by, *user), self.closed_of(by, *user));
             if is_later && own != closed {
                 self.put(*user, own, &mut lines, out)?;
             }
@@ -167,18 +147,6 @@ impl Masks<'_> {
         Ok(())
     }
 
-    /// The settlers of the opener at this place among the users.
-    fn settlers_of(&self, place: usize) -> &[Settler] {
-        let count = self.users.len().saturating_mul(3);
-        let start = self.users.len().saturating_add(place.saturating_mul(count));
-        let end = start.saturating_add(count);
-        if end <= self.settlers.len() && start <= end {
-            &self.settlers[start..end]
-        } else {
-            &[]
-        }
-    }
-
     /// Appends the lines by which an opener masks users, each after `start`.
     fn push_by(
         &self,
@@ -202,12 +170,8 @@ impl Masks<'_> {
     /// Appends the lines by which each opener masks users, each after `start`: closed masks, and later what
     /// they were.
     pub fn push(&self, is_later: bool, start: &[u8], out: &mut Vec<u8>) -> Result<(), AllocError> {
-        for place in 0..self.users.len() {
-            let masks = Masks {
-                settlers: self.settlers_of(place),
-                ..*self
-            };
-            masks.push_by(is_later, start, self.users[place], out)?;
+        for by in self.users {
+            self.push_by(is_later, start, *by, out)?;
         }
         Ok(())
     }

@@ -1,14 +1,14 @@
 //! The lines of a setup.
 
 use crate::commands::{push_commands, push_leaders};
-use crate::lines::{Form, Given, Lines, push_bits};
+use crate::lines::{Form, Lines, push_bits};
 use crate::masks::Masks;
 use crate::mode::ModeSeen;
 use crate::state::SetupState;
-use acl::{Bit, LockMode, PresetKind, UserId};
+use acl::{LockMode, PresetKind, UserId};
 use line_fields::parts::{push_mode, push_preset};
 use std::alloc::{AllocError, Global};
-use trail_rights::{RightsSetting, Settler, Watch, settings_of, settler_in, users_of};
+use trail_rights::{Watch, users_of};
 
 /// Stands before the lines that are for later.
 const LATER: &[u8] = b"# later: ";
@@ -28,28 +28,15 @@ fn push_users(alloc: Global, users: &[UserId], out: &mut Vec<u8>) -> Result<(), 
     lines.end(out)
 }
 
-/// Whether a preset gives the bit.
-fn presets(settlers: &[Settler], kind: PresetKind, bit: Bit) -> bool {
-    match settler_in(settlers, RightsSetting::Preset { kind, bit }) {
-        Some(settler) => settler.value(),
-        None => true,
-    }
-}
-
 /// Appends the line that sets a preset.
 fn push_preset_line(
-    settlers: &[Settler],
+    state: &SetupState,
     kind: PresetKind,
     out: &mut Vec<u8>,
 ) -> Result<(), AllocError> {
-    let given: Given = [
-        presets(settlers, kind, Bit::Read),
-        presets(settlers, kind, Bit::Write),
-        presets(settlers, kind, Bit::Execute),
-    ];
     out.extend_from_slice(b"aclumask ")?;
     push_preset(kind, out)?;
-    push_bits(given, out)?;
+    push_bits(state.preset(kind), out)?;
     out.extend_from_slice(b"\n")
 }
 
@@ -85,12 +72,9 @@ pub fn push_setup(
 ) -> Result<(), AllocError> {
     let replay = watch.replay();
     let users = users_of(alloc, replay)?;
-    let sight = watch.sight(Vec::new(alloc), settings_of(alloc, users.as_slice())?)?;
-    let settlers = sight.settlers();
     let masks = Masks {
         alloc,
         state,
-        settlers,
         users: users.as_slice(),
     };
     let others = match users.as_slice() {
@@ -101,8 +85,8 @@ pub fn push_setup(
     masks.push(false, b"", out)?;
     push_leaders(replay, others, out)?;
     push_commands(alloc, &state.entries, others, out)?;
-    push_preset_line(settlers, PresetKind::Windows, out)?;
-    push_preset_line(settlers, PresetKind::Commands, out)?;
+    push_preset_line(state, PresetKind::Windows, out)?;
+    push_preset_line(state, PresetKind::Commands, out)?;
     push_default(state.default, out)?;
     push_later(masks, out)
 }

@@ -1,0 +1,80 @@
+#!/usr/bin/perl
+# Runs mux-trail show --json .. and adds to each entry what is easy to ask for: the user, the window and its title, the
+# words of a command, and times of one width.  It needs only perl-base.
+use strict;
+use warnings;
+use POSIX ();
+
+$| = 1;
+my $pid = open(my $in, '-|', @ARGV) or die "mux-audit: can't run $ARGV[0]: $!\n";
+$SIG{$_} = sub { kill 'TERM', $pid; exit 143 } for qw(HUP INT TERM);
+my (%user_of, %title_of);
+
+# Returns the strings of a list, such as event or acts.
+sub list_of {
+    my ($line, $name) = @_;
+    my ($list) = $line =~ /"$name":\[((?:"(?:[^"\\]|\\.)*",?)*)\]/ or return;
+    return map { s/\\(.)/$1/gr } $list =~ /"((?:[^"\\]|\\.)*)"/g;
+}
+
+# Returns the text of a word such as .a\20b
+sub text_of {
+    my ($word) = @_;
+    return ($word // '') =~ s/^\.//r =~ s/\\([0-9a-f]{2})/chr hex $1/ger;
+}
+
+sub quoted {
+    my ($text) = @_;
+    return '"' . ($text =~ s/(["\\])/\\$1/gr =~ s/([\x00-\x1f\x7f])/sprintf '\\u%04x', ord $1/ger) . '"';
+}
+
+# Returns the words of a command's line: blanks count within quotes.
+sub words_of {
+    my ($line) = @_;
+    return map { s/^(['"])(.*)\1\z/$2/sr } $line =~ /((?:'[^']*'|"[^"]*"|[^\s'"])+)/g;
+}
+
+# Returns the window of an entry: that of its event, its checks or its acts.
+sub window_of {
+    my ($event, $checks, $acts) = @_;
+    return $event->[1] if $event->[0] eq 'closed';
+    for (@$checks, @$acts) {
+        return $1 if /^[a-z0-9_]+:[-+][rwx]:([0-9]+)$/ || /^[a-z0-9_]+:lock:([0-9]+):/;
+        return $1 if /^(?:set:[a-z0-9_]+:[-+][rwx]|opened:[a-z0-9_]+|entered:[a-z0-9_]+|mode:[a-z0-9_]+):([0-9]+)/;
+    }
+    return;
+}
+
+sub follow {
+    my ($event, $window, $is_done, $acts) = @_;
+    for (@$acts) {
+        $user_of{$1} = $2 if /^attached:([0-9]+):(.*)/;
+        delete $user_of{$1} if /^parted:([0-9]+)/;
+        delete $title_of{$1} if /^closed:([0-9]+)/;
+        $title_of{$1} = text_of($event->[5]) if $event->[0] eq 'open' && /^opened:[^:]*:([0-9]+)/;
+    }
+    return unless $is_done && defined $window && $event->[0] eq 'command';
+    my @words = words_of(text_of($event->[3]));
+    $title_of{$window} = $words[1] if @words == 2 && $words[0] eq 'title';
+}
+
+while (my $line = <$in>) {
+    my ($ms) = $line =~ /"ms":([0-9]+)/;
+    my $time = POSIX::strftime('%Y-%m-%dT%H:%M:%S', gmtime $ms / 1000) . sprintf '.%03dZ', $ms % 1000;
+    my @event = list_of($line, 'event');
+    my ($more, @acts) = ('', list_of($line, 'acts'));
+    if (@event) {
+        my $window = window_of(\@event, [list_of($line, 'checks')], \@acts);
+        my $user = $event[0] =~ /^(?:keys|detach)$/ ? $user_of{$event[1]} : $event[0] eq 'closed' ? undef : $event[1];
+        my $title = $event[0] eq 'open' ? text_of($event[5]) : defined $window ? $title_of{$window} : undef;
+        $more .= ',"user":' . quoted($user) if defined $user;
+        $more .= ",\"window\":$window" if defined $window;
+        $more .= ',"title":' . quoted($title) if defined $title;
+        $more .= ',"words":[' . join(',', map { quoted($_) } words_of(text_of($event[3]))) . ']' if $event[0] eq 'command';
+        follow(\@event, $window, $line =~ /"reply":"ok/, \@acts);
+    }
+    $line =~ s/"ms":[0-9]+(?:,"time":"[^"]*")?/"ms":$ms,"time":"$time"$more/;
+    print $line;
+}
+close $in;
+exit $? >> 8;

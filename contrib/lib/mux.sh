@@ -1,0 +1,140 @@
+# shellcheck shell=sh disable=SC2034,SC2154
+# What the scripts of mux share: their options, the session that they mean, its lock, and commands of its owner.  A script
+# that reads this has a function usage.
+program=${0##*/}
+mux=${MUX:-mux}
+config=${XDG_CONFIG_HOME:-${HOME:-}/.config}/mux
+socket=${MUX_SOCKET:-${XDG_RUNTIME_DIR:+$XDG_RUNTIME_DIR/mux/socket}}
+user=${MUX_USER:-}
+token=${MUX_TOKEN:-}
+lock=${MUX_LOCK:-}
+newline='
+'
+
+# With x on one of the second list a user could change rights, open windows, or take another window's title or number.
+safe=' wall detach select next prev other split focus remove only fit scrollview clear reset stuff windows displays '
+unsafe=' acladd addacl aclchg chacl acldel aclgrp aclumask umask writelock defwritelock multiuser title number kill screen encoding quit '
+
+# fault TEXT [STATUS]: ends with a message, and the status 1 or another one.
+fault() {
+    printf '%s: %s\n' "$program" "$1" >&2
+    exit "${2:-1}"
+}
+
+# read_options VALUED PLAIN WORD..: reads options up to the first word that is none, or after --.  Each sets a variable
+# of its name: --keep 9 and --keep=9 set keep, --nested sets nested to yes.  Sets used to the number of words.
+read_options() {
+    valued=" $1 " plain=" $2 " used=0
+    shift 2
+    while :; do
+        case ${1-} in
+        -h | --help)
+            usage
+            exit 0
+            ;;
+        -V | --version)
+            version=$("$mux" --version) || fault "can't ask $mux for its version: install mux, or put it into the PATH"
+            printf '%s of %s\n' "$program" "$version"
+            exit 0
+            ;;
+        --)
+            used=$((used + 1))
+            return
+            ;;
+        --?*) option=${1#--} ;;
+        -?*) fault "invalid argument: $1 (see $program --help)" 2 ;;
+        *) return ;;
+        esac
+        name=${option%%=*}
+        case $name in *[!a-z]*) fault "invalid argument: $1 (see $program --help)" 2 ;; esac
+        case $valued,$plain,$option in
+        *" $name "*,*,*=*) value=${option#*=} ;;
+        *" $name "*,*,*)
+            [ $# -ge 2 ] || fault "--$name needs a value (see $program --help)" 2
+            value=$2 used=$((used + 1))
+            shift
+            ;;
+        *,*" $name "*,*=*) fault "--$name takes no value (see $program --help)" 2 ;;
+        *,*" $name "*,*) value=yes ;;
+        *) fault "invalid argument: $1 (see $program --help)" 2 ;;
+        esac
+        eval "$name=\$value"
+        used=$((used + 1))
+        shift
+    done
+}
+
+# find_session: the user and the token's file, where nothing says which.
+find_session() {
+    [ -n "$socket" ] || fault "no socket: set --socket or MUX_SOCKET (XDG_RUNTIME_DIR isn't set)" 2
+    [ -n "$user" ] || user=$(id -un)
+    [ -n "$token" ] || token=$config/$user.token
+}
+
+# check_name NAME: ends with a fault, unless it can be a user's name.  In the C locale a-z has only these letters.
+check_name() (
+    LC_ALL=C
+    case $1 in
+    none | *[!a-z0-9_]* | [!a-z]* | ?????????????????????*)
+        fault "invalid user name: $1 (1 to 20 of a-z, 0-9 and _, first a letter; not none)" 2
+        ;;
+    esac
+)
+check_title() (
+    LC_ALL=C
+    case $1 in
+    '' | [!A-Za-z_]* | *[!A-Za-z0-9_.-]*)
+        fault "invalid title of a window: $1 (letters, digits and _ . -, first a letter or _)" 2
+        ;;
+    esac
+)
+check_seconds() {
+    case $1 in '' | *[!0-9]* | ??????*) fault "invalid --for: $1 (whole seconds)" 2 ;; esac
+}
+is_command() {
+    case $safe$unsafe in *" $1 "*) return 0 ;; esac
+    return 1
+}
+
+# Prints the items of an answer, a line each: a number, a blank, a title.  The answer has two blanks between items, and *
+# at the window in focus.
+items() {
+    sed 's/  /\n/g' | sed 's/^\([0-9]*\)\*\{0,1\} /\1 /'
+}
+# give LINE: gives a command.  A server that hangs mustn't keep a lock for good.  mux prints a refusal on both streams: the
+# line with its meaning is enough.
+give() {
+    answer=$(timeout 10 "$mux" command --wait 9 --socket "$socket" --user "$user" --token "$token" "$1" </dev/null) ||
+        return
+    [ -z "$answer" ] || printf '%s\n' "$answer"
+}
+# Prints the windows, a line each.
+listed() {
+    text=$(give windows) || return 1
+    [ -z "$text" ] || printf '%s\n' "$text" | items
+}
+
+# take_lock PATH: holds the lock as descriptor 9.  Until rights are given, nobody else may open a console or let a user in.
+take_lock() {
+    [ -r "$1" ] || fault "can't read the lock: $1 (set --lock or MUX_LOCK)"
+    exec 9<"$1"
+    flock -w 60 9 || fault "another mux-console, mux-rights or mux-guest has held the lock for a minute: $1: try again"
+}
+# exit_on_signals: on a signal the script ends by its trap EXIT.
+exit_on_signals() {
+    trap 'exit 129' HUP
+    trap 'exit 130' INT
+    trap 'exit 131' QUIT
+    trap 'exit 143' TERM
+}
+# setting NAME FILE: prints a setting of a unit's file.
+setting() {
+    sed -n "s/^$1=[\"']\{0,1\}\([^\"']*\).*/\1/p" "$2" | tail -n 1
+}
+# trails_of FOLDER: prints where the session of /etc/mux/GROUP writes its trails.
+trails_of() {
+    [ -r "$1/muxd.conf" ] || return 1
+    trails=$(setting TRAILS "$1/muxd.conf")
+    [ -n "$trails" ] || return 1
+    printf '%s\n' "$trails"
+}

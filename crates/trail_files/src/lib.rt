@@ -1,0 +1,14 @@
+//! A trail's file: its first line, its entries at a time, how it ends, why it isn't read, and what is told of it.
+#![tactic(auto)]
+
+mod check;
+mod fault;
+mod heading;
+mod moment;
+mod tell;
+
+pub use check::{Finish, check_lines, finish_at, finish_of};
+pub use fault::Fault;
+pub use heading::{Heading, heading_of};
+pub use moment::place_at;
+pub use tell::{ILLEGAL, LEGAL, TROUBLE, UNCONFINED, tell_back, tell_finish, tell_heading};
