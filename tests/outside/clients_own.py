@@ -53,7 +53,9 @@ class Client:
     def __enter__(self):
         return self
 
-    def __exit__(self, *_):
+    def __exit__(self, kind, *_):
+        if kind:
+            print(f"        mux: {self.it.poll()}", flush=True)
         self.it.kill()
         self.it.wait()
         for pipe in (self.it.stdin, self.it.stderr):
@@ -82,15 +84,18 @@ class Servers:
         Path(self.token).write_bytes(TOKEN + b"\n")
         os.chmod(self.token, 0o600)
         self.listener, self.peer, self.data = None, None, b""
+        self.open()
 
-    def begin(self, answer=WELCOME):
-        """Starts a server, and waits for its peer."""
-        if os.path.exists(self.path):
-            os.unlink(self.path)
+    def open(self):
         self.listener = socket.socket(socket.AF_UNIX)
         self.listener.bind(self.path)
         self.listener.listen(5)
         self.listener.settimeout(10)
+
+    def begin(self, answer=WELCOME):
+        """Starts a server, unless one is there, and waits for its peer."""
+        if self.listener is None:
+            self.open()
         self.take(answer)
 
     def take(self, answer):
@@ -108,6 +113,7 @@ class Servers:
 
     def end(self, last=b""):
         self.listener.close()
+        self.listener = None
         try:
             self.peer.sendall(last)
             # a thread may be reading it
@@ -394,7 +400,7 @@ def stays():
     with Servers() as at:
         sizes = f"{at.folder.name}/sizes"
         Path(sizes).touch()
-        with Client(at.words("window", "--title", "sh", "--stay", "5", "--sizes", sizes)) as it:
+        with Client(at.words("window", "--title", "sh", "--stay", "30", "--sizes", sizes)) as it:
             at.begin(WELCOME + frame(b"z", two(30) + two(100)))
             it.type(b"before", 0.3)
             at.end()
@@ -414,7 +420,7 @@ def stays():
             block = b"".join(b"%07d\n" % number for number in range(131072))
             it.type(block, 0.5)
             at.begin()
-            time.sleep(0.5)
+            at.has(b"O", block[-99:])
             kept = at.payload(b"O")
             check("of much the newest is kept", block.endswith(kept) and 262144 <= len(kept) <= 524288, str(len(kept)))
             at.end(frame(b"g", b"\3"))

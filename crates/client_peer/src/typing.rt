@@ -1,9 +1,5 @@
 //! What is typed or printed, on its way to the server.
 
-ghost use Rattle.std.specs.Prelude.{◌≡◌, ◌++◌, ◌∷◌, [], ℕ, List, IsTrue};
-ghost use Rattle.keys.specs.Grammar.{items, nothing};
-ghost use Rattle.client_peer.specs.Fitting.{Follows};
-
 use crate::notice::NoticeStage;
 use crate::peer::Peer;
 use client_words::{Fault, InputStage, LeaveReader, Words};
@@ -94,16 +90,12 @@ impl Typing {
     }
 
     /// Whether the session waits for no key: no prompt is open, and the command key wasn't typed last.
-    pub fn is_at_rest(&self) -> bool
-        ensures { (keys : List ℕ) → Follows self.now keys → IsTrue result → (items keys).1 ≡ nothing }
-    {
+    pub fn is_at_rest(&self) -> bool {
         !self.is_begun && self.keys.prompt().is_none()
     }
 
     // Reads a key along with the session.
-    fn follow(&mut self, key: u8) -> Option<KeyItem>
-        ensures { (keys : List ℕ) → Follows self.old keys → Follows self.new (keys ++ key ∷ []) }
-    {
+    fn follow(&mut self, key: u8) -> Option<KeyItem> {
         let item = self.keys.push(key);
         self.is_begun = item.is_none();
         item

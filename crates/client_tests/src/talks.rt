@@ -240,6 +240,8 @@ fn awaits(stream: &mut UnixStream, came: &mut Vec<u8>, bytes: &[u8]) -> io::Resu
 fn serve<R: Stage>(rt: &R, listener: &UnixListener, talk: Talk) -> io::Result<bool> {
     if matches!(talk.peer, Peer::Again | Peer::Staying) {
         let (mut stream, _) = listener.accept()?;
+        let mut came = Vec::new(rt.alloc());
+        awaits(&mut stream, &mut came, talk.awaited)?;
         stream.write_all(talk.first)?;
     }
     let (mut stream, _) = listener.accept()?;

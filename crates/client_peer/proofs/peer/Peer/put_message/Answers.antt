@@ -3,3 +3,6 @@ use Rattle.client_peer.proofs.peer.Peer.put_message.Goals as goal
 
 pub returns-in_default : goal.returns-in_default
 returns-in_default c = record { ok = passes_same c.args.self.now; err = tt }
+
+pub returns-in_default-3 : goal.returns-in_default-3
+returns-in_default-3 c = record { ok = passes_same c.args.self.now; err = tt }

@@ -19,3 +19,6 @@ returns-clause-err c =
     let new : Peer = c.put_draw.new.self in
     on_err_weaker {P = StopsAt middle new} {Q = StopsAt old new} c.put_draw.result
     (λ s. stops_then old middle new (passes_keeps old middle c.note_cut.ensures) s) c.put_draw.ensures.err
+
+pub returns-then-self-clause-ok : goal.returns-then-self-clause-ok
+returns-then-self-clause-ok c = passes_keeps c.args.self.now c.pass_over.new.self c.pass_over.ensures
