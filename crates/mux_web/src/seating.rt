@@ -60,14 +60,12 @@ pub fn redeem<R>(rt: &R, links: Option<&str>, guest: &mut Guest)
 where
     R: Files<File = File> + Clock + AllocGlobal,
 {
-    let Seat::Link(secret) = &guest.visitor.seat else {
-        return;
+    let secret = match &guest.visitor.seat {
+        Seat::Link(secret) if guest.visitor.is_open() => secret.copied(),
+        _ => return,
     };
-    if !guest.visitor.is_open() {
-        return;
-    }
     let found = match links {
-        Some(folder) => take_link(rt, folder, secret),
+        Some(folder) => take_link(rt, folder, &secret),
         None => None,
     };
     let told = match &found {
