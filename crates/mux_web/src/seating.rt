@@ -60,8 +60,11 @@ pub fn redeem<R>(rt: &R, links: Option<&str>, guest: &mut Guest)
 where
     R: Files<File = File> + Clock + AllocGlobal,
 {
+    if !guest.visitor.is_open() {
+        return;
+    }
     let secret = match &guest.visitor.seat {
-        Seat::Link(secret) if guest.visitor.is_open() => secret.copied(),
+        Seat::Link(secret) => secret.copied(),
         _ => return,
     };
     let found = match links {
