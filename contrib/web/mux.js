@@ -122,7 +122,7 @@
       back = asked = 0;
       past.hidden = true;
     }
-    hear(caption, message);
+    if (caption) hear(caption, message);
     const me = user ? user.name : "", lock = /^denied: window \d+ locked by (\w+)$/.exec(message);
     const isDenied = lock || /^denied: w on window /.test(message), types = lock ? lock[1] : turn;
     const lines = [told_turn(me, isDenied, types)];
@@ -405,6 +405,7 @@
     remember(null);
     screen.hidden = true;
     login.hidden = false;
+    document.title = "mux";
     it(isFault ? "token" : "file").focus();
   };
   const drop = () => {

@@ -60,14 +60,15 @@ pub fn redeem<R>(rt: &R, links: Option<&str>, guest: &mut Guest)
 where
     R: Files<File = File> + Clock + AllocGlobal,
 {
-    let Seat::Link(secret) = &guest.visitor.seat else {
-        return;
-    };
     if !guest.visitor.is_open() {
         return;
     }
+    let secret = match &guest.visitor.seat {
+        Seat::Link(secret) => secret.copied(),
+        _ => return,
+    };
     let found = match links {
-        Some(folder) => take_link(rt, folder, secret),
+        Some(folder) => take_link(rt, folder, &secret),
         None => None,
     };
     let told = match &found {
