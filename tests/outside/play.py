@@ -119,8 +119,8 @@ def play_part(name, part, *given):
 
 
 def main(parts, needs=("muxd", "mux"), options=None, verbose=True, around=None):
-    """Plays parts (functions, or functions by their names) that need these programs.  `around` makes a context, which
-    each part is given."""
+    """Plays parts (functions, or functions by their names) that need these programs.  `around` makes a context; what
+    that gives, if anything, each part is given."""
     parts = parts if isinstance(parts, dict) else {it.__name__: it for it in parts}
     WORDS.verbose = verbose
     read_words(parts, options or {}, verbose)
@@ -131,7 +131,7 @@ def main(parts, needs=("muxd", "mux"), options=None, verbose=True, around=None):
     if not lacking:
         with around() if around else contextlib.nullcontext() as it:
             for name in WORDS.parts or parts:
-                play_part(name, parts[name], *[it] * bool(around))
+                play_part(name, parts[name], *[it] * (it is not None))
     if not COUNTS["checks"] and not COUNTS["left out"]:
         check("something is played", False)
     print(f"{os.path.basename(sys.argv[0])}: {COUNTS['checks']} checks, {COUNTS['failed']} failed,"
@@ -224,10 +224,14 @@ class Terminal:
 
     def shows(self, text, seconds=10):
         """Whether a text is printed or drawn from now on within some time."""
-        until, data = time.monotonic() + seconds, b""
-        while not (is_shown := text in plain(data)) and time.monotonic() < until:
-            data += self.read(0.1)
-        return is_shown
+        return self.has(text, seconds, len(self.out))
+
+    def has(self, text, seconds=60, begin=0):
+        """Whether a text is among all that was printed and drawn, or is within some time."""
+        until = time.monotonic() + seconds
+        while not (is_there := text in plain(self.out[begin:])) and time.monotonic() < until:
+            self.read(0.1)
+        return is_there
 
     def resize(self, rows, cols):
         fcntl.ioctl(self.fd, termios.TIOCSWINSZ, struct.pack("4H", rows, cols, 0, 0))
