@@ -134,7 +134,8 @@ def main(parts, needs=("muxd", "mux"), options=None, verbose=True, around=None):
                 play_part(name, parts[name], *[it] * (it is not None))
     if not COUNTS["checks"] and not COUNTS["left out"]:
         check("something is played", False)
-    print(f"{os.path.basename(sys.argv[0])}: {COUNTS['checks']} checks, {COUNTS['failed']} failed,"
+    counts = {**COUNTS, "failed": COUNTS["failed"]}
+    print(f"{os.path.basename(sys.argv[0])}: {', '.join(f'{count} {what}' for what, count in counts.items())},"
           f" {time.monotonic() - began:.0f} s")
     sys.exit(1 if COUNTS["failed"] else 0)
 
