@@ -112,8 +112,9 @@ class Session:
         return Client(socket.socket(fileno=sent[0]), attach(b"anybody", rows=ROWS, cols=COLS))
 
     def end(self):
-        os.close(self.here)
+        # A keeper whose owner goes before they were attached ends by itself.
         self.ask("tell", self.place, "end")
+        os.close(self.here)
         for _ in range(100):
             if not os.path.exists(self.place):
                 break
