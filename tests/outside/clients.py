@@ -88,7 +88,8 @@ class Terminal(play.Terminal):
     """A program on a pseudo-terminal, with the environment of somebody who attaches."""
 
     def __init__(self, words, **environment):
-        super().__init__(words, {**os.environ, "MUX": WORDS.mux, "PS1": "ready> ", "HOME": "/nonexistent", **environment})
+        known = {"MUX": WORDS.mux, "PS1": "ready> ", "HOME": "/nonexistent"}
+        super().__init__(words, {**os.environ, **known, **environment})
 
     def is_drawn(self):
         """Whether the session is shown: a first draw resets the terminal."""

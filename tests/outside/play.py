@@ -155,6 +155,18 @@ def run(*words, **more):
                                     "stdin": None if "input" in more else subprocess.DEVNULL, **more})
 
 
+def read(path):
+    """The text of a file."""
+    return Path(path).read_text(encoding="utf-8", errors="replace")
+
+
+def write(path, text, mode=None):
+    """Writes a text to a file, which gets a mode perhaps."""
+    Path(path).write_text(text, encoding="utf-8")
+    if mode is not None:
+        os.chmod(path, mode)
+
+
 def said(done):
     """What a program printed."""
     return (done.stdout + done.stderr).strip()

@@ -1,8 +1,8 @@
 #!/usr/bin/env python3
 """Fills a server's trail: 63 users type into a window until the 4,194,304 entries are there.
 
-One user alone would take more than an hour: a user causes at most 1,000 entries a second in the long run. Each byte that
-was told as an entry reaches the window, in one INPUT each; the next one finds the trail full: clients and window get
+One user alone would take more than an hour: a user causes at most 1,000 entries a second in the long run. Each byte
+that was told as an entry reaches the window, in one INPUT each; the next one finds the trail full: clients and window get
 GONE 7, in whichever loop they are, and muxd says so, in its log how full it was before, and ends with status 1. Equal
 entries share one stored form: the trail takes 4 bytes for each of them, and the seats' receipts 8, in all some 50 MB.
 The server is to stay below 120 MB, with what the clients need that type at once.
@@ -153,7 +153,8 @@ def full():
         check("the clients are let go", {client.gone for client in clients} == {7}, [it.gone for it in clients])
         errors = server.program.communicate(timeout=60)[1].decode().splitlines()
         check("its status", server.program.returncode == 1, server.program.returncode)
-        check("what the server says", errors[-1] == "muxd: the session's trail is full: start another session", errors[-1])
+        wanted = "muxd: the session's trail is full: start another session"
+        check("what the server says", errors[-1] == wanted, errors[-1])
         found = [line.split()[-2] for line in errors if line.endswith(" percent")]
         check("and before", found == ["50", "75", "90", "99"], found)
         went = sum(line.endswith(" went: the trail is full") for line in errors)
