@@ -349,7 +349,8 @@ def sizes():
     with Server() as server:
         admit(server)
         shell = server.admit(window(rows=200, cols=300))
-        shell.sendall(pieces(OUTPUT, b"".join(b"\x1b[%d;1H" % row + b"\x1b[31mab\x1b[32mcd" * 75 for row in range(1, 201))))
+        page = b"".join(b"\x1b[%d;1H" % row + b"\x1b[31mab\x1b[32mcd" * 75 for row in range(1, 201))
+        shell.sendall(pieces(OUTPUT, page))
         client = server.admit(attach())
         assert server.give(b"aclchg eve +r 0").endswith(DONE)
         client.settimeout(20)

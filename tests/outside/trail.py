@@ -2,9 +2,9 @@
 """Fills a server's trail: 63 users type into a window until the 4,194,304 entries are there.
 
 One user alone would take more than an hour: a user causes at most 1,000 entries a second in the long run. Each byte
-that was told as an entry reaches the window, in one INPUT each; the next one finds the trail full: clients and window get
-GONE 7, in whichever loop they are, and muxd says so, in its log how full it was before, and ends with status 1. Equal
-entries share one stored form: the trail takes 4 bytes for each of them, and the seats' receipts 8, in all some 50 MB.
+that was told as an entry reaches the window, in one INPUT each; the next one finds the trail full: clients and window
+get GONE 7, in whichever loop they are, and muxd says so, in its log how full it was before, and ends with status 1.
+Equal entries share one stored form: the trail takes 4 bytes for each, and the seats' receipts 8, in all some 50 MB.
 The server is to stay below 120 MB, with what the clients need that type at once.
 
 The part `day` plays a made-up day in ten minutes: five users type 1,400,000 keys, each into a window of their own, in
