@@ -132,7 +132,7 @@ def main(parts, needs=("muxd", "mux"), options=None, verbose=True, around=None):
         with around() if around else contextlib.nullcontext() as it:
             for name in WORDS.parts or parts:
                 play_part(name, parts[name], *[it] * (it is not None))
-    if not COUNTS["checks"] and not COUNTS["left out"]:
+    if not COUNTS["checks"] + COUNTS["figures"]:
         check("something is played", False)
     counts = {**COUNTS, "failed": COUNTS["failed"]}
     print(f"{os.path.basename(sys.argv[0])}: {', '.join(f'{count} {what}' for what, count in counts.items())},"

@@ -684,13 +684,6 @@ def policies(play):
     may_not("ben", None, "aclchg ben +w board", "denied: x on aclchg: entry ben -x")
     lines("mux-turn --window board pia", "mux-turn none", "own aclgrp pia")
     may_not("pia", "2", "stuff x", "denied: w on window 2: entry pia -w")
-    lines("own 'aclchg pen -rwx #?'", "own 'aclumask pen+w-x'", "own 'aclchg * -w #'", "own 'aclchg pen +w #'",
-          "own 'aclgrp pia pen'")
-    may("pia", "2", "stuff x")
-    lines("own 'aclgrp pia none'")
-    may_not("pia", "2", "stuff x", "denied: w on window 2: entry pia -w")
-    lines("own 'aclgrp ben pen'")
-    may("ben", "2", "stuff x")
     over()
 
     shutil.copy(os.path.join(TOP, "contrib/policies/ops"), on.home)
