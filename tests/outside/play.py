@@ -312,8 +312,9 @@ class Pane:
 
 
 def add_account(name, *words):
-    """Makes an account with a home, by useradd's words; one that an earlier play left goes first."""
-    if run("id", name).returncode == 0:
+    """Makes an account with a home, by useradd's words.  One of a name that only plays give, which an earlier play left,
+    goes first."""
+    if name.startswith(("mux", "mxs")) and run("id", name).returncode == 0:
         end_account(name)
     done = run("useradd", "-m", *words, name)
     if done.returncode:
