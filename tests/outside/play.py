@@ -312,8 +312,8 @@ class Pane:
 
 
 def add_account(name, *words):
-    """Makes an account with a home, by useradd's words.  One of a name that only plays give, which an earlier play left,
-    goes first."""
+    """Makes an account with a home, by useradd's words.  One that an earlier play left goes first: by its name none but
+    a play's."""
     if name.startswith(("mux", "mxs")) and run("id", name).returncode == 0:
         end_account(name)
     done = run("useradd", "-m", *words, name)
