@@ -18,9 +18,10 @@ import tempfile
 import time
 
 sys.dont_write_bytecode = True
-import server
+from server import DRAW, KEYS, MB, WELCOME, Peer, attach, frame, row
 
 TOP = os.path.dirname(os.path.dirname(os.path.realpath(__file__)))
+ROWS, COLS = 24, 80
 # What a draw has beside the page's text is none of these.
 LETTERS = b"jkqvwyz"
 PASTE = 1_000_000
@@ -40,14 +41,14 @@ exec awk 'BEGIN {
 """
 
 
-class Client(server.Peer):
+class Client(Peer):
     """A terminal over a socket that is connected."""
 
     def __init__(self, connected, first):
-        self.socket, self.rest = connected, b""
+        self.socket, self.rest, self.gone = connected, b"", None
         self.socket.settimeout(30)
         self.send(first)
-        if self.next()[0] != server.WELCOME:
+        if self.next()[0] != WELCOME:
             raise SystemExit("door.py: a terminal isn't let in")
 
     def settle(self, quiet=0.05):
@@ -55,12 +56,6 @@ class Client(server.Peer):
         self.rest = b""
         while select.select([self.socket], [], [], quiet)[0]:
             self.socket.recv(1 << 20)
-
-    def leave(self):
-        self.send(server.frame(server.DETACH, b""))
-        while self.socket.recv(1 << 20):
-            pass
-        self.socket.close()
 
 
 class Session:
@@ -75,7 +70,7 @@ class Session:
                                 MUX=f"{words.programs}/mux", PATH=f"{TOP}/contrib:{os.environ['PATH']}",
                                 MUX_SHARE_WITH=f"{words.guest} {self.account.pw_uid} 1 0")
         program = PROGRAM % (2 * words.rounds, PASTE)
-        said = self.ask("start", server.ROWS, server.COLS, "022", "bench", "sh", "-c", program)
+        said = self.ask("start", ROWS, COLS, "022", "bench", "sh", "-c", program)
         self.place = said.split()[1]
         # While this is open, the keeper takes its owner for attached, and lets guests in.
         self.here = os.open(f"{self.place}/own/here", os.O_WRONLY)
@@ -93,8 +88,7 @@ class Session:
     def direct(self):
         connected = socket.socket(socket.AF_UNIX)
         connected.connect(f"{self.place}/own/socket")
-        size = server.two(server.ROWS) + server.two(server.COLS)
-        return Client(connected, server.frame(server.ATTACH, size + self.token.encode() + self.name.encode()))
+        return Client(connected, attach(self.name.encode(), self.token.encode(), ROWS, COLS))
 
     def through_door(self):
         """The kernel tells the door who connected, so a process of the guest's account does."""
@@ -115,11 +109,12 @@ class Session:
         ours.close()
         if not sent:
             raise SystemExit(f"door.py: {self.account.pw_name} can't connect to {self.place}/door")
-        return Client(socket.socket(fileno=sent[0]), server.attach(b"anybody"))
+        return Client(socket.socket(fileno=sent[0]), attach(b"anybody", rows=ROWS, cols=COLS))
 
     def end(self):
-        os.close(self.here)
+        # A keeper whose owner goes before they were attached ends by itself.
         self.ask("tell", self.place, "end")
+        os.close(self.here)
         for _ in range(100):
             if not os.path.exists(self.place):
                 break
@@ -134,12 +129,12 @@ def echoes(client, keys=300):
     for number in range(keys):
         if number % 60 == 59:
             # C-u takes the line away.
-            client.send(server.frame(server.KEYS, b"\x15"))
+            client.send(frame(KEYS, b"\x15"))
             client.settle()
         letter = LETTERS[number % len(LETTERS):][:1]
         begin = time.perf_counter_ns()
-        client.send(server.frame(server.KEYS, letter))
-        client.until(server.DRAW, letter)
+        client.send(frame(KEYS, letter))
+        client.until(DRAW, letter)
         found.append((time.perf_counter_ns() - begin) / 1000)
         time.sleep(0.002)
     return found
@@ -148,13 +143,13 @@ def echoes(client, keys=300):
 def paste(client):
     """MB a second from the first byte of a paste to the draw that answers its last one."""
     client.settle(0.3)
-    keys = server.frame(server.KEYS, b"x" * 8000) * (PASTE // 8000)
+    keys = frame(KEYS, b"x" * 8000) * (PASTE // 8000)
     begin = time.perf_counter()
     client.send(keys)
     while True:
         kind, payload = client.next()
-        if kind == server.DRAW and (b"q" in payload or b"z" in payload):
-            return PASTE / (time.perf_counter() - begin) / server.MB
+        if kind == DRAW and (b"q" in payload or b"z" in payload):
+            return PASTE / (time.perf_counter() - begin) / MB
 
 
 def flood(client, seconds=2):
@@ -166,7 +161,7 @@ def flood(client, seconds=2):
         client.socket.settimeout(30)
         rest += client.socket.recv(1 << 20)
         while len(rest) >= 3 and len(rest) >= (end := 3 + int.from_bytes(rest[1:3], "big")):
-            size, draws, rest = size + end, draws + (rest[:1] == server.DRAW), rest[end:]
+            size, draws, rest = size + end, draws + (rest[:1] == DRAW), rest[end:]
     return size / spent / 1000, draws / spent
 
 
@@ -200,7 +195,7 @@ def main():
                 in_turn(session, words.rounds, echoes).items()}
         client = session.direct()
         # C-u takes the line away, and C-d ends cat.
-        client.send(server.frame(server.KEYS, b"\x15\x04"))
+        client.send(frame(KEYS, b"\x15\x04"))
         time.sleep(1)
         client.leave()
         pastes = {way: statistics.median(found) for way, found in in_turn(session, words.rounds, paste).items()}
@@ -210,16 +205,16 @@ def main():
     finally:
         session.end()
     more = keys["through_door"] - keys["direct"]
-    server.row("a key, its echo drawn, at muxd's own socket", f"{keys['direct']:.0f}", "us")
-    server.row("  through mux-door", f"{keys['through_door']:.0f}", "us", f"{more:.0f} more")
-    server.row("a paste of 1 MB, at muxd's own socket", f"{pastes['direct']:.1f}", "MB/s")
-    server.row("  through mux-door", f"{pastes['through_door']:.1f}", "MB/s",
+    row("a key, its echo drawn, at muxd's own socket", f"{keys['direct']:.0f}", "us")
+    row("  through mux-door", f"{keys['through_door']:.0f}", "us", f"{more:.0f} more")
+    row("a paste of 1 MB, at muxd's own socket", f"{pastes['direct']:.1f}", "MB/s")
+    row("  through mux-door", f"{pastes['through_door']:.1f}", "MB/s",
                f" {pastes['through_door'] / pastes['direct']:.2f} times")
     for place, unit in ((0, "KB/s"), (1, "")):
         what = ("a flood's draws", "  draws a second")[place]
         direct, door = floods["direct"][place], floods["through_door"][place]
-        server.row(f"{what}, at muxd's own socket", f"{direct:.1f}", unit)
-        server.row("  through mux-door", f"{door:.1f}", unit, f" {door / direct:.2f} times")
+        row(f"{what}, at muxd's own socket", f"{direct:.1f}", unit)
+        row("  through mux-door", f"{door:.1f}", unit, f" {door / direct:.2f} times")
 
 
 if __name__ == "__main__":

@@ -6,17 +6,18 @@ session in turn, so that all of them have the same weather. Prints the quarters 
 the first one's.
 """
 import argparse
-import fcntl
 import os
-import pty
-import select
-import signal
 import statistics
-import struct
 import subprocess
+import sys
 import tempfile
-import termios
 import time
+from pathlib import Path
+
+sys.dont_write_bytecode = True
+sys.path.insert(0, str(Path(__file__).resolve().parent.parent / "tests/outside"))
+from peer import write_private
+from play import Terminal
 
 ROWS, COLS = 24, 80
 TOKEN = "0" * 64
@@ -31,8 +32,7 @@ class Session:
         self.folder = tempfile.TemporaryDirectory()
         place = self.folder.name
         for name, text in (("users", f"own {TOKEN}\n"), ("token", TOKEN)):
-            with open(f"{place}/{name}", "w", opener=lambda path, flags: os.open(path, flags, 0o600)) as out:
-                out.write(text)
+            write_private(f"{place}/{name}", text.encode())
         self.environment = dict(os.environ, PATH=f"{os.path.abspath(programs)}:{os.environ['PATH']}", TERM="xterm",
                                 MUX_SOCKET=f"{place}/socket", MUX_USER="own", MUX_TOKEN=f"{place}/token")
         self.server = subprocess.Popen(
@@ -43,32 +43,27 @@ class Session:
                                       env=self.environment, stdin=subprocess.DEVNULL, stdout=subprocess.DEVNULL,
                                       stderr=subprocess.DEVNULL)
         time.sleep(1)
-        self.client, self.terminal = pty.fork()
-        if not self.client:
-            fcntl.ioctl(0, termios.TIOCSWINSZ, struct.pack("HHHH", ROWS, COLS, 0, 0))
-            os.execvpe("mux-attach", ["mux-attach"], self.environment)
+        self.terminal = Terminal(["mux-attach"], self.environment, ROWS, COLS)
         self.settle(1)
 
     def settle(self, quiet):
         """Reads until nothing comes for this number of seconds."""
-        while select.select([self.terminal], [], [], quiet)[0]:
-            os.read(self.terminal, 65536)
+        while self.terminal.read(quiet):
+            pass
 
     def type(self, key):
         """Seconds from a key to the read that has its echo."""
         begin = time.perf_counter()
-        os.write(self.terminal, key)
-        while select.select([self.terminal], [], [], 2)[0]:
-            if key in os.read(self.terminal, 65536):
-                return time.perf_counter() - begin
+        self.terminal.type(key)
+        if key in self.terminal.read(2, key):
+            return time.perf_counter() - begin
         raise SystemExit(f"echo.py: {self.word}: a key isn't echoed")
 
     def end(self):
-        for process in (self.client, self.shell.pid, self.server.pid):
-            os.kill(process, signal.SIGTERM)
-        os.waitpid(self.client, 0)
-        self.shell.wait()
-        self.server.wait()
+        for process in (self.terminal.program, self.shell, self.server):
+            process.terminate()
+            process.wait()
+        self.terminal.__exit__()
         self.server.stdout.close()
         self.folder.cleanup()
 
@@ -86,7 +81,7 @@ def main():
         first = number % len(sessions)
         for session in sessions[first:] + sessions[:first]:
             if number % 60 == 59:
-                os.write(session.terminal, b"\r")
+                session.terminal.type(b"\r")
                 session.settle(0.05)
             session.found.append(session.type(key) * 1e6)
             time.sleep(words.pause / 1000)

@@ -6,21 +6,19 @@ Each run records anew, from texts that are made up by chance, so that nothing ca
 """
 
 import os
-import pty
 import random
-import select
 import shutil
-import signal
-import struct
 import subprocess
 import sys
 import tempfile
-import termios
 import time
 from pathlib import Path
 
+sys.dont_write_bytecode = True
+sys.path.insert(0, str(Path(__file__).resolve().parent.parent / "tests/outside"))
+from play import TOP, Terminal
+
 ROWS, COLS = 24, 80
-TOP = Path(__file__).resolve().parent.parent
 # The most bytes of a recording, and its seconds.
 MOST, LONGEST = 2_000_000, 20.0
 
@@ -74,35 +72,17 @@ def terminfo(folder):
 
 
 def record(words, keys, environment):
-    """What a program writes while these keys are typed, one a tenth of a second or when it is silent."""
-    pid, master = pty.fork()
-    if pid == 0:
-        os.execvpe(words[0], words, environment)
-    termios.tcsetwinsize(master, (ROWS, COLS)) if hasattr(termios, "tcsetwinsize") else __import__("fcntl").ioctl(
-        master, termios.TIOCSWINSZ, struct.pack("HHHH", ROWS, COLS, 0, 0))
-    found, keys, end = [], iter(keys), time.monotonic() + LONGEST
-    while time.monotonic() < end and sum(map(len, found)) < MOST:
-        ready, _, _ = select.select([master], [], [], 0.03)
-        if not ready:
+    """What a program writes while these keys are typed, one whenever it is silent."""
+    keys, end = iter(keys), time.monotonic() + LONGEST
+    with Terminal(words, environment, ROWS, COLS) as it:
+        while time.monotonic() < end and len(it.out) < MOST:
+            if it.read(0.03):
+                continue
             key = next(keys, None)
-            if key is None:
+            if key is None or it.program.poll() is not None:
                 break
-            os.write(master, key)
-            continue
-        try:
-            data = os.read(master, 65536)
-        except OSError:
-            break
-        if not data:
-            break
-        found.append(data)
-    try:
-        os.kill(pid, signal.SIGKILL)
-    except ProcessLookupError:
-        pass
-    os.waitpid(pid, 0)
-    os.close(master)
-    return b"".join(found)
+            it.type(key)
+        return it.out
 
 
 def programs(folder, rng):

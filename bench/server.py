@@ -85,28 +85,33 @@ class Server(peer.Server):
                             waiting[key.fileobj] = came[-len(mark):]
 
 
+def key(client, shell, place):
+    """Microseconds from a client's key to its window's program."""
+    letter = b"abcdefghijklmnopqrstuvwxyz"[place % 26:][:1]
+    start = time.perf_counter_ns()
+    client.send(frame(KEYS, letter))
+    shell.until(INPUT, letter)
+    return (time.perf_counter_ns() - start) / 1000
+
+
+def echo(client, shell, place):
+    """Microseconds from a client's key, which its window's program echoes, to the draw that has it."""
+    letter = b"ABCDEFGHIJKLMNOPQRSTUVWXYZ"[place % 26:][:1]
+    start = time.perf_counter_ns()
+    client.send(frame(KEYS, letter))
+    shell.until(INPUT, letter)
+    shell.send(frame(OUTPUT, (b"\r" if place % 60 == 0 else b"") + letter))
+    client.until(DRAW, letter)
+    return (time.perf_counter_ns() - start) / 1000
+
+
 def key_times(words, rounds=2000):
     """Microseconds from a client's key to the window's program, and from a key to its echo in a draw."""
     with Server(words, 1) as server:
         client, shell = server.clients[0], server.window
         client.until(DRAW)
-        plain, echoed = [], []
-        for place in range(rounds):
-            letter = b"abcdefghijklmnopqrstuvwxyz"[place % 26:][:1]
-            start = time.perf_counter_ns()
-            client.send(frame(KEYS, letter))
-            shell.until(INPUT, letter)
-            plain.append((time.perf_counter_ns() - start) / 1000)
-        for place in range(rounds):
-            letter = b"ABCDEFGHIJKLMNOPQRSTUVWXYZ"[place % 26:][:1]
-            home = b"\r" if place % 60 == 0 else b""
-            start = time.perf_counter_ns()
-            client.send(frame(KEYS, letter))
-            shell.until(INPUT, letter)
-            shell.send(frame(OUTPUT, home + letter))
-            client.until(DRAW, letter)
-            echoed.append((time.perf_counter_ns() - start) / 1000)
-    return plain, echoed
+        plain = [key(client, shell, place) for place in range(rounds)]
+        return plain, [echo(client, shell, place) for place in range(rounds)]
 
 
 def lines(size, width=79):
@@ -168,11 +173,7 @@ def times_beside(words, make, rounds=1000):
         found = []
         time.sleep(0.3)
         for place in range(rounds):
-            letter = b"abcdefghijklmnopqrstuvwxyz"[place % 26:][:1]
-            start = time.perf_counter_ns()
-            client.send(frame(KEYS, letter))
-            shell.until(INPUT, letter)
-            found.append((time.perf_counter_ns() - start) / 1000)
+            found.append(key(client, shell, place))
             time.sleep(0.002)
         for pour in pours:
             pour.stop()
@@ -227,16 +228,8 @@ def echoes_in_turn(words, keys=2000):
         for server in found:
             server.clients[0].until(DRAW)
         for place in range(keys):
-            letter = b"ABCDEFGHIJKLMNOPQRSTUVWXYZ"[place % 26:][:1]
-            home = b"\r" if place % 60 == 0 else b""
             for server in (first, second) if place % 2 else (second, first):
-                client, shell = server.clients[0], server.window
-                start = time.perf_counter_ns()
-                client.send(frame(KEYS, letter))
-                shell.until(INPUT, letter)
-                shell.send(frame(OUTPUT, home + letter))
-                client.until(DRAW, letter)
-                found[server].append((time.perf_counter_ns() - start) / 1000)
+                found[server].append(echo(server.clients[0], server.window, place))
         return [statistics.median(it) for it in found.values()]
 
 

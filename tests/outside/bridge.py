@@ -6,7 +6,6 @@ that changed, and an object has a `welcome`, a `say` or a `gone`.  Nothing here 
 import base64
 import hashlib
 import json
-import os
 import socket
 import subprocess
 import threading
@@ -245,7 +244,7 @@ class Page(WebSocket):
         self.send(peer.RESIZE + peer.two(rows) + peer.two(cols))
 
 
-class Bridge:
+class Bridge(peer.Program):
     """A mux-web for a socket of muxd, in a folder that is there.  Its log is a file."""
 
     def __init__(self, program, socket_path, folder, words=(), port=None, listen=None, site=SITE, before=(), most=None):
@@ -284,21 +283,9 @@ class Bridge:
     def open(self, **more):
         return WebSocket(self.address, self.origin, **more)
 
-    def status(self, name):
-        """A line of /proc: kB, or a number."""
-        for line in Path("/proc", str(self.program.pid), "status").read_text().splitlines():
-            if line.startswith(name + ":"):
-                return int(line.split()[1])
-        raise AssertionError(f"/proc tells of no {name}")
-
     def resident(self):
         """Its resident memory in MB."""
         return self.status("VmRSS") / 1024
-
-    def seconds(self):
-        """Its processor time so far."""
-        words = Path("/proc", str(self.program.pid), "stat").read_text().rsplit(")", 1)[1].split()
-        return (int(words[11]) + int(words[12])) / os.sysconf("SC_CLK_TCK")
 
 
 class Server:

@@ -62,7 +62,33 @@ class Browser:
             return json.load(it)
 
 
-class Tab:
+class Document:
+    """The page of mux-web in a browser of which `value` gives the value of an expression, and `key` presses a key."""
+
+    def wait(self, text, seconds=20):
+        """Waits until an expression is true."""
+        until = time.monotonic() + seconds
+        while not self.value(text):
+            if time.monotonic() > until:
+                raise AssertionError(f"after {seconds} s this doesn't hold: {text}\n" + "\n".join(self.rows()))
+            time.sleep(0.03)
+
+    def rows(self):
+        """The rows of the document, without blanks at their ends."""
+        return self.value("[...document.getElementById('page').children].map((it) => it.textContent.trimEnd())")
+
+    def shows(self, text, seconds=20):
+        self.wait(f"document.getElementById('page').textContent.includes({json.dumps(text)})", seconds)
+
+    def said(self):
+        return self.value("document.getElementById('said').textContent")
+
+    def type(self, text):
+        for it in text:
+            self.key("Enter" if it == "\r" else it)
+
+
+class Tab(Document):
     """A tab of a browser, with a size in pixels."""
 
     def __init__(self, browser, url, width=900, height=560, ready=True, prepare=()):
@@ -106,24 +132,6 @@ class Tab:
             raise RuntimeError(got["exceptionDetails"].get("exception", {}).get("description", text))
         return got["result"].get("value")
 
-    def wait(self, text, seconds=20):
-        """Waits until an expression is true."""
-        until = time.monotonic() + seconds
-        while not self.value(text):
-            if time.monotonic() > until:
-                raise AssertionError(f"after {seconds} s this doesn't hold: {text}\n" + "\n".join(self.rows()))
-            time.sleep(0.03)
-
-    def rows(self):
-        """The rows of the document, without blanks at their ends."""
-        return self.value("[...document.getElementById('page').children].map((it) => it.textContent.trimEnd())")
-
-    def shows(self, text, seconds=20):
-        self.wait(f"document.getElementById('page').textContent.includes({json.dumps(text)})", seconds)
-
-    def said(self):
-        return self.value("document.getElementById('said').textContent")
-
     def key(self, key, modifiers=0, text=None):
         """Presses and lets go a key: one of CODES, or a character."""
         code = CODES.get(key) or (ord(key.upper()) if len(key) == 1 and key.isalnum() else 0)
@@ -135,10 +143,6 @@ class Tab:
         self("Input.dispatchKeyEvent", type="keyDown" if text else "rawKeyDown", **words,
              **({"text": text, "unmodifiedText": text} if text else {}))
         self("Input.dispatchKeyEvent", type="keyUp", **words)
-
-    def type(self, text):
-        for it in text:
-            self.key("Enter" if it == "\r" else it)
 
     def shot(self, path):
         with open(path, "wb") as out:

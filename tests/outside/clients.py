@@ -1,20 +1,12 @@
 #!/usr/bin/env python3
 """Clients of servers that hang, and terminals that come back as they were: mux and the scripts that people attach with.
 
-tests/outside/clients.py [--muxd PATH] [--mux PATH] [PART..] prints a line for each check, and ends with status 1 if one
-failed.  Terminals are pseudo-terminals.  Needs bash, and tput for the part about TERM.
+Terminals are pseudo-terminals.  Needs bash, and tput for the part about TERM.
 """
-
-import argparse
-import fcntl
 import os
-import pty
-import re
-import select
 import shutil
 import signal
 import socket
-import struct
 import subprocess
 import sys
 import tempfile
@@ -24,11 +16,10 @@ import time
 from pathlib import Path
 
 sys.dont_write_bytecode = True
-import strain
-from peer import OWNER, TOKEN, frame, two
-from strain import Server, check
+import play
+from peer import TOKEN, frame, two
+from play import WORDS, Server, check, left_out, plain, script
 
-TOP = Path(__file__).resolve().parent.parent.parent
 LEAVE = b"\x1c"
 WELCOME, GONE = b"y\0\1\0", b"g\0\1\0"
 
@@ -93,85 +84,25 @@ class Fake:
         return ["attach", *who, "--rows", "24", "--cols", "80", *more]
 
 
-def plain(data):
-    """Draws with their blanks: one that is there already is skipped."""
-    return re.sub(rb"\x1b\[1?C", b" ", data)
-
-
-class Terminal:
-    """A program on a pseudo-terminal of 24 by 80."""
+class Terminal(play.Terminal):
+    """A program on a pseudo-terminal, with the environment of somebody who attaches."""
 
     def __init__(self, words, **environment):
-        self.out = b""
-        self.pid, self.fd = pty.fork()
-        if self.pid == 0:
-            os.environ.update(MUX=strain.WORDS.mux, PS1="ready> ", HOME="/nonexistent", **environment)
-            os.execvp(words[0], words)
-        fcntl.ioctl(self.fd, termios.TIOCSWINSZ, struct.pack("HHHH", 24, 80, 0, 0))
-
-    def __enter__(self):
-        return self
-
-    def __exit__(self, *_):
-        try:
-            os.kill(self.pid, signal.SIGKILL)
-            os.waitpid(self.pid, 0)
-        except (ProcessLookupError, ChildProcessError):
-            pass
-        os.close(self.fd)
-
-    def type(self, data):
-        os.write(self.fd, data)
-
-    def read(self, seconds):
-        """What comes in this time, or until the other end is gone."""
-        end, data = time.monotonic() + seconds, b""
-        while (left := end - time.monotonic()) > 0:
-            if select.select([self.fd], [], [], left)[0]:
-                try:
-                    piece = os.read(self.fd, 65536)
-                except OSError:
-                    break
-                if not piece:
-                    break
-                data += piece
-        self.out += data
-        return data
-
-    def shows(self, text, seconds=10):
-        """Whether a text comes in this time."""
-        end, data = time.monotonic() + seconds, b""
-        while text not in plain(data) and time.monotonic() < end:
-            data += self.read(0.1)
-        return text in plain(data)
+        known = {"MUX": WORDS.mux, "PS1": "ready> ", "HOME": "/nonexistent"}
+        super().__init__(words, {**os.environ, **known, **environment})
 
     def is_drawn(self):
         """Whether the session is shown: a first draw resets the terminal."""
         return self.shows(b"\x1bc")
 
-    def is_raw(self):
-        flags = termios.tcgetattr(self.fd)[3]
-        return not flags & (termios.ICANON | termios.ECHO)
-
     def children(self):
-        said = subprocess.run(["ps", "-o", "pid=", "--ppid", str(self.pid)], capture_output=True, text=True).stdout
-        return [int(it) for it in said.split()]
-
-    def ends_within(self, seconds):
-        """The status, or None."""
-        end = time.monotonic() + seconds
-        while time.monotonic() < end:
-            self.read(0.02)
-            pid, status = os.waitpid(self.pid, os.WNOHANG)
-            if pid:
-                return os.waitstatus_to_exitcode(status)
-        return None
+        return [number for number, data in play.processes("stat") if int(play.stat_of(data)[1]) == self.pid]
 
 
 def run(words, seconds=60, **more):
     """Runs mux: its status, standard output and error, and how long it took."""
     start = time.monotonic()
-    it = subprocess.run([strain.WORDS.mux, *words], capture_output=True, timeout=seconds, **more)
+    it = subprocess.run([WORDS.mux, *words], capture_output=True, timeout=seconds, **more)
     return it.returncode, it.stdout, it.stderr, time.monotonic() - start
 
 
@@ -179,10 +110,6 @@ def stop(server):
     """Stops a server, each thread of it."""
     server.program.send_signal(signal.SIGSTOP)
     os.waitpid(server.program.pid, os.WUNTRACED)
-
-
-def script(name):
-    return str(TOP / "contrib" / name)
 
 
 def token_of(server, name="own", token=TOKEN):
@@ -198,7 +125,7 @@ def attach_words(server, *more):
 
 def typed_in(fake, pieces, pause=0.02, **more):
     """Types pieces at a client: its status and how long it took from the last one on."""
-    it = subprocess.Popen([strain.WORDS.mux, *fake.words("--leave", "28", "--why")], stdin=subprocess.PIPE,
+    it = subprocess.Popen([WORDS.mux, *fake.words("--leave", "28", "--why")], stdin=subprocess.PIPE,
                           stdout=subprocess.DEVNULL, stderr=subprocess.PIPE)
     # (it is there by then)
     time.sleep(0.3)
@@ -236,7 +163,7 @@ def exact_input():
         check("byte by byte", (status, fake.typed()) == (0, b"ab\x1ccd\x1c\x1ce"), f"{status} {fake.typed()}")
         check("a lone byte at the end leaves within half a second", took < 0.5, f"{took:.2f} s")
     with Fake(WELCOME) as fake:
-        data = subprocess.Popen([strain.WORDS.mux, *fake.words()], stdin=subprocess.PIPE, stdout=subprocess.DEVNULL)
+        data = subprocess.Popen([WORDS.mux, *fake.words()], stdin=subprocess.PIPE, stdout=subprocess.DEVNULL)
         data.stdin.write(text)
         data.stdin.flush()
         time.sleep(0.7)
@@ -260,7 +187,7 @@ def hanging_servers():
     with Server() as server:
         fake = Fake()
         fake.path, fake.token = server.path, token_of(server)
-        it = subprocess.Popen([strain.WORDS.mux, *fake.words("--leave", "28", "--why")], stdin=subprocess.PIPE,
+        it = subprocess.Popen([WORDS.mux, *fake.words("--leave", "28", "--why")], stdin=subprocess.PIPE,
                               stdout=subprocess.DEVNULL, stderr=subprocess.PIPE)
         time.sleep(0.5)
         stop(server)
@@ -384,16 +311,16 @@ def nested():
         token = token_of(server)
         common = ["--socket", server.path, "--user", "own", "--token", token]
         shell = subprocess.Popen([script("mux-shell"), *common, "--title", "sh", "env", "PS1=in> ", "sh"],
-                                 env={**os.environ, "MUX": strain.WORDS.mux, "HOME": server.folder.name})
+                                 env={**os.environ, "MUX": WORDS.mux, "HOME": server.folder.name})
         subprocess.run([script("muxd-wait"), *common, "--window", "sh"], check=True,
-                       env={**os.environ, "MUX": strain.WORDS.mux})
+                       env={**os.environ, "MUX": WORDS.mux})
         with Terminal(attach_words(server)) as it:
             assert it.shows(b"in>"), f"no shell: {it.out[-200:]}"
             inner = " ".join(attach_words(server))
             link = f"{server.folder.name}/link"
             os.symlink(server.path, link)
             ways = (("by hand", inner), ("through a link to the socket", inner.replace(server.path, link)),
-                    ("without the environment", f"env -i PATH=\"$PATH\" MUX='{strain.WORDS.mux}' {inner}"),
+                    ("without the environment", f"env -i PATH=\"$PATH\" MUX='{WORDS.mux}' {inner}"),
                     ("in a session of its own", f"setsid -w {inner}"))
             for name, words in ways:
                 it.type(f"clear; {words} </dev/tty; echo status $?\r".encode())
@@ -452,14 +379,14 @@ def commands():
         said = run([*words, "displays"])
         check("one that says something", said[:3] == (0, b"\n", b""), str(said))
         it = subprocess.run([script("mux-command"), *words[1:], "windows", "x"], capture_output=True,
-                            env={**os.environ, "MUX": strain.WORDS.mux})
+                            env={**os.environ, "MUX": WORDS.mux})
         is_said = (it.returncode, it.stdout) == (1, b"") and b"a word too many" in it.stderr
         check("mux-command says a refusal once", is_said, str(it))
 
 
 def waits():
     """muxd-wait keeps to its time, and leaves no line in the log."""
-    environment = {**os.environ, "MUX": strain.WORDS.mux}
+    environment = {**os.environ, "MUX": WORDS.mux}
     for name, fake in (("accepts and says nothing", Fake()), ("has a full backlog", Fake(accepts=False))):
         for more in ([], ["--window", "sh", "--user", "own", "--token", fake.token]):
             start = time.monotonic()
@@ -482,14 +409,14 @@ def waits():
 def terms():
     """A window has colours without anything installed, and what leaves it has a plain vt220."""
     if not shutil.which("tput"):
-        print("left out: the terminal's description, since there is no tput")
+        left_out("the terminal's description", "there is no tput")
         return
     with Server() as server, tempfile.TemporaryDirectory() as room:
         link = f"{room}/a link"
         os.symlink(script("mux-shell"), link)
         common = ["--socket", server.path, "--user", "own", "--token", token_of(server)]
         say = 'printf "%s " "$TERM" "$(tput colors)" "$(TERMINFO_DIRS= tput colors)" "$COLORTERM" "$MUX_SESSION" >"$1"'
-        environment = {**os.environ, "MUX": strain.WORDS.mux, "HOME": room}
+        environment = {**os.environ, "MUX": WORDS.mux, "HOME": room}
         for gone in ("TERMINFO", "TERMINFO_DIRS", "XDG_CACHE_HOME", "COLORTERM"):
             environment.pop(gone, None)
         found = os.stat(server.path)
@@ -507,7 +434,7 @@ def terms():
 def detached_windows():
     """mux-shell --detach ends within its time, whatever the server does, and leaves nothing behind."""
     with tempfile.TemporaryDirectory() as room:
-        environment = {**os.environ, "MUX": strain.WORDS.mux, "TMPDIR": room}
+        environment = {**os.environ, "MUX": WORDS.mux, "TMPDIR": room}
 
         def begun(path, token, seconds):
             words = ["--socket", path, "--user", "own", "--token", token, "--title", "late", "--detach"]
@@ -653,26 +580,5 @@ PARTS = (draws_only, terminal_reset, turned_text, no_folder, exact_input, hangin
          stopped_server, nothing_cleared, suspended,
          killed_script, nested, commands, waits, terms, detached_windows)
 
-
-def main():
-    reader = argparse.ArgumentParser(description=__doc__)
-    reader.add_argument("--muxd", default=os.environ.get("MUXD", str(TOP / "bin/muxd")), help="the server's program")
-    reader.add_argument("--mux", default=os.environ.get("MUX", str(TOP / "bin/mux")), help="the client's program")
-    names = [play.__name__ for play in PARTS]
-    reader.add_argument("parts", nargs="*", metavar="PART", help=f"what is played, of {', '.join(names)}")
-    strain.WORDS = words = reader.parse_args()
-    for name in words.parts:
-        if name not in names:
-            reader.error(f"no part has the name {name}")
-    for play in PARTS:
-        if words.parts and play.__name__ not in words.parts:
-            continue
-        try:
-            play()
-        except (AssertionError, OSError, subprocess.TimeoutExpired) as error:
-            check(f"{play.__name__} is played to its end", False, f"{type(error).__name__}: {error}")
-    sys.exit(1 if strain.failed else 0)
-
-
 if __name__ == "__main__":
-    main()
+    play.main(PARTS)

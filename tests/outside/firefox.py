@@ -9,7 +9,7 @@ import subprocess
 import tempfile
 import time
 
-from cdp import ALT, CTRL, SHIFT
+from cdp import ALT, CTRL, SHIFT, Document
 
 # The characters of keys that are none, of the WebDriver standard.
 CODES = {"Enter": "\ue007", "Escape": "\ue00c", "Tab": "\ue004", "Backspace": "\ue003", "Insert": "\ue016",
@@ -25,7 +25,7 @@ SETTINGS = {"marionette.port": 0, "app.update.enabled": False, "browser.shell.ch
             "browser.startup.page": 0, "dom.disable_beforeunload": True}
 
 
-class Tab:
+class Tab(Document):
     """A Firefox with files in a folder of its own, and its one tab: with the calls of cdp.Tab that both can have."""
 
     def __init__(self, url, program="firefox-esr", width=900, height=640):
@@ -91,24 +91,6 @@ class Tab:
         """The value of an expression."""
         return self("WebDriver:ExecuteScript", script=f"return (\n{text}\n)", args=[])["value"]
 
-    def wait(self, text, seconds=20):
-        """Waits until an expression is true."""
-        until = time.monotonic() + seconds
-        while not self.value(text):
-            if time.monotonic() > until:
-                raise AssertionError(f"after {seconds} s this doesn't hold: {text}\n" + "\n".join(self.rows()))
-            time.sleep(0.03)
-
-    def rows(self):
-        """The rows of the document, without blanks at their ends."""
-        return self.value("[...document.getElementById('page').children].map((it) => it.textContent.trimEnd())")
-
-    def shows(self, text, seconds=20):
-        self.wait(f"document.getElementById('page').textContent.includes({json.dumps(text)})", seconds)
-
-    def said(self):
-        return self.value("document.getElementById('said').textContent")
-
     def key(self, key, modifiers=0):
         """Presses and lets go a key: one of CODES, or a character."""
         held = [code for bit, code in HELD.items() if modifiers & bit]
@@ -116,10 +98,6 @@ class Tab:
         acts = [{"type": "keyDown", "value": it} for it in (*held, key)]
         acts += [{"type": "keyUp", "value": it} for it in (key, *reversed(held))]
         self("WebDriver:PerformActions", actions=[{"type": "key", "id": "keys", "actions": acts}])
-
-    def type(self, text):
-        for it in text:
-            self.key("Enter" if it == "\r" else it)
 
     def paste(self, text):
         """Pastes a text from the clipboard: Firefox gives none to a paste that a script makes."""

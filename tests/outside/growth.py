@@ -3,20 +3,17 @@
 
 Bytes a step are the growth of its resident memory over 5,000 steps of one kind, after a first 5,000;
 each has a bound of its own. Then sixteen peers attach and type, open windows that print, and give commands, for a
-minute (or --seconds), over eight loops: the server is to stay below 150 MB. MUXD names the program (that of bin/, if
-it isn't set). Prints a line for each check, and ends with status 1 if one failed.
+minute (or --seconds), over eight loops: the server is to stay below 150 MB.
 """
-import argparse
-import os
 import sys
 import threading
 import time
 
 sys.dont_write_bytecode = True
+import play
 from peer import DRAW, GONE, INPUT, KEYS, OUTPUT, Peer, Server, admitted, attach, command, frame, window
+from play import WORDS, check, figure
 
-TOP = os.path.dirname(os.path.dirname(os.path.dirname(os.path.realpath(__file__))))
-MUXD = os.environ.get("MUXD", f"{TOP}/bin/muxd")
 STEPS, PEERS, MOST = 5000, 16, 150
 
 
@@ -59,7 +56,7 @@ class Words:
 
 
 def bytes_a_step(make):
-    with Server(MUXD, 2) as server:
+    with Server(WORDS.muxd, 2) as server:
         step = make(server.path)
         for _ in range(STEPS):
             step(server.path)
@@ -70,7 +67,7 @@ def bytes_a_step(make):
 
 
 def rough(path, place, until, counts):
-    """One rough peer after another, until the time has come."""
+    """One rough peer after another, until the time has come: how many came to an end of theirs, and how many failed."""
     firsts = (attach(), frame(KEYS, b"abc") * 3), (window(), frame(OUTPUT, b"some words of output\r\n" * 20) * 4)
     while time.monotonic() < until:
         try:
@@ -80,42 +77,38 @@ def rough(path, place, until, counts):
                 first, data = firsts[place % 3]
                 rude = admitted(path, first)
                 rude.send(data)
-                if counts[place] % 2:
+                if counts[place][0] % 2:
                     rude.leave()
                 rude.close()
+            counts[place][0] += 1
         except (OSError, AssertionError):
-            pass
-        counts[place] += 1
+            counts[place][1] += 1
 
 
-def main():
-    reader = argparse.ArgumentParser(description=__doc__)
-    reader.add_argument("--seconds", type=int, default=60, help="how long the rough peers are at it")
-    words = reader.parse_args()
-    bad = False
+def steps():
+    """What is kept of a step of each kind."""
+    for name, make, most in (("a command that lists", lambda _: list_clients, 40),
+                             ("an attach and its detach", lambda _: attach_and_leave, 700),
+                             ("a window that comes and goes", lambda _: open_and_close, 900), ("a key", Keys, 40),
+                             ("a line of output", Words, 8)):
+        figure(name, bytes_a_step(make), most, "bytes")
 
-    def check(name, value, most, unit):
-        nonlocal bad
-        bad = bad or value > most
-        print(f"{'ok' if value <= most else 'FAILED':8}{name}: {value:.0f} {unit}, at most {most}", flush=True)
 
-    kinds = [("a command that lists", lambda _: list_clients, 40),
-             ("an attach and its detach", lambda _: attach_and_leave, 700),
-             ("a window that comes and goes", lambda _: open_and_close, 900), ("a key", Keys, 40),
-             ("a line of output", Words, 8)]
-    for name, make, most in kinds:
-        check(name, bytes_a_step(make), most, "bytes")
-    with Server(MUXD, 8) as server:
-        counts = [0] * PEERS
-        until = time.monotonic() + words.seconds
+def rough_peers():
+    with Server(WORDS.muxd, 8) as server:
+        counts = [[0, 0] for _ in range(PEERS)]
+        until = time.monotonic() + WORDS.seconds
         peers = [threading.Thread(target=rough, args=(server.path, place, until, counts)) for place in range(PEERS)]
         for peer in peers:
             peer.start()
         for peer in peers:
             peer.join()
-        check(f"sixteen rough peers, {sum(counts)} in {words.seconds} s", server.resident() / 1e6, MOST, "MB")
-    sys.exit(bad)
+        done, failed = map(sum, zip(*counts))
+        check("each of sixteen rough peers is served 20 times", min(counts)[0] >= 20, counts)
+        check("and one in ten is refused at most", failed <= done / 10, counts)
+        figure(f"sixteen rough peers, {done} in {WORDS.seconds} s", server.resident() / 1e6, MOST, "MB")
 
 
 if __name__ == "__main__":
-    main()
+    play.main((steps, rough_peers), ["muxd"],
+              {"--seconds": {"type": int, "default": 60, "help": "how long the rough peers are at it"}})

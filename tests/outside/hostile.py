@@ -1,12 +1,6 @@
 #!/usr/bin/env python3
-"""One user without any right tries to end a session, to fill its memory and its disk, to take all seats, and to have done
-later what is denied now; and a guest who may only read tries the same.
-
-tests/outside/hostile.py [--muxd PATH] [--seconds N] [PART..] prints a line for each check, and ends with status 1 if
-one failed.
-"""
-
-import argparse
+"""One user without any right tries to end a session, to fill its memory and its disk, to take all seats, and to have
+done later what is denied now; and a guest who may only read tries the same."""
 import os
 import select
 import socket
@@ -17,14 +11,13 @@ import time
 from pathlib import Path
 
 sys.dont_write_bytecode = True
-import strain
+import play
 from peer import (DETACH, DONE, DRAW, KEYS, NO_WINDOW, OUTPUT, RESIZE, SAY, attach, command, cut, frame, pieces, two,
                   window)
-from strain import Server, all_of, check, has_come, welcome
+from play import WORDS, Server, all_of, check, has_come, welcome
 
 GUEST, STRANGER = (b"eve", b"1" * 64), (b"zoe", b"2" * 64)
 MB = 1_000_000
-WORDS = None
 
 
 def admit(server):
@@ -43,7 +36,8 @@ class Attack(threading.Thread):
     def __init__(self, path, count, begin, data=b"", leaves=False):
         super().__init__(daemon=True)
         self.path, self.count, self.begin, self.data, self.leaves = path, count, begin, data, leaves
-        self.over, self.number, self.sent = False, 0, 0
+        # How often it connected, and how often something came.
+        self.over, self.number, self.answers = False, 0, 0
         self.start()
 
     def connect(self):
@@ -61,11 +55,12 @@ class Attack(threading.Thread):
         """Reads and writes what there is; says whether the connection is still there."""
         it, waiting = peer
         try:
-            if it in reads and not it.recv(1 << 16):
-                return False
+            if it in reads:
+                if not it.recv(1 << 16):
+                    return False
+                self.answers += 1
             if it in writes and waiting:
                 peer[1] = waiting[it.send(waiting):] or self.data
-                self.sent += 1
         except BlockingIOError:
             pass
         except OSError:
@@ -133,10 +128,8 @@ def under_attack(name, make, trail):
         with Server(loops=8, words=("--trail", path) if trail else ()) as server:
             admit(server)
             # (a client that comes before the window shows none)
-            shell = server.connect(window())
-            assert welcome(shell)
-            client = server.connect(attach())
-            assert welcome(client)
+            shell = server.admit(window())
+            client = server.admit(attach())
             length = lambda: os.stat(path).st_size if trail else 0
             size, begin = length(), time.monotonic()
             running = make(server.path)
@@ -160,6 +153,8 @@ def under_attack(name, make, trail):
             check(f"{what}: the owner's command is answered", answer.endswith(DONE) and took < 1, f"{took:.1f} s")
             for it in running:
                 it.stop()
+            answers = [(it.number, it.answers) for it in running]
+            check(f"{what}: each attack is answered 20 times and more", all(it[1] >= 20 for it in answers), answers)
             check(f"{what}: the session ends as any other",
                   server.give(b"quit").endswith(DONE) and server.ends_within(10) == 0)
 
@@ -218,10 +213,9 @@ def works_on():
     """Whoever is granted what they do isn't slowed down, and gets back what the prompt took."""
     with Server() as server:
         admit(server)
-        shell = server.connect(window())
-        assert welcome(shell) and server.give(b"aclchg eve +rw 0").endswith(DONE)
-        client = server.connect(attach(*GUEST))
-        assert welcome(client)
+        shell = server.admit(window())
+        assert server.give(b"aclchg eve +rw 0").endswith(DONE)
+        client = server.admit(attach(*GUEST))
         client.settimeout(20)
         typed, begin = 0, time.monotonic()
         client.sendall(frame(KEYS, b"x") * 3000)
@@ -264,10 +258,8 @@ class Listener(threading.Thread):
 
 def spent(server):
     """A window, and a guest who may not type there and spends all units: what each of them is sent."""
-    shell = server.connect(window())
-    assert welcome(shell)
-    client = server.connect(attach(*GUEST))
-    assert welcome(client)
+    shell = server.admit(window())
+    client = server.admit(attach(*GUEST))
     shell, heard = Listener(shell), Listener(client)
     for number in range(1_120):
         client.sendall(frame(KEYS, b"x"))
@@ -356,11 +348,11 @@ def sizes():
     """Sizes of one user slow nobody down; the last one counts, and at most ten a second are done."""
     with Server() as server:
         admit(server)
-        shell = server.connect(window(rows=200, cols=300))
-        assert welcome(shell)
-        shell.sendall(pieces(OUTPUT, b"".join(b"\x1b[%d;1H" % row + b"\x1b[31mab\x1b[32mcd" * 75 for row in range(1, 201))))
-        client = server.connect(attach())
-        assert welcome(client) and server.give(b"aclchg eve +r 0").endswith(DONE)
+        shell = server.admit(window(rows=200, cols=300))
+        page = b"".join(b"\x1b[%d;1H" % row + b"\x1b[31mab\x1b[32mcd" * 75 for row in range(1, 201))
+        shell.sendall(pieces(OUTPUT, page))
+        client = server.admit(attach())
+        assert server.give(b"aclchg eve +r 0").endswith(DONE)
         client.settimeout(20)
         idle, _ = key_times(client, shell)
         many = (frame(RESIZE, two(200) + two(300)) + frame(RESIZE, two(199) + two(299))) * 300
@@ -372,8 +364,7 @@ def sizes():
               median < max(2, 5 * idle), f"{idle:.2f} ms before; {median:.2f} and at most {longest:.1f} ms")
     with Server() as server:
         admit(server)
-        client = server.connect(attach())
-        assert welcome(client)
+        client = server.admit(attach())
         heard = Listener(client)
         time.sleep(0.5)
         before, begin = len(heard.frames), time.monotonic()
@@ -397,8 +388,7 @@ def reads_only():
             path = f"{folder}/trail"
             with Server(words=("--trail", path)) as server:
                 admit(server)
-                shell = server.connect(window())
-                assert welcome(shell)
+                shell = server.admit(window())
                 for line in (b"aclchg eve +x detach,scrollview", b"aclchg eve +r 0"):
                     assert server.give(line).endswith(DONE), line
                 attack = Attack(server.path, 4, lambda _: attach(*GUEST), data)
@@ -412,28 +402,5 @@ def reads_only():
 
 PARTS = (seats, works_on, denied_later, sizes, reads_only, attacked)
 
-
-def main():
-    global WORDS
-    top = Path(__file__).resolve().parent.parent.parent
-    reader = argparse.ArgumentParser(description=__doc__)
-    reader.add_argument("--muxd", default=os.environ.get("MUXD", str(top / "bin/muxd")), help="the server's program")
-    reader.add_argument("--seconds", type=int, default=20, help="how long each attack lasts")
-    names = [play.__name__ for play in PARTS]
-    reader.add_argument("parts", nargs="*", metavar="PART", help=f"what is played, of {', '.join(names)}")
-    WORDS = strain.WORDS = reader.parse_args()
-    for name in WORDS.parts:
-        if name not in names:
-            reader.error(f"no part has the name {name}")
-    for play in PARTS:
-        if WORDS.parts and play.__name__ not in WORDS.parts:
-            continue
-        try:
-            play()
-        except (AssertionError, OSError) as error:
-            check(f"{play.__name__} is played to its end", False, f"{type(error).__name__}: {error}")
-    sys.exit(1 if strain.failed else 0)
-
-
 if __name__ == "__main__":
-    main()
+    play.main(PARTS, ["muxd"], {"--seconds": {"type": int, "default": 20, "help": "how long each attack lasts"}})

@@ -121,7 +121,34 @@ def write_private(path, data):
         out.write(data)
 
 
-class Server:
+class Program:
+    """What is asked of a program that runs."""
+
+    def ends_within(self, seconds=20):
+        """Its status, or None if it goes on."""
+        try:
+            return self.program.wait(seconds)
+        except subprocess.TimeoutExpired:
+            return None
+
+    def status(self, name):
+        """A line of /proc: kB, or a number."""
+        for line in Path("/proc", str(self.program.pid), "status").read_text().splitlines():
+            if line.startswith(name + ":"):
+                return int(line.split()[1])
+        raise AssertionError(f"/proc tells of no {name}")
+
+    def resident(self):
+        """Its resident memory in bytes."""
+        return self.status("VmRSS") * 1024
+
+    def seconds(self):
+        """The processor time of all its threads so far."""
+        tasks = Path("/proc", str(self.program.pid), "task").glob("*/schedstat")
+        return sum(int(task.read_text().split()[0]) for task in tasks) / 1e9
+
+
+class Server(Program):
     """A server in a folder of its own: its users, how many loops and descriptors it has, and more words.
 
     Its errors go to a file of the folder, or are read from `program.stderr` if they are to be a pipe."""
@@ -156,25 +183,6 @@ class Server:
             said += [got[1]] * (got[0] == SAY)
         peer.close()
         return said, peer.gone
-
-    def ends_within(self, seconds):
-        """Its status, or None if it goes on."""
-        try:
-            return self.program.wait(seconds)
-        except subprocess.TimeoutExpired:
-            return None
-
-    def resident(self):
-        """Its resident memory in bytes."""
-        for line in Path("/proc", str(self.program.pid), "status").read_text().splitlines():
-            if line.startswith("VmRSS:"):
-                return int(line.split()[1]) * 1024
-        raise SystemExit("/proc tells of no memory")
-
-    def seconds(self):
-        """The processor time of all its threads so far."""
-        tasks = Path("/proc", str(self.program.pid), "task").glob("*/schedstat")
-        return sum(int(task.read_text().split()[0]) for task in tasks) / 1e9
 
 
 class Flood:

@@ -1,10 +1,5 @@
 #!/usr/bin/env python3
-"""A server under strain: peers that stop reading, strangers that say nothing, servers that start at once, its end.
-
-tests/outside/strain.py [--muxd PATH] [PART..] prints a line for each check, and ends with status 1 if one failed.
-"""
-
-import argparse
+"""A server under strain: peers that stop reading, strangers that say nothing, servers that start at once, its end."""
 import os
 import select
 import shutil
@@ -18,80 +13,17 @@ import time
 from pathlib import Path
 
 sys.dont_write_bytecode = True
-import peer
-from peer import (DONE, DRAW, KEYS, NO_WINDOW, OUTPUT, OWNER, REFUSED, SAY, TOKEN, WELCOME, Flood, attach, command,
-                  draws_within, frame, pieces, window)
-
-WORDS = None
-failed = 0
-
-
-def check(name, is_so, said=""):
-    global failed
-    print(f"{'ok     ' if is_so else 'FAILED '} {name}{'' if is_so or not said else f': {said}'}", flush=True)
-    failed += not is_so
-
-
-class Server(peer.Server):
-    """A server whose log is perhaps read here, and connections to it as they are."""
-
-    def __init__(self, loops=2, descriptors=None, log=False, words=()):
-        errors = subprocess.PIPE if log else None
-        super().__init__(WORDS.muxd, loops, (OWNER,), (*["--log"] * log, *words), descriptors, errors)
-
-    def connect(self, first=b"", wait=20):
-        it = socket.socket(socket.AF_UNIX)
-        it.settimeout(wait)
-        it.connect(self.path)
-        if first:
-            it.sendall(first)
-        return it
-
-    def give(self, line, wait=20, number=NO_WINDOW):
-        """What a command is answered, to the end of its connection."""
-        it = self.connect(command(line, number), wait)
-        try:
-            return all_of(it)
-        finally:
-            it.close()
-
-
-def all_of(it):
-    """All that comes, to the end."""
-    data = b""
-    try:
-        while piece := it.recv(65536):
-            data += piece
-    except (ConnectionError, TimeoutError):
-        pass
-    return data
-
-
-def has_come(it, seconds):
-    return bool(select.select([it], [], [], seconds)[0])
-
-
-def welcome(it):
-    """Whether the first frame lets it in; no, if nothing comes."""
-    data = b""
-    try:
-        while len(data) < 4:
-            piece = it.recv(4 - len(data))
-            if not piece:
-                return False
-            data += piece
-    except (ConnectionError, TimeoutError):
-        return False
-    return data[:1] == WELCOME
+import play
+from peer import (DONE, DRAW, KEYS, OUTPUT, OWNER, REFUSED, SAY, TOKEN, WELCOME, Flood, attach, draws_within, frame,
+                  pieces, window)
+from play import WORDS, Server, all_of, check, has_come, left_out, welcome
 
 
 def dead_window():
     """A window whose program stops reading is given up, and its client shows that without another event."""
     with Server(loops=1) as server:
-        shell = server.connect(window())
-        assert welcome(shell)
-        client = server.connect(attach())
-        assert welcome(client)
+        shell = server.admit(window())
+        client = server.admit(attach())
         while has_come(client, 1):
             client.recv(65536)
         ended = select.poll()
@@ -112,11 +44,9 @@ def dead_window():
 def ends_behind_frames():
     """What was sent before an end is done."""
     with Server() as server:
-        shell = server.connect(window())
-        assert welcome(shell)
+        shell = server.admit(window())
         for letter in (b"a", b"b", b"c", b"d"):
-            client = server.connect(attach())
-            assert welcome(client)
+            client = server.admit(attach())
             # What is sent to a closed connection is a fault of it: the first draw is to be over.
             while has_come(client, 0.5):
                 client.recv(65536)
@@ -148,10 +78,8 @@ def strangers():
 def told_to_go():
     """A window that was told to go, and doesn't read what waits for it, is closed when 10 seconds are over."""
     with Server() as server:
-        deaf = server.connect(window())
-        assert welcome(deaf)
-        client = server.connect(attach())
-        assert welcome(client)
+        deaf = server.admit(window())
+        client = server.admit(attach())
         for _ in range(60):
             client.sendall(frame(KEYS, b"x" * 8192))
         time.sleep(1)
@@ -199,10 +127,8 @@ def few_descriptors():
 
 def winding_up():
     with Server() as server:
-        deaf = server.connect(window())
-        assert welcome(deaf)
-        client = server.connect(attach())
-        assert welcome(client)
+        deaf = server.admit(window())
+        client = server.admit(attach())
         for _ in range(60):
             client.sendall(frame(KEYS, b"x" * 8192))
         stop = threading.Event()
@@ -277,10 +203,8 @@ def at_once():
 def one_who_floods():
     """One user's entries have a rate in the long run, and nobody is cut off. Keys alone are joined, and all arrive."""
     with Server() as server:
-        shell = server.connect(window())
-        assert welcome(shell)
-        client = server.connect(attach())
-        assert welcome(client)
+        shell = server.admit(window())
+        client = server.admit(attach())
         sender = threading.Thread(target=lambda: client.sendall(frame(KEYS, b"x") * 50_000))
         sender.start()
         typed, begin = 0, time.time()
@@ -291,10 +215,8 @@ def one_who_floods():
         sender.join()
         check("50,000 keys, each in a frame, arrive", typed == 50_000, f"{typed} in {time.time() - begin:.1f} s")
     with Server() as server:
-        shell = server.connect(window())
-        assert welcome(shell)
-        client = server.connect(attach())
-        assert welcome(client)
+        shell = server.admit(window())
+        client = server.admit(attach())
         client.setblocking(False)
         shell.setblocking(False)
         # More than may be done.
@@ -350,10 +272,8 @@ def calls_a_key(server, client, shell, count=100):
 def stopped_clients():
     """Clients that don't read cost no system call for a key of another one."""
     with Server(loops=1) as server:
-        shell = server.connect(window())
-        assert welcome(shell)
-        client = server.connect(attach())
-        assert welcome(client)
+        shell = server.admit(window())
+        client = server.admit(attach())
         few = calls_a_key(server, client, shell)
         deaf = [server.connect(attach()) for _ in range(60)]
         assert all(welcome(it) for it in deaf)
@@ -367,7 +287,7 @@ def stopped_clients():
                 client.recv(1 << 16)
         many = calls_a_key(server, client, shell)
         if few is None:
-            print("-- without strace it isn't counted what stopped clients cost")
+            left_out("what stopped clients cost", "there is no strace")
             return
         check("beside 60 clients that don't read a key takes as many system calls", many <= few + 2,
               f"{many:.1f} instead of {few:.1f}")
@@ -385,10 +305,8 @@ def idle_loops():
     took = {}
     for loops in (2, 8):
         with Server(loops=loops) as server:
-            shell = server.connect(window())
-            assert welcome(shell)
-            client = server.connect(attach())
-            assert welcome(client)
+            shell = server.admit(window())
+            client = server.admit(attach())
             took[loops] = calls_a_key(server, client, shell)
             others = [server.connect(attach()) for _ in range(loops - 2)]
             assert all(welcome(it) for it in others)
@@ -398,7 +316,7 @@ def idle_loops():
             shell.sendall(frame(OUTPUT, b"hello"))
             check(f"{loops} loops: a client of each is drawn", all(has_come(it, 1) for it in (client, *others)))
     if took[2] is None:
-        print("-- without strace it isn't counted what idle loops cost")
+        left_out("what idle loops cost", "there is no strace")
         return
     check("with 8 loops a key takes as many system calls as with 2", took[8] <= took[2] + 1,
           f"{took[8]:.1f} instead of {took[2]:.1f}")
@@ -429,8 +347,7 @@ def drawn_in_a_flood():
                 with Server(loops=loops) as server:
                     # Each client shows window 0, the first one to flood.
                     poured = [Flood(server.path) for _ in range(floods)]
-                    quiet = server.connect(window())
-                    assert welcome(quiet)
+                    quiet = server.admit(window())
                     clients = [server.connect(attach()) for _ in range(max(crowd, loops))]
                     assert all(welcome(it) for it in clients)
                     draws_within(clients, 0.5)
@@ -459,31 +376,10 @@ def drawn_in_a_flood():
 PARTS = (dead_window, ends_behind_frames, winding_up, at_once, one_who_floods, few_descriptors, strangers, told_to_go,
          unread_log, stopped_clients, idle_loops, drawn_in_a_flood)
 
-
-def main():
-    global WORDS
-    top = Path(__file__).resolve().parent.parent.parent
-    reader = argparse.ArgumentParser(description=__doc__)
-    reader.add_argument("--muxd", default=os.environ.get("MUXD", str(top / "bin/muxd")), help="the server's program")
-    reader.add_argument("--tries", type=int, default=100, help="how often servers are started at once")
-    reader.add_argument("--draws", type=int, default=20, help="how many draws a second are asked for in a flood")
-    reader.add_argument("--gap", type=float, default=150, help="how many ms may lie between two of them")
-    reader.add_argument("--late", type=float, default=100, help="within how many ms a quiet window's line is drawn")
-    names = [play.__name__ for play in PARTS]
-    reader.add_argument("parts", nargs="*", metavar="PART", help=f"what is played, of {', '.join(names)}")
-    WORDS = reader.parse_args()
-    for name in WORDS.parts:
-        if name not in names:
-            reader.error(f"no part has the name {name}")
-    for play in PARTS:
-        if WORDS.parts and play.__name__ not in WORDS.parts:
-            continue
-        try:
-            play()
-        except (AssertionError, OSError) as error:
-            check(f"{play.__name__} is played to its end", False, f"{type(error).__name__}: {error}")
-    sys.exit(1 if failed else 0)
-
-
 if __name__ == "__main__":
-    main()
+    play.main(PARTS, ["muxd"], {
+        "--tries": {"type": int, "default": 100, "help": "how often servers are started at once"},
+        "--draws": {"type": int, "default": 20, "help": "how many draws a second are asked for in a flood"},
+        "--gap": {"type": float, "default": 150, "help": "how many ms may lie between two of them"},
+        "--late": {"type": float, "default": 100, "help": "within how many ms a quiet window's line is drawn"},
+    })

@@ -1,8 +1,6 @@
 #!/usr/bin/env python3
 """Plays the command lines of the texts that users read, as they are printed, from an empty home in a terminal.
 
-usage: tests/outside/texts.py [TEXT..]
-
 A text's command lines are those lines of its blocks that begin with `$ ` (typed by a user), `# ` (by root) or `C-a: `
 (at the prompt of a session), and the words in backquotes that begin with the name of a program or a script, or with
 `C-a: `, but for patterns of words (`[..]`). Each is either typed into a pane of tmux, in the text's order, and what the
@@ -12,16 +10,15 @@ compared with the panes.
 
 Of muxd(8), mux-users(5) and of each script's page the words of --help are compared, too.
 
-Needs tmux and script (or socat). MUXD, MUX, MUX_WEB, MUXSIM, MUX_TRAIL and VTCAT name the programs (those of bin/, if
-they aren't set).
-Where root plays it, `sudo -iu lab` is played by a stand-in that runs a shell as the login nobody.  TEACHING's lesson is
-played with the accounts that it names, which are made and removed again, if root plays it, sudo is installed, and no
-such account is there.
+Needs Debian's tmux and script (or socat).  Where root plays it, `sudo -iu lab` is played by a stand-in that runs a
+shell as the login nobody.  TEACHING's lesson is played with the accounts that it names, which are made and removed
+again, if root plays it, sudo is installed, and no such account is there.
 """
 import grp
 import os
 import pwd
 import re
+import shlex
 import shutil
 import signal
 import subprocess
@@ -31,9 +28,9 @@ import time
 
 sys.dont_write_bytecode = True
 import bridge
+from play import (CONTRIB, PROGRAMS, TOP, Pane, Tmux, add_account, check, end_account, kill, main, once, processes,
+                  program)
 
-TOP = os.path.dirname(os.path.dirname(os.path.dirname(os.path.realpath(__file__))))
-PROGRAMS = ("muxd", "mux", "mux-web", "muxsim", "mux-trail", "vtcat")
 SPAN = re.compile(r"`((?:C-a: |(?:mux|muxd|muxsim|vtcat|new-token|mux-[a-z-]+|muxd-wait|own|make|sudo|loginctl"
                   r"|systemctl|tic) |rm -r )[^`]*)`")
 
@@ -126,70 +123,54 @@ class Text:
 
 
 class Terminals:
-    """Panes of a tmux of its own, with an empty home."""
+    """Terminals of a tmux of its own, with an empty home."""
 
     def __init__(self, folder):
-        self.folder = folder
-        self.home = os.path.join(folder, "home")
-        self.far = os.path.join(folder, "srv")
-        os.mkdir(self.home, 0o755)
-        os.mkdir(self.far, 0o755)
-        os.mkdir(os.path.join(folder, "run"), 0o700)
-        os.mkdir(os.path.join(folder, "tmp"), 0o700)
-        self.panes = {}
-
-    def tmux(self, *words):
-        """What tmux prints."""
-        done = subprocess.run(("tmux", "-S", os.path.join(self.folder, "tmux"), "-f", "/dev/null") + words,
-                              stdout=subprocess.PIPE, stderr=subprocess.PIPE, check=False)
-        return done.stdout.decode()
+        self.folder, self.tmux, self.panes = folder, Tmux(folder), {}
+        self.home, self.far = f"{folder}/home", f"{folder}/srv"
+        for name, mode in (("home", 0o755), ("srv", 0o755), ("run", 0o700), ("tmp", 0o700)):
+            os.mkdir(f"{folder}/{name}", mode)
 
     def open(self, name, rows=30, cols=120, account=None):
         """A terminal with a shell, as a login finds it; of another account, without a folder for what runs."""
-        done = os.path.join(self.folder, name + ".done")
+        done = f"{self.folder}/{name}.done"
         with open(done, "w", encoding="ascii"):
             os.chmod(done, 0o666 if account else 0o600)
         home = pwd.getpwnam(account).pw_dir if account else self.home
         words = ["env", "-i", "MUX_TEXTS=" + self.folder, "HOME=" + home,
-                 "PATH=%s/bin:%s:/usr/sbin" % (self.folder, os.environ["PATH"]),
+                 f"PATH={self.folder}/bin:{os.environ['PATH']}:/usr/sbin",
                  "TERM=screen", "LC_ALL=C.UTF-8", "PS1=$ ", "SHELL=/bin/sh", "PROMPT_COMMAND=echo done >>" + done]
         if account:
-            words = ["runuser", "-u", account, "--"] + words
+            words = ["runuser", "-u", account, "--", *words]
         else:
-            words += ["TMPDIR=%s/tmp" % self.folder, "XDG_RUNTIME_DIR=" + os.path.join(self.folder, "run")]
+            words += [f"TMPDIR={self.folder}/tmp", f"XDG_RUNTIME_DIR={self.folder}/run"]
         words += ["bash", "--norc", "--noprofile"]
-        kind = "new-window" if self.panes else "new-session"
-        extra = ["-n", name] if self.panes else ["-s", "texts", "-n", name, "-x", str(cols), "-y", str(rows)]
-        self.tmux(kind, "-d", *extra, "cd; exec " + " ".join("'%s'" % word for word in words))
+        self.panes[name] = Pane(self.tmux, name, "cd; exec " + shlex.join(words), rows, cols)
         self.tmux("set-option", "-g", "status", "off")
-        self.tmux("resize-window", "-t", "texts:" + name, "-x", str(cols), "-y", str(rows))
-        self.panes[name] = done
+        self.panes[name].resize(rows, cols)
         self.wait(name, "a prompt", lambda: self.prompts(name) > 0)
 
     def prompts(self, name):
         """How many prompts the shell of a terminal made."""
-        with open(self.panes[name], encoding="ascii") as file:
+        with open(f"{self.folder}/{name}.done", encoding="ascii") as file:
             return len(file.readlines())
 
     def page(self, name):
         """The lines of a terminal."""
-        return self.tmux("capture-pane", "-p", "-t", "texts:" + name).split("\n")
+        return self.tmux("capture-pane", "-p", "-t", name).split("\n")
 
     def wait(self, name, what, holds, seconds=20):
         """Waits until something holds."""
-        end = time.time() + seconds
-        while not holds():
-            if time.time() > end:
-                raise Fault("no %s; terminal %s shows\n%s" % (what, name, "\n".join(self.page(name)).rstrip()))
-            time.sleep(0.1)
+        if not once(holds, seconds, 0.1):
+            raise Fault("no %s; terminal %s shows\n%s" % (what, name, self.panes[name].page()))
 
     def keys(self, name, *keys):
         """Types keys by tmux's names."""
-        self.tmux("send-keys", "-t", "texts:" + name, *keys)
+        self.panes[name].key(*keys)
 
     def type(self, name, text):
         """Types text as it is."""
-        self.tmux("send-keys", "-t", "texts:" + name, "-l", text)
+        self.panes[name].type(text, enter=False)
 
     def shows(self, name, pattern, seconds=20):
         """A line with the pattern is shown."""
@@ -207,19 +188,12 @@ class Terminals:
 
     def end(self):
         """Ends the panes, and all that was started in them, which has the folder in its environment."""
-        self.tmux("kill-server")
+        self.tmux.end()
         mark = b"MUX_TEXTS=" + self.folder.encode() + b"\0"
         for sign in (signal.SIGTERM, signal.SIGKILL):
-            left = 0
-            for name in os.listdir("/proc"):
-                try:
-                    with open("/proc/%s/environ" % name, "rb") as file:
-                        if name.isdigit() and mark in file.read():
-                            os.kill(int(name), sign)
-                            left += 1
-                except OSError:
-                    pass
-            if not left:
+            mine = [number for number, data in processes("environ") if mark in data]
+            kill(mine, sign)
+            if not mine:
                 return
             time.sleep(0.5)
 
@@ -267,15 +241,10 @@ class Play:
     def picture(self, left, right):
         """The text's next picture of two terminals."""
         want = self.text.pictures.pop(0)
-        end = time.time() + 10
-        while True:
-            pages = [self.on.page(pane)[:8] for pane in (left, right)]
-            have = "".join("|%-44s| |%-44s|\n" % rows for rows in zip(*pages))
-            if have == want:
-                return
-            if time.time() > end:
-                raise Fault("%s: a picture differs; it is\n%s" % (self.text.name, have))
-            time.sleep(0.1)
+        pages = lambda: [self.on.page(pane)[:8] for pane in (left, right)]
+        shown = lambda: "".join("|%-44s| |%-44s|\n" % rows for rows in zip(*pages()))
+        if not once(lambda: shown() == want, 10, 0.1):
+            raise Fault("%s: a picture differs; it is\n%s" % (self.text.name, shown()))
 
 
 def surprises(on):
@@ -295,7 +264,7 @@ def surprises(on):
     time.sleep(1)
     # A C-a in pasted text is the command key.
     on.tmux("set-buffer", "printf one\001:wall pasted\r")
-    on.tmux("paste-buffer", "-p", "-t", "texts:ann")
+    on.tmux("paste-buffer", "-p", "-t", "ann")
     on.shows("bob", "^ann: pasted")
     on.shows("ann", "printf one$")
     on.keys("ann", "C-c")
@@ -309,7 +278,7 @@ def surprises(on):
     # SGR 38 and 48 are read value by value: 5 blinks, 4 underlines.
     on.type("ann", r"clear; printf '\033[38;5;9mred\033[m \033[48;5;4mblue\033[m\n'" + "\n")
     on.shows("ann", "^red blue")
-    shown = on.tmux("capture-pane", "-p", "-e", "-t", "texts:ann")
+    shown = on.tmux("capture-pane", "-p", "-e", "-t", "ann")
     if not re.search("\033\\[5mred", shown) or not re.search("\033\\[(4;5|5;4|4m\033\\[5)mblue", shown):
         raise Fault("docs/FIRST-SESSION.md: 38 and 48 are shown as %r" % shown)
     on.type("ann", "echo $TERM; tput colors\n")
@@ -406,7 +375,7 @@ def readme(play):
     for line in ("new-token ann",
                  "mkdir -p -m 700 $XDG_RUNTIME_DIR/mux",
                  "setsid -f muxd --socket $XDG_RUNTIME_DIR/mux/socket --users ~/.config/mux/users"
-                 " > $XDG_RUNTIME_DIR/mux/log 2>&1",
+                 " >> $XDG_RUNTIME_DIR/mux/log 2>&1",
                  "muxd-wait",
                  "setsid -f mux-shell --user ann --title shell",
                  "muxd-wait --user ann --window shell"):
@@ -448,7 +417,7 @@ class Accounts:
 
     def __init__(self, play):
         self.play = play
-        there = [name for name in self.NAMES if name in [it.pw_name for it in pwd.getpwall()]]
+        there = [*(set(self.NAMES) & {it.pw_name for it in pwd.getpwall()})]
         there += [path for path in self.MADE if os.path.lexists(path)]
         there += [it.gr_name for it in grp.getgrall() if it.gr_name == "class"]
         self.real = os.getuid() == 0 and not there and os.path.exists("/usr/bin/sudo")
@@ -459,7 +428,7 @@ class Accounts:
             self.play.real = lambda line: re.sub(r"(?<=mux-web )(?=--socket)", "--page %s/contrib/web " % TOP, line)
             subprocess.run(["groupadd", "class"], check=True)
             for name in self.NAMES[:-1]:
-                subprocess.run(["useradd", "-m", "-s", "/bin/bash", "-G", "class", name], check=True)
+                add_account(name, "-s", "/bin/bash", "-G", "class")
         print("docs/TEACHING.md: with " + ("accounts of their own" if self.real else "one login for all"))
         return self
 
@@ -467,19 +436,8 @@ class Accounts:
         if not self.real:
             return
         self.play.on.end()
-        for name in self.NAMES:
-            try:
-                uid = pwd.getpwnam(name).pw_uid
-            except KeyError:
-                continue
-            for process in os.listdir("/proc"):
-                try:
-                    if process.isdigit() and os.stat("/proc/" + process).st_uid == uid:
-                        os.kill(int(process), signal.SIGKILL)
-                except OSError:
-                    pass
-            time.sleep(0.2)
-            subprocess.run(["userdel", "-r", name], stderr=subprocess.DEVNULL, check=False)
+        for name in set(self.NAMES) & {it.pw_name for it in pwd.getpwall()}:
+            end_account(name)
         subprocess.run(["groupdel", "class"], check=False)
         shutil.rmtree(self.MADE[0], ignore_errors=True)
         if os.path.exists(self.MADE[1]):
@@ -731,13 +689,6 @@ def policies(play):
     may_not("ben", None, "aclchg ben +w board", "denied: x on aclchg: entry ben -x")
     lines("mux-turn --window board pia", "mux-turn none", "own aclgrp pia")
     may_not("pia", "2", "stuff x", "denied: w on window 2: entry pia -w")
-    lines("own 'aclchg pen -rwx #?'", "own 'aclumask pen+w-x'", "own 'aclchg * -w #'", "own 'aclchg pen +w #'",
-          "own 'aclgrp pia pen'")
-    may("pia", "2", "stuff x")
-    lines("own 'aclgrp pia none'")
-    may_not("pia", "2", "stuff x", "denied: w on window 2: entry pia -w")
-    lines("own 'aclgrp ben pen'")
-    may("ben", "2", "stuff x")
     over()
 
     shutil.copy(os.path.join(TOP, "contrib/policies/ops"), on.home)
@@ -849,7 +800,7 @@ def operating(play):
     on.shows("wall", "^again")
     if any(line.startswith("denied") for line in on.page("wall")):
         raise Fault("mux-watch types")
-    on.tmux("resize-window", "-t", "texts:wall", "-x", "60", "-y", "12")
+    on.tmux("resize-window", "-t", "wall", "-x", "60", "-y", "12")
     time.sleep(1)
     on.shows("wall", "^again")
     while text.lines:
@@ -1026,6 +977,7 @@ def words_agree():
         said = set(re.findall(r"Fl Fl ([a-z-]+)", " ".join(tagged)))
         if words != said:
             raise Fault("man/%s.1 and --help differ: %s" % (name, ", ".join(sorted(words ^ said))))
+    check("the words of --help and of the pages agree", True)
 
 
 PLAYS = {
@@ -1060,58 +1012,38 @@ def pages_are_played():
     for name in sorted(os.listdir(os.path.join(TOP, "man"))):
         if "man/" + name not in PLAYS and Text("man/" + name).lines:
             raise Fault("man/%s: not played" % name)
+    check("each man page with a command line is played", True)
 
 
 def programs(folder):
     """A folder with the programs and scripts, and a stand-in for sudo."""
-    os.mkdir(os.path.join(folder, "bin"))
-    for program in PROGRAMS:
-        path = os.environ.get(program.upper().replace("-", "_"), os.path.join(TOP, "bin", program))
-        if not os.access(path, os.X_OK):
-            sys.exit("tests/outside/texts.py: no program %s; make build makes it" % path)
-        os.symlink(os.path.realpath(path), os.path.join(folder, "bin", program))
-    for name in os.listdir(os.path.join(TOP, "contrib")):
-        path = os.path.join(TOP, "contrib", name)
-        if os.access(path, os.X_OK) and os.path.isfile(path):
-            os.symlink(path, os.path.join(folder, "bin", name))
-    sudo = os.path.join(folder, "bin", "sudo")
-    with open(sudo, "w", encoding="ascii") as file:
-        if os.getuid() == 0:
-            file.write("#!/bin/sh\ncd /\nexec setpriv --reuid=65534 --regid=65534 --clear-groups env HOME=/ sh\n")
-        else:
-            file.write("#!/bin/sh\nexec sh\n")
-    os.chmod(sudo, 0o755)
+    os.mkdir(f"{folder}/bin")
+    for name in PROGRAMS:
+        os.symlink(os.path.realpath(program(name)), f"{folder}/bin/{name}")
+    for it in os.scandir(CONTRIB):
+        if it.is_file() and os.access(it.path, os.X_OK):
+            os.symlink(it.path, f"{folder}/bin/{it.name}")
+    shell = "setpriv --reuid=65534 --regid=65534 --clear-groups env HOME=/ sh" if os.getuid() == 0 else "sh"
+    with open(f"{folder}/bin/sudo", "w", encoding="ascii") as file:
+        file.write(f"#!/bin/sh\ncd /\nexec {shell}\n")
+    os.chmod(f"{folder}/bin/sudo", 0o755)
 
 
-def main(names):
-    """Plays the texts."""
-    status = 0
-    try:
-        words_agree()
-        print("the words of --help and of the pages agree")
-        pages_are_played()
-    except Fault as fault:
-        print("FAILED: %s" % fault)
-        status = 1
-    for name in names or PLAYS:
-        folder = tempfile.mkdtemp(prefix="mux-texts.")
-        os.chmod(folder, 0o755)
-        play = None
-        try:
+def played(name):
+    """A part that plays a text."""
+    def part():
+        with tempfile.TemporaryDirectory(prefix="mux-texts.", ignore_cleanup_errors=True) as folder:
+            os.chmod(folder, 0o755)
             programs(folder)
             play = Play(name, folder)
-            PLAYS[name](play)
-            play.text.end()
-            print("%s: played" % name)
-        except Fault as fault:
-            print("FAILED: %s: %s" % (name, fault))
-            status = 1
-        finally:
-            if play:
+            try:
+                PLAYS[name](play)
+                play.text.end()
+            finally:
                 play.on.end()
-            shutil.rmtree(folder, ignore_errors=True)
-    return status
+            check(f"{name}: played", True)
+    return part
 
 
 if __name__ == "__main__":
-    sys.exit(main(sys.argv[1:]))
+    main({"words": words_agree, "pages": pages_are_played, **{name: played(name) for name in PLAYS}}, PROGRAMS)

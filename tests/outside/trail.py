@@ -1,23 +1,18 @@
 #!/usr/bin/env python3
 """Fills a server's trail: 63 users type into a window until the 4,194,304 entries are there.
 
-One user alone would take more than an hour: a user causes at most 1,000 entries a second in the long run. Each byte that
-was told as an entry reaches the window, in one INPUT each; the next one finds the trail full: clients and window get
-GONE 7, in whichever loop they are, and muxd says so, in its log how full it was before, and ends with status 1. Equal
-entries share one stored form: the trail takes 4 bytes for each of them, and the seats' receipts 8, in all some 50 MB.
+One user alone would take more than an hour: a user causes at most 1,000 entries a second in the long run. Each byte
+that was told as an entry reaches the window, in one INPUT each; the next one finds the trail full: clients and window
+get GONE 7, in whichever loop they are, and muxd says so, in its log how full it was before, and ends with status 1.
+Equal entries share one stored form: the trail takes 4 bytes for each, and the seats' receipts 8, in all some 50 MB.
 The server is to stay below 120 MB, with what the clients need that type at once.
 
-With the word `day` a made-up day is played in ten minutes in its place: five users type 1,400,000 keys, each into a
-window of their own, in bursts of 1, 5 and 40; the server is to take at most 20 bytes a key.
-
-MUXD names the program (that of bin/, if it isn't set); a word is the number of loops (2, if not given). Prints a line for
-each check, and ends with status 1 if one failed.
+The part `day` plays a made-up day in ten minutes: five users type 1,400,000 keys, each into a window of their own, in
+bursts of 1, 5 and 40; each key is to reach its window, and the server is to take at most 20 bytes a key.
 """
-import os
 import random
 import resource
 import selectors
-import socket
 import subprocess
 import sys
 import threading
@@ -25,14 +20,14 @@ import time
 
 sys.dont_write_bytecode = True
 import peer
+import play
 from peer import GONE, INPUT, KEYS, OWNER, Server, attach, frame, window
+from play import WORDS, check, figure
 
-TOP = os.path.dirname(os.path.dirname(os.path.dirname(os.path.realpath(__file__))))
-MUXD = os.environ.get("MUXD", f"{TOP}/bin/muxd")
 ENTRIES = 4_194_304
 USERS = [OWNER] + [b"u%d" % number for number in range(1, 63)]
 BATCH = 2_000
-MOST = 120_000_000
+MOST = 120
 DAY, TYPISTS, BURSTS, MOST_A_KEY = 1_400_000, 5, (1, 5, 40), 20
 
 
@@ -41,7 +36,7 @@ class Peer(peer.Peer):
 
     def __init__(self, path, first):
         super().__init__(path, first)
-        self.typed, self.pieces, self.ended = 0, 0, False
+        self.typed, self.ended = 0, False
         while not self.rest:
             self.rest = self.socket.recv(65536)
         self.socket.setblocking(False)
@@ -55,7 +50,7 @@ class Peer(peer.Peer):
                 break
             kind = self.rest[at:at + 1]
             if kind == INPUT:
-                self.typed, self.pieces = self.typed + end - at - 3, self.pieces + 1
+                self.typed += end - at - 3
             self.gone = self.rest[end - 1] if kind == GONE else None
             at = end
         self.rest = self.rest[at:]
@@ -108,82 +103,65 @@ def type_for_a_day(client, number):
         time.sleep(chance.random() * 0.002 * count)
 
 
-def drain(peer):
-    try:
-        while peer.recv(1 << 20):
-            pass
-    except OSError:
-        pass
+def take_all(it):
+    """Takes what comes to the end."""
+    while not it.ended:
+        it.read()
 
 
 def day():
-    """Prints what a made-up day takes. The status to end with."""
+    """What a made-up day takes, and that each of its keys arrives."""
     users, size = USERS[:TYPISTS], {"rows": 4, "cols": 20}
-    with Server(MUXD, 2, users) as server:
-        windows = [Peer(server.path, window(**size)).socket for _ in users]
+    with Server(WORDS.muxd, 2, users) as server:
+        windows = [Peer(server.path, window(**size)) for _ in users]
         server.give(b"multiuser on")
         server.give(b"acladd " + b",".join(users[1:]))
-        clients = [Peer(server.path, attach(user, **size)).socket for user in users]
+        clients = [Peer(server.path, attach(user, **size)) for user in users]
         for it in windows + clients:
-            it.setblocking(True)
-            threading.Thread(target=drain, args=(it,), daemon=True).start()
+            it.socket.setblocking(True)
+            threading.Thread(target=take_all, args=(it,), daemon=True).start()
         before = server.resident()
-        typing = [threading.Thread(target=type_for_a_day, args=it[::-1]) for it in enumerate(clients)]
+        typing = [threading.Thread(target=type_for_a_day, args=(it.socket, place)) for place, it in enumerate(clients)]
         for it in typing:
             it.start()
         for it in typing:
             it.join()
-        # (what waits in sockets is taken at 1,000 keys a second and user)
-        time.sleep(20)
+        # What waits in sockets is taken at 1,000 keys a second and user.
+        play.once(lambda: sum(it.typed for it in windows) >= DAY, 60, 0.5)
         taken = server.resident() - before
+        check(f"each of {DAY:,} keys reaches its window", [it.typed for it in windows] == [DAY // TYPISTS] * TYPISTS,
+              [it.typed for it in windows])
+        check("no client was let go", not any(it.ended for it in clients))
+        figure("bytes of a key", taken / DAY, MOST_A_KEY, "bytes")
         server.give(b"quit")
-        status = server.ends_within(60)
-    is_well = taken <= DAY * MOST_A_KEY and status == 0
-    print(f"{'ok     ' if is_well else 'FAILED '} {DAY:,} keys: {taken:,} bytes, {taken / DAY:.1f} a key, status {status}")
-    return 0 if is_well else 1
+        check("and the server ends with status 0", server.ends_within(60) == 0)
 
 
-def main(words):
-    if words == ["day"]:
-        return day()
-    loops = words[0] if words else "2"
-    bad = 0
-
-    def check(step, found, wanted):
-        nonlocal bad
-        if found == wanted:
-            print(f"ok      {step}", flush=True)
-        else:
-            print(f"FAILED  {step}: {found}, and not {wanted}", flush=True)
-            bad = 1
-
-    with Server(MUXD, loops, USERS, ["--log"], errors=subprocess.PIPE) as server:
+def full():
+    """A trail is filled."""
+    with Server(WORDS.muxd, WORDS.loops, USERS, ["--log"], errors=subprocess.PIPE) as server:
         size = {"rows": 4, "cols": 20}
         shell = Peer(server.path, window(**size))
         server.give(b"multiuser on")
         server.give(b"acladd " + b",".join(USERS[1:]))
         clients = [Peer(server.path, attach(user, **size)) for user in USERS]
-        began = time.monotonic()
         sent = fill(shell, clients)
-        took = time.monotonic() - began
-        check("the window's bytes, beside its own entry, two commands' and the clients'", shell.typed,
-              ENTRIES - 3 - len(USERS))
-        check("more was sent than found room", sent > shell.typed, True)
-        check("the window is let go", shell.gone, 7)
-        check("the clients are let go", {client.gone for client in clients}, {7})
+        check("the window's bytes, beside its own entry, two commands' and the clients'",
+              shell.typed == ENTRIES - 3 - len(USERS), shell.typed)
+        check("more was sent than found room", sent > shell.typed, sent)
+        check("the window is let go", shell.gone == 7, shell.gone)
+        check("the clients are let go", {client.gone for client in clients} == {7}, [it.gone for it in clients])
         errors = server.program.communicate(timeout=60)[1].decode().splitlines()
-        check("its status", server.program.returncode, 1)
-        check("what the server says", errors[-1], "muxd: the session's trail is full: start another session")
-        check("and before", [line.split()[-2] for line in errors if line.endswith(" percent")],
-              ["50", "75", "90", "99"])
+        check("its status", server.program.returncode == 1, server.program.returncode)
+        wanted = "muxd: the session's trail is full: start another session"
+        check("what the server says", errors[-1] == wanted, errors[-1])
+        found = [line.split()[-2] for line in errors if line.endswith(" percent")]
+        check("and before", found == ["50", "75", "90", "99"], found)
         went = sum(line.endswith(" went: the trail is full") for line in errors)
-        check("each client and the window is told to have gone", went, len(USERS) + 1)
-        # (the server is the one child that was waited for)
-        peak = resource.getrusage(resource.RUSAGE_CHILDREN).ru_maxrss * 1024
-        check(f"its memory stays below {MOST:,} bytes", max(peak, MOST), MOST)
-    print(f"{took:.0f} seconds, in {shell.pieces} frames, {peak / 1e6:.0f} MB")
-    return bad
+        check("each client and the window is told to have gone", went == len(USERS) + 1, went)
+        # The server is the one child that was waited for.
+        figure("its memory", resource.getrusage(resource.RUSAGE_CHILDREN).ru_maxrss * 1024 / 1e6, MOST, "MB")
 
 
 if __name__ == "__main__":
-    sys.exit(main(sys.argv[1:]))
+    play.main((full, day), ["muxd"], {"--loops": {"type": int, "default": 2, "help": "how many the server has"}})
