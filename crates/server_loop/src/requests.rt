@@ -118,7 +118,7 @@ impl<S: Read + Write + Drop, G: Gate + Drop, J: SessionSeat + Drop> Loop<S, G, J
             None => self.seat.users(),
         };
         let user = authenticate(users, name.as_str().as_bytes(), token).ok()?;
-        Some(user.id)
+        Some(user.shown().user())
     }
 
     // A connection is told why it can't become a guest, and goes.
