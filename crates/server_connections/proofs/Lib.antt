@@ -1,5 +1,3 @@
-pub mod Framing
-pub mod Writing
 mod Looking
 mod Marking
 mod Walking

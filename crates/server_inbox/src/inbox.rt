@@ -1,9 +1,13 @@
-//! What a connection asked for that isn't done yet.
+//! Messages that were read and aren't done yet.
 
-ghost use Rattle.std.specs.Prelude.{◌≡◌, ◌&&◌, is_some};
-ghost use Rattle.server_connections.specs.Peers.{is_empty, is_taken};
-ghost use Rattle.server_typing.specs.Typed.{may_read};
+ghost use Rattle.std.specs.Prelude.{◌≡◌, ◌&&◌, ◌++◌, ◌∷◌, ◌≤◌, ◌<◌, ℕ, List, [], Some, None, false, true};
+ghost use Rattle.std.specs.Prelude.{IfOk, IfSome, OnOk, drop, is_some, length, not};
+ghost use Rattle.attach_proto.specs.declared.message.Message.{Message as Told};
+ghost use Rattle.server_inbox.specs.Asking.{IsThrough, IsWhole, Lies, Stands, is_empty, is_taken};
+ghost use Rattle.server_inbox.specs.Gathering.{sized_all, typed_all};
+ghost use Rattle.server_typing.specs.Typed.{expired, may_read};
 
+use crate::asked::Asked;
 use attach_proto::{Message, Reader};
 use server_typing::{Sizing, Typeahead};
 use std::alloc::{AllocError, Global};
@@ -14,23 +18,6 @@ const PIECE: usize = 512;
 
 // At most this many messages are taken in at a time.
 const GATHERED: usize = 64;
-
-/// A message, and how many of its printed bytes are done.
-#[derive(Drop)]
-pub struct Asked {
-    pub message: Message,
-    pub done: usize,
-}
-
-impl Asked {
-    /// The printed bytes that aren't done yet.
-    pub fn rest(&self) -> &[u8] {
-        match &self.message {
-            Message::Output(bytes) => bytes.as_slice().get(self.done..).unwrap_or(b""),
-            _ => b"",
-        }
-    }
-}
 
 /// Messages that were read and aren't done yet. A client's keys and sizes are taken out of them.
 #[derive(Drop)]
@@ -49,8 +36,27 @@ pub struct Inbox {
     is_broken: bool,
 }
 
+// The next piece of the bytes that weren't looked at, and where the bytes after it begin.
+fn piece_of(rest: &[u8], seen: usize) -> (&[u8], usize)
+    ensures piece { drop seen rest.now ≡ result.0.now ++ drop result.1 rest.now }
+    ensures on { seen < length rest.now → seen < result.1 }
+{
+    if seen >= rest.len() {
+        return (b"", seen);
+    }
+    let (_, unseen) = rest.split_at(seen);
+    let count = unseen.len().min(PIECE);
+    let (piece, _) = unseen.split_at(count);
+    (piece, seen + count)
+}
+
 impl Inbox {
-    pub fn new(alloc: Global) -> Inbox {
+    pub fn new(alloc: Global) -> Inbox
+        ensures none { (result.messages.items ≡ []) × (result.begun ≡ None) }
+        ensures unread { (result.rest.items ≡ []) × (result.seen ≡ 0) }
+        ensures sound { result.is_broken ≡ false }
+        ensures empty { is_empty result ≡ true }
+    {
         Inbox {
             alloc,
             typed: Typeahead::new(alloc),
@@ -65,13 +71,16 @@ impl Inbox {
 
     // Whether all that was read was taken out.
     fn is_taken(&self) -> bool
-        ensures { result ≡ is_taken self.now }
+        ensures taken { result ≡ is_taken self.now }
+        ensures none { result ≡ true → self.now.messages.items ≡ [] }
     {
         self.messages.is_empty() && self.begun.is_none()
     }
 
     /// Whether messages beside keys and sizes that were taken in aren't done yet.
-    pub fn has_messages(&self) -> bool {
+    pub fn has_messages(&self) -> bool
+        ensures { result ≡ not (is_taken self.now) }
+    {
         !self.is_taken()
     }
 
@@ -83,24 +92,44 @@ impl Inbox {
 
     /// Whether more is to be read, at this time in milliseconds.
     pub fn may_read(&self, now: u64) -> bool
-        ensures { result ≡ (is_taken self.now
+        ensures reads { result ≡ (is_taken self.now
             && may_read now (is_some self.now.sizing.wanted) self.now.typed) }
+        ensures none { result ≡ true → self.now.messages.items ≡ [] }
     {
         self.is_taken() && self.typed.may_read(now, self.sizing.wanted.is_some())
     }
 
     // Looks at the next piece of the bytes that are left, and adds the messages that it completes.
-    fn look(&mut self, reader: &mut Reader) {
-        let end = self.seen.saturating_add(PIECE).min(self.rest.len());
-        let piece = self.rest.get(self.seen..end).unwrap_or(b"");
+    fn look(&mut self, reader: &mut Reader)
+        ensures lies { (taken : List Told) (stream : List ℕ) → self.old.messages.items ≡ []
+            → Lies self.old reader.old taken stream → IsWhole self.new reader.new
+            → Lies self.new reader.new taken stream }
+        ensures on { self.old.seen < length self.old.rest.items → self.old.seen < self.new.seen }
+        ensures same { self.new ≡ record self.old {
+          messages = self.new.messages;
+          seen = self.new.seen;
+          is_broken = self.new.is_broken;
+        } }
+    {
+        let (piece, end) = piece_of(&self.rest, self.seen);
         self.is_broken = reader.feed(piece, &mut self.messages).is_err();
         self.messages.reverse();
         self.seen = end;
     }
 
     // While no message is there, looks at the bytes that are left.
-    fn refill(&mut self, reader: &mut Reader) {
-        for _ in self.seen..self.rest.len() {
+    fn refill(&mut self, reader: &mut Reader)
+        ensures lies { (taken : List Told) (stream : List ℕ) → Lies self.old reader.old taken stream
+            → IsWhole self.new reader.new → Lies self.new reader.new taken stream }
+        ensures through { IsThrough self.new }
+        ensures same { self.new ≡ record self.old {
+          messages = self.new.messages;
+          rest = self.new.rest;
+          seen = self.new.seen;
+          is_broken = self.new.is_broken;
+        } }
+    {
+        'pieces: for _ in self.seen..self.rest.len() {
             if self.is_broken || !self.messages.is_empty() || self.seen >= self.rest.len() {
                 break;
             }
@@ -113,24 +142,48 @@ impl Inbox {
     }
 
     /// Adds all messages that these bytes complete.
-    pub fn take_all(&mut self, reader: &mut Reader, bytes: &[u8]) {
+    pub fn take_all(&mut self, reader: &mut Reader, bytes: &[u8])
+        ensures stands { (taken : List Told) (stream : List ℕ) → self.old.messages.items ≡ []
+            → self.old.is_broken ≡ false → Stands self.old reader.old taken stream
+            → IsWhole self.new reader.new
+            → Stands self.new reader.new taken (stream ++ bytes.now) }
+        ensures same { self.new ≡ record self.old {
+          messages = self.new.messages;
+          is_broken = self.new.is_broken;
+        } }
+    {
         self.is_broken = reader.feed(bytes, &mut self.messages).is_err();
         self.messages.reverse();
     }
 
     /// Adds the first few messages that these bytes complete. The others are added once these are
     /// taken out.
-    pub fn take(&mut self, reader: &mut Reader, bytes: &[u8]) {
+    pub fn take(&mut self, reader: &mut Reader, bytes: &[u8])
+        ensures stands { (taken : List Told) (stream : List ℕ) → self.old.messages.items ≡ []
+            → self.old.is_broken ≡ false → Stands self.old reader.old taken stream
+            → IsWhole self.new reader.new
+            → Stands self.new reader.new taken (stream ++ bytes.now) }
+        ensures same { self.new ≡ record self.old {
+          messages = self.new.messages;
+          rest = self.new.rest;
+          seen = self.new.seen;
+          is_broken = self.new.is_broken;
+        } }
+    {
         if bytes.len() <= PIECE {
             self.take_all(reader, bytes);
-        } else if self.keep(bytes).is_ok() {
-            self.refill(reader);
-        } else {
-            self.is_broken = true;
+            return;
+        }
+        match self.keep(bytes) {
+            Ok(()) => self.refill(reader),
+            Err(_) => self.is_broken = true,
         }
     }
 
-    fn keep(&mut self, bytes: &[u8]) -> Result<(), AllocError> {
+    fn keep(&mut self, bytes: &[u8]) -> Result<(), AllocError>
+        ensures kept { OnOk result (self.new.rest.items ≡ self.old.rest.items ++ bytes.now) }
+        ensures same { self.new ≡ record self.old { rest = self.new.rest } }
+    {
         self.rest.reserve_exact(bytes.len())?;
         self.rest.extend_from_slice(bytes)
     }
@@ -143,7 +196,9 @@ impl Inbox {
     }
 
     /// Whether all messages are done, and bytes came that are no frame.
-    pub fn is_faulty(&self) -> bool {
+    pub fn is_faulty(&self) -> bool
+        ensures { result ≡ (self.now.is_broken && is_empty self.now) }
+    {
         self.is_broken && self.is_empty()
     }
 
@@ -177,17 +232,39 @@ impl Inbox {
     }
 
     /// Takes out the next message, or the one that was put back.
-    pub fn next(&mut self, reader: &mut Reader) -> Option<Asked> {
+    pub fn next(&mut self, reader: &mut Reader) -> Option<Asked>
+        // What was put back comes first.
+        ensures again { IfSome self.old.begun (λ asked. (result ≡ Some asked)
+            × (self.new ≡ record self.old { begun = None }) × (reader.new ≡ reader.old)) }
+        // Else the next message of the stream comes, of which nothing is done.
+        ensures none { self.old.begun ≡ None → result ≡ None → (self.old.messages.items ≡ [])
+            × (self.new.messages.items ≡ []) × (reader.new ≡ reader.old) }
+        ensures next { self.old.begun ≡ None → IfSome result (λ asked. (asked.done ≡ 0)
+            × ((taken : List Told) (stream : List ℕ) → Stands self.old reader.old taken stream
+            → IsWhole self.new reader.new
+            → Stands self.new reader.new (taken ++ asked.message ∷ []) stream)) }
+        ensures same { self.new ≡ record self.old {
+          messages = self.new.messages;
+          begun = None;
+          rest = self.new.rest;
+          seen = self.new.seen;
+          is_broken = self.new.is_broken;
+        } }
+    {
         if let Some(asked) = self.begun.take() {
             return Some(asked);
         }
-        let message = self.messages.pop()?;
+        let Some(message) = self.messages.pop() else {
+            return None;
+        };
         self.refill(reader);
         Some(Asked { message, done: 0 })
     }
 
     /// Puts back the message that was taken out last.
-    pub fn put_back(&mut self, asked: Asked) {
+    pub fn put_back(&mut self, asked: Asked)
+        ensures { self.new ≡ record self.old { begun = Some asked } }
+    {
         self.begun = Some(asked);
     }
 }
