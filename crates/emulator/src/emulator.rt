@@ -7,15 +7,17 @@ ghost use Rattle.charsets.specs.Units.{unit_list};
 ghost use Rattle.terminal_model.specs.Screen.{starting};
 ghost use Rattle.terminal_model.specs.Reading.{Terminal, ready, read_unit, read_units, read_byte};
 ghost use Rattle.terminal_model.specs.Reading.{reads};
-ghost use Rattle.terminal_model.specs.Writing.{Size, Clear, Reset, Encoding, reads_anew};
+ghost use Rattle.terminal_model.specs.Writing.{Size, reads_anew};
 ghost use Rattle.vt_screen.specs.Sizes.{IsScreenSize};
 ghost use Rattle.emulator.specs.Standing.{StandsFor, StandsWithin, HasRead, HasReadWithin};
 ghost use Rattle.emulator.specs.Standing.{HasReadByte, HasTaken, TakesWriting, in_screen_coding};
+ghost use Rattle.emulator.specs.Commanded.{writing_in};
 ghost use Rattle.terminal_model.specs.Scrollback.{moved_back};
 
 use crate::moved_page::MovedPage;
+use crate::writing::Writing;
 use cells::GridFault;
-use charsets::{Coding, Decoder, Unit, Units};
+use charsets::{Decoder, Unit, Units};
 use control_parser::Parser;
 use std::alloc::{AllocError, Global};
 use std::marker::Model;
@@ -231,31 +233,11 @@ impl Emulator {
         self.screen.columns()
     }
 
-    /// Erases the page and moves the cursor home, as if the window had written ED 2 and CUP. An
-    /// incomplete character, sequence or string is dropped first.
-    pub fn clear(&mut self)
-        ensures { TakesWriting self.old Clear self.new }
+    /// Writes what a command writes. An incomplete character, sequence or string is dropped first.
+    pub fn write(&mut self, what: Writing)
+        ensures { TakesWriting self.old (writing_in what) self.new }
     {
-        self.write_anew(b"\x1B[2J\x1B[H");
-    }
-
-    /// Sets all starting values, as if the window had written RIS. An incomplete character,
-    /// sequence or string is dropped first.
-    pub fn reset(&mut self)
-        ensures { TakesWriting self.old Reset self.new }
-    {
-        self.write_anew(b"\x1Bc");
-    }
-
-    /// Reads in this coding from here on, as if the window had written its escape sequence. An
-    /// incomplete character, sequence or string is dropped first.
-    pub fn set_encoding(&mut self, coding: Coding)
-        ensures { TakesWriting self.old (Encoding coding) self.new }
-    {
-        self.write_anew(match coding {
-            Coding::Utf8 => b"\x1B%G",
-            Coding::Ecma35 => b"\x1B%@",
-        });
+        self.write_anew(what.bytes());
     }
 
     /// Drops an incomplete character, sequence or string, and reads bytes that aren't answered.

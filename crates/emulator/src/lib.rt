@@ -6,6 +6,7 @@ mod laws;
 mod moved_page;
 mod sequence;
 mod whole;
+mod writing;
 
 pub use emulator::{Emulator, Stopped};
 pub use laws::{
@@ -13,3 +14,4 @@ pub use laws::{
     unmoved_page_is_the_page,
 };
 pub use moved_page::MovedPage;
+pub use writing::Writing;

@@ -11,6 +11,9 @@ use Rattle.terminal_model.specs.Reading.{ready}
 use Rattle.terminal_model.specs.Drawing.{IsDiscreet, IsSpare, IsListed}
 use Rattle.terminal_model.proofs.Spellings.{spelled-acts}
 use Rattle.terminal_model.proofs.Further.{spelled-one}
+use Rattle.draw_check.specs.Used.{is_used}
+use Rattle.draw_check.proofs.Joining.{one_draws}
+use Rattle.draw_check.proofs.Spelled.{used_is_function}
 use Rattle.redraw.specs.declared.command.Command.{Command}
 use Rattle.redraw.specs.declared.command.Command.TheVariants.{Glyph, MoveTo, NextLine, Forward, Render, EraseCells}
 use Rattle.redraw.specs.declared.command.Command.TheVariants.{EraseToEnd, Arrows, ShowCursor, Keypad}
@@ -74,6 +77,21 @@ utf8_read EraseToEnd = refl
 utf8_read (Arrows on) = refl
 utf8_read (ShowCursor on) = refl
 utf8_read (Keypad on) = refl
+
+used : (c : Command) → is_used (func_of c) ≡ true
+used (Glyph c) = refl
+used (MoveTo line column) = refl
+used NextLine = refl
+used (Forward n) = refl
+used (Render known r) = refl
+used (EraseCells n) = refl
+used EraseToEnd = refl
+used (Arrows true) = refl
+used (Arrows false) = refl
+used (ShowCursor true) = refl
+used (ShowCursor false) = refl
+used (Keypad true) = refl
+used (Keypad false) = refl
 
 -- a command that prints nothing
 abbrev pub PrintsNone : Command → Type 0
@@ -140,6 +158,7 @@ one_leads old new x c utf8 is discreet spare = record {
       (no_report x c);
   draws = record { discreet = (discreet, tt); spare = (spare, tt) };
   spelled = spelled-one x (func_of c);
+  used = one_draws (spelling (func_of c)) (used_is_function (func_of c) (given c is, utf8_read c) (used c));
 }
 
 pub silent_leads : (old new : Page) (x : Screen) (c : Command) → x.state.coding ≡ Utf8 → IsCommand c → PrintsNone c

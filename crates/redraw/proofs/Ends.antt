@@ -1,5 +1,5 @@
 -- A frame from terminals that agree with a shadow leads to terminals that show the view.
-use Rattle.std.proofs.Common.{◌≡◌, ℕ, ◌<◌, ◌≤◌, true, false, List, [], ◌++◌, length, Option, Some, None, refl, sym, ap}
+use Rattle.std.proofs.Common.{◌≡◌, ℕ, ◌<◌, ◌≤◌, true, false, List, [], ◌∷◌, ◌++◌, length, Option, Some, None, refl, sym, ap}
 use Rattle.std.proofs.Common.{◌∙◌, subst, arith, ⊎_elim, is_some, replicate}
 use Rattle.std.proofs.lemmas.Bool.{cases_lt}
 use Rattle.std.proofs.lemmas.List.{get_or_past, get_or-replicate, length-replicate}
@@ -18,10 +18,21 @@ use Rattle.terminal_model.proofs.Resets.{frame-terminal, frame-reports}
 use Rattle.terminal_model.proofs.Terminals.{IsTerminal-reads, IsTerminal-ready}
 use Rattle.view.specs.View.{HasSize}
 use Rattle.terminal_model.specs.Drawable.{HaveHalves}
+use Rattle.draw_check.specs.Functions.{AreDraws}
+use Rattle.draw_check.proofs.Joining.{draws_append}
 use Rattle.redraw.specs.declared.pen.Pen.{Pen}
 use Rattle.redraw.specs.Drawing.{Drawing, Takes, Stage, Final}
 use Rattle.redraw.specs.Frames.{Begins, Redraws, pen_of, EndsAs, DrawsBytes}
 use Rattle.redraw.proofs.Takings.{takes_weaker}
+
+-- the reset is four functions that draws use: CAN, RIS, ESC % G, DECRM of DECAWM
+reset_draws : AreDraws frame_bytes
+reset_draws = record {
+  functions = (0x18 ∷ []) ∷ (0x1B ∷ 0x63 ∷ []) ∷ (0x1B ∷ 0x25 ∷ 0x47 ∷ [])
+      ∷ (0x1B ∷ 0x5B ∷ 0x3F ∷ 0x37 ∷ 0x6C ∷ []) ∷ [];
+  used = (refl, (refl, (refl, (refl, tt))));
+  whole = refl;
+}
 
 -- beyond its edges a page has blanks
 outside_lines : (rows columns l c : ℕ) (page : Page) → IsPage rows columns page → rows ≤ l
@@ -184,6 +195,7 @@ module _ (rows columns : ℕ) where
       spelled = λ t a. let l = k.leads t.screen (agreed old t a) in
           subst (AreSpelled k.bytes) (sym (ap (λ r. r.acts) (ap (λ u. reads u k.bytes) (a.1).ready_is ∙ (l.1).reading)))
           (l.1).spelled;
+      used = λ t a. subst AreDraws (sym k.appended) (k.leads t.screen (agreed old t a)).1.used;
     }
       where
         whole : (t : Terminal) (a : Agrees rows columns (Some old) t) → reads t bytes ≡ reads (ready t.screen) k.bytes
@@ -213,6 +225,8 @@ module _ (rows columns : ℕ) where
           subst (AreSpelled k.bytes)
           (sym (ap (λ u. (reads u k.bytes).acts) (frame-terminal t a.terminal) ∙ ap (λ r. r.acts) (l.1).reading))
           (l.1).spelled;
+      used = λ t a. subst AreDraws (sym begun)
+          (draws_append frame_bytes k.bytes reset_draws (k.leads (frame_start t.screen) (cleared t a)).1.used);
     }
       where
         begun : bytes ≡ frame_bytes ++ k.bytes

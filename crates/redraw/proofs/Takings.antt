@@ -6,6 +6,7 @@ use Rattle.terminal_model.specs.Reading.{Act, ready, reads, joined}
 use Rattle.terminal_model.specs.Drawing.{Draws, IsDiscreet, IsSpare}
 use Rattle.terminal_model.proofs.Readings.{reads-append}
 use Rattle.terminal_model.proofs.Further.{spelled-append}
+use Rattle.draw_check.proofs.Joining.{none_draw, draws_append as joined_draws}
 use Rattle.redraw.specs.Drawing.{Leads, Takes}
 
 all_append : {A : Type 0} (P : A → Type 0) (xs ys : List A) → AllByRecursion P xs → AllByRecursion P ys
@@ -22,7 +23,8 @@ module _ (old new : Page) where
 
   pub leads_nothing : (x : Screen) → Leads old new x [] x
   unfolding reads
-  leads_nothing x = record { acts = []; reading = refl; draws = record { discreet = tt; spare = tt }; spelled = refl }
+  leads_nothing x = record
+      { acts = []; reading = refl; draws = record { discreet = tt; spare = tt }; spelled = refl; used = none_draw }
 
   pub leads_then : (x y z : Screen) (a b : List ℕ) → Leads old new x a y → Leads old new y b z
       → Leads old new x (a ++ b) z
@@ -32,6 +34,7 @@ module _ (old new : Page) where
         ∙ ap (joined (record { terminal = ready y; reports = []; acts = d.acts })) e.reading;
     draws = draws_append d.acts e.acts d.draws e.draws;
     spelled = spelled-append a b d.acts e.acts d.spelled e.spelled;
+    used = joined_draws a b d.used e.used;
   }
 
   module _ (P : Screen → Type 0) where

@@ -16,6 +16,7 @@ use Rattle.terminal_model.specs.declared.state.Position.{Position}
 use Rattle.terminal_model.specs.Shows.{View, seen_at, ShowsCursor}
 use Rattle.terminal_model.specs.Drawing.{Draws, AreSpelled, drawn_state}
 use Rattle.terminal_model.specs.Drawable.{IsDrawableLine, HasHalves}
+use Rattle.draw_check.specs.Functions.{AreDraws}
 use Rattle.redraw.specs.declared.pen.Pen.{Pen}
 use Rattle.redraw.specs.declared.command.Command.{Command}
 use Rattle.redraw.specs.Commands.{func_of}
@@ -66,12 +67,13 @@ pub record Drawing (rows columns : ℕ) (pen : Pen) (x : Screen) : Type 0 where
   pub rendition_is : Knows pen.rendition x.state.rendition
 
 -- the bytes lead from one screen to the other: the terminal answers nothing, the acts are discreet
--- and spare, and the bytes spell these acts alone
+-- and spare, and the bytes spell these acts alone, by functions that draws use
 pub record Leads (old new : Page) (x : Screen) (bytes : List ℕ) (y : Screen) : Type 0 where
   pub acts : List Act
   pub reading : reads (ready x) bytes ≡ record { terminal = ready y; reports = []; acts = acts }
   pub draws : Draws old new acts
   pub spelled : AreSpelled bytes acts
+  pub used : AreDraws bytes
 
 -- bytes were appended that lead each screen that P holds of to a screen that R relates to it
 pub record Takes (old new : Page) (P : Screen → Type 0) (R : Screen → Screen → Type 0)

@@ -9,6 +9,7 @@ use Rattle.terminal_model.specs.Reading.{Terminal, Act, reads}
 use Rattle.terminal_model.specs.Shows.{View, NeedsDraw, NeedsNoDraw}
 use Rattle.terminal_model.specs.Drawing.{frame_bytes, Draws, AreSpelled, Agrees}
 use Rattle.terminal_model.specs.Drawable.{HaveHalves}
+use Rattle.draw_check.specs.Functions.{AreDraws}
 use Rattle.redraw.specs.declared.pen.Pen.{Pen}
 use Rattle.view.specs.Drawable.{IsDrawable}
 use Rattle.view.specs.View.{HasSize}
@@ -36,8 +37,8 @@ abbrev pub acts_behind : Option View → Terminal → List ℕ → List Act
 acts_behind known t rest = (reads (reads t (beginning known)).terminal rest).acts
 
 -- Each terminal that agrees with what is known reads the frame, and then shows the view, agrees
--- with it, and has answered nothing. What follows the frame's beginning is discreet and spare, and
--- contains no string.
+-- with it, and has answered nothing. The frame consists of functions that draws use; what follows
+-- its beginning is discreet and spare, and contains no string.
 pub record Redraws (rows columns : ℕ) (known : Option View) (v : View) (frame : List ℕ)
     : Type 0 where
   pub rest : List ℕ
@@ -49,6 +50,7 @@ pub record Redraws (rows columns : ℕ) (known : Option View) (v : View) (frame 
       → Draws (page_before rows columns known) v.page (acts_behind known t rest)
   pub spelled : (t : Terminal) → Agrees rows columns known t
       → AreSpelled rest (acts_behind known t rest)
+  pub used : (t : Terminal) → Agrees rows columns known t → AreDraws frame
 
 -- what is known of the pen if the cursor is shown at a place, or is hidden
 abbrev pub pen_of : Option Position → Pen

@@ -4,7 +4,6 @@ use Rattle.std.proofs.Common.{refl, ap, sym, subst, ◌∙◌, append-nil, ◌�
 use Rattle.std.specs.Prelude.{Result, if◌then◌else◌}
 use Rattle.command_lang.specs.declared.command.Command.{Command}
 use Rattle.command_lang.specs.declared.command.Command.TheVariants as command
-use Rattle.command_lang.specs.declared.command.Coding.{Coding}
 use Rattle.terminal_model.specs.Writing as terminal
 use Rattle.terminal_model.specs.Writing.{Writing}
 use Rattle.session_model.specs.declared.refusal.Refusal.TheVariants.{Windows}
@@ -27,6 +26,7 @@ use Rattle.session_state.specs.declared.step_output.StepOutput.{StepOutput}
 use Rattle.session_state.specs.declared.state.State.{State}
 use Rattle.session_state.specs.Stands.{Stands}
 use Rattle.session_state.specs.Doing.{Answers, caller_in}
+use Rattle.session_commands.specs.Written.{writes, writing_of}
 use Rattle.session_commands.proofs.Passing.{acted_on}
 use Rattle.session_commands.proofs.Doing.{on_row}
 
@@ -144,28 +144,20 @@ writing_stays : (what : Writing) (m n : Window) → written what m ≡ Ok n → 
 writing_stays what m n is =
     ap (λ (v : Window). v.serial) (sym (let e : written_to what m ≡ n = cc (is) in e))
 
-pub clear_writes : (t : Tables) → IsChange t command.Clear (written terminal.Clear)
-clear_writes t = record {
+pub writing_changes : (t : Tables) (c : Command) → writes c ≡ true → IsChange t c (written (writing_of c))
+writing_changes t command.Clear is = record {
   needed = refl;
-  row = λ k m at.
-      on_row t k (λ (w : Window). as_answer t (written terminal.Clear w)) m at;
+  row = λ k m at. on_row t k (λ (w : Window). as_answer t (written terminal.Clear w)) m at;
   keeps = writing_stays terminal.Clear;
 }
-
-pub reset_writes : (t : Tables) → IsChange t command.Reset (written terminal.Reset)
-reset_writes t = record {
+writing_changes t command.Reset is = record {
   needed = refl;
-  row = λ k m at.
-      on_row t k (λ (w : Window). as_answer t (written terminal.Reset w)) m at;
+  row = λ k m at. on_row t k (λ (w : Window). as_answer t (written terminal.Reset w)) m at;
   keeps = writing_stays terminal.Reset;
 }
-
-pub encoding_writes : (t : Tables) (coding : Coding)
-    → IsChange t (command.Encoding coding) (written (terminal.Encoding (coding_of coding)))
-encoding_writes t coding = record {
+writing_changes t (command.Encoding coding) is = record {
   needed = refl;
-  row = λ k m at.
-      on_row t k (λ (w : Window). as_answer t (written (terminal.Encoding (coding_of coding)) w))
-      m at;
+  row = λ k m at. on_row t k (λ (w : Window). as_answer t (written (terminal.Encoding (coding_of coding)) w)) m at;
   keeps = writing_stays (terminal.Encoding (coding_of coding));
 }
+writing_changes t c is = absurd (cc (is))

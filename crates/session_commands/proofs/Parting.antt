@@ -32,6 +32,7 @@ use Rattle.session_model.specs.Tables.{Tables}
 use Rattle.session_model.specs.Deeds.{parts}
 use Rattle.session_model.specs.Sound.{Rises, client_serials}
 use Rattle.windows_model.proofs.Serials.{same_number}
+use Rattle.windows_model.proofs.Matching.{mapped_match, filter_match}
 use Rattle.session_state.specs.declared.client.Client.{Client}
 use Rattle.session_state.specs.Clients.{ClientStands, AreClients, Keeps}
 use Rattle.session_state.specs.declared.state.State.{State}
@@ -50,39 +51,21 @@ goes_same g m c st = ap (λ n. takes g n c.user) st.serial_is ∙ ap (λ u. take
 pub going_same : {X : Type 0} (f : ℕ → X) (g : Going) (rows : List model.Client) (cs : List Client) → AreClients rows cs
     → map (λ (c : Client). f c.serial) (filter (goes_now g) cs) ≡ map (λ (m : model.Client). f m.serial)
     (filter (goes g) rows)
-going_same f g [] [] st = refl
-going_same f g (m ∷ rows) (c ∷ cs) st =
-    ap (λ b. map (λ (c : Client). f c.serial) (if b then c ∷ filter (goes_now g) cs else filter (goes_now g) cs))
-    (goes_same g m c st.0)
-    ∙ on (goes g m) (going_same f g rows cs st.1) where
-      on : (b : Bool)
-          → map (λ (c : Client). f c.serial) (filter (goes_now g) cs) ≡ map (λ (m : model.Client). f m.serial)
-          (filter (goes g) rows)
-          → map (λ (c : Client). f c.serial) (if b then c ∷ filter (goes_now g) cs else filter (goes_now g) cs)
-          ≡ map (λ (m : model.Client). f m.serial) (if b then m ∷ filter (goes g) rows else filter (goes g) rows)
-      on true rest = ap (λ n. f n ∷ map (λ (c : Client). f c.serial) (filter (goes_now g) cs)) st.0.serial_is
-          ∙ ap (λ xs. f m.serial ∷ xs) rest
-      on false rest = rest
-going_same f g [] (c ∷ cs) st = absurd st
-going_same f g (m ∷ rows) [] st = absurd st
+going_same f g rows cs st =
+    mapped_match ClientStands (λ (m : model.Client). f m.serial) (λ (c : Client). f c.serial)
+    (λ m c is. ap f is.serial_is) _ _ (filter_match ClientStands (goes g) (goes_now g) (goes_same g) rows cs st)
 
 pub serials_same : (rows : List model.Client) (cs : List Client) → AreClients rows cs
     → serials_now cs ≡ client_serials rows
-serials_same [] [] st = refl
-serials_same (m ∷ rows) (c ∷ cs) st = ap (λ n. n ∷ serials_now cs) st.0.serial_is
-    ∙ ap (λ ns. m.serial ∷ ns) (serials_same rows cs st.1)
-serials_same [] (c ∷ cs) st = absurd st
-serials_same (m ∷ rows) [] st = absurd st
+serials_same rows cs st =
+    mapped_match ClientStands (λ (m : model.Client). m.serial) (λ (c : Client). c.serial) (λ m c is. is.serial_is) rows
+    cs st
 
 pub attached_same : (rows : List model.Client) (cs : List Client) → AreClients rows cs
     → attached_now cs ≡ map (λ (m : model.Client). (m.serial, m.user)) rows
-attached_same [] [] st = refl
-attached_same (m ∷ rows) (c ∷ cs) st =
-    ap (λ n. (n, c.user) ∷ attached_now cs) st.0.serial_is
-    ∙ ap (λ u. (m.serial, u) ∷ attached_now cs) st.0.user_is
-    ∙ ap (λ ps. (m.serial, m.user) ∷ ps) (attached_same rows cs st.1)
-attached_same [] (c ∷ cs) st = absurd st
-attached_same (m ∷ rows) [] st = absurd st
+attached_same rows cs st =
+    mapped_match ClientStands (λ (m : model.Client). (m.serial, m.user)) (λ (c : Client). (c.serial, c.user))
+    (λ m c is. ap (λ n. (n, c.user)) is.serial_is ∙ ap (λ u. (m.serial, u)) is.user_is) rows cs st
 
 -- ---- tests of lists
 

@@ -5,3 +5,4 @@ pub mod Asked
 pub mod Closing
 pub mod Going
 pub mod Settling
+pub mod Written

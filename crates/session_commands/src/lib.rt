@@ -25,4 +25,4 @@ pub use lists::{displays, screen, windows};
 pub use locks::{defwritelock, writelock};
 pub use messages::wall;
 pub use pages::{focus, next, only, other, prev, remove, scrollview, select, split};
-pub use window::{clear, encoding, fit, number, reset, stuff, title};
+pub use window::{fit, number, stuff, title, write};

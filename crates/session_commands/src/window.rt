@@ -1,18 +1,19 @@
 //! Commands on a window: its title, its number, its size, and what is written or typed to it.
 
-ghost use Rattle.std.specs.Prelude.{◌≡◌, ◌<◌, IfOk};
+ghost use Rattle.std.specs.Prelude.{◌≡◌, ◌<◌, IfOk, true};
+ghost use Rattle.emulator.specs.Commanded.{writing_in};
 ghost use Rattle.command_lang.specs.declared.command.Command.TheVariants as command;
-ghost use Rattle.session_model.specs.Commands.{coding_of};
 ghost use Rattle.session_state.specs.Doing.{Does, DoesOn, GivesBy, HasRoomToAct, IsSilent};
 ghost use Rattle.session_commands.specs.Giving.{IsFocusedBox};
+ghost use Rattle.session_commands.specs.Written.{writes, writing_of};
 
 use crate::giver::{refusal_of, window_of};
-use command_lang::Coding;
+use command_lang::{Coding, Command};
 use regions::{Rect, RegionFault};
 use session_model::{Bytes, Effect, Refusal};
 use session_state::{Caller, Client, State, StepOutput};
 use std::alloc::Global;
-use windows::is_window_size;
+use windows::{Writing, is_window_size};
 
 /// `title`: gives a window another title.
 pub fn title(
@@ -45,57 +46,33 @@ pub fn number(
     Ok(None)
 }
 
-/// `clear`: erases a window's page, and moves its cursor home.
-pub fn clear(
-    state: &mut State,
-    window: u32,
-    made: &mut StepOutput,
-) -> Result<Option<Bytes>, Refusal>
-    requires { HasRoomToAct made.old }
-    ensures answer { DoesOn window command.Clear state.old result state.new made.old made.new }
-    ensures silent { IsSilent result state.old state.new made.old made.new }
+/// What a command writes to its window.
+fn writing_of(command: &Command) -> Writing
+    requires { writes command.now ≡ true }
+    ensures { writing_in result ≡ writing_of command.now }
 {
-    state.windows.clear(window)?;
-    Ok(None)
-}
-
-/// `reset`: gives a window's terminal the state that it began with.
-pub fn reset(
-    state: &mut State,
-    window: u32,
-    made: &mut StepOutput,
-) -> Result<Option<Bytes>, Refusal>
-    requires { HasRoomToAct made.old }
-    ensures answer { DoesOn window command.Reset state.old result state.new made.old made.new }
-    ensures silent { IsSilent result state.old state.new made.old made.new }
-{
-    state.windows.reset(window)?;
-    Ok(None)
-}
-
-/// The coding of a window's bytes, by the one that a command names.
-fn coding_of(coding: Coding) -> charsets::Coding
-    ensures { result ≡ coding_of coding }
-{
-    match coding {
-        Coding::Utf8 => charsets::Coding::Utf8,
-        Coding::Ecma35 => charsets::Coding::Ecma35,
+    match command {
+        Command::Clear => Writing::Clear,
+        Command::Reset => Writing::Reset,
+        Command::Encoding(Coding::Utf8) => Writing::Encoding(charsets::Coding::Utf8),
+        Command::Encoding(Coding::Ecma35) => Writing::Encoding(charsets::Coding::Ecma35),
+        _ => unreachable!(),
     }
 }
 
-/// `encoding`: a window's bytes are read in this coding from now on.
-pub fn encoding(
+/// `clear`, `reset` and `encoding`: writes to a window, as if its program had.
+pub fn write(
     state: &mut State,
     window: u32,
-    coding: Coding,
+    command: &Command,
     made: &mut StepOutput,
 ) -> Result<Option<Bytes>, Refusal>
-    requires { HasRoomToAct made.old }
-    ensures answer { DoesOn window (command.Encoding coding) state.old result state.new
-        made.old made.new }
+    requires room { HasRoomToAct made.old }
+    requires writes { writes command.now ≡ true }
+    ensures answer { DoesOn window command.now state.old result state.new made.old made.new }
     ensures silent { IsSilent result state.old state.new made.old made.new }
 {
-    state.windows.encode(window, coding_of(coding))?;
+    state.windows.write(window, writing_of(command))?;
     Ok(None)
 }
 

@@ -11,9 +11,9 @@ ghost use Rattle.session_input.specs.Ruled.{Rules};
 use command_lang::{Command, needs_of};
 use session_checks::check_command;
 use session_commands::{
-    acladd, aclchg, acldel, aclgrp, aclgrp_of, aclumask, clear, client_of, defwritelock, detach,
-    displays, encoding, fit, focus, kill, multiuser, next, number, only, other, prev, quit, remove,
-    reset, screen, scrollview, select, split, stuff, title, wall, windows, writelock,
+    acladd, aclchg, acldel, aclgrp, aclgrp_of, aclumask, client_of, defwritelock, detach, displays,
+    fit, focus, kill, multiuser, next, number, only, other, prev, quit, remove, screen, scrollview,
+    select, split, stuff, title, wall, windows, write, writelock,
 };
 use session_model::{Bytes, Refusal};
 use session_state::{Caller, State, Step, StepOutput};
@@ -79,9 +79,9 @@ fn act_on_window(
         Command::Title(text) => title(state, window, text.as_str(), made),
         Command::Number(n) => number(state, window, *n, made),
         Command::Kill => kill(state, window, made),
-        Command::Clear => clear(state, window, made),
-        Command::Reset => reset(state, window, made),
-        Command::Encoding(coding) => encoding(state, window, *coding, made),
+        Command::Clear | Command::Reset | Command::Encoding(_) => write(
+            state, window, command, made,
+        ),
         Command::Stuff(text) => stuff(state, window, text.as_str().as_bytes(), made),
         _ => unreachable!(),
     }

@@ -20,6 +20,7 @@ use Rattle.acl.specs.Commands.{new_acts, names_sets, name_sets, added, group_act
 use Rattle.session_model.specs.Tables.{Tables, Client, row_of, with_row}
 use Rattle.session_model.specs.Deeds.{Deed, acting, listing}
 use Rattle.session_model.specs.Sound.{NumbersDiffer}
+use Rattle.session_laws.proofs.Listing.{is_listing, AllListing, change_list, add_list, group_list, mask_list}
 use Rattle.session_laws.proofs.Lists.{filter_all, all_weaken}
 use Rattle.session_laws.proofs.DifferentNumbers.{serial_of, Differ}
 
@@ -61,76 +62,31 @@ right_aside acts all = all_weaken (λ a. is_right a ≡ true) (λ a. is_aside a 
   one (act.Parted client) is = absurd (cc (is))
   one a is = refl
 
-rights_append : (a b : List Act) → AllRights a → AllRights b → AllRights (a ++ b)
-rights_append [] b p q = q
-rights_append (x ∷ a) b p q = (p.0, rights_append a b p.1 q)
-
-sets_on_rights : (u : UserId) (bits : List BitChange) (o : Object) → AllRights (sets_on u bits o)
-sets_on_rights u [] o = tt
-sets_on_rights u (b ∷ bits) o = (refl, sets_on_rights u bits o)
-
-sets_rights : (u : UserId) (bits : List BitChange) (objects : List Object) → AllRights (sets u bits objects)
-sets_rights u bits [] = tt
-sets_rights u bits (o ∷ objects) = rights_append (sets_on u bits o) (sets u bits objects) (sets_on_rights u bits o)
-    (sets_rights u bits objects)
-
-user_rights : (known : Bool) (u : UserId) (bits : List BitChange) (objects : List Object)
-    → AllRights (user_acts known u bits objects)
-user_rights true u bits objects = sets_rights u bits objects
-user_rights false u bits objects = (refl, sets_rights u bits objects)
-
-name_rights : (users : List UserId) (name : Option UserId) (bits : List BitChange) (objects : List Object)
-    → AllRights (name_acts users name bits objects)
-name_rights users None bits objects = tt
-name_rights users (Some u) bits objects = user_rights (among users u) u bits objects
+-- acts on access lists are acts on rights
+listed_rights : (acts : List Act) → AllListing acts → AllRights acts
+listed_rights acts all = all_weaken (λ a. is_listing a ≡ true) (λ a. is_right a ≡ true) acts one all where
+  one : (a : Act) → is_listing a ≡ true → is_right a ≡ true
+  one (act.Opened by window) is = absurd (cc (is))
+  one (act.Closed window) is = absurd (cc (is))
+  one (act.Attached client user) is = absurd (cc (is))
+  one (act.Parted client) is = absurd (cc (is))
+  one (act.Entered user window) is = absurd (cc (is))
+  one (act.Left user window) is = absurd (cc (is))
+  one a is = refl
 
 pub change_rights : (users : List UserId) (names : List (Option UserId)) (bits : List BitChange) (objects : List Object)
     → AllRights (change_acts users names bits objects)
-change_rights users [] bits objects = tt
-change_rights users (name ∷ names) bits objects =
-    rights_append (name_acts users name bits objects) (change_acts (with_name users name) names bits objects)
-    (name_rights users name bits objects) (change_rights (with_name users name) names bits objects)
-
-new_rights : (users : List UserId) (name : Option UserId) → AllRights (new_acts users name)
-new_rights users None = tt
-new_rights users (Some u) = on (among users u) where
-  on : (b : Bool) → AllRights (if b then [] else act.Known u ∷ [])
-  on true = tt
-  on false = (refl, tt)
-
-known_rights : (users : List UserId) (names : List (Option UserId)) → AllRights (known_acts users names)
-known_rights users [] = tt
-known_rights users (name ∷ names) = rights_append (new_acts users name) (known_acts (with_name users name) names)
-    (new_rights users name) (known_rights (with_name users name) names)
-
-name_sets_rights : (bits : List BitChange) (objects : List Object) (name : Option UserId)
-    → AllRights (name_sets bits objects name)
-name_sets_rights bits objects None = tt
-name_sets_rights bits objects (Some u) = sets_rights u bits objects
-
-names_sets_rights : (objects : List Object) (names : List (Option UserId)) → AllRights (names_sets objects names)
-names_sets_rights objects [] = tt
-names_sets_rights objects (name ∷ names) = rights_append (name_sets added objects name) (names_sets objects names)
-    (name_sets_rights added objects name) (names_sets_rights objects names)
+change_rights users names bits objects = listed_rights _ (change_list users names bits objects)
 
 pub add_rights : (users : List UserId) (names : List (Option UserId)) (objects : List Object)
     → AllRights (add_acts users names objects)
-add_rights users names objects = rights_append (known_acts users names) (names_sets objects names)
-    (known_rights users names) (names_sets_rights objects names)
+add_rights users names objects = listed_rights _ (add_list users names objects)
 
 pub group_rights : (name : Option UserId) (leader : NewLeader) → AllRights (group_acts name leader)
-group_rights None leader = tt
-group_rights (Some u) leader = (refl, tt)
-
-scope_rights : (by : UserId) (s : MaskScope) (bit : Bit) (value : Bool) → AllRights (scope_acts by s bit value)
-scope_rights by (scope.Preset kind) bit value = (refl, tt)
-scope_rights by (scope.User None) bit value = tt
-scope_rights by (scope.User (Some u)) bit value = (refl, tt)
+group_rights name leader = listed_rights _ (group_list name leader)
 
 pub mask_rights : (by : UserId) (entries : List MaskEntry) → AllRights (mask_acts by entries)
-mask_rights by [] = tt
-mask_rights by (e ∷ entries) = rights_append (scope_acts by e.scope e.bit e.value) (mask_acts by entries)
-    (scope_rights by e.scope e.bit e.value) (mask_rights by entries)
+mask_rights by entries = listed_rights _ (mask_list by entries)
 
 -- ---- what a command moves
 

@@ -10,6 +10,9 @@ use Rattle.terminal_model.proofs.DrawableScreens.{drawable-starting}
 use Rattle.terminal_model.proofs.DrawableTerminals.{drawable-writes_all}
 use Rattle.emulator.specs.Standing as emulator
 use Rattle.emulator.specs.Standing.{Parts}
+use Rattle.emulator.specs.Commanded.{writing_in}
+use Rattle.emulator.specs.declared.writing.Writing.{Writing as Commanded}
+use Rattle.emulator.specs.declared.writing.Writing.TheVariants.{Clear, Reset, Encoding}
 use Rattle.windows_model.specs.Table as model
 use Rattle.windows_model.specs.Terminals.{terminal_of}
 use Rattle.windows_model.specs.Naming.{is_title}
@@ -96,3 +99,9 @@ stands_retitled m w new title st serial number is same = record {
   stands = subst (λ e. emulator.StandsFor e (terminal_of m)) (sym same) st.stands;
   drawable = st.drawable;
 }
+
+-- what a command writes is no change of size
+pub is_writing : (what : Commanded) → IsWriting (writing_in what)
+is_writing Clear = tt
+is_writing Reset = tt
+is_writing (Encoding coding) = tt

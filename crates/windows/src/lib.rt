@@ -7,6 +7,7 @@ mod titles;
 mod window;
 mod windows;
 
+pub use emulator::Writing;
 pub use titles::is_title;
 pub use window::{Window, WindowSize, is_window_size};
 pub use windows::Windows;

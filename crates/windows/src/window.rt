@@ -1,13 +1,12 @@
 //! One window.
 
 ghost use Rattle.std.specs.Prelude.{◌≡◌, true, IfOk, IfErr, OnOk, OnErr};
-ghost use Rattle.terminal_model.specs.Writing.{Clear, Reset, Encoding};
+ghost use Rattle.emulator.specs.Commanded.{writing_in};
 ghost use Rattle.windows_model.specs.Table.{is_window_size};
 
 use crate::titles::is_title;
 use cells::Cell;
-use charsets::Coding;
-use emulator::Emulator;
+use emulator::{Emulator, Writing};
 use std::alloc::{AllocError, Global};
 use terminal_model::REPORT_BYTES;
 use windows_model::{Serial, WindowsFault};
@@ -129,28 +128,12 @@ impl Window {
         Ok(())
     }
 
-    /// Erases the window's page and moves the cursor home.
-    pub(crate) fn clear(&mut self)
-        ensures writes { Writes Clear self.old self.new }
+    /// Writes what a command writes to the window's terminal.
+    pub(crate) fn write(&mut self, what: Writing)
+        ensures writes { Writes (writing_in what) self.old self.new }
         ensures name { KeepsName self.old self.new }
     {
-        self.emulator.clear();
-    }
-
-    /// Resets the window's terminal to its starting values.
-    pub(crate) fn reset(&mut self)
-        ensures writes { Writes Reset self.old self.new }
-        ensures name { KeepsName self.old self.new }
-    {
-        self.emulator.reset();
-    }
-
-    /// Sets the coding in which the window reads from now on.
-    pub(crate) fn encode(&mut self, coding: Coding)
-        ensures writes { Writes (Encoding coding) self.old self.new }
-        ensures name { KeepsName self.old self.new }
-    {
-        self.emulator.set_encoding(coding);
+        self.emulator.write(what);
     }
 
     /// The lines of the page, moved back by `back` kept lines, or by all if there are fewer.

@@ -2,13 +2,13 @@
 
 ghost use Rattle.std.specs.Prelude.{◌≡◌, List, [], true, Some, length, option_copied};
 ghost use Rattle.std.specs.Prelude.{IfOk, IfSome, OnOk, OnErr};
-ghost use Rattle.terminal_model.specs.Writing.{Clear, Reset, Encoding};
+ghost use Rattle.emulator.specs.Commanded.{writing_in};
 
 use crate::among::{Among, End, nearest};
 use crate::numbers::{first_free, is_above, is_taken, numbered, numbered_by};
 use crate::titles::is_title;
 use crate::window::{Window, WindowSize};
-use charsets::Coding;
+use emulator::Writing;
 use std::alloc::Global;
 use std::marker::Model;
 use windows_model::{Rows, WindowsFault};
@@ -263,45 +263,16 @@ impl Windows {
         window.resize(rows, columns)
     }
 
-    /// Erases the page of the window with this serial, and moves its cursor home. Error:
-    /// `NoSuchWindow`.
-    pub fn clear(&mut self, serial: u32) -> Result<(), WindowsFault>
-        ensures answer { Answers (written_in serial Clear) self.old result self.new }
+    /// Writes what a command writes to the window with this serial. Error: `NoSuchWindow`.
+    pub fn write(&mut self, serial: u32, what: Writing) -> Result<(), WindowsFault>
+        ensures answer { Answers (written_in serial (writing_in what)) self.old result self.new }
         ensures alone { WritesRow serial self.old self.new }
         ensures err { OnErr result (self.new ≡ self.old) }
     {
         let Some(window) = self.rows.get_mut(serial) else {
             return Err(WindowsFault::NoSuchWindow);
         };
-        window.clear();
-        Ok(())
-    }
-
-    /// Resets the terminal of the window with this serial to its starting values. Error:
-    /// `NoSuchWindow`.
-    pub fn reset(&mut self, serial: u32) -> Result<(), WindowsFault>
-        ensures answer { Answers (written_in serial Reset) self.old result self.new }
-        ensures alone { WritesRow serial self.old self.new }
-        ensures err { OnErr result (self.new ≡ self.old) }
-    {
-        let Some(window) = self.rows.get_mut(serial) else {
-            return Err(WindowsFault::NoSuchWindow);
-        };
-        window.reset();
-        Ok(())
-    }
-
-    /// Sets the coding in which the window with this serial reads from now on. Error:
-    /// `NoSuchWindow`.
-    pub fn encode(&mut self, serial: u32, coding: Coding) -> Result<(), WindowsFault>
-        ensures answer { Answers (written_in serial (Encoding coding)) self.old result self.new }
-        ensures alone { WritesRow serial self.old self.new }
-        ensures err { OnErr result (self.new ≡ self.old) }
-    {
-        let Some(window) = self.rows.get_mut(serial) else {
-            return Err(WindowsFault::NoSuchWindow);
-        };
-        window.encode(coding);
+        window.write(what);
         Ok(())
     }
 }

@@ -1,47 +1,47 @@
 use Rattle.std.proofs.Common.{subst, refl}
 use Rattle.windows.specs.Rows.{AreRows}
 use Rattle.windows.proofs.Rows.{row_writes, rows_written}
-use Rattle.terminal_model.specs.Writing.{Reset}
+use Rattle.emulator.specs.Commanded.{writing_in}
 use Rattle.windows.specs.declared.window.Window.{Window}
 use Rattle.windows.specs.Standing.{written, written_to}
 use Rattle.windows.proofs.Answering.{lent, not_lent, put_back, row_changed, row_missing}
-use Rattle.windows.proofs.windows.Windows.reset.Goals as goal
+use Rattle.windows.proofs.windows.Windows.write.Goals as goal
 
 pub returns-in_default-clause-answer : goal.returns-in_default-clause-answer
 returns-in_default-clause-answer c =
-    row_missing (Unit {0}) c.args.self.now c.args.self.now c.args.serial (written Reset) (
+    row_missing (Unit {0}) c.args.self.now c.args.self.now c.args.serial (written (writing_in c.args.what)) (
     not_lent c.get_mut.result c.self.inside.rows c.args.self.now c.args.serial c.in_default.is c.get_mut.ensures.value
     c.self.view_is)
 
 pub returns-clause-answer : goal.returns-clause-answer
 returns-clause-answer c =
-    let made : Window = c.reset.new.self in
+    let made : Window = c.write.new.self in
     let at = lent c.get_mut.result c.in-Some.window c.self.inside.rows c.args.self.now c.args.serial c.in-Some.is
     c.get_mut.ensures.value c.self.view_is in
     let put = put_back c.get_mut.result c.in-Some.window c.self.inside.rows c.args.self.now
     (c.get_mut.follows.lender made) c.args.serial made c.in-Some.is (c.get_mut.follows.holds made) c.self.view_is in
-    row_changed c.args.self.now (c.get_mut.follows.lender made) c.args.serial (written Reset) c.in-Some.window.now made
+    row_changed c.args.self.now (c.get_mut.follows.lender made) c.args.serial (written (writing_in c.args.what)) c.in-Some.window.now made
     at (tt {0}) put
-    (λ m st. (written_to Reset m, refl, c.reset.ensures.writes m st))
+    (λ m st. (written_to (writing_in c.args.what) m, refl, c.write.ensures.writes m st))
 
 pub returns-clause-alone : goal.returns-clause-alone
 returns-clause-alone c =
-    let made : Window = c.reset.new.self in
+    let made : Window = c.write.new.self in
     let at = lent c.get_mut.result c.in-Some.window c.self.inside.rows c.args.self.now c.args.serial c.in-Some.is
     c.get_mut.ensures.value c.self.view_is in
     let put = put_back c.get_mut.result c.in-Some.window c.self.inside.rows c.args.self.now
     (c.get_mut.follows.lender made) c.args.serial made c.in-Some.is (c.get_mut.follows.holds made) c.self.view_is in
     row_writes c.args.self.now (c.get_mut.follows.lender made) c.args.serial c.in-Some.window.now made at put
-    c.reset.ensures.name
+    c.write.ensures.name
 
 pub invariant_of-self-2 : goal.invariant_of-self-2
 invariant_of-self-2 c =
-    let made : Window = c.reset.new.self in
+    let made : Window = c.write.new.self in
     let at = lent c.get_mut.result c.in-Some.window c.self.inside.rows c.args.self.now c.args.serial c.in-Some.is
     c.get_mut.ensures.value c.self.view_is in
     let put = put_back c.get_mut.result c.in-Some.window c.self.inside.rows c.args.self.now
     (c.get_mut.follows.lender made) c.args.serial made c.in-Some.is (c.get_mut.follows.holds made) c.self.view_is in
     rows_written c.args.self.now (c.get_mut.follows.lender made) c.args.serial
     (row_writes c.args.self.now (c.get_mut.follows.lender made) c.args.serial c.in-Some.window.now made at put
-    c.reset.ensures.name)
+    c.write.ensures.name)
     (subst AreRows c.self.view_is c.self.invariant)

@@ -1,8 +1,0 @@
-use Rattle.windows_model.specs.Terminals.{terminal_of}
-use Rattle.terminal_model.specs.Writing.{Reset}
-use Rattle.windows.proofs.Writings.{stands_written}
-use Rattle.windows.proofs.window.Window.reset.Goals as goal
-
-pub returns-clause-writes : goal.returns-clause-writes
-returns-clause-writes c = λ m st. stands_written m c.args.self.now c.reset.new.self Reset tt st
-    (c.reset.ensures (terminal_of m) st.stands)
