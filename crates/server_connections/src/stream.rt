@@ -105,7 +105,11 @@ impl<S: Read + Write + Drop> Peer<S> {
         let is_much = count == buffer.len();
         self.inbox.typed.note_read(now, is_much);
         self.feed(&buffer[..count], self.may_have_more(is_much));
-        if is_much { Arrival::Much } else { Arrival::Some }
+        if is_much {
+            Arrival::Much
+        } else {
+            Arrival::Some
+        }
     }
 
     // Makes one write of what waits, or closes a connection that is to go once all is written. Returns

@@ -127,7 +127,10 @@ impl<S: Read + Write + Drop, G: Gate + Drop, J: SessionSeat + Drop> Loop<S, G, J
     // What is closed goes, and what has nothing to do rests. If it was a guest, its user may have
     // another one. Windows become full or aren't any more.
     fn settle(&mut self, rt: &impl Wait, key: usize) {
-        let news = self.connections.touch(key).and_then(|peer| peer.take_fullness());
+        let news = self
+            .connections
+            .touch(key)
+            .and_then(|peer| peer.take_fullness());
         if let Some((window, is_full)) = news {
             self.seat.set_full(rt, window, is_full);
         }

@@ -36,7 +36,11 @@ impl Typists {
 
     /// So many bytes were written: frames that were begun aren't kept any more.
     pub fn forget_begun(&mut self, written: usize) {
-        if self.frames.first().is_some_and(|frame| frame.from < written) {
+        if self
+            .frames
+            .first()
+            .is_some_and(|frame| frame.from < written)
+        {
             self.frames.retain(|frame| frame.from >= written);
         }
     }

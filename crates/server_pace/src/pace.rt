@@ -1,5 +1,9 @@
 //! When a loop's draws wait, and how long it sleeps.
 
+ghost use Rattle.std.specs.Prelude.{◌≡◌, ◌⊎◌, ◌+◌, ◌<◌, ◌≤◌, IfSome, IsSome, IsSomeAnd, Some, None, true};
+ghost use Rattle.std.specs.Prelude.{is_some};
+ghost use Rattle.std.specs.Duration.{as_nanos};
+
 use std::sync::atomic::{AtomicU64, Ordering};
 use std::time::Duration;
 
@@ -27,6 +31,7 @@ pub struct Pace {
     since: Option<Duration>,
     // How long they wait at most, from the last turn on.
     left: Duration,
+    ghost within: { as_nanos left ≤ 20000000 },
 }
 
 // This time, if it is less than `LULL` ago. Without a clock it is over.
@@ -62,7 +67,10 @@ impl Pace {
 
     /// How long the loop sleeps at most if no event comes. Draws that wait are asked for in time. A
     /// loop to which much comes doesn't wake the others for output, so these look by themselves.
-    pub fn longest_sleep(&self, busy: &AtomicU64) -> Option<Duration> {
+    pub fn longest_sleep(&self, busy: &AtomicU64) -> Option<Duration>
+        // While draws wait, it sleeps at most 20 milliseconds.
+        ensures { IsSome self.now.since → IsSomeAnd result (λ d. as_nanos d ≤ 20000000) }
+    {
         if self.expects_more() {
             Some(Duration::from_millis(LULL))
         } else if self.since.is_some() {
@@ -104,7 +112,16 @@ impl Pace {
     /// Whether the draws of this turn are to wait: while much comes to a loop, after keys were typed,
     /// whose echo may come at once, and after a crowd was drawn, during which more may have come.
     /// Without a clock they don't wait.
-    pub fn holds(&mut self, busy: &AtomicU64, now: Option<Duration>, awaits_echo: bool) -> bool {
+    pub fn holds(&mut self, busy: &AtomicU64, now: Option<Duration>, awaits_echo: bool) -> bool
+        // They wait exactly if it is known since when.
+        ensures held { result ≡ is_some self.new.since }
+        // They wait for less than 20 milliseconds, by the clock.
+        ensures bound { result ≡ true → IsSomeAnd self.new.since (λ since. IsSomeAnd now (λ at.
+            as_nanos at < as_nanos since + 20000000)) }
+        // They wait since they waited before, or if they didn't, since now.
+        ensures since { IfSome self.new.since (λ since. (self.old.since ≡ Some since)
+            ⊎ ((self.old.since ≡ None) × (now ≡ Some since))) }
+    {
         self.awaits_echo = awaits_echo;
         self.drawn = lately(self.drawn, now);
         let is_much = awaits_echo || self.drawn.is_some() || 0 < busy.load(Ordering::SeqCst);
