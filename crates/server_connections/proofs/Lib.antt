@@ -1,3 +1,4 @@
 mod Looking
 mod Marking
+mod Standing
 mod Walking

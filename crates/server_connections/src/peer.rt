@@ -150,7 +150,7 @@ pub struct Peer<S> {
 impl<S: Drop> Peer<S> {
     /// A new connection, which may have sent something already. The room for its last frame is
     /// reserved.
-    #[tactic(auto, using(server_inbox::proofs::Asking::starts))]
+    #[tactic(auto, using(crate::proofs::Standing::newly))]
     pub fn new(alloc: Global, stream: S, number: u64, is_extra: bool) -> Result<Peer<S>, AllocError>
         ensures newcomer { IfOk result (IsNewcomer stream number is_extra) }
         // Nothing was read from it, and nothing is to be done.

@@ -1,11 +1,11 @@
 //! Reads and writes of one connection.
 
-ghost use Rattle.std.specs.Prelude.{◌≡◌, ◌≤◌, ◌++◌, ◌∷◌, ℕ, List, Some, None, IfSome, false, length, take, true};
+ghost use Rattle.std.specs.Prelude.{◌≡◌, ◌≤◌, ◌++◌, ◌∷◌, ℕ, List, [], Some, None, IfSome, false, length, take, true};
 ghost use Rattle.std.specs.Io.KnownBytes.{Consumes};
 ghost use Rattle.attach_proto.specs.declared.message.Message.{Message};
 ghost use Rattle.server_connections.specs.Peers.{is_open};
 ghost use Rattle.server_connections.specs.Streaming.{IsIdle, IsWrittenTo, rest_of};
-ghost use Rattle.server_inbox.specs.Asking.{IsWhole, Stands, is_taken};
+ghost use Rattle.server_inbox.specs.Asking.{IsWhole, Stands};
 
 use crate::peer::{Peer, Role, Stage};
 use server_inbox::Asked;
@@ -29,7 +29,7 @@ impl<S: Read + Write + Drop> Peer<S> {
     // output comes in long frames, so all of its messages are made at once.
     fn feed(&mut self, bytes: &[u8], has_more: bool)
         ensures stands { (taken : List Message) (stream : List ℕ)
-            → is_taken self.old.inbox ≡ true → self.old.inbox.is_broken ≡ false
+            → self.old.inbox.messages.items ≡ [] → self.old.inbox.is_broken ≡ false
             → Stands self.old.inbox self.old.reader taken stream
             → IsWhole self.new.inbox self.new.reader
             → Stands self.new.inbox self.new.reader taken (stream ++ bytes.now) }
@@ -76,12 +76,25 @@ impl<S: Read + Write + Drop> Peer<S> {
         is_much || self.has_hung_up || self.role.is_stranger()
     }
 
+    // A read brought no byte.
+    fn note_none(&mut self, now: u64, arrival: Arrival)
+        ensures { self.new ≡ record self.old {
+          has_more = self.new.has_more;
+          inbox = record self.old.inbox { typed = self.new.inbox.typed };
+        } }
+    {
+        self.has_more = arrival == Arrival::Some;
+        if arrival == Arrival::Nothing {
+            self.inbox.typed.note_read(now, false);
+        }
+    }
+
     /// Reads once, if the connection is open and may be read at this time in milliseconds. If fewer
     /// bytes came than the buffer takes, nothing is left for now; but if the other end was closed, the end
     /// comes after them.
     pub fn read(&mut self, buffer: &mut [u8], now: u64) -> Arrival
         // What was read is taken in after all that was read before.
-        ensures { (piece : List ℕ)
+        ensures bytes { (piece : List ℕ)
             × Consumes (rest_of S.remaining self.old.stream) (rest_of S.remaining self.new.stream) piece
             × ((taken : List Message) (stream : List ℕ)
             → Stands self.old.inbox self.old.reader taken stream
@@ -96,15 +109,13 @@ impl<S: Read + Write + Drop> Peer<S> {
         };
         let (count, arrival) = read_from(stream, buffer);
         if count == 0 {
-            self.has_more = arrival == Arrival::Some;
-            if arrival == Arrival::Nothing {
-                self.inbox.typed.note_read(now, false);
-            }
+            self.note_none(now, arrival);
             return arrival;
         }
         let is_much = count == buffer.len();
         self.inbox.typed.note_read(now, is_much);
-        self.feed(&buffer[..count], self.may_have_more(is_much));
+        let has_more = self.may_have_more(is_much);
+        self.feed(&buffer[..count], has_more);
         if is_much {
             Arrival::Much
         } else {

@@ -1,5 +1,5 @@
 -- How what is to be done for a connection stands to the bytes that were read from it.
-use Rattle.std.specs.Prelude.{◌≡◌, ◌==◌, ◌&&◌, ℕ, Bool, true, false, List, [], ◌++◌, drop, reverse, Option, Some, None}
+use Rattle.std.specs.Prelude.{◌≡◌, ◌==◌, ◌&&◌, ℕ, Bool, true, false, List, [], ◌++◌, drop, reverse, None}
 use Rattle.std.specs.Prelude.{is_none, vec_len}
 use Rattle.attach_proto.specs.Streams.{HasRead, Reading}
 use Rattle.attach_proto.specs.declared.message.Message.{Message}

@@ -1,11 +1,10 @@
 //! Messages that were read and aren't done yet.
 
-ghost use Rattle.std.specs.Prelude.{◌≡◌, ◌&&◌, ◌++◌, ◌∷◌, ◌≤◌, ◌<◌, ℕ, List, [], Some, None, false, true};
-ghost use Rattle.std.specs.Prelude.{IfOk, IfSome, OnOk, drop, is_some, length, not};
+ghost use Rattle.std.specs.Prelude.{◌≡◌, ◌&&◌, ◌++◌, ◌∷◌, ◌<◌, ℕ, List, [], Some, None, false, true};
+ghost use Rattle.std.specs.Prelude.{IfSome, OnOk, drop, is_some, length, not};
 ghost use Rattle.attach_proto.specs.declared.message.Message.{Message as Told};
 ghost use Rattle.server_inbox.specs.Asking.{IsThrough, IsWhole, Lies, Stands, is_empty, is_taken};
-ghost use Rattle.server_inbox.specs.Gathering.{sized_all, typed_all};
-ghost use Rattle.server_typing.specs.Typed.{expired, may_read};
+ghost use Rattle.server_typing.specs.Typed.{may_read};
 
 use crate::asked::Asked;
 use attach_proto::{Message, Reader};

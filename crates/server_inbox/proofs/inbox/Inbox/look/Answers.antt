@@ -1,4 +1,3 @@
-use Rattle.std.proofs.Common.{◌≡◌, ◌∙◌, sym, ap, List, ℕ}
 use Rattle.std.specs.Prelude.{drop}
 use Rattle.server_inbox.proofs.Asking.{fed_whole}
 use Rattle.server_inbox.proofs.inbox.Inbox.look.Goals as goal

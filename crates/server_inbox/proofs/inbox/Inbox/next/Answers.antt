@@ -1,4 +1,4 @@
-use Rattle.std.proofs.Common.{◌≡◌, ◌∙◌, ◌∷◌, ◌++◌, [], ap, refl}
+use Rattle.std.proofs.Common.{◌∙◌, ◌∷◌, ◌++◌, [], ap, refl}
 use Rattle.std.specs.Prelude.{option_to_list}
 use Rattle.server_inbox.proofs.Asking.{popped}
 use Rattle.server_inbox.proofs.inbox.Inbox.next.Goals as goal

@@ -1,4 +1,4 @@
-use Rattle.std.proofs.Common.{◌≡◌, ◌∙◌, ◌++◌, [], List, ℕ, sym, subst}
+use Rattle.std.proofs.Common.{◌≡◌, ◌++◌, [], List, ℕ, sym, subst}
 use Rattle.std.specs.Prelude.{drop}
 use Rattle.server_inbox.specs.Asking.{HasTaken, Lies}
 use Rattle.server_inbox.specs.declared.inbox.Inbox.{Inbox}
