@@ -25,7 +25,7 @@ const MOST_UNSENT: usize = 1_048_576;
 // If more bytes wait for a window, what is typed into it has to wait until fewer than half of them do.
 const FULL: usize = 262_144;
 
-// The same of frames that were typed.
+// More frames than these that were typed do the same, however short they are.
 const MOST_FRAMES: usize = 4_096;
 
 // A connection has this many seconds for its first message, and again to read its last frame.

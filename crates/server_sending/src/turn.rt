@@ -65,7 +65,7 @@ impl Model for Turn {
 fn cut(bytes: &mut Vec<u8>, from: usize, count: usize)
     ensures cut { from + count ≤ vec_len bytes.old
         → bytes.new.items ≡ take from bytes.old.items ++ drop (from + count) bytes.old.items }
-    ensures stays { from ≤ vec_len bytes.old → from ≤ vec_len bytes.new }
+    ensures stays { (n : ℕ) → n ≤ from → n ≤ vec_len bytes.old → n ≤ vec_len bytes.new }
     ensures len { vec_len bytes.new ≤ vec_len bytes.old }
     ensures room { vec_capacity bytes.new ≡ vec_capacity bytes.old }
 {
@@ -192,17 +192,29 @@ impl Turn {
         self.typists.len()
     }
 
+    // Takes out the first frame that a client typed and of which nothing was written. Returns whether there
+    // was one.
+    fn drop_first_of(&mut self, client: u32) -> bool
+        ensures same { self.new ≡ record self.old { unsent = self.new.unsent } }
+        ensures less { length self.new.unsent ≤ length self.old.unsent }
+    {
+        let Some((from, len)) = self.typists.take_first_of(client) else {
+            return false;
+        };
+        let place = from.saturating_sub(self.written);
+        cut(&mut self.bytes, self.sent.saturating_add(place), len);
+        true
+    }
+
     /// Takes out the frames that a client typed and of which nothing was written.
     pub fn drop_typed(&mut self, client: u32)
         ensures same { self.new ≡ record self.old { unsent = self.new.unsent } }
         ensures less { length self.new.unsent ≤ length self.old.unsent }
     {
-        'frames: for _ in 0..self.typists.len() {
-            let Some((from, len)) = self.typists.take_first_of(client) else {
+        'frames: for _ in 0..self.typed_frames() {
+            if !self.drop_first_of(client) {
                 return;
-            };
-            let place = from.saturating_sub(self.written);
-            cut(&mut self.bytes, self.sent.saturating_add(place), len);
+            }
         }
     }
 
