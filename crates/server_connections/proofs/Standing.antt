@@ -1,6 +1,7 @@
 -- A connection that read nothing, or nothing more.
 use Rattle.std.proofs.Common.{◌≡◌, ◌++◌, [], List, ℕ, Option, Some, None, refl, subst, sym, append-nil}
-use Rattle.std.specs.Prelude.{false}
+use Rattle.std.proofs.lemmas.Bool.{and_parts, false≢true}
+use Rattle.std.specs.Prelude.{Bool, true, false, not, ◌&&◌}
 use Rattle.std.specs.Io.KnownBytes.{Consumes}
 use Rattle.attach_proto.specs.Streams.{HasRead, Reading}
 use Rattle.attach_proto.specs.declared.message.Message.{Message}
@@ -30,3 +31,11 @@ quiet inbox r taken stream h =
 pub none_read : (known : Option (List ℕ)) → Consumes known known []
 none_read None = tt
 none_read (Some xs) = refl
+
+not_so : (b : Bool) → not b ≡ true → b ≡ false
+not_so true e = absurd (false≢true e)
+not_so false e = refl
+
+-- if there is more to read, no byte was wrong
+pub unbroken : (more broken : Bool) → (more && not broken) ≡ true → broken ≡ false
+unbroken more broken e = not_so broken (and_parts more (not broken) e).1
