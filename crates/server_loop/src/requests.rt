@@ -87,8 +87,8 @@ impl<S: Read + Write + Drop, G: Gate + Drop, J: SessionSeat + Drop> Loop<S, G, J
         }
     }
 
-    // The user of this name who showed this token, if it is theirs.
-    fn user_of(&self, name: &Text, token: &Token) -> Option<Shown>
+    /// The user of this name who showed this token, if it is theirs.
+    pub fn user_of(&self, name: &Text, token: &Token) -> Option<Shown>
         ensures shown { IfSome result (λ shown. (name_of shown.user ≡ name.now)
             × Contains (unwrap_or self.entry.now.users (J.known self.entry.now.seat))
             (record { name = name.now; token = token.now })) }
