@@ -5,7 +5,7 @@ use Rattle.std.specs.Prelude.{Bool, true, false, not, ◌&&◌}
 use Rattle.std.specs.Io.KnownBytes.{Consumes}
 use Rattle.attach_proto.specs.Streams.{HasRead, Reading}
 use Rattle.attach_proto.specs.declared.message.Message.{Message}
-use Rattle.server_inbox.specs.Asking.{Lies, Stands}
+use Rattle.server_inbox.specs.Asking.{Stands}
 use Rattle.server_inbox.specs.declared.inbox.Inbox.{Inbox}
 use Rattle.server_inbox.proofs.Asking.{starts}
 use Rattle.server_typing.specs.Typed.{Typed}

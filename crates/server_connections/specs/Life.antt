@@ -1,5 +1,5 @@
 -- How a connection ends, what it is told, and when it is drawn.
-use Rattle.std.specs.Prelude.{◌==◌, ◌&&◌, ℕ, Bool, length, Option, Some, None, option_map, if◌then◌else◌}
+use Rattle.std.specs.Prelude.{◌==◌, ◌&&◌, ℕ, length, Option, Some, None, option_map, if◌then◌else◌}
 use Rattle.attach_proto.specs.Spelling.{spelling}
 use Rattle.attach_proto.specs.declared.message.Message.TheVariants as message
 use Rattle.attach_proto.specs.declared.why.Why.{Why}

@@ -1,4 +1,4 @@
-use Rattle.std.proofs.Common.{◌≡◌, ◌∙◌, ap}
+use Rattle.std.proofs.Common.{◌∙◌, ap}
 use Rattle.slab.specs.Slab.{Slab, get}
 use Rattle.server_connections.specs.declared.peer.Peer.{Peer}
 use Rattle.server_connections.proofs.connections.Connections.admit.Goals as goal

@@ -1,5 +1,5 @@
 use Rattle.std.proofs.Common.{◌≡◌, ◌∙◌, ◌++◌, ℕ, List, [], sym, ap, subst, rules}
-use Rattle.std.specs.Prelude.{take, true, false}
+use Rattle.std.specs.Prelude.{take, true}
 use Rattle.std.specs.Io.KnownBytes.{Consumes}
 use Rattle.server_inbox.specs.Asking.{Stands}
 use Rattle.server_connections.specs.declared.peer.Peer.{Peer}
