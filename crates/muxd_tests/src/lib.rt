@@ -8,6 +8,10 @@ mod gate;
 #[cfg(test)]
 mod peer;
 #[cfg(test)]
+mod ready;
+#[cfg(test)]
+mod served;
+#[cfg(test)]
 mod together;
 #[cfg(test)]
 mod turns;

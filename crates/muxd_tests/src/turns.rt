@@ -5,8 +5,7 @@ use crate::frames::{
     QUIT, WALL, WELCOME, WINDOW,
 };
 use crate::gate::{Calls, wait};
-use crate::peer::{Peer, has};
-use std::alloc::Global;
+use crate::peer::{Peer, has, quit};
 use std::io;
 use std::net::Net;
 use std::time::Clock;
@@ -67,15 +66,15 @@ fn is_sent(peers: &mut [Peer], place: usize, bytes: &[u8]) -> io::Result<bool> {
 }
 
 // Whether the event that a turn waits for comes.
-fn take<R: Net + Clock>(
+fn take<R: Net + Clock + AllocGlobal>(
     rt: &R,
-    alloc: Global,
+    socket: &str,
     calls: &Calls,
     peers: &mut Vec<Peer>,
     (place, bytes, until): Turn,
 ) -> io::Result<bool> {
     if place == peers.len() {
-        peers.push(Peer::new(rt, alloc)?)?;
+        peers.push(Peer::new(rt, socket)?)?;
     }
     if let Some(peer) = peers.get_mut(place) {
         peer.send(bytes)?;
@@ -87,14 +86,14 @@ fn take<R: Net + Clock>(
 }
 
 // The first turn whose event doesn't come.
-fn wrong_turn<R: Net + Clock>(
+fn wrong_turn<R: Net + Clock + AllocGlobal>(
     rt: &R,
-    alloc: Global,
+    socket: &str,
     calls: &Calls,
     peers: &mut Vec<Peer>,
 ) -> Option<usize> {
     for (place, turn) in TURNS.iter().enumerate() {
-        match take(rt, alloc, calls, peers, *turn) {
+        match take(rt, socket, calls, peers, *turn) {
             Ok(true) => {}
             _ => return Some(place),
         }
@@ -128,19 +127,16 @@ fn wrong_peer(peers: &mut [Peer]) -> Option<usize> {
     None
 }
 
-// Ends the server.
-fn quit<R: Net + Clock>(rt: &R, alloc: Global) -> io::Result<bool> {
-    let mut peer = Peer::new(rt, alloc)?;
-    peer.send(QUIT)?;
-    peer.is_over()
-}
-
 /// Takes all turns, and ends the server in any case. Returns the number of the first turn that goes
 /// wrong; otherwise that of the first peer that didn't get its bytes, counted on from the turns.
-pub fn first_wrong<R: Net + Clock>(rt: &R, alloc: Global, calls: &Calls) -> Option<usize> {
-    let mut peers = Vec::new(alloc);
-    if let Some(turn) = wrong_turn(rt, alloc, calls, &mut peers) {
-        let _ = quit(rt, alloc);
+pub fn first_wrong<R: Net + Clock + AllocGlobal>(
+    rt: &R,
+    socket: &str,
+    calls: &Calls,
+) -> Option<usize> {
+    let mut peers = Vec::new(rt.alloc());
+    if let Some(turn) = wrong_turn(rt, socket, calls, &mut peers) {
+        let _ = quit(rt, socket);
         return Some(turn);
     }
     match wrong_peer(&mut peers) {

@@ -13,8 +13,8 @@ use std::sync::{Condvar, Mutex, OnceLock, Wait};
 use std::time::Clock;
 use trail_lines::print_line;
 
-// A line is taken as long as at most this number of bytes wait.
-const MOST: usize = 16_777_216;
+/// A line is taken as long as at most this number of bytes wait.
+pub const MOST: usize = 16_777_216;
 
 /// With this number of bytes ready, the writer waits for no more.
 pub const BLOCK: usize = 65_536;
@@ -122,6 +122,11 @@ impl Recorder {
         if is_news {
             self.news.notify_one();
         }
+    }
+
+    /// How many bytes wait for the writer.
+    pub fn waiting(&self, rt: &impl Wait) -> usize {
+        self.waiting.lock(rt).merge.waiting()
     }
 
     /// Why the file can't go on; None as long as it can.
