@@ -6,6 +6,8 @@ mod frames;
 #[cfg(test)]
 mod gate;
 #[cfg(test)]
+mod page;
+#[cfg(test)]
 mod peer;
 #[cfg(test)]
 mod ready;

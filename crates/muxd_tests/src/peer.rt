@@ -1,6 +1,7 @@
 //! One peer's connection.
 
 use crate::frames::QUIT;
+use crate::page::shows_nothing;
 use std::io::{ErrorKind, Read, Write};
 use std::net::Net;
 use std::os::unix::net::UnixStream;
@@ -57,6 +58,20 @@ impl Peer {
     pub fn is_sent(&mut self, bytes: &[u8]) -> io::Result<bool> {
         for _ in 0..TRIES {
             if has(&self.came, bytes) {
+                return Ok(true);
+            }
+            if self.read()? == 0 {
+                break;
+            }
+        }
+        Ok(false)
+    }
+
+    /// Reads until a terminal that shows what the client drew is blank. Returns whether it is.
+    pub fn turns_blank(&mut self) -> io::Result<bool> {
+        let alloc = *self.came.allocator();
+        for _ in 0..TRIES {
+            if shows_nothing(alloc, &self.came)? {
                 return Ok(true);
             }
             if self.read()? == 0 {

@@ -91,6 +91,6 @@ fn a_server_is_ready_once_its_loops_run(rt: HostRuntime) {
     assert!(rt; matches!(quit, Ok(true)));
     assert_eq!(rt; status, 0);
     assert_eq!(rt; output.loops_then, 3);
-    assert!(rt; output.text.as_slice() == b"muxd: ready\n");
+    assert!(rt; output.text.as_slice() == b"muxd: ready\n".as_slice());
     assert!(rt; trail.is_ok());
 }

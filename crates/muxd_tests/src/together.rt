@@ -36,11 +36,11 @@ fn serve_calls<R: Host + Threads + Wait>(
     serve(rt, handles, words, &mut output)
 }
 
-// Whether these are the lines of a trail of 17 entries: ten commands, a window, two clients, and four
-// times that they typed.
+// Whether these are the lines of a trail of 21 entries: ten commands, two windows, two clients, and seven
+// times that they typed: keys that give a command end a time.
 fn is_whole(trail: &[u8]) -> bool {
     trail.starts_with(b"mux-trail 1 2 own ")
-        && has(trail, b"\nend 17 ")
+        && has(trail, b"\nend 21 ")
         && trail.ends_with(b" quit\n")
 }
 

@@ -12,7 +12,7 @@ use std::time::Clock;
 #[derive(Clone, Copy)]
 struct DiskLine<'a> {
     path: &'a str,
-    news: DiskNews<'a>,
+    news: DiskNews,
     waiting: usize,
 }
 
@@ -47,7 +47,7 @@ pub struct DiskLog<'a, R: Clock + Wait> {
 }
 
 impl<R: Clock + Wait> DiskWatch for DiskLog<'_, R> {
-    fn tell(&self, news: DiskNews<'_>) {
+    fn tell(&self, news: DiskNews) {
         let waiting = match news {
             DiskNews::Refuses(_, left) => self.recorder.waiting(self.rt).saturating_add(left),
             _ => 0,

@@ -1,7 +1,6 @@
 //! A trail's file on its disk, and what the disk refuses.
 
-ghost use Rattle.std.specs.Io.{WritesAtMost};
-ghost use Rattle.std.specs.Io.KnownBytes.{Keeps, WriteAppends};
+ghost use Rattle.std.specs.Prelude.{◌≡◌};
 
 use crate::file::TrailFile;
 use std::io::{self, Write};
@@ -11,22 +10,22 @@ const AGAIN: u32 = 60;
 
 /// What becomes of a trail's file while lines are written to it.
 #[derive(Clone, Copy)]
-pub enum DiskNews<'a> {
+pub enum DiskNews {
     /// The disk refuses lines, of which this many bytes are left to write.
-    Refuses(&'a io::Error, usize),
+    Refuses(io::Error, usize),
     /// It takes lines again.
     Resumes,
     /// It refused to sync lines that it had taken.
-    Unsynced(&'a io::Error),
+    Unsynced(io::Error),
 }
 
 /// Is told what becomes of a trail's file.
 pub trait DiskWatch {
-    fn tell(&self, news: DiskNews<'_>);
+    fn tell(&self, news: DiskNews);
 }
 
 /// The refusals in a row, and the error of the last.
-#[derive(Drop)]
+#[derive(Clone, Copy)]
 struct Refusals {
     count: u32,
     error: Option<io::Error>,
@@ -40,18 +39,16 @@ impl Refusals {
         }
     }
 
-    // One more refusal. Returns an error of the same kind.
-    fn add(&mut self, error: io::Error) -> io::Error {
-        let kind = error.kind();
+    // One more refusal.
+    fn add(&mut self, error: io::Error) {
         self.count = self.count.saturating_add(1);
         self.error = Some(error);
-        io::Error::from(kind)
     }
 
     // The error, if the last refusal is news.
-    fn news(&self) -> Option<&io::Error> {
+    fn news(&self) -> Option<io::Error> {
         if self.count % AGAIN == 1 {
-            self.error.as_ref()
+            self.error
         } else {
             None
         }
@@ -79,18 +76,22 @@ impl<F: TrailFile + Drop> Disk<F> {
         }
     }
 
-    /// Takes the error of the last write, if it was refused.
-    pub fn take_refused(&mut self) -> Option<io::Error> {
-        self.writes.error.take()
+    /// The error of the last write, if it was refused.
+    pub fn refused(&self) -> Option<io::Error>
+        ensures { result ≡ self.now.writes.error }
+    {
+        self.writes.error
     }
 
-    /// Takes the error of the last sync that was refused.
-    pub fn take_unsynced(&mut self) -> Option<io::Error> {
-        self.syncs.error.take()
+    /// The error of the last sync that was refused.
+    pub fn unsynced(&self) -> Option<io::Error>
+        ensures { result ≡ self.now.syncs.error }
+    {
+        self.syncs.error
     }
 
     // What is news after a write of this many bytes, before which writes were refused or not.
-    fn news(&self, was_refused: bool, bytes: usize) -> Option<DiskNews<'_>> {
+    fn news(&self, was_refused: bool, bytes: usize) -> Option<DiskNews> {
         match self.writes.news() {
             Some(error) => Some(DiskNews::Refuses(error, bytes)),
             None if was_refused && self.writes.count == 0 => Some(DiskNews::Resumes),
@@ -108,7 +109,10 @@ impl<F: TrailFile + Drop> Write for Disk<F> {
                 self.writes = Refusals::none();
                 Ok(count)
             }
-            Err(error) => Err(self.writes.add(error)),
+            Err(error) => {
+                self.writes.add(error);
+                Err(error)
+            }
         }
     }
 
@@ -119,10 +123,11 @@ impl<F: TrailFile + Drop> Write for Disk<F> {
 
 impl<F: TrailFile + Drop> TrailFile for Disk<F> {
     fn sync(&mut self) -> io::Result<()> {
-        match self.file.sync() {
-            Ok(()) => Ok(()),
-            Err(error) => Err(self.syncs.add(error)),
+        let synced = self.file.sync();
+        if let Err(error) = &synced {
+            self.syncs.add(*error);
         }
+        synced
     }
 }
 

@@ -1,5 +1,8 @@
 //! The file to which a server writes its session's trail.
 
+ghost use Rattle.std.specs.Prelude.{◌≡◌};
+ghost use Rattle.server_trail.specs.Faults.{fault_of, lost_by, read_as, stopped_by};
+
 use crate::disk::{Disk, DiskWatch, WatchedDisk};
 use crate::file::{TrailFile, begin, header_of};
 use crate::reading::is_trail;
@@ -61,24 +64,70 @@ impl JournalFault {
     }
 }
 
-// The fault of a file, from why it had to stop, whether its last line was written, and the error of its last
-// write and of a sync.
+// The fault of a file that had to stop for its disk, from the error of its last write.
+fn stopped_by(refused: Option<io::Error>) -> JournalFault
+    ensures { result ≡ stopped_by refused }
+{
+    match refused {
+        Some(error) => JournalFault::Refused(error),
+        None => JournalFault::TooSlow,
+    }
+}
+
+// The fault of a file that didn't stop, from whether its last line was written, and the errors of its last write
+// and of a sync.
+fn lost_by(
+    is_ended: bool,
+    refused: Option<io::Error>,
+    unsynced: Option<io::Error>,
+) -> Option<JournalFault>
+    ensures { result ≡ lost_by is_ended refused unsynced }
+{
+    if !is_ended {
+        if let Some(error) = refused {
+            return Some(JournalFault::Cut(error));
+        }
+    }
+    match unsynced {
+        Some(error) => Some(JournalFault::Unsynced(error)),
+        None => {
+            if is_ended {
+                None
+            } else {
+                Some(JournalFault::Unended)
+            }
+        }
+    }
+}
+
 fn fault_of(
     stopped: Option<StopCause>,
     is_ended: bool,
     refused: Option<io::Error>,
     unsynced: Option<io::Error>,
-) -> Option<JournalFault> {
-    match (stopped, refused) {
-        (Some(StopCause::Memory), _) => Some(JournalFault::Memory),
-        (Some(StopCause::Disk), Some(error)) => Some(JournalFault::Refused(error)),
-        (Some(StopCause::Disk), None) => Some(JournalFault::TooSlow),
-        (None, Some(error)) if !is_ended => Some(JournalFault::Cut(error)),
-        (None, _) => match unsynced {
-            Some(error) => Some(JournalFault::Unsynced(error)),
-            None if is_ended => None,
-            None => Some(JournalFault::Unended),
-        },
+) -> Option<JournalFault>
+    ensures { result ≡ fault_of stopped is_ended refused unsynced }
+{
+    match stopped {
+        Some(StopCause::Memory) => Some(JournalFault::Memory),
+        Some(StopCause::Disk) => Some(stopped_by(refused)),
+        None => lost_by(is_ended, refused, unsynced),
+    }
+}
+
+// The fault of a file that was read back.
+fn read_as(is_whole: io::Result<bool>) -> Option<JournalFault>
+    ensures { result ≡ read_as is_whole }
+{
+    match is_whole {
+        Ok(is_whole) => {
+            if is_whole {
+                None
+            } else {
+                Some(JournalFault::Differs)
+            }
+        }
+        Err(error) => Some(JournalFault::NotRead(error)),
     }
 }
 
@@ -186,7 +235,7 @@ impl<'a> Journal<'a> {
                 false
             }
         };
-        let (refused, unsynced) = (disk.take_refused(), disk.take_unsynced());
+        let (refused, unsynced) = (disk.refused(), disk.unsynced());
         let mut end = self.end.lock(rt);
         end.fault = fault_of(stopped, is_ended, refused, unsynced);
         end.is_over = true;
@@ -221,11 +270,7 @@ impl<'a> Journal<'a> {
     pub fn compare(&self, rt: &impl Wait, edition: Edition, owner: UserId, entries: &EntryList) {
         let mut end = self.end.lock(rt);
         if end.fault.is_none() {
-            end.fault = match self.is_whole(edition, owner, entries) {
-                Ok(true) => None,
-                Ok(false) => Some(JournalFault::Differs),
-                Err(error) => Some(JournalFault::NotRead(error)),
-            };
+            end.fault = read_as(self.is_whole(edition, owner, entries));
         }
     }
 

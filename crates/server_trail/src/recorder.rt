@@ -1,6 +1,7 @@
 //! Lines on their way to a trail's file: several threads put them down, and one thread writes them.
 
-ghost use Rattle.std.specs.Prelude.{◌≡◌, ◌++◌, ◌∷◌, [], IfOk};
+ghost use Rattle.std.specs.Prelude.{◌≡◌, ◌++◌, ◌∷◌, [], ℕ, List, IfOk, OnOk, OnErr};
+ghost use Rattle.server_trail.specs.Merging.{HasMerged, Placed};
 ghost use Rattle.trail_lines.specs.Entries.{line_of};
 
 use crate::file::time;
@@ -53,7 +54,13 @@ fn line_of(alloc: Global, place: usize, ms: u64, entry: &TrailEntry) -> Result<V
 impl WaitingLines {
     // Puts a line down. The answer is whether the writer must be woken: the first bytes are ready, or as
     // many as it waits for. Bytes that the writer has taken don't wait, however long the disk takes.
-    fn put(&mut self, place: usize, line: Vec<u8>) -> Result<bool, StopCause> {
+    fn put(&mut self, place: usize, line: Vec<u8>) -> Result<bool, StopCause>
+        ensures ok { (put : List Placed) (taken : List ℕ) → HasMerged put taken self.old.merge
+            → OnOk result (HasMerged (put ++ (place, line.items) ∷ []) taken self.new.merge) }
+        ensures err { (put : List Placed) (taken : List ℕ) → HasMerged put taken self.old.merge
+            → OnErr result (HasMerged put taken self.new.merge) }
+        ensures loops { self.new.loops ≡ self.old.loops }
+    {
         if self.merge.waiting() > MOST {
             return Err(StopCause::Disk);
         }
