@@ -5,7 +5,7 @@ use crate::loop_handle::{LoopHandle, Shared, start_watching};
 use crate::loops::Server;
 use crate::places::places;
 use acl::UserId;
-use clap::ArgMatches;
+use clap::{ArgMatches, Error};
 use mio::net::UnixListener;
 use program_words::{of_server, tell};
 use server_loop::{Gate, Open};
@@ -64,6 +64,19 @@ impl<'a> Options<'a> {
     }
 }
 
+// Tells what is wrong with the arguments, or what `--help` and `--version` ask for. Returns the status to exit with.
+fn refuse<O: Write, E: Write>(error: &Error, output: &mut O, errors: &mut E) -> u8 {
+    let is_asked = !error.use_stderr();
+    if !is_asked {
+        let _ = write!(errors, "muxd: ");
+    }
+    let status = tell(error, output, errors);
+    if is_asked && status != 0 {
+        let _ = writeln!(errors, "muxd: can't write to standard output");
+    }
+    status
+}
+
 // What the arguments ask for, or the status to exit with if they are invalid.
 fn options_of<'a, O: Write, E: Write>(
     alloc: Global,
@@ -73,12 +86,7 @@ fn options_of<'a, O: Write, E: Write>(
 ) -> Result<Options<'a>, u8> {
     match of_server(alloc, words) {
         Ok(matches) => Ok(Options::of(&matches)),
-        Err(error) => {
-            if error.use_stderr() {
-                let _ = write!(errors, "muxd: ");
-            }
-            Err(tell(&error, output, errors))
-        }
+        Err(error) => Err(refuse(&error, output, errors)),
     }
 }
 
