@@ -51,9 +51,15 @@ fn line_of(alloc: Global, place: usize, ms: u64, entry: &TrailEntry) -> Result<V
     Ok(line)
 }
 
+// Whether the writer must be woken after a line, before which this many bytes were ready: the first
+// bytes are ready, or as many as it waits for.
+fn is_news(before: usize, ready: usize) -> bool {
+    (before == 0 && ready > 0) || (before < BLOCK && ready >= BLOCK)
+}
+
 impl WaitingLines {
-    // Puts a line down. The answer is whether the writer must be woken: the first bytes are ready, or as
-    // many as it waits for. Bytes that the writer has taken don't wait, however long the disk takes.
+    // Puts a line down. Returns whether the writer must be woken. Bytes that the writer has taken don't
+    // wait, however long the disk takes.
     fn put(&mut self, place: usize, line: Vec<u8>) -> Result<bool, StopCause>
         ensures ok { (put : List Placed) (taken : List ℕ) → HasMerged put taken self.old.merge
             → OnOk result (HasMerged (put ++ (place, line.items) ∷ []) taken self.new.merge) }
@@ -65,11 +71,10 @@ impl WaitingLines {
             return Err(StopCause::Disk);
         }
         let before = self.merge.ready();
-        if self.merge.put(place, line).is_err() {
-            return Err(StopCause::Memory);
+        match self.merge.put(place, line) {
+            Ok(()) => Ok(is_news(before, self.merge.ready())),
+            Err(_) => Err(StopCause::Memory),
         }
-        let ready = self.merge.ready();
-        Ok((before == 0 && ready > 0) || (before < BLOCK && ready >= BLOCK))
     }
 }
 
