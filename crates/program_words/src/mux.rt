@@ -52,6 +52,14 @@ const WAIT: Word = Word {
     help: "How long to wait for the answer; 0 waits without limit",
 };
 
+/// How long a peer tries to come back.
+const SECONDS: Kind = Kind::Number {
+    value: "SECONDS",
+    least: 0,
+    most: MOST,
+    need: Need::Default("0"),
+};
+
 static MUX: Program = Program {
     name: "mux",
     version: Some(VERSION),
@@ -105,6 +113,21 @@ static MUX: Program = Program {
                     },
                     help: "A byte (28 is C-\\) that leaves at once, even if the server hangs; type it twice to send it",
                 },
+                Word {
+                    name: "fit",
+                    kind: Kind::Flag,
+                    help: "Gives the window in focus the terminal's size, at the start and after each change of size",
+                },
+                Word {
+                    name: "assist",
+                    kind: Kind::Flag,
+                    help: "C-a ? shows the keys, Shift-PgUp and Shift-PgDn scroll, and refusals are explained",
+                },
+                Word {
+                    name: "again",
+                    kind: SECONDS,
+                    help: "How long to try to attach again, once the server is gone",
+                },
             ],
         },
         Way {
@@ -148,6 +171,11 @@ static MUX: Program = Program {
                         need: Need::Free,
                     },
                     help: "A file to write the window's new sizes to, as lines ROWS COLS",
+                },
+                Word {
+                    name: "stay",
+                    kind: SECONDS,
+                    help: "How long to keep the program and to try to open the window again, once the server is gone",
                 },
             ],
         },

@@ -52,6 +52,22 @@ static MUX_WEB: Program = Program {
             help: "The file with that user's token",
         },
         Word {
+            name: "window",
+            kind: Kind::Text {
+                value: "WHICH",
+                need: Need::Free,
+            },
+            help: "The window that watchers see, a number or a title [default: the first one]",
+        },
+        Word {
+            name: "links",
+            kind: Kind::Text {
+                value: "FOLDER",
+                need: Need::Free,
+            },
+            help: "The folder of links that mux-user link makes; it must be yours",
+        },
+        Word {
             name: "most",
             kind: Kind::Number {
                 value: "N",
