@@ -36,11 +36,11 @@ fn serve_calls<R: Host + Threads + Wait>(
     serve(rt, handles, words, &mut output)
 }
 
-// Whether these are the lines of a trail of 21 entries: ten commands, two windows, two clients, and seven
-// times that they typed: keys that give a command end a time.
+// Whether these are the lines of a trail of 20 entries: ten commands, two windows, two clients, and six times
+// that they typed. Keys that wait are one time, up to those that give a command.
 fn is_whole(trail: &[u8]) -> bool {
     trail.starts_with(b"mux-trail 1 2 own ")
-        && has(trail, b"\nend 21 ")
+        && has(trail, b"\nend 20 ")
         && trail.ends_with(b" quit\n")
 }
 
