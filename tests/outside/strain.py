@@ -337,6 +337,15 @@ def unread_log():
         left_out = [int(line.split()[1]) for line in said if b" lines were left out here: " in line]
         check("each command is told, or counted as left out", sum(left_out) > 0 and told + sum(left_out) == 6001,
               f"{told} told, {left_out} left out")
+    with Server(log=True) as server:
+        for _ in range(2000):
+            server.give(b"windows")
+        server.give(b"quit")
+        began = time.monotonic()
+        while os.path.lexists(server.path) and time.monotonic() < began + 4:
+            time.sleep(0.05)
+        check("its socket goes though nobody reads the log", not os.path.lexists(server.path))
+        check("and so does the server, some seconds later", server.ends_within(12) == 0)
 
 
 def drawn_in_a_flood():

@@ -33,6 +33,13 @@ pub const QUIT: &[u8] =
 pub const WINDOW: &[u8] =
     b"W\0L\0\x18\0P\0\x0a0000000000000000000000000000000000000000000000000000000000000000\x03ownsh";
 
+/// Another window of the owner, with the title `ed`.
+pub const WINDOW_1: &[u8] =
+    b"W\0L\0\x18\0P\0\x0a0000000000000000000000000000000000000000000000000000000000000000\x03owned";
+
+/// Keys for the window in focus and, after `C-a n`, for the next one: two frames, cut behind C-a.
+pub const BOTH: &[u8] = b"K\0\x02p\x01K\0\x02nq";
+
 /// A client of the owner and one of bob, each of 24 lines by 80 columns.
 pub const ATTACH: &[u8] =
     b"A\0G\0\x18\0P0000000000000000000000000000000000000000000000000000000000000000own";
@@ -43,6 +50,9 @@ pub const ATTACH_BOB: &[u8] =
 /// The first frame that a client, a command and window 0 get.
 pub const WELCOME: &[u8] = b"y\0\x01\0";
 
+/// The first frame that window 1 gets.
+pub const WELCOME_1: &[u8] = b"y\0\x01\x01";
+
 /// All bytes that a command gets if it was done and has no text.
 pub const DONE: &[u8] = b"y\0\x01\0g\0\x01\0";
 
@@ -52,5 +62,7 @@ pub const DENIED: &[u8] = b"s\0\x1edenied: window 0 locked by own";
 /// The last frame that a client or a window gets, after `quit`.
 pub const GONE_QUIT: &[u8] = b"g\0\x01\x04";
 
-/// All bytes that the window gets: its number, the typing that rights allowed, and GONE.
-pub const ALL_INPUT: &[u8] = b"y\0\x01\0i\0\x01oi\0\x01xi\0\x01zg\0\x01\x04";
+/// All bytes that a window gets: its number, the typing that rights allowed, and GONE.
+pub const ALL_INPUT: &[u8] = b"y\0\x01\0i\0\x01oi\0\x01xi\0\x01zi\0\x01pg\0\x01\x04";
+
+pub const ALL_INPUT_1: &[u8] = b"y\0\x01\x01i\0\x01qg\0\x01\x04";

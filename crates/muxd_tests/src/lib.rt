@@ -6,7 +6,13 @@ mod frames;
 #[cfg(test)]
 mod gate;
 #[cfg(test)]
+mod page;
+#[cfg(test)]
 mod peer;
+#[cfg(test)]
+mod ready;
+#[cfg(test)]
+mod served;
 #[cfg(test)]
 mod together;
 #[cfg(test)]

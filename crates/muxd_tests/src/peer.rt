@@ -1,6 +1,7 @@
 //! One peer's connection.
 
-use std::alloc::Global;
+use crate::frames::QUIT;
+use crate::page::shows_nothing;
 use std::io::{ErrorKind, Read, Write};
 use std::net::Net;
 use std::os::unix::net::UnixStream;
@@ -8,8 +9,6 @@ use std::time::{Clock, Duration};
 use std::{io, thread};
 
 const TRIES: usize = 1000;
-
-pub const SOCKET: &str = "muxd_tests.socket";
 
 /// A peer's connection, and all bytes that it got.
 #[derive(Drop)]
@@ -30,12 +29,12 @@ pub fn has(text: &[u8], bytes: &[u8]) -> bool {
 }
 
 impl Peer {
-    /// Connects to a server, which may not listen yet.
-    pub fn new<R: Net + Clock>(rt: &R, alloc: Global) -> io::Result<Peer> {
+    /// Connects to a server at this socket, which may not listen yet.
+    pub fn new<R: Net + Clock + AllocGlobal>(rt: &R, socket: &str) -> io::Result<Peer> {
         for _ in 0..TRIES {
-            if let Ok(stream) = UnixStream::connect(rt, SOCKET) {
+            if let Ok(stream) = UnixStream::connect(rt, socket) {
                 stream.set_read_timeout(Some(Duration::from_secs(10)))?;
-                let came = Vec::new(alloc);
+                let came = Vec::new(rt.alloc());
                 return Ok(Peer { stream, came });
             }
             thread::sleep(rt, Duration::from_millis(10));
@@ -68,6 +67,20 @@ impl Peer {
         Ok(false)
     }
 
+    /// Reads until a terminal that shows what the client drew is blank. Returns whether it is.
+    pub fn turns_blank(&mut self) -> io::Result<bool> {
+        let alloc = *self.came.allocator();
+        for _ in 0..TRIES {
+            if shows_nothing(alloc, &self.came)? {
+                return Ok(true);
+            }
+            if self.read()? == 0 {
+                break;
+            }
+        }
+        Ok(false)
+    }
+
     /// Reads to the connection's end. Returns whether it came.
     pub fn is_over(&mut self) -> io::Result<bool> {
         for _ in 0..TRIES {
@@ -77,4 +90,11 @@ impl Peer {
         }
         Ok(false)
     }
+}
+
+/// Ends the server at this socket. Returns whether it did.
+pub fn quit<R: Net + Clock + AllocGlobal>(rt: &R, socket: &str) -> io::Result<bool> {
+    let mut peer = Peer::new(rt, socket)?;
+    peer.send(QUIT)?;
+    peer.is_over()
 }

@@ -1,89 +1,47 @@
 //! A server of three loops, an owner, a second user and a window.
 
-use crate::frames::USERS;
 use crate::gate::{Calls, Latch};
-use crate::peer::{SOCKET, has};
+use crate::peer::has;
+use crate::served::{Paths, serve};
 use crate::turns::first_wrong;
-use server::{Handles, Host, serve_through};
-use std::alloc::{AllocError, Global};
-use std::fs::{Files, OpenOptions};
-use std::io::Write;
-use std::os::unix::fs::OpenOptionsExt;
+use server::{Handles, Host};
 use std::sync::Wait;
+use std::thread;
 use std::thread::Threads;
-use std::{fs, io, thread};
 
-const LOCK: &str = "muxd_tests.socket.lock";
-
-const FILE: &str = "muxd_tests.users";
-
-const TRAIL: &str = "muxd_tests.trail";
-
-static WORDS: [&str; 9] = [
-    "muxd", "--socket", SOCKET, "--users", FILE, "--trail", TRAIL, "--loops", "3",
-];
-
-// Makes the users' file, which only its owner may read and write.
-fn write_users(rt: &impl Files) -> io::Result<()> {
-    let mut file = OpenOptions::new()
-        .write(true)
-        .create(true)
-        .truncate(true)
-        .mode(0o600)
-        .open(rt, FILE)?;
-    file.write_all(USERS)
-}
-
-// The server's arguments.
-fn words(alloc: Global) -> Result<Vec<String>, AllocError> {
-    let mut words = Vec::new(alloc);
-    for word in WORDS {
-        words.push(String::from_str(alloc, word)?)?;
-    }
-    Ok(words)
-}
+const PATHS: Paths = Paths {
+    socket: "muxd_tests.socket",
+    lock: "muxd_tests.socket.lock",
+    users: "muxd_tests.users",
+    trail: "muxd_tests.trail",
+};
 
 // Serves until a peer gives `quit`. The server's output is dropped.
-fn serve<R: Host + Threads + Wait>(
+fn serve_calls<R: Host + Threads + Wait>(
     rt: &R,
     runtime: HostRuntime,
     words: &[String],
     calls: &Calls,
 ) -> u8 {
     let mut output: Vec<u8> = Vec::new(rt.alloc());
-    let mut errors: Vec<u8> = Vec::new(rt.alloc());
     let gate = Latch {
         runtime,
         calls,
         digit: 9,
     };
-    serve_through(
-        rt,
-        Handles {
-            files: runtime,
-            gate,
-        },
-        words,
-        &mut output,
-        &mut errors,
-    )
+    let handles = Handles {
+        files: runtime,
+        gate,
+    };
+    serve(rt, handles, words, &mut output)
 }
 
-// Whether these are the lines of a trail of 17 entries: ten commands, a window, two clients, and four
-// times that they typed.
+// Whether these are the lines of a trail of 20 entries: ten commands, two windows, two clients, and six times
+// that they typed. Keys that wait are one time, up to those that give a command.
 fn is_whole(trail: &[u8]) -> bool {
     trail.starts_with(b"mux-trail 1 2 own ")
-        && has(trail, b"\nend 17 ")
+        && has(trail, b"\nend 20 ")
         && trail.ends_with(b" quit\n")
-}
-
-// Whether the trail's file is whole. Removes it, and the other files that the server leaves.
-fn has_whole_trail<R: Files + AllocGlobal>(rt: &R) -> io::Result<bool> {
-    let trail = fs::read(rt, TRAIL)?;
-    for path in [TRAIL, FILE, LOCK] {
-        fs::remove_file(rt, path)?;
-    }
-    Ok(is_whole(&trail))
 }
 
 /// Besides a server that doesn't do its peers' requests, this finds a server that hands all
@@ -92,17 +50,20 @@ fn has_whole_trail<R: Files + AllocGlobal>(rt: &R) -> io::Result<bool> {
 #[test]
 fn a_server_and_its_peers(rt: HostRuntime) {
     let alloc = rt.alloc();
-    let (Ok(words), Ok(())) = (words(alloc), write_users(&rt)) else {
+    let (Ok(words), Ok(())) = (PATHS.words(alloc), PATHS.write_users(&rt)) else {
         panic!(rt; "the server can't begin")
     };
     let calls = Calls::new();
     let (shared, given, seen) = (&rt, words.as_slice(), &calls);
     let (status, wrong) = thread::join(
         shared,
-        || serve(shared, rt, given, seen),
-        || first_wrong(shared, alloc, seen),
+        || serve_calls(shared, rt, given, seen),
+        || first_wrong(shared, PATHS.socket, seen),
     );
-    let has_whole_trail = has_whole_trail(&rt).unwrap_or(false);
+    let has_whole_trail = match PATHS.take_trail(&rt) {
+        Ok(trail) => is_whole(&trail),
+        Err(_) => false,
+    };
     assert_eq!(rt; wrong, None);
     assert_eq!(rt; status, 0);
     assert!(rt; has_whole_trail);

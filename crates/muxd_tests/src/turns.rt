@@ -1,12 +1,11 @@
 //! The turns that peers take.
 
 use crate::frames::{
-    ADD_BOB, ALL_INPUT, ATTACH, ATTACH_BOB, DENIED, DONE, FREE, GONE_QUIT, HIDE, LOCK, MULTIUSER,
-    QUIT, WALL, WELCOME, WINDOW,
+    ADD_BOB, ALL_INPUT, ALL_INPUT_1, ATTACH, ATTACH_BOB, BOTH, DENIED, DONE, FREE, GONE_QUIT, HIDE,
+    LOCK, MULTIUSER, QUIT, WALL, WELCOME, WELCOME_1, WINDOW, WINDOW_1,
 };
 use crate::gate::{Calls, wait};
-use crate::peer::{Peer, has};
-use std::alloc::Global;
+use crate::peer::{Peer, has, quit};
 use std::io;
 use std::net::Net;
 use std::time::Clock;
@@ -18,6 +17,8 @@ enum Until {
     Held,
     /// This peer got these bytes.
     Sent(usize, &'static [u8]),
+    /// The page of this client is blank.
+    Blank(usize),
 }
 
 /// A turn: a peer, by the number of its connection, the bytes that it sends, and the event to wait
@@ -31,9 +32,11 @@ const OWN: usize = 7;
 
 const BOB: usize = 8;
 
+const EDITOR: usize = 12;
+
 // The second loop's call is the one that is held: if it were the first loop's, no loop would accept
 // the third connection.
-static TURNS: [Turn; 22] = [
+static TURNS: [Turn; 25] = [
     (0, b"", Until::Sent(0, b"")),
     (1, ADD_BOB, Until::Held),
     (0, MULTIUSER, Until::Sent(0, DONE)),
@@ -50,12 +53,15 @@ static TURNS: [Turn; 22] = [
     (SHELL, b"O\0\x06public", Until::Sent(OWN, b"public")),
     (BOB, b"", Until::Sent(BOB, b"public")),
     (9, HIDE, Until::Sent(9, DONE)),
+    (BOB, b"", Until::Blank(BOB)),
     (SHELL, b"O\0\x08\r\nsecret", Until::Sent(OWN, b"secret")),
     (10, LOCK, Until::Sent(10, DONE)),
     (BOB, b"K\0\x01y", Until::Sent(BOB, DENIED)),
     (11, FREE, Until::Sent(11, DONE)),
     (BOB, b"K\0\x01z", Until::Sent(SHELL, b"i\0\x01z")),
-    (12, QUIT, Until::Sent(12, DONE)),
+    (EDITOR, WINDOW_1, Until::Sent(EDITOR, WELCOME_1)),
+    (OWN, BOTH, Until::Sent(EDITOR, b"i\0\x01q")),
+    (13, QUIT, Until::Sent(13, DONE)),
 ];
 
 // Whether a peer gets these bytes.
@@ -67,15 +73,15 @@ fn is_sent(peers: &mut [Peer], place: usize, bytes: &[u8]) -> io::Result<bool> {
 }
 
 // Whether the event that a turn waits for comes.
-fn take<R: Net + Clock>(
+fn take<R: Net + Clock + AllocGlobal>(
     rt: &R,
-    alloc: Global,
+    socket: &str,
     calls: &Calls,
     peers: &mut Vec<Peer>,
     (place, bytes, until): Turn,
 ) -> io::Result<bool> {
     if place == peers.len() {
-        peers.push(Peer::new(rt, alloc)?)?;
+        peers.push(Peer::new(rt, socket)?)?;
     }
     if let Some(peer) = peers.get_mut(place) {
         peer.send(bytes)?;
@@ -83,18 +89,22 @@ fn take<R: Net + Clock>(
     match until {
         Until::Held => Ok(wait(rt, &calls.begun, 0)),
         Until::Sent(receiver, bytes) => is_sent(peers, receiver, bytes),
+        Until::Blank(client) => match peers.get_mut(client) {
+            Some(peer) => peer.turns_blank(),
+            None => Ok(false),
+        },
     }
 }
 
 // The first turn whose event doesn't come.
-fn wrong_turn<R: Net + Clock>(
+fn wrong_turn<R: Net + Clock + AllocGlobal>(
     rt: &R,
-    alloc: Global,
+    socket: &str,
     calls: &Calls,
     peers: &mut Vec<Peer>,
 ) -> Option<usize> {
     for (place, turn) in TURNS.iter().enumerate() {
-        match take(rt, alloc, calls, peers, *turn) {
+        match take(rt, socket, calls, peers, *turn) {
             Ok(true) => {}
             _ => return Some(place),
         }
@@ -110,6 +120,7 @@ fn is_right(place: usize, peer: &mut Peer) -> io::Result<bool> {
     let is_client = came.starts_with(WELCOME) && came.ends_with(GONE_QUIT);
     let is_right = match place {
         SHELL => came == ALL_INPUT,
+        EDITOR => came == ALL_INPUT_1,
         OWN => is_client,
         BOB => is_client && !has(came, b"secret"),
         _ => came == DONE,
@@ -128,19 +139,16 @@ fn wrong_peer(peers: &mut [Peer]) -> Option<usize> {
     None
 }
 
-// Ends the server.
-fn quit<R: Net + Clock>(rt: &R, alloc: Global) -> io::Result<bool> {
-    let mut peer = Peer::new(rt, alloc)?;
-    peer.send(QUIT)?;
-    peer.is_over()
-}
-
 /// Takes all turns, and ends the server in any case. Returns the number of the first turn that goes
 /// wrong; otherwise that of the first peer that didn't get its bytes, counted on from the turns.
-pub fn first_wrong<R: Net + Clock>(rt: &R, alloc: Global, calls: &Calls) -> Option<usize> {
-    let mut peers = Vec::new(alloc);
-    if let Some(turn) = wrong_turn(rt, alloc, calls, &mut peers) {
-        let _ = quit(rt, alloc);
+pub fn first_wrong<R: Net + Clock + AllocGlobal>(
+    rt: &R,
+    socket: &str,
+    calls: &Calls,
+) -> Option<usize> {
+    let mut peers = Vec::new(rt.alloc());
+    if let Some(turn) = wrong_turn(rt, socket, calls, &mut peers) {
+        let _ = quit(rt, socket);
         return Some(turn);
     }
     match wrong_peer(&mut peers) {

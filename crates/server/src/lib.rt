@@ -2,6 +2,8 @@
 #![tactic(auto)]
 
 mod acceptor;
+mod disk_line;
+mod latch;
 mod loop_handle;
 mod loops;
 mod news_line;

@@ -1,11 +1,12 @@
 //! How connections and news come to a loop.
 
 use crate::acceptor::Acceptor;
+use crate::latch::Latch;
 use mio::net::UnixStream;
 use mio::{Poll, Registry, Waker};
 use server_loop::End;
-use server_system::{LastLook, Log, WatchedUsers};
-use std::alloc::{AllocError, Global};
+use server_system::{LastLook, Log, ServeFault, WatchedUsers};
+use std::alloc::Global;
 use std::collections::VecDeque;
 use std::sync::atomic::{AtomicBool, AtomicU64, Ordering};
 use std::sync::{Arc, Mutex, OnceLock, Wait};
@@ -97,6 +98,8 @@ impl LoopHandle {
 pub struct Shared {
     pub alloc: Global,
     pub loop_handles: Arc<Vec<LoopHandle>, Global>,
+    /// Where the loops wait until all are ready.
+    pub latch: Latch,
     pub over: OnceLock<End>,
     /// How many loops much comes to.
     pub busy: AtomicU64,
@@ -167,7 +170,7 @@ pub fn start_watching<R: Threads + Clock + Wait + Copy + Send + 'static>(
     rt: &R,
     shared: &Shared,
     seen: LastLook,
-) -> io::Result<()> {
+) -> Result<(), ServeFault> {
     let watched = Arc::try_clone(&shared.watched)?;
     let loop_handles = Arc::try_clone(&shared.loop_handles)?;
     let rt_there = *rt;
@@ -177,6 +180,6 @@ pub fn start_watching<R: Threads + Clock + Wait + Copy + Send + 'static>(
     });
     match started {
         Ok(_) => Ok(()),
-        Err(error) => Err(io::Error::from(AllocError::from(error))),
+        Err(_) => Err(ServeFault::NoThread),
     }
 }

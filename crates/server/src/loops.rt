@@ -1,5 +1,6 @@
 //! A server: its socket, its threads, its files, its log and its end.
 
+use crate::disk_line::DiskLog;
 use crate::loop_handle::{LoopStart, Shared};
 use crate::turns::run_loop;
 use server_loop::{End, Gate};
@@ -7,14 +8,17 @@ use server_session::{
     Accounts, Begun, LoopBody, LoopsFault, Recorder, Seat, Seated, SharedSession, Start, Trail,
     keep,
 };
-use server_system::{Host, ServeFault, Setup, SocketPath};
+use server_system::{Host, LastLine, ServeFault, Setup, SocketPath};
 use server_trail::{Cause, Journal};
 use std::alloc::Global;
-use std::io::Write;
+use std::io::{self, Write};
 use std::rt::{HostRuntime, Stderr};
 use std::sync::Wait;
 use std::thread::Threads;
-use std::time::Clock;
+use std::time::{Clock, Duration};
+
+// How many seconds the trail's disk has for the last line before that is told.
+const PATIENCE: u64 = 5;
 
 // The cause that the last line of the trail's file names; None if a fault leaves the file without one.
 fn cause_of(end: End) -> Option<Cause> {
@@ -51,6 +55,25 @@ impl<G: Gate + Copy + Sync + Drop> Server<'_, G> {
         Some(ServeFault::of_trail(self.shared.alloc, journal.path(), fault))
     }
 
+    // A loop has ended. After the last one nobody can connect, so another server may take the place.
+    fn leave(&self, rt: &impl Wait) {
+        if self.shared.log.leave(rt) {
+            self.place.leave(rt, &self.files);
+        }
+    }
+
+    // Waits until nothing is written to the trail's file any more, and tells if that takes long.
+    fn await_trail<R: Clock + Wait>(&self, rt: &R) {
+        let Some(journal) = &self.journal else {
+            return;
+        };
+        if !journal.await_end(rt, Duration::from_secs(PATIENCE)) {
+            let mut errors = LastLine(self.log);
+            let path = journal.path();
+            let _ = writeln!(errors, "muxd: trail {path}: waits for its disk");
+        }
+    }
+
     // How the server ended. `agrees` says whether every answer stands in the trail.
     fn outcome(&self, rt: &impl Wait, agrees: bool) -> Result<(), ServeFault> {
         match (self.shared.over.get().copied(), self.trail_fault(rt)) {
@@ -81,6 +104,7 @@ impl<G: Gate + Copy + Sync + Drop> Server<'_, G> {
         match kept {
             Ok(agrees) => self.outcome(rt, agrees),
             Err(LoopsFault::NoMemory) => Err(ServeFault::NoMemory),
+            Err(LoopsFault::NoThread) => Err(ServeFault::NoThread),
             Err(LoopsFault::Untold(error)) => Err(ServeFault::Untold(error)),
             Err(LoopsFault::Setup(fault)) => Err(self.setup.wrong(alloc, fault)),
             Err(LoopsFault::Refused(number, said)) => Err(self.setup.refused(alloc, number, &said)),
@@ -105,10 +129,11 @@ where
             Ok(seated) => Some(seated.into_inner()),
             Err(_) => {
                 let _ = self.shared.end(End::Fault);
+                self.shared.latch.fail(rt);
                 None
             }
         };
-        self.shared.log.leave(rt);
+        self.leave(rt);
         left
     }
 
@@ -118,14 +143,25 @@ where
 
     fn fail(&self, rt: &R) {
         let _ = self.shared.end(End::Fault);
-        self.shared.log.leave(rt);
+        self.shared.latch.fail(rt);
+        self.leave(rt);
     }
 
-    // After the loops have ended nobody can connect, so another server may take the place.
-    fn stand_by(&self, rt: &R) {
+    fn stand_by<B: FnOnce() -> io::Result<()> + Drop>(
+        &self,
+        rt: &R,
+        begun: B,
+    ) -> Option<io::Result<()>> {
+        let told = if self.shared.latch.await_all(rt) {
+            Some(begun())
+        } else {
+            None
+        };
+        self.shared.latch.open(rt, matches!(&told, Some(Ok(()))));
         let mut errors = self.log;
         self.shared.log.write_all(rt, &mut errors);
-        self.place.leave(rt, &self.files);
+        self.await_trail(rt);
+        told
     }
 
     fn recorder(&self, alloc: Global, loops: usize) -> Option<Recorder> {
@@ -135,7 +171,13 @@ where
 
     fn write_trail(&self, rt: &R, recorder: &Recorder) {
         if let Some(journal) = &self.journal {
-            let written = journal.write(rt, recorder);
+            let watch = DiskLog {
+                rt,
+                log: &self.shared.log,
+                recorder,
+                path: journal.path(),
+            };
+            let written = journal.write(rt, recorder, &watch);
             let cause = self.shared.over.get().copied().and_then(cause_of);
             journal.end(rt, recorder, written, cause);
         }

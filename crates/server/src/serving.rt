@@ -1,16 +1,18 @@
 //! `muxd`: the session, its listener and its loops.
 
+use crate::latch::Latch;
 use crate::loop_handle::{LoopHandle, Shared, start_watching};
 use crate::loops::Server;
 use crate::places::places;
 use acl::UserId;
-use clap::ArgMatches;
+use clap::{ArgMatches, Error};
 use mio::net::UnixListener;
 use program_words::{of_server, tell};
 use server_loop::{Gate, Open};
 use server_session::{Accounts, Limits, Start};
 use server_system::{
-    Host, LastLook, Log, ServeFault, Setup, SocketPath, Stamp, UsersFile, WatchedUsers,
+    Host, LastLine, LastLook, Log, ServeFault, Setup, SocketPath, Stamp, UsersFile, WatchedUsers,
+    fill_closed,
 };
 use server_trail::Journal;
 use server_users::Users;
@@ -62,6 +64,19 @@ impl<'a> Options<'a> {
     }
 }
 
+// Tells what is wrong with the arguments, or what `--help` and `--version` ask for. Returns the status to exit with.
+fn refuse<O: Write, E: Write>(error: &Error, output: &mut O, errors: &mut E) -> u8 {
+    let is_asked = !error.use_stderr();
+    if !is_asked {
+        let _ = write!(errors, "muxd: ");
+    }
+    let status = tell(error, output, errors);
+    if is_asked && status != 0 {
+        let _ = writeln!(errors, "muxd: can't write to standard output");
+    }
+    status
+}
+
 // What the arguments ask for, or the status to exit with if they are invalid.
 fn options_of<'a, O: Write, E: Write>(
     alloc: Global,
@@ -71,7 +86,7 @@ fn options_of<'a, O: Write, E: Write>(
 ) -> Result<Options<'a>, u8> {
     match of_server(alloc, words) {
         Ok(matches) => Ok(Options::of(&matches)),
-        Err(error) => Err(tell(&error, output, errors)),
+        Err(error) => Err(refuse(&error, output, errors)),
     }
 }
 
@@ -106,6 +121,7 @@ fn shared<R: Host + Threads + Wait>(
     let shared = Shared {
         alloc,
         log: Log::new(alloc, loop_handles.len()),
+        latch: Latch::new(loop_handles.len()),
         loop_handles,
         over: OnceLock::new(),
         busy: AtomicU64::new(0),
@@ -199,6 +215,13 @@ where
     }
     let setup = Setup::read(rt, options.setup)?;
     let (place, listener) = SocketPath::listen(rt, alloc, options.socket)?;
+    if place.is_open(rt) {
+        let path = options.socket;
+        let _ = writeln!(
+            errors,
+            "muxd: anybody on this machine may connect to the socket: chmod o-w {path}"
+        );
+    }
     let files = handles.files;
     let beginning = Beginning {
         users,
@@ -219,12 +242,24 @@ where
     R: Host + Threads + Wait,
     O: Write,
 {
-    let mut errors = runtime.stderr();
+    let mut errors = LastLine(runtime.stderr());
+    let filled = match fill_closed(&runtime) {
+        Ok(filled) => filled,
+        Err(error) => {
+            let _ = writeln!(
+                errors,
+                "muxd: /dev/null: {error}: a standard stream is closed"
+            );
+            return 1;
+        }
+    };
     let handles = Handles {
         files: runtime,
         gate: Open,
     };
-    serve_through(rt, handles, words, output, &mut errors)
+    let status = serve_through(rt, handles, words, output, &mut errors);
+    drop(filled);
+    status
 }
 
 /// `muxd` with a gate that each call of a loop passes, and with its errors written to `errors`. The

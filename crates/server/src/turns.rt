@@ -328,6 +328,8 @@ pub fn run_loop<J: SessionSeat + Drop, G: Gate + Copy + Drop, R: Clock + Wait>(
     let loops = shared.loop_handles.len();
     let mut own: Loop<Wired, G, J> = Loop::new(shared.alloc, seat, gate, loops)?;
     own.tells = shared.tells;
-    take_turns(rt, &mut inlet, &mut own)?;
+    if shared.latch.arrive(rt) {
+        take_turns(rt, &mut inlet, &mut own)?;
+    }
     Ok(own.into_seat())
 }

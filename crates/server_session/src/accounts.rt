@@ -1,5 +1,7 @@
-//! What each user may still try, and how many clients and windows they have, shared by all loops.
+//! What all loops share beside their session.
 
+use crate::full_windows::FullWindows;
+use crate::trail_size::TrailSize;
 use acl::UserId;
 use server_connections::GuestKind;
 use server_users::{Allowances, Outcome, Tally};
@@ -24,13 +26,16 @@ impl Limits {
     }
 }
 
-/// What each user may still try in vain, and how many clients and windows they have. The loops share
-/// it, so a lock is around each part. What a call does to it is said by the part's own contract.
+/// What each user may still try in vain, how many clients and windows they have, how large the trail
+/// is, and the windows for which much waits. The loops share it, so a lock is around each part. What a
+/// call does to it is said by the part's own contract.
 #[derive(Drop)]
 pub struct Accounts {
     allowances: Mutex<Allowances>,
     clients: Mutex<Tally>,
     windows: Mutex<Tally>,
+    pub(crate) trail: TrailSize,
+    pub(crate) full_windows: FullWindows,
 }
 
 impl Accounts {
@@ -40,6 +45,8 @@ impl Accounts {
             allowances: Mutex::new(Allowances::new(alloc, owner)),
             clients: Mutex::new(Tally::new(alloc, limits.clients)),
             windows: Mutex::new(Tally::new(alloc, limits.windows)),
+            trail: TrailSize::new(),
+            full_windows: FullWindows::new(alloc),
         }
     }
 

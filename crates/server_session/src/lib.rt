@@ -3,10 +3,12 @@
 #![tactic(auto)]
 
 mod accounts;
+mod full_windows;
 mod loop_body;
 mod seated;
 mod setting_up;
 mod shared_session;
+mod trail_size;
 
 pub use accounts::{Accounts, Limits};
 pub use hub::{Begun, Seat, Trail};

@@ -3,25 +3,12 @@
 use crate::accounts::Accounts;
 use crate::shared_session::SharedSession;
 use acl::{Bit, UserId};
-use hub::{Begun, FULL, HubFault, Seat};
+use hub::{Begun, HubFault, Seat};
 use server_connections::{End, GuestKind, SeatAnswer, SeatFault, SessionSeat};
 use server_users::{Outcome, Users};
 use session_model::{Effect, Event, Refusal, Reply, Verdict};
 use std::sync::Wait;
 use std::time::{Clock, Duration};
-
-// The percentages of the trail's most entries that are news.
-const MARKS: [u8; 4] = [50, 75, 90, 99];
-
-// The percentage that the trail reaches with the entry at this place, if that is news.
-fn mark_at(place: usize) -> Option<u8> {
-    for mark in MARKS {
-        if place == FULL * usize::from(mark) / 100 {
-            return Some(mark);
-        }
-    }
-    None
-}
 
 // Whether a check was passed.
 fn is_passed(verdict: &Verdict) -> bool {
@@ -87,7 +74,7 @@ impl<L: Begun> SessionSeat for Seated<'_, L> {
         match self.shared.submit(rt, &mut self.seat, event) {
             Ok(answer) => {
                 let filled = match answer.place() {
-                    Some(place) => mark_at(place),
+                    Some(place) => self.accounts.trail.add(place, answer.entry()),
                     None => None,
                 };
                 // There is no entry if memory for its copy was refused.
@@ -130,7 +117,7 @@ impl<L: Begun> SessionSeat for Seated<'_, L> {
     }
 
     fn has_stopped(&self) -> bool {
-        self.shared.has_stopped()
+        self.shared.has_stopped() || self.accounts.trail.is_full()
     }
 
     fn take<R: Wait>(&mut self, rt: &R) -> (Vec<Effect>, bool) {

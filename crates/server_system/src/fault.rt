@@ -78,6 +78,8 @@ pub enum ServeFault {
     Untold(io::Error),
     #[error("the system refused a loop: {0}")]
     Other(io::Error),
+    #[error("the system refused a thread: raise TasksMax of the unit, or ulimit -u")]
+    NoThread,
     #[error("the session's trail is full: start another session")]
     TrailFull,
     #[error("a loop failed: the session has ended")]

@@ -2,9 +2,11 @@
 //! connections that a loop waits for.
 #![tactic(auto)]
 
+mod closed;
 mod fault;
 mod host;
 mod log;
+mod room;
 mod setup_file;
 mod socket;
 mod unread;
@@ -12,9 +14,11 @@ mod users_file;
 mod watched;
 mod wired;
 
+pub use closed::fill_closed;
 pub use fault::ServeFault;
 pub use host::Host;
 pub use log::Log;
+pub use room::LastLine;
 pub use setup_file::Setup;
 pub use socket::SocketPath;
 pub use unread::bound_unread;

@@ -1,9 +1,11 @@
 //! Lines on their way to standard error: several threads put them down, and one thread writes them.
 
+use crate::room::{PIECE, has_room};
 use jiff::Timestamp;
 use std::alloc::Global;
 use std::fmt::Display;
 use std::io::Write;
+use std::os::fd::AsRawFd;
 use std::sync::{Condvar, Mutex, Wait};
 use std::time::{Clock, Duration};
 
@@ -12,6 +14,9 @@ const MOST: usize = 65_536;
 
 // How many seconds the writer sleeps at most if nothing comes.
 const LOOK: u64 = 3_600;
+
+// How many seconds the reader of standard error has for the last lines.
+const PATIENCE: u32 = 5;
 
 // Lines that weren't written yet.
 #[derive(Drop)]
@@ -61,37 +66,74 @@ impl Log {
         self.news.notify_one();
     }
 
-    /// A loop has ended, and puts nothing more down.
-    pub fn leave(&self, rt: &impl Wait) {
+    /// A loop has ended, and puts nothing more down. Returns whether it was the last one.
+    pub fn leave(&self, rt: &impl Wait) -> bool {
         let mut waiting = self.waiting.lock(rt);
         waiting.loops = waiting.loops.saturating_sub(1);
+        let was_last = waiting.loops == 0;
         drop(waiting);
         self.news.notify_one();
+        was_last
     }
 
-    // Takes the bytes that wait and the count of dropped lines, and tells whether all loops have ended.
-    fn take(&self, rt: &impl Wait) -> (Vec<u8>, u64, bool) {
+    fn is_over(&self, rt: &impl Wait) -> bool {
+        self.waiting.lock(rt).loops == 0
+    }
+
+    // Takes the bytes that wait, with a line that counts those that were left out.
+    fn take(&self, rt: &impl Wait) -> Vec<u8> {
         let mut waiting = self.waiting.lock(rt);
         let none = Vec::new(self.alloc);
-        let text = std::mem::replace(&mut waiting.text, none);
+        let mut text = std::mem::replace(&mut waiting.text, none);
         let left_out = std::mem::replace(&mut waiting.left_out, 0);
-        (text, left_out, waiting.loops == 0)
+        drop(waiting);
+        if left_out > 0 {
+            let _ = writeln!(
+                text,
+                "muxd: {left_out} lines were left out here: standard error was read too slowly"
+            );
+        }
+        text
+    }
+
+    // Waits until standard error has room; after all loops have ended, for some seconds.
+    fn await_room<E: AsRawFd>(&self, rt: &impl Wait, errors: &E) -> bool {
+        let mut tries = 0u32;
+        'looks: for _ in rt.forever() {
+            if has_room(errors, 1_000) {
+                return true;
+            }
+            if self.is_over(rt) {
+                tries = tries.saturating_add(1);
+                if tries >= PATIENCE {
+                    return false;
+                }
+            }
+        }
+        unreachable!()
+    }
+
+    // Writes lines, up to a piece that is refused. Returns whether standard error is still waited for.
+    fn write<E: Write + AsRawFd>(&self, rt: &impl Wait, errors: &mut E, text: &[u8]) -> bool {
+        for piece in text.chunks(PIECE) {
+            if !self.await_room(rt, errors) {
+                return false;
+            }
+            if errors.write_all(piece).is_err() {
+                return true;
+            }
+        }
+        true
     }
 
     /// Writes the lines as they come, until all loops have ended. A line that can't be written is
-    /// dropped.
-    pub fn write_all<R: Clock + Wait, E: Write>(&self, rt: &R, errors: &mut E) {
+    /// dropped, and so are the last ones if nobody reads them for five seconds.
+    pub fn write_all<R: Clock + Wait, E: Write + AsRawFd>(&self, rt: &R, errors: &mut E) {
         for _ in rt.forever() {
             let seen = self.news.notifications();
-            let (text, left_out, is_over) = self.take(rt);
-            let _ = errors.write_all(&text);
-            if left_out > 0 {
-                let _ = writeln!(
-                    errors,
-                    "muxd: {left_out} lines were left out here: standard error was read too slowly"
-                );
-            }
-            if is_over {
+            let is_over = self.is_over(rt);
+            let text = self.take(rt);
+            if !self.write(rt, errors, &text) || is_over {
                 return;
             }
             self.news.sleep(rt, seen, Duration::from_secs(LOOK));

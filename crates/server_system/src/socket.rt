@@ -13,6 +13,9 @@ use std::{fs, io};
 // The longest path of a socket, in bytes.
 const LONGEST: usize = 107;
 
+// The mode that lets everybody connect.
+const OTHERS_WRITE: u32 = 0o002;
+
 /// The path of a server's socket. Only the server that holds the lock beside it makes, replaces and
 /// removes the socket.
 #[derive(Drop)]
@@ -127,6 +130,14 @@ impl SocketPath<'_> {
                 Ok((SocketPath { path, lock }, listener))
             }
             Err(fault) => Err(ServeFault::Socket(String::from_str(alloc, path)?, fault)),
+        }
+    }
+
+    /// Whether the socket's mode lets everybody on the machine connect.
+    pub fn is_open<R: Host>(&self, rt: &R) -> bool {
+        match fs::symlink_metadata(rt, self.path) {
+            Ok(found) => found.mode() & OTHERS_WRITE != 0,
+            Err(_) => false,
         }
     }
 

@@ -4,7 +4,7 @@ use crate::rows::{play, typed};
 use server_stage::{ATTACH, Act, Habit, Received, Seen, System, WINDOW, Why};
 use std::alloc::{AllocError, Global};
 
-const LISTS: usize = 10_000;
+const LISTS: usize = 3_000;
 
 // The kinds of frames that the server reads.
 const KINDS: &[u8] = b"AWCKROD";

@@ -1,7 +1,9 @@
 //! The file to which a server writes its session's trail.
 
-ghost use Rattle.std.specs.Io.{WritesAtMost};
+ghost use Rattle.std.specs.Prelude.{◌≡◌};
+ghost use Rattle.server_trail.specs.Faults.{fault_of, lost_by, read_as, stopped_by};
 
+use crate::disk::{Disk, DiskWatch, WatchedDisk};
 use crate::file::{TrailFile, begin, header_of};
 use crate::reading::is_trail;
 use crate::recorder::Recorder;
@@ -12,11 +14,11 @@ use hub_record::EntryList;
 use session_model::Bytes;
 use std::alloc::Global;
 use std::fs::{File, OpenOptions};
-use std::io::{BufReader, Write};
+use std::io::{BufReader, ErrorKind};
 use std::os::unix::fs::OpenOptionsExt;
 use std::rt::HostRuntime;
-use std::sync::{Mutex, Wait};
-use std::time::Clock;
+use std::sync::{Condvar, Mutex, Wait};
+use std::time::{Clock, Duration};
 use std::{fs, io};
 use thiserror::Error;
 use trail_lines::{Cause, Header};
@@ -29,78 +31,103 @@ const VERSION: &[u8] = b"0.1.0";
 pub enum JournalFault {
     #[error("can't make it: {0}: set another --trail")]
     NotMade(io::Error),
+    /// Its disk is full.
+    #[error("can't make it: {0}: make room on its disk, or set another --trail")]
+    NoRoom(io::Error),
     /// The disk refused it, until too many bytes waited.
-    #[error("can't write it: {0}: the session ended for that")]
+    #[error("can't write it: {0}: make room on its disk: the session ended for that")]
     Refused(io::Error),
     #[error("its disk is too slow: the session ended for that")]
     TooSlow,
     #[error("out of memory: the session ended for that")]
     Memory,
-    #[error("it isn't written to its end: {0}")]
+    #[error("it isn't written to its end: {0}: mux-trail check says how far it goes")]
     Cut(io::Error),
-    #[error("it isn't written to its end")]
+    #[error("it isn't written to its end: mux-trail check says how far it goes")]
     Unended,
+    /// The disk refused a sync.
+    #[error("it may not be whole on the disk: a sync failed: {0}: copy it, and check its disk")]
+    Unsynced(io::Error),
     #[error("can't read it back: {0}")]
     NotRead(io::Error),
     #[error("it differs from the session's trail")]
     Differs,
 }
 
-// The file, and the error of its last write, if that failed.
-#[derive(Drop)]
-struct Disk {
-    file: File,
-    error: Option<io::Error>,
+impl JournalFault {
+    // The fault of a file that can't be made.
+    fn of_making(error: io::Error) -> JournalFault {
+        match error.kind() {
+            ErrorKind::StorageFull | ErrorKind::QuotaExceeded => JournalFault::NoRoom(error),
+            _ => JournalFault::NotMade(error),
+        }
+    }
 }
 
-impl Disk {
-    // Writes once, and keeps the error.
-    fn write_some(&mut self, buf: &[u8]) -> io::Result<usize>
-        ensures { WritesAtMost result buf.now }
-    {
-        match self.file.write(buf) {
-            Ok(count) => {
-                self.error = None;
-                Ok(count)
-            }
-            Err(error) => {
-                let kind = error.kind();
-                self.error = Some(error);
-                Err(io::Error::from(kind))
+// The fault of a file that had to stop for its disk, from the error of its last write.
+fn stopped_by(refused: Option<io::Error>) -> JournalFault
+    ensures { result ≡ stopped_by refused }
+{
+    match refused {
+        Some(error) => JournalFault::Refused(error),
+        None => JournalFault::TooSlow,
+    }
+}
+
+// The fault of a file that didn't stop, from whether its last line was written, and the errors of its last write
+// and of a sync.
+fn lost_by(
+    is_ended: bool,
+    refused: Option<io::Error>,
+    unsynced: Option<io::Error>,
+) -> Option<JournalFault>
+    ensures { result ≡ lost_by is_ended refused unsynced }
+{
+    if !is_ended {
+        if let Some(error) = refused {
+            return Some(JournalFault::Cut(error));
+        }
+    }
+    match unsynced {
+        Some(error) => Some(JournalFault::Unsynced(error)),
+        None => {
+            if is_ended {
+                None
+            } else {
+                Some(JournalFault::Unended)
             }
         }
     }
 }
 
-impl Write for Disk {
-    fn write(&mut self, buf: &[u8]) -> io::Result<usize> {
-        self.write_some(buf)
-    }
-
-    fn flush(&mut self) -> io::Result<()> {
-        self.file.flush()
-    }
-}
-
-impl TrailFile for Disk {
-    fn sync(&mut self) -> io::Result<()> {
-        self.file.sync_data()
-    }
-}
-
-// The fault of a file, from why it had to stop, whether its last line was written, and the last error.
 fn fault_of(
     stopped: Option<StopCause>,
     is_ended: bool,
-    error: Option<io::Error>,
-) -> Option<JournalFault> {
-    match (stopped, error) {
-        (Some(StopCause::Memory), _) => Some(JournalFault::Memory),
-        (Some(StopCause::Disk), Some(error)) => Some(JournalFault::Refused(error)),
-        (Some(StopCause::Disk), None) => Some(JournalFault::TooSlow),
-        (None, _) if is_ended => None,
-        (None, Some(error)) => Some(JournalFault::Cut(error)),
-        (None, None) => Some(JournalFault::Unended),
+    refused: Option<io::Error>,
+    unsynced: Option<io::Error>,
+) -> Option<JournalFault>
+    ensures { result ≡ fault_of stopped is_ended refused unsynced }
+{
+    match stopped {
+        Some(StopCause::Memory) => Some(JournalFault::Memory),
+        Some(StopCause::Disk) => Some(stopped_by(refused)),
+        None => lost_by(is_ended, refused, unsynced),
+    }
+}
+
+// The fault of a file that was read back.
+fn read_as(is_whole: io::Result<bool>) -> Option<JournalFault>
+    ensures { result ≡ read_as is_whole }
+{
+    match is_whole {
+        Ok(is_whole) => {
+            if is_whole {
+                None
+            } else {
+                Some(JournalFault::Differs)
+            }
+        }
+        Err(error) => Some(JournalFault::NotRead(error)),
     }
 }
 
@@ -112,18 +139,26 @@ pub struct Journal<'a> {
     path: &'a str,
     // The time that the file's first line has.
     ms: u64,
-    file: Mutex<Disk>,
-    fault: Mutex<Option<JournalFault>>,
+    file: Mutex<Disk<File>>,
+    end: Mutex<JournalEnd>,
+    ended: Condvar,
+}
+
+// Whether nothing is written to the file any more, and its fault, if it has one.
+#[derive(Drop)]
+struct JournalEnd {
+    is_over: bool,
+    fault: Option<JournalFault>,
 }
 
 // Makes a new file, which only its owner may read and write.
-fn create(files: &HostRuntime, path: &str) -> io::Result<Disk> {
+fn create(files: &HostRuntime, path: &str) -> io::Result<Disk<File>> {
     let file = OpenOptions::new()
         .write(true)
         .create_new(true)
         .mode(0o600)
         .open(files, path)?;
-    Ok(Disk { file, error: None })
+    Ok(Disk::new(file))
 }
 
 impl<'a> Journal<'a> {
@@ -138,10 +173,10 @@ impl<'a> Journal<'a> {
             Ok(header) => header,
             Err(_) => return Err(JournalFault::Memory),
         };
-        let mut file = create(&files, path).map_err(JournalFault::NotMade)?;
+        let mut file = create(&files, path).map_err(JournalFault::of_making)?;
         if let Err(error) = begin(alloc, &mut file, &header) {
             let _ = fs::remove_file(&files, path);
-            return Err(JournalFault::NotMade(error));
+            return Err(JournalFault::of_making(error));
         }
         Ok(Journal {
             files,
@@ -149,7 +184,11 @@ impl<'a> Journal<'a> {
             path,
             ms: header.ms,
             file: Mutex::new(file),
-            fault: Mutex::new(None),
+            end: Mutex::new(JournalEnd {
+                is_over: false,
+                fault: None,
+            }),
+            ended: Condvar::new(),
         })
     }
 
@@ -163,9 +202,20 @@ impl<'a> Journal<'a> {
         let _ = fs::remove_file(&self.files, self.path);
     }
 
-    /// Writes the lines of entries as they come, until all loops have ended.
-    pub fn write<R: Clock + Wait>(&self, rt: &R, recorder: &Recorder) -> Written {
-        recorder.write_all(rt, &mut *self.file.lock(rt))
+    /// Writes the lines of entries as they come, until all loops have ended, and tells what becomes of
+    /// the file.
+    pub fn write<R: Clock + Wait, W: DiskWatch>(
+        &self,
+        rt: &R,
+        recorder: &Recorder,
+        watch: &W,
+    ) -> Written {
+        let mut disk = self.file.lock(rt);
+        let mut watched = WatchedDisk {
+            disk: &mut *disk,
+            watch,
+        };
+        recorder.write_all(rt, &mut watched)
     }
 
     /// Writes the last line. If no cause is known, the file has none.
@@ -185,8 +235,21 @@ impl<'a> Journal<'a> {
                 false
             }
         };
-        let error = disk.error.take();
-        *self.fault.lock(rt) = fault_of(stopped, is_ended, error);
+        let (refused, unsynced) = (disk.refused(), disk.unsynced());
+        let mut end = self.end.lock(rt);
+        end.fault = fault_of(stopped, is_ended, refused, unsynced);
+        end.is_over = true;
+        drop(end);
+        self.ended.notify_all();
+    }
+
+    /// Waits at most this long until nothing is written to the file any more. Returns whether that is so.
+    pub fn await_end<R: Clock + Wait>(&self, rt: &R, longest: Duration) -> bool {
+        let end = self.end.lock(rt);
+        let (end, _) = self
+            .ended
+            .wait_timeout_while(rt, end, longest, |end| !end.is_over);
+        end.is_over
     }
 
     // Reads the file back. The answer is whether it is the trail of a session of this edition and owner.
@@ -205,18 +268,14 @@ impl<'a> Journal<'a> {
     /// Reads the file back, if it was written to its end, and compares it with the session's trail:
     /// its edition, its owner and its entries.
     pub fn compare(&self, rt: &impl Wait, edition: Edition, owner: UserId, entries: &EntryList) {
-        let mut fault = self.fault.lock(rt);
-        if fault.is_none() {
-            *fault = match self.is_whole(edition, owner, entries) {
-                Ok(true) => None,
-                Ok(false) => Some(JournalFault::Differs),
-                Err(error) => Some(JournalFault::NotRead(error)),
-            };
+        let mut end = self.end.lock(rt);
+        if end.fault.is_none() {
+            end.fault = read_as(self.is_whole(edition, owner, entries));
         }
     }
 
     /// The fault of the file, if it has one. The next call gives none.
     pub fn fault(&self, rt: &impl Wait) -> Option<JournalFault> {
-        self.fault.lock(rt).take()
+        self.end.lock(rt).fault.take()
     }
 }

@@ -1,6 +1,7 @@
 //! Writes a session's trail to a file, and compares the file with the trail.
 #![tactic(auto)]
 
+mod disk;
 mod file;
 mod journal;
 mod merge;
@@ -9,11 +10,12 @@ mod recorder;
 mod stop;
 mod writing;
 
+pub use disk::{DiskNews, DiskWatch};
 pub use file::{TrailFile, begin, header_of};
 pub use journal::{Journal, JournalFault};
 pub use merge::Merge;
 pub use reading::is_trail;
-pub use recorder::Recorder;
+pub use recorder::{MOST, Recorder};
 pub use stop::StopCause;
 pub use trail_lines::Cause;
 pub use writing::Written;

@@ -1,6 +1,7 @@
 //! Lines on their way to a trail's file: several threads put them down, and one thread writes them.
 
-ghost use Rattle.std.specs.Prelude.{◌≡◌, ◌++◌, ◌∷◌, [], IfOk};
+ghost use Rattle.std.specs.Prelude.{◌≡◌, ◌++◌, ◌∷◌, [], ℕ, List, IfOk, OnOk, OnErr};
+ghost use Rattle.server_trail.specs.Merging.{HasMerged, Placed};
 ghost use Rattle.trail_lines.specs.Entries.{line_of};
 
 use crate::file::time;
@@ -13,8 +14,8 @@ use std::sync::{Condvar, Mutex, OnceLock, Wait};
 use std::time::Clock;
 use trail_lines::print_line;
 
-// A line is taken as long as at most this number of bytes wait.
-const MOST: usize = 16_777_216;
+/// A line is taken as long as at most this number of bytes wait.
+pub const MOST: usize = 16_777_216;
 
 /// With this number of bytes ready, the writer waits for no more.
 pub const BLOCK: usize = 65_536;
@@ -50,19 +51,30 @@ fn line_of(alloc: Global, place: usize, ms: u64, entry: &TrailEntry) -> Result<V
     Ok(line)
 }
 
+// Whether the writer must be woken after a line, before which this many bytes were ready: the first
+// bytes are ready, or as many as it waits for.
+fn is_news(before: usize, ready: usize) -> bool {
+    (before == 0 && ready > 0) || (before < BLOCK && ready >= BLOCK)
+}
+
 impl WaitingLines {
-    // Puts a line down. The answer is whether the writer must be woken: the first bytes are ready, or as
-    // many as it waits for. Bytes that the writer has taken don't wait, however long the disk takes.
-    fn put(&mut self, place: usize, line: Vec<u8>) -> Result<bool, StopCause> {
+    // Puts a line down. Returns whether the writer must be woken. Bytes that the writer has taken don't
+    // wait, however long the disk takes.
+    fn put(&mut self, place: usize, line: Vec<u8>) -> Result<bool, StopCause>
+        ensures ok { (put : List Placed) (taken : List ℕ) → HasMerged put taken self.old.merge
+            → OnOk result (HasMerged (put ++ (place, line.items) ∷ []) taken self.new.merge) }
+        ensures err { (put : List Placed) (taken : List ℕ) → HasMerged put taken self.old.merge
+            → OnErr result (HasMerged put taken self.new.merge) }
+        ensures loops { self.new.loops ≡ self.old.loops }
+    {
         if self.merge.waiting() > MOST {
             return Err(StopCause::Disk);
         }
         let before = self.merge.ready();
-        if self.merge.put(place, line).is_err() {
-            return Err(StopCause::Memory);
+        match self.merge.put(place, line) {
+            Ok(()) => Ok(is_news(before, self.merge.ready())),
+            Err(_) => Err(StopCause::Memory),
         }
-        let ready = self.merge.ready();
-        Ok((before == 0 && ready > 0) || (before < BLOCK && ready >= BLOCK))
     }
 }
 
@@ -122,6 +134,11 @@ impl Recorder {
         if is_news {
             self.news.notify_one();
         }
+    }
+
+    /// How many bytes wait for the writer.
+    pub fn waiting(&self, rt: &impl Wait) -> usize {
+        self.waiting.lock(rt).merge.waiting()
     }
 
     /// Why the file can't go on; None as long as it can.

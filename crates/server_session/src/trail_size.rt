@@ -1,0 +1,77 @@
+//! How large a session's trail is.
+
+use acl::Act;
+use hub::FULL;
+use hub_record::{Kept, TrailEntry};
+use session_model::Verdict;
+use std::mem::size_of;
+use std::sync::atomic::{AtomicU64, Ordering};
+
+// The most bytes of memory for a trail's entries: 2 GiB.
+const MOST: u64 = 2_147_483_648;
+
+// The percentages of the most entries, and of the most bytes, that are news.
+const MARKS: [u64; 4] = [50, 75, 90, 99];
+
+// The percentage of `most` that is reached between two numbers, if that is news.
+fn mark_between(before: u64, after: u64, most: u64) -> Option<u8> {
+    for mark in MARKS {
+        let reached = most / 100 * mark;
+        if before <= reached && reached < after {
+            return u8::try_from(mark).ok();
+        }
+    }
+    None
+}
+
+// How many bytes an event's line or title takes.
+fn text_size(event: &Kept) -> usize {
+    match event {
+        Kept::Command { line, .. } => line.as_slice().len(),
+        Kept::Open { title, .. } => title.as_slice().len(),
+        _ => 0,
+    }
+}
+
+// At most how many bytes an entry takes. (Equal entries share them.)
+fn entry_size(entry: &TrailEntry) -> u64 {
+    let checked = entry.verdicts().len().saturating_mul(size_of::<Verdict>());
+    let done = entry.acts().len().saturating_mul(size_of::<Act>());
+    let size = size_of::<TrailEntry>()
+        .saturating_add(text_size(entry.event()))
+        .saturating_add(checked)
+        .saturating_add(done);
+    size as u64
+}
+
+/// At most how many bytes of memory a session's trail takes.
+#[derive(Drop)]
+pub struct TrailSize {
+    bytes: AtomicU64,
+}
+
+impl TrailSize {
+    pub fn new() -> TrailSize {
+        TrailSize {
+            bytes: AtomicU64::new(0),
+        }
+    }
+
+    /// Counts the entry at this place. Returns the percentage of the most entries or bytes that the
+    /// trail reaches by it, if that is news.
+    pub fn add(&self, place: usize, entry: Option<&TrailEntry>) -> Option<u8> {
+        let place = place as u64;
+        let by_entries = mark_between(place, place.saturating_add(1), FULL as u64);
+        let size = match entry {
+            Some(entry) => entry_size(entry),
+            None => 0,
+        };
+        let before = self.bytes.fetch_add(size, Ordering::SeqCst);
+        by_entries.or(mark_between(before, before.saturating_add(size), MOST))
+    }
+
+    /// Whether the trail takes as much as it may.
+    pub fn is_full(&self) -> bool {
+        self.bytes.load(Ordering::SeqCst) > MOST
+    }
+}

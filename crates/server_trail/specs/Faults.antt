@@ -1,0 +1,31 @@
+-- The fault of a trail's file, and why a line isn't put down.
+use Rattle.std.specs.Prelude.{Bool, true, false, Option, Some, None, Result, Ok, Err}
+use Rattle.std.specs.declared.io.Error.{Error}
+use Rattle.server_trail.specs.declared.stop.StopCause.{StopCause}
+use Rattle.server_trail.specs.declared.stop.StopCause.TheVariants as stop
+use Rattle.server_trail.specs.declared.journal.JournalFault.{JournalFault}
+use Rattle.server_trail.specs.declared.journal.JournalFault.TheVariants as fault
+
+-- of a file that had to stop for its disk, from the error of its last write
+abbrev pub stopped_by : Option Error → JournalFault
+stopped_by (Some error) = fault.Refused error
+stopped_by None = fault.TooSlow
+
+-- of a file that didn't stop, from whether its last line was written, and the errors of its last write and of a sync
+abbrev pub lost_by : Bool → Option Error → Option Error → Option JournalFault
+lost_by true refused None = None
+lost_by true refused (Some error) = Some (fault.Unsynced error)
+lost_by false (Some error) unsynced = Some (fault.Cut error)
+lost_by false None (Some error) = Some (fault.Unsynced error)
+lost_by false None None = Some fault.Unended
+
+abbrev pub fault_of : Option StopCause → Bool → Option Error → Option Error → Option JournalFault
+fault_of (Some stop.Memory) ended refused unsynced = Some fault.Memory
+fault_of (Some stop.Disk) ended refused unsynced = Some (stopped_by refused)
+fault_of None ended refused unsynced = lost_by ended refused unsynced
+
+-- of a file that was read back
+abbrev pub read_as : Result Bool Error → Option JournalFault
+read_as (Ok true) = None
+read_as (Ok false) = Some fault.Differs
+read_as (Err error) = Some (fault.NotRead error)

@@ -1,0 +1,166 @@
+//! A trail's file on its disk, and what the disk refuses.
+
+ghost use Rattle.std.specs.Prelude.{◌≡◌};
+
+use crate::file::TrailFile;
+use std::io::{self, Write};
+
+// Refusals that go on are news again after this many, of which there is one a second.
+const AGAIN: u32 = 60;
+
+/// What becomes of a trail's file while lines are written to it.
+#[derive(Clone, Copy)]
+pub enum DiskNews {
+    /// The disk refuses lines, of which this many bytes are left to write.
+    Refuses(io::Error, usize),
+    /// It takes lines again.
+    Resumes,
+    /// It refused to sync lines that it had taken.
+    Unsynced(io::Error),
+}
+
+/// Is told what becomes of a trail's file.
+pub trait DiskWatch {
+    fn tell(&self, news: DiskNews);
+}
+
+/// The refusals in a row, and the error of the last.
+#[derive(Clone, Copy)]
+struct Refusals {
+    count: u32,
+    error: Option<io::Error>,
+}
+
+impl Refusals {
+    fn none() -> Refusals {
+        Refusals {
+            count: 0,
+            error: None,
+        }
+    }
+
+    // One more refusal.
+    fn add(&mut self, error: io::Error) {
+        self.count = self.count.saturating_add(1);
+        self.error = Some(error);
+    }
+
+    // The error, if the last refusal is news.
+    fn news(&self) -> Option<io::Error> {
+        if self.count % AGAIN == 1 {
+            self.error
+        } else {
+            None
+        }
+    }
+}
+
+/// A trail's file, and what its disk refused.
+#[derive(Drop)]
+pub struct Disk<F: TrailFile + Drop> {
+    file: F,
+    // The writes that were refused since the last one that wasn't.
+    writes: Refusals,
+    // The syncs that were refused. What they were to bring to the disk may be lost for good, though
+    // later syncs succeed.
+    syncs: Refusals,
+}
+
+impl<F: TrailFile + Drop> Disk<F> {
+    /// Nothing was refused yet.
+    pub fn new(file: F) -> Disk<F> {
+        Disk {
+            file,
+            writes: Refusals::none(),
+            syncs: Refusals::none(),
+        }
+    }
+
+    /// The error of the last write, if it was refused.
+    pub fn refused(&self) -> Option<io::Error>
+        ensures { result ≡ self.now.writes.error }
+    {
+        self.writes.error
+    }
+
+    /// The error of the last sync that was refused.
+    pub fn unsynced(&self) -> Option<io::Error>
+        ensures { result ≡ self.now.syncs.error }
+    {
+        self.syncs.error
+    }
+
+    // What is news after a write of this many bytes, before which writes were refused or not.
+    fn news(&self, was_refused: bool, bytes: usize) -> Option<DiskNews> {
+        match self.writes.news() {
+            Some(error) => Some(DiskNews::Refuses(error, bytes)),
+            None if was_refused && self.writes.count == 0 => Some(DiskNews::Resumes),
+            None => None,
+        }
+    }
+}
+
+impl<F: TrailFile + Drop> Write for Disk<F> {
+    ghost contents = { λ disk. F.contents disk.file };
+
+    fn write(&mut self, buf: &[u8]) -> io::Result<usize> {
+        match self.file.write(buf) {
+            Ok(count) => {
+                self.writes = Refusals::none();
+                Ok(count)
+            }
+            Err(error) => {
+                self.writes.add(error);
+                Err(error)
+            }
+        }
+    }
+
+    fn flush(&mut self) -> io::Result<()> {
+        self.file.flush()
+    }
+}
+
+impl<F: TrailFile + Drop> TrailFile for Disk<F> {
+    fn sync(&mut self) -> io::Result<()> {
+        let synced = self.file.sync();
+        if let Err(error) = &synced {
+            self.syncs.add(*error);
+        }
+        synced
+    }
+}
+
+/// A trail's file while its lines are written, and who is told of it.
+#[derive(Drop)]
+pub struct WatchedDisk<'a, F: TrailFile + Drop, W: DiskWatch> {
+    pub disk: &'a mut Disk<F>,
+    pub watch: &'a W,
+}
+
+impl<F: TrailFile + Drop, W: DiskWatch> Write for WatchedDisk<'_, F, W> {
+    ghost contents = { λ watched. F.contents watched.disk.now.file };
+
+    fn write(&mut self, buf: &[u8]) -> io::Result<usize> {
+        let was_refused = self.disk.writes.count > 0;
+        let written = self.disk.write(buf);
+        if let Some(news) = self.disk.news(was_refused, buf.len()) {
+            self.watch.tell(news);
+        }
+        written
+    }
+
+    fn flush(&mut self) -> io::Result<()> {
+        self.disk.flush()
+    }
+}
+
+impl<F: TrailFile + Drop, W: DiskWatch> TrailFile for WatchedDisk<'_, F, W> {
+    fn sync(&mut self) -> io::Result<()> {
+        let synced = self.disk.sync();
+        if let (Err(_), Some(error)) = (&synced, self.disk.syncs.news()) {
+            self.watch.tell(DiskNews::Unsynced(error));
+        }
+        synced
+    }
+}
