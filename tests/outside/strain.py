@@ -20,7 +20,8 @@ from play import WORDS, Server, all_of, check, has_come, left_out, welcome
 
 
 def dead_window():
-    """A window whose program stops reading is given up, and its client shows that without another event."""
+    """A window whose program asks for reports and reads none is given up, and its client shows that without another
+    event."""
     with Server(loops=1) as server:
         shell = server.admit(window())
         client = server.admit(attach())
@@ -29,7 +30,10 @@ def dead_window():
         ended = select.poll()
         ended.register(shell, select.POLLHUP)
         for _ in range(400):
-            client.sendall(frame(KEYS, b"x" * 8192))
+            try:
+                shell.sendall(frame(OUTPUT, b"\x1b[5n" * 2048))
+            except ConnectionError:
+                break
             if ended.poll(20):
                 break
             while has_come(client, 0):
