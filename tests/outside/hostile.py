@@ -257,6 +257,10 @@ class Listener(threading.Thread):
         """What a window's program was sent."""
         return b"".join(payload for _, kind, payload in self.frames if kind == b"i")
 
+    def gone(self):
+        """Whether it was told to go."""
+        return b"g" in [kind for _, kind, _ in self.frames]
+
     def said(self, text):
         """When it was sent this text."""
         return [at for at, kind, payload in self.frames if kind == SAY and text in payload]
@@ -352,6 +356,100 @@ def denied_later():
         check("a command by keys waits for a second at most", took < 1.5, f"{took:.2f} s")
 
 
+def waits_for(is_so, seconds=30):
+    """Whether something is so within these seconds."""
+    end = time.monotonic() + seconds
+    while not is_so() and time.monotonic() < end:
+        time.sleep(0.02)
+    return bool(is_so())
+
+
+def pasted():
+    """A paste of 3 MB waits for a window that doesn't read: the window stays, commands by keys are done, and all of it
+    arrives in order."""
+    data = b"".join(b"%06d\r" % number for number in range(3_000_000 // 7))
+    with Server() as server:
+        shell = server.connect(window())
+        assert welcome(shell)
+        client, other = server.connect(attach()), server.connect(attach())
+        assert welcome(client) and welcome(other)
+        heard, told = Listener(client), Listener(other)
+        memory = server.resident()
+        paste = threading.Thread(target=client.sendall, args=(pieces(KEYS, data),), daemon=True)
+        paste.start()
+        time.sleep(3)
+        check("a paste of 3 MB waits for the window", paste.is_alive())
+        check("the window stays", b"\n" in server.give(b"windows") and not heard.gone())
+        grown = server.resident() - memory
+        check("and muxd grows by less than 2 MB", grown < 2 * MB, f"{grown}")
+        other.sendall(frame(KEYS, b"!"))
+        time.sleep(0.2)
+        other.sendall(frame(KEYS, b"!!") + frame(KEYS, b"\x01d"))
+        time.sleep(0.5)
+        check("keys of somebody else wait, too, and so do commands behind them", not told.gone())
+        third = server.connect(attach())
+        assert welcome(third)
+        left = Listener(third)
+        third.sendall(frame(KEYS, b"!"))
+        time.sleep(0.2)
+        third.sendall(frame(KEYS, b"\x01d"))
+        check("a command that no keys are before is done", waits_for(left.gone, 5))
+        shell = Listener(shell)
+        length = len(data) + 4
+        check("all of it arrives once the window reads", waits_for(lambda: len(shell.typed()) >= length, 60),
+              f"{len(shell.typed())} of {length}")
+        check("in order", shell.typed().replace(b"!", b"") == data)
+        check("and so does the command that waited", waits_for(told.gone, 5))
+
+
+def left_behind(name, take, marks):
+    """What two users typed ahead into a window that doesn't read, of which the guest loses the right: what is typed
+    once it reads."""
+    with Server() as server:
+        admit(server)
+        shell = server.connect(window())
+        assert welcome(shell) and server.give(b"aclchg eve +rw 0").endswith(DONE)
+        client, mine = server.connect(attach(*GUEST)), server.connect(attach())
+        assert welcome(client) and welcome(mine)
+        heard = Listener(client), Listener(mine)
+        client.sendall(pieces(KEYS, b"x" * 380_000) + frame(KEYS, b"evil\r"))
+        time.sleep(1)
+        mine.sendall(frame(KEYS, b"mine"))
+        time.sleep(1)
+        check(f"{name}: it is taken", server.give(take).endswith(DONE))
+        time.sleep(0.5)
+        shell = Listener(shell)
+        check(f"{name}: what the owner typed arrives", waits_for(lambda: b"mine" in shell.typed()))
+        time.sleep(1)
+        check(f"{name}: what the guest typed ahead doesn't", b"evil" not in shell.typed(), str(shell.typed()[-20:]))
+        if marks:
+            assert server.give(b"aclchg eve +w 0").endswith(DONE)
+            time.sleep(2)
+            check(f"{name}: nor after the right is given back", b"evil" not in shell.typed())
+            client.sendall(frame(KEYS, b"good"))
+            check(f"{name}: what they type then does", waits_for(lambda: shell.typed().endswith(b"good"), 5))
+        del heard
+
+
+def taken_back():
+    """What waits for a window isn't typed once its typist lost the right; but what somebody typed who left is."""
+    left_behind("-w", b"aclchg eve -w 0", True)
+    left_behind("acldel", b"acldel eve", False)
+    with Server() as server:
+        shell = server.connect(window())
+        assert welcome(shell)
+        client = server.connect(attach())
+        assert welcome(client)
+        client.sendall(pieces(KEYS, b"x" * 380_000) + frame(KEYS, b"last\r"))
+        time.sleep(1)
+        client.sendall(frame(DETACH))
+        time.sleep(1)
+        assert server.give(b"windows").endswith(DONE)
+        shell = Listener(shell)
+        check("what somebody typed who left arrives", waits_for(lambda: shell.typed().endswith(b"last\r")),
+              str(shell.typed()[-20:]))
+
+
 def sizes():
     """Sizes of one user slow nobody down; the last one counts, and at most ten a second are done."""
     with Server() as server:
@@ -410,7 +508,7 @@ def reads_only():
             check(f"{name}: at most 2,000 entries at once, then six a second", entries < most, f"{entries}")
 
 
-PARTS = (seats, works_on, denied_later, sizes, reads_only, attacked)
+PARTS = (seats, works_on, denied_later, pasted, taken_back, sizes, reads_only, attacked)
 
 
 def main():

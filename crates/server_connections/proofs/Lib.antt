@@ -1,5 +1,4 @@
-pub mod Framing
-pub mod Writing
 mod Looking
 mod Marking
+mod Standing
 mod Walking

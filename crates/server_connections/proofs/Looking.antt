@@ -1,5 +1,5 @@
 -- A look at the keys that are marked, one after the other.
-use Rattle.std.proofs.Common.{◌≡◌, ◌<◌, ◌≤◌, ◌+◌, ℕ, List, subst, arith, inl, inr}
+use Rattle.std.proofs.Common.{◌≡◌, ◌<◌, ◌+◌, ℕ, List, subst, arith, inl, inr}
 use Rattle.std.proofs.lemmas.Bool.{cases_lt}
 use Rattle.slab.specs.Slab.{Slab}
 use Rattle.server_connections.specs.Marked.{IsMarked, IsNext}

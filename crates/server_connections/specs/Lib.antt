@@ -1,7 +1,8 @@
-pub mod Frames
 pub mod Lending
+pub mod Life
 pub mod Marked
 pub mod Peers
+pub mod Putting
+pub mod Streaming
 pub mod Telling
 pub mod Walking
-pub mod Written

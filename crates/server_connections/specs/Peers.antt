@@ -1,9 +1,8 @@
 -- What is to be done with a connection, and which one is a client or a window of the session.
-use Rattle.std.specs.Prelude.{◌≡◌, ◌⊎◌, ◌==◌, ◌&&◌, ◌||◌, ◌<◌, ◌≤◌, ℕ, Bool, true, false, not, length, vec_len}
+use Rattle.std.specs.Prelude.{◌≡◌, ◌⊎◌, ◌==◌, ◌&&◌, ◌||◌, ◌<◌, ◌≤◌, ℕ, Bool, true, false, not, length}
 use Rattle.std.specs.Prelude.{Option, Some, None, is_none, IsSomeAnd}
 use Rattle.slab.specs.Slab.{Slab, get}
-use Rattle.server_typing.specs.Typed.{is_idle, may_read}
-use Rattle.server_connections.specs.declared.inbox.Inbox.{Inbox}
+use Rattle.server_inbox.specs.Asking.{is_empty}
 use Rattle.server_connections.specs.declared.peer.Awaits.{Awaits}
 use Rattle.server_connections.specs.declared.peer.Awaits.TheVariants as awaited
 use Rattle.server_connections.specs.declared.peer.Peer.{Peer}
@@ -29,14 +28,6 @@ listens other = false
 abbrev pub is_closed : Stage → Bool
 is_closed stage.Closed = true
 is_closed other = false
-
--- all that was read was taken out
-abbrev pub is_taken : Inbox → Bool
-is_taken inbox = (vec_len inbox.messages == 0) && is_none inbox.begun
-
--- no message, key or size is left to be done
-abbrev pub is_empty : Inbox → Bool
-is_empty inbox = (is_taken inbox && is_idle inbox.typed) && is_none inbox.sizing.wanted
 
 module _ {S : Type 0} where
   -- a new connection of this stream

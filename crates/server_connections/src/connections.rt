@@ -1,16 +1,18 @@
 //! The connections of one loop, by their keys.
 
 ghost use Rattle.std.specs.Prelude.{◌≡◌, ◌≢◌, ◌↔◌, ◌+◌, ◌<◌, ◌≤◌, ℕ, [], None, false, true, length};
-ghost use Rattle.std.specs.Prelude.{IfSome, IsSomeAnd, IsTrue, OnOk, OnErr, if◌then◌else◌};
+ghost use Rattle.std.specs.Prelude.{IfSome, IsSomeAnd, IsTrue, IfErr, OnOk, OnErr, if◌then◌else◌};
 ghost use Rattle.std.specs.Prelude.{option_copied};
 ghost use Rattle.std.specs.Option.{option_copied_mut};
 ghost use Rattle.slab.specs.Slab.{Updates, get, slab_len};
 ghost use Rattle.server_connections.specs.Marked.{IsMarked, IsNext, NoneFrom, without_mark};
 ghost use Rattle.server_connections.specs.Peers.{AwaitsAt, IsAt, IsFirstFrom, IsNewcomer, goes, rests};
+ghost use Rattle.server_connections.specs.Putting.{PutsFor};
 ghost use Rattle.server_connections.specs.Telling.{told_at, told_if_any};
 
 use crate::marks::Marks;
 use crate::peer::{Awaits, Peer, Role};
+use server_sending::{Sending, put};
 use slab::Slab;
 use std::alloc::{AllocError, Global};
 
@@ -151,6 +153,25 @@ impl<S: Drop> Connections<S> {
         };
         self.next = key + 1;
         Some(key)
+    }
+
+    /// Puts something after what waits for the connection that is this to the session, and into no
+    /// other. The answer is the key of a connection into which it couldn't be put.
+    pub fn put_for(&mut self, role: Role, sending: Sending<'_>) -> Result<(), usize>
+        ensures put { OnOk result (PutsFor self.old role sending.entry self.new) }
+        ensures fault { IfErr result (IsFirstFrom self.old.peers role self.old.next) }
+    {
+        let alloc = self.alloc;
+        let Some(key) = self.key_of(role) else {
+            return Ok(());
+        };
+        let Some(peer) = self.touch(key) else {
+            return Ok(());
+        };
+        match put(alloc, &mut peer.turn, sending) {
+            Ok(()) => Ok(()),
+            Err(_) => Err(key),
+        }
     }
 
     /// Whether a connection that is awake waits for this.

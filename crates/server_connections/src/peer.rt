@@ -1,23 +1,32 @@
 //! One connection.
 
-ghost use Rattle.std.specs.Prelude.{◌≡◌, IfOk, not};
+ghost use Rattle.std.specs.Prelude.{◌≡◌, ◌↔◌, ◌<◌, ◌&&◌, ◌||◌, IfOk, IsTrue, Some, [], false, true, length, not};
+ghost use Rattle.std.specs.Prelude.{option_map};
 ghost use Rattle.server_connections.specs.Peers.{IsNewcomer, awaits, has_more, is_at_rest, is_awaited};
-ghost use Rattle.server_connections.specs.Peers.{is_closed, is_done, is_due, is_empty, is_new, is_open, is_stranger};
+ghost use Rattle.server_connections.specs.Peers.{is_closed, is_done, is_due, is_new, is_open, is_stranger};
 ghost use Rattle.server_connections.specs.Peers.{listens};
+ghost use Rattle.server_connections.specs.Life.{dismissed, given_up, gone_guest, left, parting};
+ghost use Rattle.server_connections.specs.Life.{wanted_draw, without_guest};
+ghost use Rattle.server_inbox.specs.Asking.{Stands, is_empty};
+ghost use Rattle.session_model.specs.Trace.{happening};
 
-use crate::frames::gone_frame;
-use crate::inbox::Inbox;
 use crate::news::Guest;
-use crate::turn::Turn;
-use acl::UserId;
 use attach_proto::{Reader, Side, Why};
-use server_typing::Typeahead;
+use server_inbox::{Inbox, Typeahead};
+use server_sending::{Turn, gone_frame};
+use server_users::Shown;
 use session_model::Event;
 use std::alloc::{AllocError, Global};
 use std::time::Duration;
 
 // A connection for which more bytes wait is told to go.
 const MOST_UNSENT: usize = 1_048_576;
+
+// If more bytes wait for a window, what is typed into it has to wait until fewer than half of them do.
+const FULL: usize = 262_144;
+
+// More frames than these that were typed do the same, however short they are.
+const MOST_FRAMES: usize = 4_096;
 
 // A connection has this many seconds for its first message, and again to read its last frame.
 const PATIENCE: u64 = 10;
@@ -38,7 +47,9 @@ impl Role {
     }
 
     /// The event by which it leaves the session. A stranger isn't part of it.
-    pub fn parting<'a>(self) -> Option<Event<'a>> {
+    pub fn parting<'a>(self) -> Option<Event<'a>>
+        ensures { option_map happening result ≡ parting self }
+    {
         match self {
             Role::Stranger => None,
             Role::Client(client) => Some(Event::Detach { client }),
@@ -108,8 +119,8 @@ pub struct Peer<S> {
     pub stage: Stage,
     /// How many connections of its loop came before it.
     pub number: u64,
-    /// Its user, once that is known.
-    pub user: Option<UserId>,
+    /// Its user, once a token was shown.
+    pub user: Option<Shown>,
     /// It was taken in though no more are to stay.
     pub is_extra: bool,
     /// There may be something to read.
@@ -119,6 +130,10 @@ pub struct Peer<S> {
     /// It took no more bytes, and no event told of room since.
     pub is_full: bool,
     pub inbox: Inbox,
+    /// The window into which its next keys go, if they do and that is known.
+    pub types_into: Option<u32>,
+    /// The window of which all loops were told that it is full.
+    full: Option<u32>,
     /// What it asked for waits until its user may cause more entries, until the users' file was looked
     /// at, or until its size may change again.
     pub is_held: bool,
@@ -135,8 +150,12 @@ pub struct Peer<S> {
 impl<S: Drop> Peer<S> {
     /// A new connection, which may have sent something already. The room for its last frame is
     /// reserved.
+    #[tactic(auto, using(crate::proofs::Standing::newly))]
     pub fn new(alloc: Global, stream: S, number: u64, is_extra: bool) -> Result<Peer<S>, AllocError>
-        ensures { IfOk result (IsNewcomer stream number is_extra) }
+        ensures newcomer { IfOk result (IsNewcomer stream number is_extra) }
+        // Nothing was read from it, and nothing is to be done.
+        ensures starts { IfOk result (λ peer. Stands peer.inbox peer.reader [] []) }
+        ensures empty { IfOk result (λ peer. is_empty peer.inbox ≡ true) }
     {
         Ok(Peer {
             stream: Some(stream),
@@ -152,6 +171,8 @@ impl<S: Drop> Peer<S> {
             has_hung_up: false,
             is_full: false,
             inbox: Inbox::new(alloc),
+            types_into: None,
+            full: None,
             is_held: false,
             look: None,
             guest: None,
@@ -161,7 +182,9 @@ impl<S: Drop> Peer<S> {
     }
 
     /// Puts its last frame, GONE, which takes no memory.
-    pub fn end(&mut self, why: Why) {
+    pub fn end(&mut self, why: Why)
+        ensures { self.new ≡ dismissed why self.old }
+    {
         self.turn.end(gone_frame(why));
         self.why = Some(why);
         self.stage = Stage::Ending;
@@ -169,7 +192,9 @@ impl<S: Drop> Peer<S> {
     }
 
     /// Ends its role: the session is to be told.
-    pub fn leave(&mut self) {
+    pub fn leave(&mut self)
+        ensures { self.new ≡ left self.old }
+    {
         if !self.role.is_stranger() {
             self.leaves = self.role;
             self.role = Role::Stranger;
@@ -177,7 +202,9 @@ impl<S: Drop> Peer<S> {
     }
 
     /// Gives it up, with all that still waits for it.
-    pub fn close(&mut self) {
+    pub fn close(&mut self)
+        ensures { self.new ≡ given_up self.old }
+    {
         self.stream = None;
         self.stage = Stage::Closed;
         self.leave();
@@ -191,13 +218,20 @@ impl<S: Drop> Peer<S> {
     }
 
     /// There is something to read, and perhaps its other end was closed.
-    pub fn mark_ready(&mut self, has_hung_up: bool) {
+    pub fn mark_ready(&mut self, has_hung_up: bool)
+        ensures { self.new ≡ record self.old {
+          has_more = true;
+          has_hung_up = self.old.has_hung_up || has_hung_up;
+        } }
+    {
         self.has_more = true;
         self.has_hung_up |= has_hung_up;
     }
 
     /// It may take bytes again.
-    pub fn mark_room(&mut self) {
+    pub fn mark_room(&mut self)
+        ensures { self.new ≡ record self.old { is_full = false } }
+    {
         self.is_full = false;
     }
 
@@ -220,12 +254,17 @@ impl<S: Drop> Peer<S> {
     }
 
     /// Whether it is open and sent bytes that are no frame, and all messages before them are done.
-    pub fn is_faulty(&self) -> bool {
+    pub fn is_faulty(&self) -> bool
+        ensures { result ≡ (is_open self.now.stage
+            && (self.now.inbox.is_broken && is_empty self.now.inbox)) }
+    {
         self.stage.is_open() && self.inbox.is_faulty()
     }
 
     /// It becomes a guest, and this to the session.
-    pub fn join(&mut self, role: Role, guest: Guest) {
+    pub fn join(&mut self, role: Role, guest: Guest)
+        ensures { self.new ≡ record self.old { role = role; guest = Some guest } }
+    {
         self.role = role;
         self.guest = Some(guest);
     }
@@ -238,7 +277,10 @@ impl<S: Drop> Peer<S> {
     }
 
     /// Takes its guest, and why it was told to go, once it goes.
-    pub fn farewell(&mut self) -> Option<(Guest, Option<Why>)> {
+    pub fn farewell(&mut self) -> Option<(Guest, Option<Why>)>
+        ensures guest { result ≡ gone_guest self.old }
+        ensures once { self.new ≡ without_guest self.old }
+    {
         if self.listens() {
             return None;
         }
@@ -262,13 +304,18 @@ impl<S: Drop> Peer<S> {
     }
 
     /// Whether it has something to read or to do. What was held is tried again.
-    pub fn is_due_again(&mut self) -> bool {
+    pub fn is_due_again(&mut self) -> bool
+        ensures again { self.new ≡ record self.old { is_held = false } }
+        ensures due { result ≡ is_due self.new }
+    {
         self.is_held = false;
         self.is_due()
     }
 
     /// The client whose draw is to be asked for, if it is one.
-    pub fn wants_draw(&self) -> Option<u32> {
+    pub fn wants_draw(&self) -> Option<u32>
+        ensures { result ≡ wanted_draw self.now }
+    {
         match self.role {
             Role::Client(client) if self.stage.is_open() && self.turn.wants_draw() => Some(client),
             _ => None,
@@ -276,8 +323,36 @@ impl<S: Drop> Peer<S> {
     }
 
     /// Whether too many bytes wait for it.
-    pub fn is_laggard(&self) -> bool {
+    pub fn is_laggard(&self) -> bool
+        ensures { IsTrue result
+            ↔ ((listens self.now.stage ≡ true) × (1048576 < length self.now.turn.unsent)) }
+    {
         self.listens() && self.turn.unsent() > MOST_UNSENT
+    }
+
+    // Whether what is typed into it has to wait, if it is a window: much waits for it, or it did and
+    // not little does now.
+    fn is_stuffed(&self) -> bool {
+        let (bytes, frames) = (self.turn.unsent(), self.turn.typed_frames());
+        if self.full.is_some() {
+            bytes >= FULL / 2 || frames >= MOST_FRAMES / 2
+        } else {
+            bytes > FULL || frames > MOST_FRAMES
+        }
+    }
+
+    /// What all loops are to be told of it: the window's serial, and whether what is typed into it has
+    /// to wait.
+    pub fn take_fullness(&mut self) -> Option<(u32, bool)> {
+        let full = match self.role {
+            Role::Window(window) if self.listens() && self.is_stuffed() => Some(window),
+            _ => None,
+        };
+        match (std::mem::replace(&mut self.full, full), full) {
+            (None, Some(window)) => Some((window, true)),
+            (Some(window), None) => Some((window, false)),
+            _ => None,
+        }
     }
 
     /// Whether it waits for this.

@@ -15,6 +15,8 @@ pub struct SeatAnswer {
     pub filled: Option<u8>,
     /// What came of the event for the user who tried it.
     pub outcome: Outcome,
+    /// The window that was typed into, by its serial.
+    pub typed: Option<u32>,
 }
 
 /// What a user may have a bounded number of.
@@ -75,11 +77,27 @@ impl SeatFault {
 
 /// A loop's seat in the session that all loops share.
 pub trait SessionSeat {
-    /// The users who may connect when the server starts.
-    fn users(&self) -> &Users;
+    ghost use Rattle.std.specs.Prelude.{◌≡◌, ◌+◌, ◌%◌, ◌^◌, ℕ, List, length, IfOk, OnErr};
+    ghost use Rattle.server_users.specs.Entries.{Entry};
 
-    /// Submits an event to the session.
-    fn submit<R: Wait>(&mut self, rt: &R, event: Event<'_>) -> Result<SeatAnswer, SeatFault>;
+    // The users who may connect when the server starts.
+    ghost known: { Self → List Entry };
+
+    // How many steps were made for the seat, and how many effects it was handed, counted round.
+    ghost steps: { Self → ℕ };
+
+    ghost handed: { Self → ℕ };
+
+    /// The users who may connect when the server starts.
+    fn users(&self) -> &Users
+        ensures { result.now ≡ known self.now };
+
+    /// Submits an event to the session: one step, or none if it is refused.
+    fn submit<R: Wait>(&mut self, rt: &R, event: Event<'_>) -> Result<SeatAnswer, SeatFault>
+        ensures steps { IfOk result (λ answer. steps self.new ≡ (steps self.old + 1) % 2 ^ 64) }
+        ensures none { OnErr result (steps self.new ≡ steps self.old) }
+        ensures handed { handed self.new ≡ handed self.old }
+        ensures known { known self.new ≡ known self.old };
 
     /// Pays `cost` thousandths of a unit for a step that a user is about to try, unless the user has
     /// to wait. Returns whether it was paid.
@@ -101,7 +119,22 @@ pub trait SessionSeat {
     /// Whether the trail has a file to which nothing is written any more.
     fn has_stopped(&self) -> bool;
 
-    /// Takes the effects that wait for the loop's peers, and says whether a step other than a draw
-    /// was made since the last call.
-    fn take<R: Wait>(&mut self, rt: &R) -> (Vec<Effect>, bool);
+    /// Takes the effects that wait for the loop's peers, each with the client that typed it, and says
+    /// whether a step other than a draw was made since the last call.
+    fn take<R: Wait>(&mut self, rt: &R) -> (Vec<(Effect, Option<u32>)>, bool)
+        ensures handed { handed self.new ≡ (handed self.old + length result.0.items) % 2 ^ 64 }
+        ensures steps { steps self.new ≡ steps self.old }
+        ensures known { known self.new ≡ known self.old };
+
+    /// Whether what this client typed may go into this window.
+    fn may_type<R: Wait>(&self, rt: &R, client: u32, window: u32) -> bool;
+
+    /// A client left by itself: what it typed before may go on, though it may type no more.
+    fn set_left<R: Wait>(&self, _rt: &R, _client: u32) {}
+
+    /// Tells all loops that much waits for a window, or that little does again.
+    fn set_full<R: Wait>(&self, rt: &R, window: u32, is_full: bool);
+
+    /// Whether much waits for a window: what is typed into it has to wait.
+    fn is_full<R: Wait>(&self, rt: &R, window: u32) -> bool;
 }

@@ -1,7 +1,14 @@
 //! Reads and writes of one connection.
 
-use crate::inbox::Asked;
+ghost use Rattle.std.specs.Prelude.{◌≡◌, ◌≤◌, ◌++◌, ◌∷◌, ℕ, List, [], Some, None, IfSome, false, length, take, true};
+ghost use Rattle.std.specs.Io.KnownBytes.{Consumes};
+ghost use Rattle.attach_proto.specs.declared.message.Message.{Message};
+ghost use Rattle.server_connections.specs.Peers.{is_open};
+ghost use Rattle.server_connections.specs.Streaming.{IsIdle, IsWrittenTo, rest_of};
+ghost use Rattle.server_inbox.specs.Asking.{IsWhole, Stands};
+
 use crate::peer::{Peer, Role, Stage};
+use server_inbox::Asked;
 use std::io::{ErrorKind, Read, Write};
 
 /// What a read brought.
@@ -20,7 +27,18 @@ pub enum Arrival {
 impl<S: Read + Write + Drop> Peer<S> {
     // Adds the messages that these bytes complete; after them more may be there to read. A window's
     // output comes in long frames, so all of its messages are made at once.
-    fn feed(&mut self, bytes: &[u8], has_more: bool) {
+    fn feed(&mut self, bytes: &[u8], has_more: bool)
+        ensures stands { (taken : List Message) (stream : List ℕ)
+            → self.old.inbox.messages.items ≡ [] → self.old.inbox.is_broken ≡ false
+            → Stands self.old.inbox self.old.reader taken stream
+            → IsWhole self.new.inbox self.new.reader
+            → Stands self.new.inbox self.new.reader taken (stream ++ bytes.now) }
+        ensures same { self.new ≡ record self.old {
+          inbox = self.new.inbox;
+          reader = self.new.reader;
+          has_more = has_more;
+        } }
+    {
         if matches!(self.role, Role::Window(_)) {
             self.inbox.take_all(&mut self.reader, bytes);
         } else {
@@ -30,81 +48,148 @@ impl<S: Read + Write + Drop> Peer<S> {
     }
 
     /// Takes out the next message, or what is left of one. If the connection isn't open there is none.
-    pub fn next_asked(&mut self) -> Option<Asked> {
+    pub fn next_asked(&mut self) -> Option<Asked>
+        ensures shut { is_open self.old.stage ≡ false → (result ≡ None) × (self.new ≡ self.old) }
+        ensures again { is_open self.old.stage ≡ true → IfSome self.old.inbox.begun (λ asked.
+            (result ≡ Some asked) × (self.new.reader ≡ self.old.reader)
+            × (self.new.inbox ≡ record self.old.inbox { begun = None })) }
+        ensures next { is_open self.old.stage ≡ true → self.old.inbox.begun ≡ None
+            → IfSome result (λ asked. (asked.done ≡ 0)
+            × ((taken : List Message) (stream : List ℕ)
+            → Stands self.old.inbox self.old.reader taken stream
+            → IsWhole self.new.inbox self.new.reader
+            → Stands self.new.inbox self.new.reader (taken ++ asked.message ∷ []) stream)) }
+        ensures same { self.new ≡ record self.old {
+          inbox = self.new.inbox;
+          reader = self.new.reader;
+        } }
+    {
         if !self.stage.is_open() {
             return None;
         }
         self.inbox.next(&mut self.reader)
     }
 
+    // Whether more may be there after a read of this many bytes. A stranger's bytes may come in pieces,
+    // however many are there.
+    fn may_have_more(&self, is_much: bool) -> bool {
+        is_much || self.has_hung_up || self.role.is_stranger()
+    }
+
+    // A read brought no byte.
+    fn note_none(&mut self, now: u64, arrival: Arrival)
+        ensures { self.new ≡ record self.old {
+          has_more = self.new.has_more;
+          inbox = record self.old.inbox { typed = self.new.inbox.typed };
+        } }
+    {
+        self.has_more = arrival == Arrival::Some;
+        if arrival == Arrival::Nothing {
+            self.inbox.typed.note_read(now, false);
+        }
+    }
+
     /// Reads once, if the connection is open and may be read at this time in milliseconds. If fewer
     /// bytes came than the buffer takes, nothing is left for now; but if the other end was closed, the end
     /// comes after them.
-    pub fn read(&mut self, buffer: &mut [u8], now: u64) -> Arrival {
+    pub fn read(&mut self, buffer: &mut [u8], now: u64) -> Arrival
+        // What was read is taken in after all that was read before.
+        ensures bytes { (piece : List ℕ)
+            × Consumes (rest_of S.remaining self.old.stream) (rest_of S.remaining self.new.stream) piece
+            × ((taken : List Message) (stream : List ℕ)
+            → Stands self.old.inbox self.old.reader taken stream
+            → IsWhole self.new.inbox self.new.reader
+            → Stands self.new.inbox self.new.reader taken (stream ++ piece)) }
+    {
         if !self.stage.is_open() || !self.has_more() || !self.inbox.may_read(now) {
             return Arrival::Nothing;
         }
         let Some(stream) = &mut self.stream else {
             return Arrival::Nothing;
         };
-        self.has_more = false;
-        match stream.read(buffer) {
-            Ok(0) => Arrival::End,
-            Ok(count) => {
-                let is_much = count == buffer.len();
-                self.inbox.typed.note_read(now, is_much);
-                self.feed(&buffer[..count], is_much || self.has_hung_up);
-                if is_much {
-                    Arrival::Much
-                } else {
-                    Arrival::Some
-                }
+        let (count, arrival) = read_from(stream, buffer);
+        if count == 0 {
+            self.note_none(now, arrival);
+            return arrival;
+        }
+        let is_much = count == buffer.len();
+        self.inbox.typed.note_read(now, is_much);
+        let has_more = self.may_have_more(is_much);
+        self.feed(&buffer[..count], has_more);
+        if is_much {
+            Arrival::Much
+        } else {
+            Arrival::Some
+        }
+    }
+
+    // Makes one write of what waits, or closes a connection that is to go once all is written. Returns
+    // whether it may take more.
+    fn write_once(&mut self) -> bool
+        ensures written { (put : List ℕ) → IsWrittenTo S.contents put self.old
+            → IsWrittenTo S.contents put self.new }
+        ensures idle { IsIdle self.old → (result ≡ false) × (self.new ≡ self.old) }
+    {
+        let Some(stream) = &mut self.stream else {
+            return false;
+        };
+        if self.turn.unsent() == 0 {
+            if self.stage == Stage::Ending || self.stage == Stage::Cut {
+                self.close();
             }
+            return false;
+        }
+        match self.turn.send(stream) {
+            Ok(0) => self.close(),
+            Ok(_) => {}
             Err(error) => match error.kind() {
                 ErrorKind::WouldBlock => {
-                    self.inbox.typed.note_read(now, false);
-                    Arrival::Nothing
+                    self.is_full = true;
+                    if self.stage == Stage::Cut {
+                        self.close();
+                    }
+                    return false;
                 }
-                ErrorKind::Interrupted => {
-                    self.has_more = true;
-                    Arrival::Some
-                }
-                _ => Arrival::End,
+                ErrorKind::Interrupted => {}
+                _ => self.close(),
             },
         }
+        true
     }
 
     /// Writes what waits, until the connection takes no more for now. Until an event tells of room it
     /// isn't tried again, but for the last time. It is given up if a write fails.
-    pub fn write(&mut self) {
+    pub fn write(&mut self)
+        // Of what was put, its stream holds what was written, and the rest waits, unless it is given up.
+        ensures written { (put : List ℕ) → IsWrittenTo S.contents put self.old
+            → IsWrittenTo S.contents put self.new }
+        // If nothing waits, and it isn't to go, nothing is done.
+        ensures idle { IsIdle self.old → self.new ≡ self.old }
+    {
         if self.is_full && self.stage != Stage::Cut {
             return;
         }
-        for _ in 0..u64::MAX {
-            let Some(stream) = &mut self.stream else {
+        'writes: for _ in 0..u64::MAX {
+            if !self.write_once() {
                 return;
-            };
-            if self.turn.unsent() == 0 {
-                if self.stage == Stage::Ending || self.stage == Stage::Cut {
-                    self.close();
-                }
-                return;
-            }
-            match self.turn.send(stream) {
-                Ok(0) => self.close(),
-                Ok(_) => {}
-                Err(error) => match error.kind() {
-                    ErrorKind::WouldBlock => {
-                        self.is_full = true;
-                        if self.stage == Stage::Cut {
-                            self.close();
-                        }
-                        return;
-                    }
-                    ErrorKind::Interrupted => {}
-                    _ => self.close(),
-                },
             }
         }
+    }
+}
+
+// Reads once. Says how many bytes came; if none did, whether the stream ended, has nothing for now, or is
+// to be read again.
+fn read_from<S: Read>(stream: &mut S, buffer: &mut [u8]) -> (usize, Arrival)
+    ensures within { result.0 ≤ length buffer.new }
+    ensures bytes { Consumes (S.remaining stream.old) (S.remaining stream.new) (take result.0 buffer.new) }
+{
+    match stream.read(buffer) {
+        Ok(0) => (0, Arrival::End),
+        Ok(count) => (count, Arrival::Much),
+        Err(error) => match error.kind() {
+            ErrorKind::WouldBlock => (0, Arrival::Nothing),
+            ErrorKind::Interrupted => (0, Arrival::Some),
+            _ => (0, Arrival::End),
+        },
     }
 }

@@ -16,6 +16,9 @@ impl<S: Read + Write + Drop, G: Gate + Drop, J: SessionSeat + Drop> Loop<S, G, J
         let Some(event) = peer.leaves.parting() else {
             return Ok(());
         };
+        if let Role::Client(client) = peer.leaves {
+            self.seat.set_left(rt, client);
+        }
         if let Err(SeatFault::NoMemory) = self.submit(rt, event) {
             self.has_refused = true;
             return Err(SeatFault::NoMemory);
@@ -122,8 +125,15 @@ impl<S: Read + Write + Drop, G: Gate + Drop, J: SessionSeat + Drop> Loop<S, G, J
     }
 
     // What is closed goes, and what has nothing to do rests. If it was a guest, its user may have
-    // another one.
+    // another one. Windows become full or aren't any more.
     fn settle(&mut self, rt: &impl Wait, key: usize) {
+        let news = self
+            .connections
+            .touch(key)
+            .and_then(|peer| peer.take_fullness());
+        if let Some((window, is_full)) = news {
+            self.seat.set_full(rt, window, is_full);
+        }
         let gone = self.connections.touch(key).and_then(|peer| peer.farewell());
         if let Some((guest, why)) = gone {
             self.seat.remove(rt, guest.user, guest.kind);

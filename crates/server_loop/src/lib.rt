@@ -5,7 +5,6 @@
 mod gate;
 mod leaving;
 mod own;
-mod pace;
 mod requests;
 mod sending;
 mod submitting;
@@ -14,7 +13,7 @@ mod typing;
 
 pub use gate::{Gate, Open};
 pub use own::{Loop, Pending};
-pub use pace::Pace;
 pub use server_connections::{Connections, End, Name, News, SessionSeat};
+pub use server_pace::Pace;
 pub use submitting::Submitted;
 pub use turn::{Reads, Writes};

@@ -1,5 +1,7 @@
 //! One loop: its connections, its seat in the session, and what it still has to do.
 
+ghost use Rattle.std.specs.Prelude.{◌≡◌};
+
 use crate::gate::Gate;
 use crate::submitting::Submitted;
 use crate::turn::OUTPUT;
@@ -71,6 +73,8 @@ pub struct Loop<S, G, J> {
     // Something was refused for want of memory, and is tried again in the next turn.
     pub(crate) has_refused: bool,
     pub(crate) draws: Draws,
+    // A step other than a draw was made since it was looked who may still type.
+    pub(crate) may_have_lost: bool,
     pub(crate) end: Option<End>,
     /// Whether news is told.
     pub tells: bool,
@@ -112,6 +116,7 @@ impl<S: Drop, G: Gate + Drop, J: SessionSeat + Drop> Loop<S, G, J> {
                 from: None,
                 made: 0,
             },
+            may_have_lost: false,
             end: None,
             tells: false,
             news: Vec::new(alloc),
@@ -180,7 +185,9 @@ impl<S: Drop, G: Gate + Drop, J: SessionSeat + Drop> Loop<S, G, J> {
     }
 
     // Notes what happened. It is left out if there is no memory for it or if news aren't told.
-    pub(crate) fn tell(&mut self, news: News) {
+    pub(crate) fn tell(&mut self, news: News)
+        ensures { self.new ≡ record self.old { news = self.new.news } }
+    {
         if self.tells && self.news.len() < MOST_NEWS {
             let _ = self.news.push(news);
         }

@@ -1,15 +1,19 @@
 //! What peers ask for.
 
+ghost use Rattle.std.specs.Prelude.{◌≡◌, IfSome, None, Contains, unwrap_or};
+ghost use Rattle.acl.specs.Names.{name_of};
+ghost use Rattle.session_model.specs.Trace.{happening};
+ghost use Rattle.server_loop.specs.Naming.{IsOf, NamesNobody};
+
 use crate::gate::Gate;
 use crate::own::Loop;
 use crate::turn::{PIECE, Progress};
-use acl::UserId;
 use attach_proto::{Message, Text, Token, Why};
 use command_lang::{Command, FaultKind, parse};
 use server_connections::{
     Asked, End, Guest, GuestKind, Name, News, Role, SeatAnswer, SeatFault, Sending, SessionSeat,
 };
-use server_users::{Outcome, UNIT, authenticate, price};
+use server_users::{Shown, Users, authenticate};
 use session_model::{Done, Event, Refusal};
 use std::alloc::{AllocError, Global};
 use std::io::{Read, Write};
@@ -23,7 +27,7 @@ const NO_ROOM: &str = "the server has no room for more connections";
 #[derive(Clone, Copy)]
 struct Newcomer {
     key: usize,
-    user: UserId,
+    user: Shown,
 }
 
 fn is_quit(alloc: Global, line: &[u8]) -> Result<bool, AllocError> {
@@ -31,23 +35,6 @@ fn is_quit(alloc: Global, line: &[u8]) -> Result<bool, AllocError> {
         Ok(Command::Quit) => Ok(true),
         Err(fault) if fault.kind == FaultKind::NoMemory => Err(AllocError),
         _ => Ok(false),
-    }
-}
-
-// How many entries of the trail an event leads to. An attach has two, as its client also leaves.
-fn entries_of(event: Event) -> u16 {
-    match event {
-        Event::Attach { .. } => 2,
-        _ => 1,
-    }
-}
-
-// How many bytes of an event the trail keeps.
-fn kept_of(event: Event) -> usize {
-    match event {
-        Event::Command { line, .. } => line.len(),
-        Event::Open { title, .. } => title.len(),
-        _ => 0,
     }
 }
 
@@ -67,34 +54,12 @@ impl<S: Read + Write + Drop, G: Gate + Drop, J: SessionSeat + Drop> Loop<S, G, J
 
     // Submits an event whose answer nobody waits for. A refusal is passed over, unless there was no
     // memory.
-    pub(crate) fn change(&mut self, rt: &impl Wait, key: usize, event: Event) {
+    pub(crate) fn change(&mut self, rt: &impl Wait, key: usize, event: Event)
+        requires { NamesNobody (happening event) }
+    {
         if let Err(SeatFault::NoMemory) = self.submit(rt, event) {
             self.fault(rt, key);
         }
-    }
-
-    // Tries a step for a user, and counts what comes of it. There is no answer yet while the user has
-    // to wait: too much was counted, or there is no memory to count.
-    pub(crate) fn try_for(
-        &mut self,
-        rt: &impl Wait,
-        user: UserId,
-        event: Event,
-    ) -> Result<Option<SeatAnswer>, SeatFault> {
-        let entries = entries_of(event);
-        let cost = price(entries, kept_of(event));
-        let now = self.now;
-        if !self.rations.may(user, now) || !self.seat.pay(rt, user, now, cost) {
-            return Ok(None);
-        }
-        self.rations.count(user, now, cost / UNIT);
-        let answer = self.submit(rt, event);
-        let outcome = match &answer {
-            Ok(answer) => answer.outcome,
-            Err(_) => Outcome::Untaken,
-        };
-        self.seat.settle(rt, user, cost, outcome);
-        answer.map(|answer| Some(answer))
     }
 
     // A step takes a piece of a window's output.
@@ -112,13 +77,29 @@ impl<S: Read + Write + Drop, G: Gate + Drop, J: SessionSeat + Drop> Loop<S, G, J
         }
     }
 
-    fn user_of(&self, name: &Text, token: &Token) -> Option<UserId> {
-        let users = match &self.users {
+    // The users who may connect by now.
+    fn known(&self) -> &Users
+        ensures { result.now ≡ unwrap_or self.entry.now.users (J.known self.entry.now.seat) }
+    {
+        match &self.users {
             Some(users) => users,
             None => self.seat.users(),
-        };
-        let user = authenticate(users, name.as_str().as_bytes(), token).ok()?;
-        Some(user.id)
+        }
+    }
+
+    /// The user of this name who showed this token, if it is theirs.
+    pub fn user_of(&self, name: &Text, token: &Token) -> Option<Shown>
+        ensures shown { IfSome result (λ shown. (name_of shown.user ≡ name.now)
+            × Contains (unwrap_or self.entry.now.users (J.known self.entry.now.seat))
+            (record { name = name.now; token = token.now })) }
+        ensures none { result ≡ None
+            → ¬ (Contains (unwrap_or self.entry.now.users (J.known self.entry.now.seat))
+            (record { name = name.now; token = token.now })) }
+    {
+        match authenticate(self.known(), name.as_str().as_bytes(), token) {
+            Ok(user) => Some(user.shown()),
+            Err(_) => None,
+        }
     }
 
     // A connection is told why it can't become a guest, and goes.
@@ -165,7 +146,7 @@ impl<S: Read + Write + Drop, G: Gate + Drop, J: SessionSeat + Drop> Loop<S, G, J
     }
 
     fn begin_as(&mut self, rt: &impl Wait, newcomer: Newcomer, message: &Message) -> Progress {
-        let user = newcomer.user;
+        let user = newcomer.user.user();
         match message {
             Message::Attach { rows, columns, .. } => {
                 let event = Event::Attach {
@@ -205,13 +186,16 @@ impl<S: Read + Write + Drop, G: Gate + Drop, J: SessionSeat + Drop> Loop<S, G, J
         newcomer: Newcomer,
         kind: GuestKind,
         event: Event,
-    ) -> Progress {
-        let Newcomer { key, user } = newcomer;
+    ) -> Progress
+        requires { IsOf newcomer.user.user (happening event) }
+    {
+        let Newcomer { key, user: shown } = newcomer;
+        let user = shown.user();
         if let Some(most) = self.seat.add(rt, user, kind) {
             self.say_too_many(rt, newcomer, kind, most);
             return Progress::Done;
         }
-        let answer = match self.try_for(rt, user, event) {
+        let answer = match self.try_for(rt, shown, event) {
             Ok(answer) => answer,
             Err(fault) => {
                 self.dismiss(key, fault.why());
@@ -235,7 +219,8 @@ impl<S: Read + Write + Drop, G: Gate + Drop, J: SessionSeat + Drop> Loop<S, G, J
     }
 
     fn let_in(&mut self, rt: &impl Wait, newcomer: Newcomer, kind: GuestKind, done: &Done) {
-        let Newcomer { key, user } = newcomer;
+        let Newcomer { key, user: shown } = newcomer;
+        let user = shown.user();
         let (role, number) = match kind {
             GuestKind::Window => (Role::Window(done.made), u32::from(done.number)),
             GuestKind::Client => (Role::Client(done.made), done.made),
@@ -257,12 +242,13 @@ impl<S: Read + Write + Drop, G: Gate + Drop, J: SessionSeat + Drop> Loop<S, G, J
         window: Option<u8>,
         line: &[u8],
     ) -> Progress {
-        let Newcomer { key, user } = newcomer;
+        let Newcomer { key, user: shown } = newcomer;
+        let user = shown.user();
         let Ok(is_quit) = is_quit(self.alloc, line) else {
             self.dismiss(key, Why::Fault);
             return Progress::Done;
         };
-        match self.try_for(rt, user, Event::Command { user, window, line }) {
+        match self.try_for(rt, shown, Event::Command { user, window, line }) {
             Ok(None) => return Progress::Held,
             Ok(Some(answer)) => self.tell_answer(rt, newcomer, &answer, is_quit),
             Err(fault) => self.dismiss(key, fault.why()),
@@ -278,7 +264,8 @@ impl<S: Read + Write + Drop, G: Gate + Drop, J: SessionSeat + Drop> Loop<S, G, J
         answer: &SeatAnswer,
         is_quit: bool,
     ) {
-        let Newcomer { key, user } = newcomer;
+        let Newcomer { key, user: shown } = newcomer;
+        let user = shown.user();
         self.send(rt, key, Sending::Message(&Message::Welcome(0)));
         match &answer.reply {
             Ok(done) => {
@@ -301,7 +288,8 @@ impl<S: Read + Write + Drop, G: Gate + Drop, J: SessionSeat + Drop> Loop<S, G, J
 
     // Tells a connection that its user has as many clients or windows as a user may have.
     fn say_too_many(&mut self, rt: &impl Wait, newcomer: Newcomer, kind: GuestKind, most: u8) {
-        let Newcomer { key, user } = newcomer;
+        let Newcomer { key, user: shown } = newcomer;
+        let user = shown.user();
         let kind = kind.word();
         match format!(in self.alloc; "too many {kind}s of {}: at most {most}", Name(user)) {
             Ok(text) => self.turn_away(rt, key, &text),

@@ -41,8 +41,8 @@ impl<S: Read + Write + Drop, G: Gate + Drop, J: SessionSeat + Drop> Loop<S, G, J
     }
 
     fn hand(&mut self, rt: &impl Wait, role: Role, sending: Sending) {
-        if let Some(key) = self.connections.key_of(role) {
-            self.send(rt, key, sending);
+        if let Err(key) = self.connections.put_for(role, sending) {
+            self.expel(rt, key, Why::Fault);
         }
     }
 
@@ -50,12 +50,12 @@ impl<S: Read + Write + Drop, G: Gate + Drop, J: SessionSeat + Drop> Loop<S, G, J
     pub(crate) fn hand_out(&mut self, rt: &impl Wait) {
         self.is_behind = false;
         let (effects, is_told) = self.seat.take(rt);
-        for effect in &effects {
+        for (effect, typist) in &effects {
             match effect {
                 Effect::Input(window, bytes) => self.hand(
                     rt,
                     Role::Window(*window),
-                    Sending::Input(bytes.as_slice()),
+                    Sending::Input(bytes.as_slice(), *typist),
                 ),
                 Effect::Deliver(client, bytes) => self.hand(
                     rt,
@@ -84,6 +84,35 @@ impl<S: Read + Write + Drop, G: Gate + Drop, J: SessionSeat + Drop> Loop<S, G, J
             }
         }
         self.draws.is_told |= is_told;
+        self.may_have_lost |= is_told;
+    }
+
+    // Takes out of what waits for a window what clients typed that may not type into it any more.
+    fn drop_typed(&mut self, rt: &impl Wait, key: usize) {
+        let Role::Window(window) = self.role_of(key) else {
+            return;
+        };
+        let mut last = None;
+        for _ in 0..u32::MAX {
+            let peer = self.connections.get(key);
+            let Some(client) = peer.and_then(|peer| peer.turn.typist_after(last)) else {
+                return;
+            };
+            if !self.seat.may_type(rt, client, window) {
+                if let Some(peer) = self.connections.touch(key) {
+                    peer.turn.drop_typed(client);
+                }
+            }
+            last = Some(client);
+        }
+    }
+
+    // After a step that may have taken a right, what was typed by those who lost theirs isn't written.
+    pub(crate) fn drop_all_typed(&mut self, rt: &impl Wait) {
+        if self.may_have_lost {
+            self.may_have_lost = false;
+            each_awake(self, |own, key| own.drop_typed(rt, key));
+        }
     }
 
     // Writes what waits for a connection, until it takes no more for now.

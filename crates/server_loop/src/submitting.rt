@@ -1,8 +1,13 @@
 //! Events that a loop submits to the session which the loops share.
 
+ghost use Rattle.std.specs.Prelude.{◌≡◌, ◌+◌, ◌%◌, ◌^◌, IfOk, OnErr};
+ghost use Rattle.session_model.specs.Trace.{happening};
+ghost use Rattle.server_loop.specs.Naming.{IsOf, NamesNobody};
+
 use crate::gate::Gate;
 use crate::own::Loop;
 use server_connections::{News, SeatAnswer, SeatFault, SessionSeat};
+use server_users::{Outcome, Shown, UNIT, price};
 use session_model::Event;
 use std::sync::Wait;
 
@@ -33,13 +38,49 @@ impl Submitted {
     }
 }
 
+// How many entries of the trail an event leads to. An attach has two, as its client also leaves.
+fn entries_of(event: Event) -> u16 {
+    match event {
+        Event::Attach { .. } => 2,
+        _ => 1,
+    }
+}
+
+// How many bytes of an event the trail keeps.
+fn kept_of(event: Event) -> usize {
+    match event {
+        Event::Command { line, .. } => line.len(),
+        Event::Open { title, .. } => title.len(),
+        _ => 0,
+    }
+}
+
 impl<S: Drop, G: Gate + Drop, J: SessionSeat + Drop> Loop<S, G, J> {
-    /// Submits an event to the session that the loops share. Notes how the server ends, if it does.
+    /// Submits an event that names no user.
     pub(crate) fn submit(
         &mut self,
         rt: &impl Wait,
         event: Event<'_>,
-    ) -> Result<SeatAnswer, SeatFault> {
+    ) -> Result<SeatAnswer, SeatFault>
+        requires { NamesNobody (happening event) }
+        ensures connections { self.new.connections ≡ self.old.connections }
+        ensures steps { IfOk result (λ answer.
+            J.steps self.new.seat ≡ (J.steps self.old.seat + 1) % 2 ^ 64) }
+        ensures none { OnErr result (J.steps self.new.seat ≡ J.steps self.old.seat) }
+        ensures handed { J.handed self.new.seat ≡ J.handed self.old.seat }
+    {
+        self.submit_any(rt, event)
+    }
+
+    // Submits an event to the session that the loops share: one step, or none if it is refused. Notes how
+    // the server ends, if it does.
+    fn submit_any(&mut self, rt: &impl Wait, event: Event<'_>) -> Result<SeatAnswer, SeatFault>
+        ensures connections { self.new.connections ≡ self.old.connections }
+        ensures steps { IfOk result (λ answer.
+            J.steps self.new.seat ≡ (J.steps self.old.seat + 1) % 2 ^ 64) }
+        ensures none { OnErr result (J.steps self.new.seat ≡ J.steps self.old.seat) }
+        ensures handed { J.handed self.new.seat ≡ J.handed self.old.seat }
+    {
         self.gate.before();
         let answer = self.seat.submit(rt, event);
         self.gate.after();
@@ -55,6 +96,33 @@ impl<S: Drop, G: Gate + Drop, J: SessionSeat + Drop> Loop<S, G, J> {
             Err(SeatFault::NoMemory) => {}
         }
         answer
+    }
+
+    /// Tries a step for a user who showed their token, and counts what comes of it. There is no answer yet
+    /// while the user has to wait: too much was counted, or there is no memory to count.
+    pub(crate) fn try_for(
+        &mut self,
+        rt: &impl Wait,
+        shown: Shown,
+        event: Event<'_>,
+    ) -> Result<Option<SeatAnswer>, SeatFault>
+        requires { IsOf shown.user (happening event) }
+    {
+        let user = shown.user();
+        let entries = entries_of(event);
+        let cost = price(entries, kept_of(event));
+        let now = self.now;
+        if !self.rations.may(user, now) || !self.seat.pay(rt, user, now, cost) {
+            return Ok(None);
+        }
+        self.rations.count(user, now, cost / UNIT);
+        let answer = self.submit_any(rt, event);
+        let outcome = match &answer {
+            Ok(answer) => answer.outcome,
+            Err(_) => Outcome::Untaken,
+        };
+        self.seat.settle(rt, user, cost, outcome);
+        answer.map(|answer| Some(answer))
     }
 
     // Which steps were submitted since the last call.

@@ -224,6 +224,7 @@ impl<S: Read + Write + Drop, G: Gate + Drop, J: SessionSeat + Drop> Loop<S, G, J
         self.draws.made = 0;
         self.tell_all_leaving(rt);
         self.hand_out(rt);
+        self.drop_all_typed(rt);
         self.write_all(rt);
         self.draw_all(rt, holds_draws);
         self.drop_laggards(rt);

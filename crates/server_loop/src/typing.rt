@@ -11,6 +11,9 @@ use std::sync::Wait;
 
 const DROPPED: &str = "keys were dropped: they waited for a second";
 
+// The key with which a command begins.
+const COMMAND: u8 = 1;
+
 impl<S: Read + Write + Drop, G: Gate + Drop, J: SessionSeat + Drop> Loop<S, G, J> {
     // The time of this turn in milliseconds.
     pub(crate) fn millis(&self) -> u64 {
@@ -34,7 +37,7 @@ impl<S: Read + Write + Drop, G: Gate + Drop, J: SessionSeat + Drop> Loop<S, G, J
         let peer = self.connections.touch(key)?;
         let waits = peer.inbox.sizing.wanted.is_some() || peer.inbox.typed.drains();
         let progress = if !peer.inbox.typed.is_empty() {
-            self.judge(rt, key, client)
+            self.judge_or_wait(rt, key, client)
         } else if waits && !peer.inbox.has_messages() {
             Progress::Held
         } else if is_through {
@@ -73,15 +76,54 @@ impl<S: Read + Write + Drop, G: Gate + Drop, J: SessionSeat + Drop> Loop<S, G, J
         }
     }
 
+    // Whether the keys that wait have to wait on, since the window that they are for takes no more for now.
+    // Those that begin a command don't wait. If their user may not type any more, none wait.
+    fn must_wait(&mut self, rt: &impl Wait, key: usize, client: u32) -> bool {
+        let Some(peer) = self.connections.touch(key) else {
+            return false;
+        };
+        let Some(window) = peer.types_into else {
+            return false;
+        };
+        let typed = &mut peer.inbox.typed;
+        let is_full = !typed.begins_command() && self.seat.is_full(rt, window);
+        if !is_full && !typed.is_held() {
+            return false;
+        }
+        if !self.seat.may_type(rt, client, window) {
+            typed.let_go();
+            return false;
+        }
+        if is_full {
+            typed.hold();
+        }
+        is_full
+    }
+
+    // Does a step of the keys that wait, unless they have to wait on. Keys that were held and can't be done
+    // are as old as they are if it isn't known where they go.
+    fn judge_or_wait(&mut self, rt: &impl Wait, key: usize, client: u32) -> Progress {
+        if self.must_wait(rt, key, client) {
+            return Progress::Held;
+        }
+        let progress = self.judge(rt, key, client);
+        if let Some(peer) = self.connections.touch(key) {
+            if progress == Progress::Held && peer.types_into.is_none() {
+                peer.inbox.typed.let_go();
+            }
+        }
+        progress
+    }
+
     // Submits a step of the keys that wait, if their user may cause one more entry. It judges them up to
     // the first command; the rest is the next step's.
     fn judge(&mut self, rt: &impl Wait, key: usize, client: u32) -> Progress {
         let (alloc, now) = (self.alloc, self.now);
         let peer = self.connections.get(key);
-        let Some(user) = peer.and_then(|peer| peer.user) else {
+        let Some(shown) = peer.and_then(|peer| peer.user) else {
             return Progress::Done;
         };
-        if !self.rations.may(user, now) {
+        if !self.rations.may(shown.user(), now) {
             return Progress::Held;
         }
         let mut typed = match self.connections.touch(key) {
@@ -89,7 +131,8 @@ impl<S: Read + Write + Drop, G: Gate + Drop, J: SessionSeat + Drop> Loop<S, G, J
             None => return Progress::Done,
         };
         let bytes = typed.keys();
-        let answer = self.try_for(rt, user, Event::Keys { client, bytes });
+        let answer = self.try_for(rt, shown, Event::Keys { client, bytes });
+        let into = window_after(bytes, &answer);
         let progress = settle(&mut typed, &answer);
         self.reading.has_typed |= progress != Progress::Held;
         if let Err(SeatFault::NoMemory) = answer {
@@ -97,9 +140,28 @@ impl<S: Read + Write + Drop, G: Gate + Drop, J: SessionSeat + Drop> Loop<S, G, J
         }
         if let Some(peer) = self.connections.touch(key) {
             peer.inbox.typed = typed;
+            if progress != Progress::Held {
+                peer.types_into = into;
+            }
         }
         progress
     }
+}
+
+// The window into which the next keys go, by the answer to a step of these keys. After a command it isn't
+// known.
+fn window_after(keys: &[u8], answer: &Result<Option<SeatAnswer>, SeatFault>) -> Option<u32> {
+    let Ok(Some(answer)) = answer else {
+        return None;
+    };
+    let taken = match &answer.reply {
+        Ok(done) => done.taken,
+        Err(_) => 0,
+    };
+    if keys.get(..taken).unwrap_or(keys).contains(&COMMAND) {
+        return None;
+    }
+    answer.typed
 }
 
 // What the answer to a step of keys makes of these. If none of them were judged, nothing can come of the

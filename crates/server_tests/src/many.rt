@@ -18,13 +18,13 @@ fn often(
     Ok(bytes)
 }
 
-// A frame of 8,192 keys.
+// A frame of output that asks 2,048 times for the terminal's state, each time with four bytes. Each answer
+// has four bytes, too.
 fn full_frame(alloc: Global) -> Result<Vec<u8>, AllocError> {
-    often(alloc, b"K\x20\0", b"x", 8_192)
+    often(alloc, b"O\x20\0", b"\x1b[5n", 2_048)
 }
 
-// A client types 127 frames into a window whose program takes nothing but its WELCOME; then the rest
-// happens.
+// A window whose program takes nothing but its WELCOME asks in 127 frames; then the rest happens.
 fn flood<'a>(alloc: Global, frame: &'a [u8], rest: &[Act<'a>]) -> Result<Vec<Act<'a>>, AllocError> {
     let first = [
         Act::Connect(Habit::Takes(4), WINDOW),
@@ -34,19 +34,19 @@ fn flood<'a>(alloc: Global, frame: &'a [u8], rest: &[Act<'a>]) -> Result<Vec<Act
     ];
     let mut acts = Vec::from_slice(alloc, &first)?;
     for _ in 0..127 {
-        acts.extend_from_slice(&[Act::Send(1, frame), Act::Turns(1)])?;
+        acts.extend_from_slice(&[Act::Send(0, frame), Act::Turns(1)])?;
     }
     acts.extend_from_slice(rest)?;
     Ok(acts)
 }
 
-// A frame of 8,192 keys has 8,195 bytes: 127 of them have 1,040,765 bytes, and 128 have 1,048,960. Up
+// A frame of 8,192 bytes of input has 8,195 bytes: 127 of them have 1,040,765 bytes, and 128 have 1,048,960. Up
 // to 1,048,576 bytes may wait. With more, the peer is sent all and let go, and its window is closed.
 static TOO_FAR: [Row; 4] = [
     (0, Wanted::Sent(0, WELCOME)),
     (1, Wanted::TypedLen(0, 128 * 8_192)),
     (1, Wanted::Gone(0, Some(Why::TooFarBehind))),
-    (1, Wanted::LastEntries(b"KX")),
+    (1, Wanted::LastEntries(b"AX")),
 ];
 
 // In the last frame's turn nothing is taken before the second write.
@@ -55,7 +55,7 @@ fn goes_too_far(rt: &impl System) -> Result<bool, AllocError> {
     let rest = [
         Act::Note(0),
         Act::SetHabit(0, Habit::Later(1)),
-        Act::Send(1, &frame),
+        Act::Send(0, &frame),
         Act::Turns(1),
         Act::Note(0),
     ];
@@ -69,7 +69,7 @@ static GIVEN_UP: [Row; 4] = [
     (0, Wanted::IsDue(false)),
     (1, Wanted::IsDue(true)),
     (2, Wanted::IsDue(false)),
-    (2, Wanted::LastEntries(b"KX")),
+    (2, Wanted::LastEntries(b"AX")),
 ];
 
 // Whether the client is drawn between the last two notes.
@@ -84,7 +84,7 @@ fn sees_its_last_step(rt: &impl System) -> Result<bool, AllocError> {
     let frame = full_frame(alloc)?;
     let rest = [
         Act::Note(0),
-        Act::Send(1, &frame),
+        Act::Send(0, &frame),
         Act::Turns(1),
         Act::Note(0),
         Act::QuietTurns(1),

@@ -1,5 +1,5 @@
 -- Sizes of a client's terminal. Times are in milliseconds.
-use Rattle.std.specs.Prelude.{◌+◌, ◌≤◌, ℕ, Bool, Option, Some, None, if◌then◌else◌, is_some, nat_le, nat_lt, min, ◌&&◌}
+use Rattle.std.specs.Prelude.{◌+◌, ℕ, Option, Some, None, if◌then◌else◌, is_some, nat_le, min, ◌&&◌}
 use Rattle.server_typing.specs.declared.sizing.Sizing.{Sizing}
 
 abbrev pub no_size : Sizing

@@ -1,6 +1,6 @@
 -- Keys of a client that wait until a step judges them. Times are in milliseconds.
 use Rattle.std.specs.Prelude.{◌⊎◌, ◌≡◌, ◌==◌, ◌&&◌, ◌||◌, ◌++◌, ◌+◌, ◌-◌, ◌<◌, ℕ, Bool, true, false, not, List, []}
-use Rattle.std.specs.Prelude.{length, drop, if◌then◌else◌, nat_le}
+use Rattle.std.specs.Prelude.{length, drop, get_or, if◌then◌else◌, nat_le, nat_lt}
 
 pub record Typed : Type 0 where
   pub keys : List ℕ
@@ -18,6 +18,8 @@ pub record Typed : Type 0 where
   pub read : ℕ
   -- nothing that the last read found, or that is still to be read, came before this
   pub earliest : ℕ
+  -- the window that they are for takes no more for now, so they wait as long as it takes
+  pub held : Bool
 
 abbrev pub untyped : Typed
 untyped = record {
@@ -29,18 +31,31 @@ untyped = record {
   drained = true;
   read = 0;
   earliest = 0;
+  held = false;
 }
 
 abbrev pub is_idle : Typed → Bool
 is_idle t = length t.keys == 0
 
--- keys wait for this time or longer
+-- keys wait for this time or longer, and aren't held
 abbrev pub waits : ℕ → ℕ → Typed → Bool
-waits now time t = not (is_idle t) && nat_le time (now - t.since)
+waits now time t = (not (is_idle t) && not t.held) && nat_le time (now - t.since)
 
--- none wait for a second or more
+-- none wait for a second or more, unless they are held
 abbrev pub IsYoung : ℕ → Typed → Type 0
-IsYoung now t = (t.keys ≡ []) ⊎ (now - t.since < 1000)
+IsYoung now t = (t.held ≡ true) ⊎ ((t.keys ≡ []) ⊎ (now - t.since < 1000))
+
+-- they are held.  Until it was read again, the socket may hold keys that are as old as these
+abbrev pub holding : Typed → Typed
+holding t = record t { held = true; drained = false }
+
+-- their user may not type any more: those that were held, and those in the socket, are as old as they are
+abbrev pub let_go : Typed → Typed
+let_go t = if t.held then record t { held = false; denied = true } else t
+
+-- the first of them begins a command
+abbrev pub begins_command : Typed → Bool
+begins_command t = get_or t.keys 0 0 == 1
 
 -- so many more make at most one step
 abbrev pub has_room : ℕ → Typed → Bool
@@ -65,7 +80,7 @@ expired now t = if waits now 1000 t then record t { keys = []; lost = true } els
 
 -- the first of them were judged
 abbrev pub judged : ℕ → Typed → Typed
-judged count t = record t { keys = drop count t.keys }
+judged count t = record t { keys = drop count t.keys; held = t.held && nat_lt count (length t.keys) }
 
 -- more is there to be read than one read finds, and what comes is denied
 abbrev pub drains : Typed → Bool

@@ -2,8 +2,8 @@
 
 ghost use Rattle.std.specs.Prelude.{◌≡◌, OnOk, OnErr, length};
 ghost use Rattle.server_typing.specs.Typed.{IsYoung, after_news, after_read, drains, expired, has_room};
-ghost use Rattle.server_typing.specs.Typed.{is_idle, is_news, judged, may_read, takes, typed_at, untyped};
-ghost use Rattle.server_typing.specs.Typed.{waits};
+ghost use Rattle.server_typing.specs.Typed.{begins_command, holding, is_idle, is_news, judged, let_go, may_read};
+ghost use Rattle.server_typing.specs.Typed.{takes, typed_at, untyped, waits};
 
 use std::alloc::{AllocError, Global};
 use std::marker::Model;
@@ -21,8 +21,11 @@ const LATE: u64 = 100;
 // It is read so once in this many milliseconds.
 const PAUSE: u64 = 20;
 
+// The key with which a command begins.
+const COMMAND: u8 = 1;
+
 /// Keys of a client that wait until a step judges them. At most one step's keys wait, for less than a
-/// second. Times are in milliseconds.
+/// second unless they are held. Times are in milliseconds.
 pub struct Typeahead {
     bytes: Vec<u8>,
     since: u64,
@@ -32,6 +35,7 @@ pub struct Typeahead {
     drained: bool,
     read: u64,
     earliest: u64,
+    held: bool,
 }
 
 impl Drop for Typeahead {
@@ -45,6 +49,7 @@ impl Drop for Typeahead {
             drained: _,
             read: _,
             earliest: _,
+            held: _,
         } = self;
     }
 }
@@ -64,6 +69,7 @@ impl Model for Typeahead {
       drained = t.drained;
       read = t.read;
       earliest = t.earliest;
+      held = t.held;
     } };
 
     ghost invariant = { λ t. vec_len t.bytes ≤ 8192 };
@@ -83,6 +89,7 @@ impl Typeahead {
             drained: true,
             read: 0,
             earliest: 0,
+            held: false,
         }
     }
 
@@ -99,11 +106,11 @@ impl Typeahead {
         self.bytes.as_slice()
     }
 
-    // Whether the keys wait for this long or longer.
+    // Whether the keys wait for this long or longer, and aren't held.
     fn waits(&self, now: u64, time: u64) -> bool
         ensures { result ≡ waits now time self.now }
     {
-        !self.is_empty() && now.saturating_sub(self.since) >= time
+        !self.is_empty() && !self.held && now.saturating_sub(self.since) >= time
     }
 
     fn has_room(&self, count: usize) -> bool
@@ -136,7 +143,7 @@ impl Typeahead {
         Ok(())
     }
 
-    /// Drops all keys if they wait for a second.
+    /// Drops all keys if they wait for a second and aren't held.
     pub fn expire(&mut self, now: u64)
         ensures expired { self.new ≡ expired now self.old }
         ensures young { IsYoung now self.new }
@@ -153,10 +160,45 @@ impl Typeahead {
     {
         if count >= self.bytes.len() {
             self.bytes.clear();
+            self.held = false;
         } else {
             let left = self.bytes.len() - count;
             self.bytes.copy_within(count.., 0);
             self.bytes.truncate(left);
+        }
+    }
+
+    /// Whether the first of the keys begins a command.
+    pub fn begins_command(&self) -> bool
+        ensures { result ≡ begins_command self.now }
+    {
+        self.bytes.first() == Some(&COMMAND)
+    }
+
+    /// Whether the keys are held.
+    pub fn is_held(&self) -> bool
+        ensures { result ≡ self.now.held }
+    {
+        self.held
+    }
+
+    /// The keys wait as long as it takes, and so does what comes after them: their user may type, but
+    /// the window that they are for takes no more for now.
+    pub fn hold(&mut self)
+        ensures { self.new ≡ holding self.old }
+    {
+        self.held = true;
+        self.drained = false;
+    }
+
+    /// If keys are held, their user may not type any more. They and what comes after them are as old as
+    /// if they had never been held.
+    pub fn let_go(&mut self)
+        ensures { self.new ≡ let_go self.old }
+    {
+        if self.held {
+            self.held = false;
+            self.denied = true;
         }
     }
 

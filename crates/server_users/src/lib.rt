@@ -16,5 +16,5 @@ pub use authenticating::authenticate;
 pub use fault::{AuthFault, UsersFault};
 pub use ration::Rations;
 pub use tally::Tally;
-pub use user::User;
+pub use user::{Shown, User};
 pub use users::Users;

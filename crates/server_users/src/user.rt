@@ -8,11 +8,27 @@ ghost use Rattle.server_users.specs.Stands.{entry_of};
 use acl::UserId;
 use attach_proto::{TOKEN_LEN, Token};
 
-/// A user who may connect, and the token that they show.
+/// A user who may connect, and the token that they show. Outside of this crate only `authenticate`
+/// hands one out.
 #[derive(Debug, Drop)]
 pub struct User {
-    pub id: UserId,
-    pub token: Token,
+    pub(crate) id: UserId,
+    pub(crate) token: Token,
+}
+
+/// A user who showed their token. Nothing but a `User` makes one.
+#[derive(Clone, Copy, Debug, PartialEq, Eq)]
+pub struct Shown {
+    user: UserId,
+}
+
+impl Shown {
+    /// The user who showed it.
+    pub fn user(self) -> UserId
+        ensures { result ≡ self.user }
+    {
+        self.user
+    }
 }
 
 // The user of this name and this token, if the words are a name and a token.
@@ -27,8 +43,15 @@ fn user_of(name: &[u8], digits: &[u8]) -> Option<User>
 }
 
 impl User {
+    /// That this user showed their token.
+    pub fn shown(&self) -> Shown
+        ensures { result.user ≡ self.now.id }
+    {
+        Shown { user: self.id }
+    }
+
     /// The user whom a line spells: a name, one blank and a token.
-    pub fn of_line(line: &[u8]) -> Option<User>
+    pub(crate) fn of_line(line: &[u8]) -> Option<User>
         ensures some { IfSome result (λ u.
             IsUser (entry_of u) × (spelled (entry_of u) ≡ line.now)) }
         ensures none { result ≡ None → (u : Entry) → IsUser u → spelled u ≡ line.now → ⊥ }
@@ -45,7 +68,7 @@ impl User {
     }
 
     /// A copy of the user.
-    pub fn copied(&self) -> User
+    pub(crate) fn copied(&self) -> User
         ensures { result ≡ self.now }
     {
         User {

@@ -1,4 +1,4 @@
-use Rattle.std.proofs.Common.{◌≡◌, ◌<◌, ◌≤◌, ◌-◌, ◌∙◌, ℕ, ap, subst}
+use Rattle.std.proofs.Common.{◌<◌, ◌≤◌, ◌-◌, ◌∙◌, ℕ, ap, subst}
 use Rattle.server_connections.specs.Marked.{IsMarked}
 use Rattle.server_connections.specs.Walking.{Walks}
 use Rattle.server_connections.specs.declared.connections.Connections.{Connections}

@@ -1,9 +1,0 @@
-use Rattle.server_connections.proofs.frames.put.Goals as goal
-
-pub returns-in_ok-put_frames-in-Draw-clause-ok : goal.returns-in_ok-put_frames-in-Draw-clause-ok
-returns-in_ok-put_frames-in-Draw-clause-ok c =
-    rw c.in-Draw.is c.in_ok-put_frames-in-Draw.ensures.ok
-
-pub returns-in_ok-put_frames-in-Input-clause-ok : goal.returns-in_ok-put_frames-in-Input-clause-ok
-returns-in_ok-put_frames-in-Input-clause-ok c =
-    rw c.in-Input.is c.in_ok-put_frames-in-Input.ensures.ok
