@@ -9,19 +9,22 @@
 //! Second; owner = a.owner }`.
 #![tactic(auto)]
 
-ghost use Rattle.std.specs.Prelude.{◌≡◌, ◌↔◌, ◌<◌, ◌≤◌, length, IfOk, IfErr, OnErr, None, []};
+ghost use Rattle.std.specs.Prelude.{◌≡◌, ◌↔◌, ◌<◌, ◌≤◌, length, IfOk, IfErr, OnErr, IsSome, None, []};
 ghost use Rattle.session_model.specs.Trace.{begun, happening};
 ghost use Rattle.hub_trail.specs.Legal.{IsLegal};
 ghost use Rattle.hub_ledger.specs.Closing.{AreThere, IsFirstWrong, receipts_of};
-ghost use Rattle.hub_ledger.specs.Seats.{Answers, AreNumbered, NoneAsks, StandsFor};
-ghost use Rattle.hub_ledger.specs.declared.ledger.answer.HubFault.TheVariants.{NoMemory};
+ghost use Rattle.hub_ledger.specs.Faults.{foreign, full};
+ghost use Rattle.hub_ledger.specs.Seats.{Answers, AreNumbered, NoneAsks, StandsFor, with_handed};
+ghost use Rattle.hub_ledger.specs.declared.ledger.answer.HubFault.TheVariants.{NoMemory, Strange};
+ghost use Rattle.hub_ledger.specs.declared.ledger.answer.HubFault.TheVariants.{TrailFull};
+ghost use Rattle.hub_trail.specs.Filing.{kept_of};
 
 use hub_ledger::Ledger;
 pub use hub_ledger::{
-    Answer, Begun, CheckFault, FULL, HubFault, Kept, Receipt, Receipts, Seat, Session, Trail,
-    TrailEntry, check_trail, kept_trails_are_legal,
+    Answer, Begun, CheckFault, FULL, Foreign, Full, Handed, HubFault, Kept, Receipt, Receipts, Seat,
+    Sent, Session, Trail, TrailEntry, check_trail, kept_trails_are_legal,
 };
-use session_model::{Effect, Event};
+use session_model::Event;
 use std::alloc::Global;
 use std::sync::ledger::Blank;
 use std::sync::{Mutex, Wait};
@@ -78,14 +81,19 @@ impl<L: Begun> Hub<L> {
         ensures answer { IfOk result (λ told. Answers (happening event.entry) told seat.old
             seat.new) }
         ensures same { OnErr result (seat.new ≡ seat.old) }
+        // A trail is full, and a seat of another hub, only for an event that writes an entry.
+        ensures full { IfErr result (λ fault. fault ≡ TrailFull full
+            → IsSome (kept_of (happening event.entry))) }
+        ensures strange { IfErr result (λ fault. fault ≡ Strange foreign
+            → IsSome (kept_of (happening event.entry))) }
     {
         self.ledger.lock(rt).submit(seat, event)
     }
 
     /// The effects that wait for a seat, and whether a step other than a Draw came since they were
-    /// last taken.
-    pub fn take<R: Wait>(&self, rt: &R, seat: &mut Seat<L>) -> (Vec<Effect>, bool)
-        ensures { seat.new ≡ seat.old }
+    /// last taken. The seat counts them.
+    pub fn take<R: Wait>(&self, rt: &R, seat: &mut Seat<L>) -> (Handed, bool)
+        ensures { seat.new ≡ with_handed result.0 result.1 seat.old }
     {
         self.ledger.lock(rt).take(seat)
     }

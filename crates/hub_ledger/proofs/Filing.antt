@@ -12,7 +12,7 @@ use Rattle.hub_trail.specs.Filing.{ending_of, filed, kept_of}
 use Rattle.hub_ledger.specs.Routing.{is_draw, marked}
 use Rattle.hub_ledger.specs.States.{State, Takes, entry_of}
 use Rattle.hub_record.specs.Receipts.{Receipt}
-use Rattle.hub_ledger.specs.Seats.{HasReceipt, IsHanded, IsReceived, Sitting, StandsLast, Told, placed}
+use Rattle.hub_ledger.specs.Seats.{HasReceipt, IsHanded, IsReceived, Sitting, StandsLast, Told, placed, stepped}
 
 one_filed : (o : Option Kept) (step : Entry) → is_some o ≡ true → length (filing.entry_of o step) ≡ 1
 one_filed None step is = absurd (cc (is))
@@ -28,37 +28,41 @@ marks_stay event marks = at (is_draw event) where
   at true = refl
   at false = length-map marks (λ c. true)
 
-pub one_more : (seat : ℕ) (event : EventValue) (reply : Reply) (old new : State) → Takes seat event reply old new
+pub one_more : (seat : ℕ) (event : EventValue) (reply : Reply) (typed : Option ℕ) (old new : State)
+    → Takes seat event reply typed old new
     → is_some (kept_of event) ≡ true → length new.trail.entries ≡ length old.trail.entries + 1
-one_more seat event reply old new takes writes =
+one_more seat event reply typed old new takes writes =
     let step = entry_of event reply takes.0 takes.1 in
     let more : length new.trail.entries ≡ length (old.trail.entries ++ filed step) = ap
     (λ (t : trails.Trail). length t.entries) takes.2.trail in
     let one : length (filed step) ≡ 1 = one_filed (kept_of event) step writes in
     omega (arith, more, one, length-append old.trail.entries (filed step))
 
-pub no_more : (seat : ℕ) (event : EventValue) (reply : Reply) (old new : State) → Takes seat event reply old new
+pub no_more : (seat : ℕ) (event : EventValue) (reply : Reply) (typed : Option ℕ) (old new : State)
+    → Takes seat event reply typed old new
     → is_some (kept_of event) ≡ false → length new.trail.entries ≡ length old.trail.entries
-no_more seat event reply old new takes not =
+no_more seat event reply typed old new takes not =
     let step = entry_of event reply takes.0 takes.1 in
     ap (λ (t : trails.Trail). length t.entries) takes.2.trail
     ∙ ap (λ (es : List trails.Entry). length (old.trail.entries ++ es)) (none_filed (kept_of event) step not)
     ∙ ap length (append-nil old.trail.entries)
 
-pub seats_stay : (seat : ℕ) (event : EventValue) (reply : Reply) (old new : State) → Takes seat event reply old new
+pub seats_stay : (seat : ℕ) (event : EventValue) (reply : Reply) (typed : Option ℕ) (old new : State)
+    → Takes seat event reply typed old new
     → (length new.waiting ≡ length old.waiting) × (length new.marks ≡ length old.marks)
-seats_stay seat event reply old new takes =
+seats_stay seat event reply typed old new takes =
     (takes.2.waiting.seats, ap length takes.2.marks ∙ marks_stay event old.marks)
 
 -- the trail is still that of the session with which the hub began
-pub begins_stay : (seat : ℕ) (event : EventValue) (reply : Reply) (old new : State) → Takes seat event reply old new
+pub begins_stay : (seat : ℕ) (event : EventValue) (reply : Reply) (typed : Option ℕ) (old new : State)
+    → Takes seat event reply typed old new
     → (new.trail.edition ≡ old.trail.edition) × (new.trail.owner ≡ old.trail.owner)
-begins_stay seat event reply old new takes =
+begins_stay seat event reply typed old new takes =
     (ap (λ (t : trails.Trail). t.edition) takes.2.trail, ap (λ (t : trails.Trail). t.owner) takes.2.trail)
 
 pub answered : (o : Option Kept) (place : ℕ) (told : Told) (old new : Sitting) → told.place ≡ Some place
     → IsReceived o told.reply place old.receipts new.receipts
-    → new ≡ record old { receipts = new.receipts } → HasReceipt o told old new
+    → new ≡ record (stepped old) { receipts = new.receipts } → HasReceipt o told old new
 answered None place told old new at is same = absurd (let none = is.more.1 in cc (none))
 answered (Some k) place told old new at is same =
     let kept : is.more.0 ≡ k = (let some = is.more.1 in cc (some)) in
@@ -66,10 +70,10 @@ answered (Some k) place told old new at is same =
     subst
     (λ (x : Kept). new.receipts ≡ old.receipts ++ record { place = place; event = x; reply = ending_of told.reply }
     ∷ []) kept is.more.2 in
-    (place, at, is.below, same ∙ ap (λ (x : List Receipt). record old { receipts = x }) items)
+    (place, at, is.below, same ∙ ap (λ (x : List Receipt). record (stepped old) { receipts = x }) items)
 
-pub unanswered : (o : Option Kept) (told : Told) (old new : Sitting) → is_some o ≡ false → told.place ≡ None → new ≡ old
-    → HasReceipt o told old new
+pub unanswered : (o : Option Kept) (told : Told) (old new : Sitting) → is_some o ≡ false → told.place ≡ None
+    → new ≡ stepped old → HasReceipt o told old new
 unanswered None told old new not at same = (at, same)
 unanswered (Some k) told old new not at same = absurd (cc (not))
 
@@ -115,11 +119,12 @@ step_behind (Some k) step es e writes at =
       sym (ap (λ (x : trails.Entry). x.reply) same),
     )
 
-filed_behind : (seat : ℕ) (event : EventValue) (reply : Reply) (old new : State) (place : ℕ) (e : trails.Entry)
-    → Takes seat event reply old new → is_some (kept_of event) ≡ true → place ≡ length old.trail.entries
+filed_behind : (seat : ℕ) (event : EventValue) (reply : Reply) (typed : Option ℕ) (old new : State)
+    (place : ℕ) (e : trails.Entry) → Takes seat event reply typed old new → is_some (kept_of event) ≡ true
+    → place ≡ length old.trail.entries
     → slice_get new.trail.entries place ≡ Some e
     → (new.trail.entries ≡ old.trail.entries ++ e ∷ []) × (kept_of event ≡ Some e.event) × (e.reply ≡ ending_of reply)
-filed_behind seat event reply old new place e takes writes last at =
+filed_behind seat event reply typed old new place e takes writes last at =
     let step = entry_of event reply takes.0 takes.1 in
     let es = old.trail.entries in
     let more : new.trail.entries ≡ es ++ filed step = ap (λ (t : trails.Trail). t.entries) takes.2.trail in
@@ -128,19 +133,20 @@ filed_behind seat event reply old new place e takes writes last at =
     (more ∙ ap (λ (x : List trails.Entry). es ++ x) s.0, s.1, s.2)
 
 -- the copy is of the entry at the place of the step's entry
-pub stands_last : (asks : Bool) (seat : ℕ) (event : EventValue) (reply : Reply) (old new : State) (place : ℕ)
-    (entry : Option trails.Entry) → Takes seat event reply old new → is_some (kept_of event) ≡ true
+pub stands_last : (asks : Bool) (seat : ℕ) (event : EventValue) (reply : Reply) (typed : Option ℕ) (old new : State)
+    (place : ℕ) (entry : Option trails.Entry) → Takes seat event reply typed old new → is_some (kept_of event) ≡ true
     → place ≡ length old.trail.entries
     → IfSome entry (IsCopied asks new.trail.entries place) → StandsLast entry old.trail.entries new.trail.entries
-stands_last asks seat event reply old new place None takes writes last copy = tt
-stands_last asks seat event reply old new place (Some e) takes writes last copy =
-    (filed_behind seat event reply old new place e takes writes last copy.1).0
+stands_last asks seat event reply typed old new place None takes writes last copy = tt
+stands_last asks seat event reply typed old new place (Some e) takes writes last copy =
+    (filed_behind seat event reply typed old new place e takes writes last copy.1).0
 
-pub handed : (sitting : Sitting) (event : EventValue) (reply : Reply) (old new : State) (place : ℕ)
-    (entry : Option trails.Entry) → Takes sitting.number event reply old new → is_some (kept_of event) ≡ true
+pub handed : (sitting : Sitting) (event : EventValue) (reply : Reply) (typed : Option ℕ) (old new : State)
+    (place : ℕ) (entry : Option trails.Entry) → Takes sitting.number event reply typed old new
+    → is_some (kept_of event) ≡ true
     → place ≡ length old.trail.entries
     → IfSome entry (IsCopied sitting.asks new.trail.entries place) → IfSome entry (IsHanded sitting event reply)
-handed sitting event reply old new place None takes writes last copy = tt
-handed sitting event reply old new place (Some e) takes writes last copy =
-    let f = filed_behind sitting.number event reply old new place e takes writes last copy.1 in
+handed sitting event reply typed old new place None takes writes last copy = tt
+handed sitting event reply typed old new place (Some e) takes writes last copy =
+    let f = filed_behind sitting.number event reply typed old new place e takes writes last copy.1 in
     record { asks = copy.0; kept = f.1; ending = f.2 }

@@ -4,6 +4,7 @@ pub mod Counting
 pub mod Tellings
 pub mod Standing
 pub mod Filing
+pub mod OtherOwner
 pub mod Crossing
 pub mod Places
 pub mod Queues

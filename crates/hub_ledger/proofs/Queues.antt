@@ -1,4 +1,5 @@
 -- Effects are put after those that wait for the seat of their peer.
+use Rattle.std.proofs.Common.{Option}
 use Rattle.std.proofs.Common.{◌≡◌, ◌≢◌, ℕ, zero, suc, ◌<◌, ◌≤◌, ◌+◌, Bool, true, false, List, [], ◌∷◌, ◌++◌, length}
 use Rattle.std.proofs.Common.{Some, set, filter, refl, ap, sym, ◌∙◌, subst, inl, inr, arith, length-append}
 use Rattle.std.proofs.Common.{append_assoc}
@@ -6,7 +7,7 @@ use Rattle.std.specs.Prelude.{◌==◌, IsSome, slice_get, vec_len, vec_capacity
 use Rattle.std.specs.List.{AllByRecursion}
 use Rattle.std.specs.Option.{option_map, option_map_or}
 use Rattle.std.proofs.lemmas.Option.{slice_get-map}
-use Rattle.std.proofs.lemmas.List.{append-nil, map-set}
+use Rattle.std.proofs.lemmas.List.{append-nil, map-set, map_push}
 use Rattle.std.proofs.lemmas.List.Elements.{filter-append}
 use Rattle.std.specs.declared.vec.Vec.{Vec}
 use Rattle.std.specs.declared.alloc.Global.{Global}
@@ -15,7 +16,7 @@ use Rattle.session_model.specs.declared.event.Effect.{Effect}
 use Rattle.session_model.specs.declared.event.Effect.TheVariants.{Input, Deliver, Say, Size, Gone}
 use Rattle.session_model.specs.declared.event.Peer.TheVariants as peer
 use Rattle.hub_ledger.specs.Peers.{Owners, AreSeats, seat_of, HasPeer}
-use Rattle.hub_ledger.specs.Routing.{views, is_for}
+use Rattle.hub_ledger.specs.Routing.{Sent, is_for, sent_by, views}
 use Rattle.hub_ledger.proofs.Places.{slice_get-set, slice_get-set_here, slice_get-set_other}
 
 -- ---- seats of peers
@@ -49,12 +50,12 @@ seat_within n o (Gone (peer.Client client) why) s all at = all_at (λ k. k < n) 
 
 -- ---- one effect more
 
-abbrev pub Waits : Owners → List Effect → List (List Effect) → List (List Effect) → Type 0
-Waits o effects old new = (seat : ℕ) (before : List Effect) → slice_get old seat ≡ Some before
-    → slice_get new seat ≡ Some (before ++ filter (is_for o seat) effects)
+abbrev pub Waits : Owners → Option ℕ → List Effect → List (List Sent) → List (List Sent) → Type 0
+Waits o typist effects old new = (seat : ℕ) (before : List Sent) → slice_get old seat ≡ Some before
+    → slice_get new seat ≡ Some (before ++ sent_by typist (filter (is_for o seat) effects))
 
-pub none_waits : (o : Owners) (ws : List (List Effect)) → Waits o [] ws ws
-none_waits o ws seat before at = at ∙ ap (λ (x : List Effect). Some x) (sym (append-nil before))
+pub none_waits : (o : Owners) (typist : Option ℕ) (ws : List (List Sent)) → Waits o typist [] ws ws
+none_waits o typist ws seat before at = at ∙ ap (λ (x : List Sent). Some x) (sym (append-nil before))
 
 push_here : (o : Owners) (k : ℕ) (e : Effect) (es : List Effect) → seat_of o e ≡ Some k
     → filter (is_for o k) (es ++ e ∷ []) ≡ filter (is_for o k) es ++ e ∷ []
@@ -74,58 +75,64 @@ push_other o k j e es is other = filter-append (is_for o j) es (e ∷ [])
       one true so = absurd (other (equal k j (sym (ap (λ s. option_map_or (λ i. i == j) s false) is) ∙ so)))
       one false so = refl
 
-views_at : (ws : List (Vec Effect Global)) (k : ℕ) (v : Vec Effect Global) → slice_get ws k ≡ Some v
+views_at : (ws : List (Vec Sent Global)) (k : ℕ) (v : Vec Sent Global) → slice_get ws k ≡ Some v
     → slice_get (views ws) k ≡ Some v.items
-views_at ws k v at = slice_get-map (λ (u : Vec Effect Global). u.items) ws k
-    ∙ ap (option_map (λ (u : Vec Effect Global). u.items)) at
+views_at ws k v at = slice_get-map (λ (u : Vec Sent Global). u.items) ws k
+    ∙ ap (option_map (λ (u : Vec Sent Global). u.items)) at
 
-push_waits : (o : Owners) (es : List Effect) (e : Effect) (k : ℕ) (old now : List (List Effect)) (items : List Effect)
-    → k < length now → seat_of o e ≡ Some k → slice_get now k ≡ Some items
-    → Waits o es old now → Waits o (es ++ e ∷ []) old (set now k (items ++ e ∷ []))
-push_waits o es e k old now items here is at waits seat before was = on (k == seat) refl where
+push_waits : (o : Owners) (typist : Option ℕ) (es : List Effect) (e : Effect) (k : ℕ) (old now : List (List Sent))
+    (items : List Sent) → k < length now → seat_of o e ≡ Some k → slice_get now k ≡ Some items
+    → Waits o typist es old now → Waits o typist (es ++ e ∷ []) old (set now k (items ++ (e, typist) ∷ []))
+push_waits o typist es e k old now items here is at waits seat before was = on (k == seat) refl where
   on : (b : Bool) → (k == seat) ≡ b
-      → slice_get (set now k (items ++ e ∷ [])) seat ≡ Some (before ++ filter (is_for o seat) (es ++ e ∷ []))
+      → slice_get (set now k (items ++ (e, typist) ∷ [])) seat
+      ≡ Some (before ++ sent_by typist (filter (is_for o seat) (es ++ e ∷ [])))
   on true same =
       let s : k ≡ seat = equal k seat same in
-      let had : Some items ≡ Some (before ++ filter (is_for o k) es) = sym at
-      ∙ waits k before (ap (slice_get old) s ∙ was) in
-      let items_are : items ≡ before ++ filter (is_for o k) es = cc (had) in
-      let now_is : slice_get (set now k (items ++ e ∷ [])) k ≡ Some (before ++ filter (is_for o k) (es ++ e ∷ [])) =
-      slice_get-set_here now k (items ++ e ∷ []) here
-      ∙ ap (λ (x : List Effect). Some x)
-      (ap (λ (x : List Effect). x ++ e ∷ []) items_are ∙ append_assoc before (filter (is_for o k) es) (e ∷ [])
-      ∙ ap (λ (x : List Effect). before ++ x) (sym (push_here o k e es is))) in
-      subst (λ (j : ℕ). slice_get (set now k (items ++ e ∷ [])) j ≡ Some (before ++ filter (is_for o j) (es ++ e ∷ [])))
-      s now_is
+      let mine : List Sent = sent_by typist (filter (is_for o k) es) in
+      let had : Some items ≡ Some (before ++ mine) = sym at ∙ waits k before (ap (slice_get old) s ∙ was) in
+      let items_are : items ≡ before ++ mine = cc (had) in
+      let more : sent_by typist (filter (is_for o k) (es ++ e ∷ [])) ≡ mine ++ (e, typist) ∷ [] =
+      ap (sent_by typist) (push_here o k e es is)
+      ∙ map_push (λ (x : Effect). (x, typist)) (filter (is_for o k) es) e in
+      let now_is : slice_get (set now k (items ++ (e, typist) ∷ [])) k
+      ≡ Some (before ++ sent_by typist (filter (is_for o k) (es ++ e ∷ []))) =
+      slice_get-set_here now k (items ++ (e, typist) ∷ []) here
+      ∙ ap (λ (x : List Sent). Some x)
+      (ap (λ (x : List Sent). x ++ (e, typist) ∷ []) items_are ∙ append_assoc before mine ((e, typist) ∷ [])
+      ∙ ap (λ (x : List Sent). before ++ x) (sym more)) in
+      subst
+      (λ (j : ℕ). slice_get (set now k (items ++ (e, typist) ∷ [])) j
+      ≡ Some (before ++ sent_by typist (filter (is_for o j) (es ++ e ∷ [])))) s now_is
   on false differ =
       let other : k ≢ seat = λ p. absurd
       (let t = itself k in let q : (k == k) ≡ false = ap (λ j. k == j) p ∙ differ in cc (t, q)) in
-      slice_get-set_other now k (items ++ e ∷ []) seat (λ p. other (sym p)) ∙ waits seat before was
-      ∙ ap (λ (x : List Effect). Some (before ++ x)) (sym (push_other o k seat e es is other))
+      slice_get-set_other now k (items ++ (e, typist) ∷ []) seat (λ p. other (sym p)) ∙ waits seat before was
+      ∙ ap (λ (x : List Effect). Some (before ++ sent_by typist x)) (sym (push_other o k seat e es is other))
 
-pub more_waits : (o : Owners) (es : List Effect) (e : Effect) (k : ℕ) (old : List (List Effect))
-    (ws : List (Vec Effect Global)) (v new : Vec Effect Global) → k < length (views ws) → seat_of o e ≡ Some k
-    → slice_get ws k ≡ Some v → new.items ≡ v.items ++ e ∷ [] → Waits o es old (views ws)
-    → Waits o (es ++ e ∷ []) old (views (set ws k new))
-more_waits o es e k old ws v new here is at put waits =
-    let now : views (set ws k new) ≡ set (views ws) k (v.items ++ e ∷ []) = map-set (λ (u : Vec Effect Global). u.items)
-    ws k new ∙ ap (set (views ws) k) put in
-    subst (Waits o (es ++ e ∷ []) old) (sym now)
-    (push_waits o es e k old (views ws) v.items here is (views_at ws k v at) waits)
+pub more_waits : (o : Owners) (typist : Option ℕ) (es : List Effect) (e : Effect) (k : ℕ) (old : List (List Sent))
+    (ws : List (Vec Sent Global)) (v new : Vec Sent Global) → k < length (views ws) → seat_of o e ≡ Some k
+    → slice_get ws k ≡ Some v → new.items ≡ v.items ++ (e, typist) ∷ [] → Waits o typist es old (views ws)
+    → Waits o typist (es ++ e ∷ []) old (views (set ws k new))
+more_waits o typist es e k old ws v new here is at put waits =
+    let now : views (set ws k new) ≡ set (views ws) k (v.items ++ (e, typist) ∷ []) = map-set
+    (λ (u : Vec Sent Global). u.items) ws k new ∙ ap (set (views ws) k) put in
+    subst (Waits o typist (es ++ e ∷ []) old) (sym now)
+    (push_waits o typist es e k old (views ws) v.items here is (views_at ws k v at) waits)
 
 -- ---- room
 
 -- how much room there is after one list got one effect more
-pub room_left : (ws : List (Vec Effect Global)) (k : ℕ) (v new : Vec Effect Global) (most : ℕ) (done : List Effect)
+pub room_left : (ws : List (Vec Sent Global)) (k : ℕ) (v new : Vec Sent Global) (most : ℕ) (done : List Effect)
     (e : Effect) → slice_get ws k ≡ Some v
     → vec_len new ≡ vec_len v + 1 → vec_capacity new ≡ vec_capacity v
-    → ((i : ℕ) (u : Vec Effect Global) → slice_get ws i ≡ Some u → vec_len u + most ≤ vec_capacity u + length done)
-    → (i : ℕ) (u : Vec Effect Global) → slice_get (set ws k new) i ≡ Some u
+    → ((i : ℕ) (u : Vec Sent Global) → slice_get ws i ≡ Some u → vec_len u + most ≤ vec_capacity u + length done)
+    → (i : ℕ) (u : Vec Sent Global) → slice_get (set ws k new) i ≡ Some u
     → vec_len u + most ≤ vec_capacity u + length (done ++ e ∷ [])
 room_left ws k v new most done e at len cap room i u is = elim (slice_get-set ws k new u i is) [
   | inl p ↦
-      (let r = room k v at in let l : vec_len u ≡ vec_len new = ap (λ (x : Vec Effect Global). vec_len x) p.1 in let d :
-      vec_capacity u ≡ vec_capacity new = ap (λ (x : Vec Effect Global). vec_capacity x) p.1 in omega
+      (let r = room k v at in let l : vec_len u ≡ vec_len new = ap (λ (x : Vec Sent Global). vec_len x) p.1 in let d :
+      vec_capacity u ≡ vec_capacity new = ap (λ (x : Vec Sent Global). vec_capacity x) p.1 in omega
       (arith, r, l, d, len, cap, length-append done (e ∷ [])))
   | inr p ↦ (let r = room i u p.1 in omega (arith, r, length-append done (e ∷ [])))
 ]

@@ -80,9 +80,9 @@ filed_is (Some k) event reply noted effects = refl
 
 -- ---- what is kept
 
-pub kept_after : (old new : State) (seat : ℕ) (step : Entry) → IsKept old → seat < length old.waiting
-    → IsAfter seat step old new → IsKept new
-kept_after old new seat step kept here a =
+pub kept_after : (old new : State) (seat : ℕ) (step : Entry) (typed : Option ℕ) → IsKept old
+    → seat < length old.waiting → IsAfter seat step typed old new → IsKept new
+kept_after old new seat step typed kept here a =
     let h : Trace = kept.past.0 in
     let stood : Stood h old = kept.past.1 in
     let st = a.stands h stood.stands in

@@ -1,28 +1,54 @@
 -- What a seat was told.
-use Rattle.std.specs.Prelude.{ℕ, List, [], ◌∷◌, ◌++◌, ◌≡◌, Option, Some, None}
+use Rattle.std.specs.Prelude.{ℕ, ◌+◌, ◌%◌, ◌^◌, List, [], ◌∷◌, ◌++◌, ◌≡◌, Option, Some, None, length}
 use Rattle.std.specs.Prelude.{Bool, false, true, IfSome, slice_get}
-use Rattle.std.specs.List.{list_any}
+use Rattle.std.specs.List.{list_any, list_all}
+use Rattle.session_model.specs.declared.verdict.Verdict.{Verdict}
 use Rattle.session_model.specs.Trace.{EventValue, Reply}
 pub use Rattle.hub_ledger.specs.States.{StandsFor}
 use Rattle.hub_trail.specs.declared.kept.Kept.{Kept}
 use Rattle.hub_trail.specs.Trails.{Entry}
 use Rattle.hub_trail.specs.Filing.{kept_of, ending_of}
+use Rattle.hub_trail.specs.Legal.{asks_for_command, passes}
 use Rattle.hub_record.specs.Receipts.{Receipt}
 pub use Rattle.hub_ledger.specs.Rising.{AllBelow, Rise}
+use Rattle.hub_ledger.specs.Routing.{Sent}
 
--- an answer: the event, the reply, the place of the entry if there is one, and the entry if it is
--- handed out
+-- an answer: the event, the reply, the window into which the step typed, the place of the entry if
+-- there is one, whether its checks passed, whether x on a command was
+-- among them, and the entry if it is handed out
 pub record Told : Type 0 where
   pub event : EventValue
   pub reply : Reply
+  pub typed : Option ℕ
   pub place : Option ℕ
+  pub checks : Option Bool
+  pub checks_execute : Bool
   pub entry : Option Entry
 
--- a seat: its number, whether it asks for entries, and its receipts, the oldest first
+-- a seat: its number, whether it asks for entries, and its receipts, the oldest first; how many steps
+-- were made for it, and how many effects it was handed (both counts are modulo 2 ^ 64); and what it
+-- was told when it took effects last: whether a step other than a Draw had come
 pub record Sitting : Type 0 where
   pub number : ℕ
   pub asks : Bool
   pub receipts : List Receipt
+  pub steps : ℕ
+  pub handed : ℕ
+  pub is_told : Bool
+
+-- a seat that was told nothing
+abbrev pub fresh_seat : ℕ → Sitting
+fresh_seat number = record
+    { number = number; asks = false; receipts = []; steps = 0; handed = 0; is_told = false }
+
+-- one more step was made for the seat
+abbrev pub stepped : Sitting → Sitting
+stepped s = record s { steps = (s.steps + 1) % 2 ^ 64 }
+
+-- the seat was handed these effects more, and told this
+abbrev pub with_handed : List Sent → Bool → Sitting → Sitting
+with_handed effects told s =
+    record s { handed = (s.handed + length effects) % 2 ^ 64; is_told = told }
 
 -- the seat at place k has number k
 abbrev pub AreNumbered : List Sitting → Type 0
@@ -45,11 +71,12 @@ pub record IsReceived (event : Option Kept) (reply : Reply) (place : ℕ) (old n
 
 -- If an event writes an entry, its answer names a place above those of all receipts of the seat,
 -- and the seat gets the receipt with this event and this reply. Any other event has no receipt.
+-- Either way one step was made for the seat, which was handed nothing.
 abbrev pub HasReceipt : Option Kept → Told → Sitting → Sitting → Type 0
-HasReceipt None told old new = (told.place ≡ None) × (new ≡ old)
+HasReceipt None told old new = (told.place ≡ None) × (new ≡ stepped old)
 HasReceipt (Some event) told old new = (place : ℕ) × (told.place ≡ Some place)
     × AllBelow old.receipts place
-    × (new ≡ with_receipt old
+    × (new ≡ with_receipt (stepped old)
     record { place = place; event = event; reply = ending_of told.reply })
 
 -- An entry is handed out only to a seat that asks for entries, and only if the event writes one; it
@@ -74,3 +101,21 @@ StandsLast entry old new = IfSome entry (λ e. new ≡ old ++ e ∷ [])
 abbrev pub placed : Option Kept → ℕ → Option ℕ
 placed None before = None
 placed (Some event) before = Some before
+
+-- whether all checks passed; None if nothing was checked
+abbrev pub checks_of : List Verdict → Option Bool
+checks_of [] = None
+checks_of (v ∷ verdicts) = Some (list_all passes (v ∷ verdicts))
+
+-- what is told of the checks of the entry at this place
+pub record AreChecks (checks : Option Bool) (execute : Bool) (e : Entry) : Type 0 where
+  pub passed : checks ≡ checks_of e.verdicts
+  pub executes : execute ≡ list_any asks_for_command e.verdicts
+
+-- what an answer tells of the checks of its entry in the trail; nothing if it has none
+abbrev pub HasChecks : Told → List Entry → Type 0
+HasChecks told entries = elim told.place [
+  | None ↦ (told.checks ≡ None) × (told.checks_execute ≡ false)
+  | Some place ↦ (e : Entry) → slice_get entries place ≡ Some e
+      → AreChecks told.checks told.checks_execute e
+]

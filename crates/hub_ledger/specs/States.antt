@@ -1,5 +1,5 @@
 -- What lies under the hub's lock.
-use Rattle.std.specs.Prelude.{ℕ, Bool, false, List, [], ◌≡◌, length, replicate}
+use Rattle.std.specs.Prelude.{ℕ, Bool, false, List, [], ◌≡◌, length, replicate, Option}
 use Rattle.acl.specs.declared.edition.Edition.{Edition}
 use Rattle.acl.specs.declared.user_id.UserId.{UserId}
 use Rattle.session_model.specs.declared.event.Effect.{Effect}
@@ -11,7 +11,7 @@ pub use Rattle.session_core.specs.Stands.{StandsFor, entry_of}
 use Rattle.hub_trail.specs.Trails.{Trail}
 use Rattle.hub_trail.specs.Filing.{filed, trail_of}
 use Rattle.hub_ledger.specs.Peers.{Owners, AreSeats, owners_of, with_peers}
-use Rattle.hub_ledger.specs.Routing.{views, AreRouted, marked}
+use Rattle.hub_ledger.specs.Routing.{Sent, views, AreRouted, marked, typed_in, typist_of}
 use Rattle.hub_ledger.specs.declared.growing_trail.GrowingTrail.{GrowingTrail}
 use Rattle.hub_ledger.specs.declared.filed_session.FiledSession.{FiledSession}
 use Rattle.hub_ledger.specs.Slips.{with_entries}
@@ -22,7 +22,7 @@ pub record State : Type 0 where
   pub session : Session
   pub trail : Trail
   pub owners : Owners
-  pub waiting : List (List Effect)
+  pub waiting : List (List Sent)
   pub marks : List Bool
 
 abbrev pub trail_in : GrowingTrail → Trail
@@ -60,18 +60,20 @@ pub record IsKept (s : State) : Type 0 where
   pub past : (h : Trace) × Stood h s
   pub seats : AreSeats (length s.waiting) s.owners
 
--- The state after a step for a seat. Whichever run the session stood for, it stands for it with
--- this step, whose entry is the last one of the trail. What came belongs to the seat. Each effect
--- is put after those that wait for its peer's seat. A step other than a Draw marks every seat.
-pub record IsAfter (seat : ℕ) (step : Entry) (old new : State) : Type 0 where
+-- The state after a step for a seat, and the window into which it typed. Whichever run the session
+-- stood for, it stands for it with this step, whose entry is the last one of the trail. What came
+-- belongs to the seat. Each effect is put after those that wait for its peer's seat, with the client
+-- that typed it. A step other than a Draw marks every seat.
+pub record IsAfter (seat : ℕ) (step : Entry) (typed : Option ℕ) (old new : State) : Type 0 where
   pub stands : (h : Trace) → StandsFor h old.session → StandsFor (with_step h step) new.session
   pub trail : new.trail ≡ with_entries old.trail (filed step)
   pub owners : new.owners ≡ with_peers step.event step.reply seat old.owners
-  pub waiting : AreRouted old.owners step.effects old.waiting new.waiting
+  pub waiting : AreRouted old.owners (typist_of step.event) step.effects old.waiting new.waiting
+  pub typed_is : typed ≡ typed_in step.event step.effects
   pub marks : new.marks ≡ marked step.event old.marks
 
 -- the state after a step of this event with this reply, for some acts, verdicts and effects
-abbrev pub Takes : ℕ → EventValue → Reply → State → State → Type 0
-Takes seat event reply old new =
+abbrev pub Takes : ℕ → EventValue → Reply → Option ℕ → State → State → Type 0
+Takes seat event reply typed old new =
     (noted : Noted) × (effects : List Effect)
-    × IsAfter seat (entry_of event reply noted effects) old new
+    × IsAfter seat (entry_of event reply noted effects) typed old new

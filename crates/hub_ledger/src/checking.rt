@@ -1,6 +1,6 @@
 //! Checks a trail by itself.
 
-ghost use Rattle.std.specs.Prelude.{◌≡◌, [], ℕ, Err, Ok};
+ghost use Rattle.std.specs.Prelude.{◌≡◌, [], ℕ, suc, take, Err, Ok};
 ghost use Rattle.hub_check.specs.declared.fault.CheckFault.TheVariants.{BadEntry};
 ghost use Rattle.hub_trail.specs.Judging.{AreGood, IsBadAt, IsIllegalAt};
 ghost use Rattle.hub_trail.specs.Legal.{AreLegal};
@@ -11,8 +11,9 @@ use hub_check::{CheckFault, Judge};
 use hub_record::EntryList;
 use std::alloc::Global;
 
-/// Judges entries from the first on, each by the acts of those before it.
-fn check_entries(
+/// Judges entries from the first on, each by the acts of those before it, as entries of a trail of this
+/// owner. Errors: as `check_trail`.
+pub fn check_entries(
     alloc: Global,
     edition: Edition,
     owner: UserId,
@@ -44,6 +45,11 @@ pub fn check_trail(alloc: Global, trail: &Trail, owner: UserId) -> Result<(), Ch
     // If the owner is the trail's own, the first entry that doesn't pass is the first that isn't
     // legal.
     ensures bad { (place : ℕ) → owner ≡ trail.now.owner → result ≡ Err (BadEntry place)
+        → IsIllegalAt trail.now.edition owner [] trail.now.entries place }
+    // So it is for any owner, if the trail is legal up to that entry for its own owner.
+    ensures legal_until { (place : ℕ)
+        → AreLegal trail.now.edition trail.now.owner [] (take (suc place) trail.now.entries)
+        → result ≡ Err (BadEntry place)
         → IsIllegalAt trail.now.edition owner [] trail.now.entries place }
 {
     trail.is_judgeable();

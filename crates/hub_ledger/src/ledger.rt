@@ -8,8 +8,9 @@ ghost use Rattle.hub_trail.specs.Filing.{kept_of};
 ghost use Rattle.hub_trail.specs.Legal.{IsLegal};
 ghost use Rattle.hub_ledger.specs.States.{IsKept, StandsFor, Takes, begun_with, state_of};
 ghost use Rattle.hub_ledger.specs.Closing.{AreThere, IsFirstWrong, receipts_of};
-ghost use Rattle.hub_ledger.specs.Seats.{AllBelow, Answers, AreNumbered, NoneAsks, StandsLast};
-ghost use Rattle.hub_ledger.specs.Seats.{placed};
+ghost use Rattle.hub_ledger.specs.Seats.{AllBelow, Answers, AreNumbered, HasChecks, NoneAsks};
+ghost use Rattle.hub_ledger.specs.Seats.{StandsLast, fresh_seat, placed, with_handed};
+ghost use Rattle.hub_ledger.specs.Faults.{foreign, full};
 ghost use Rattle.hub_ledger.specs.declared.ledger.TheConstants.{FULL};
 ghost use Rattle.hub_ledger.specs.declared.ledger.answer.HubFault.TheVariants.{TrailFull, NoMemory};
 ghost use Rattle.hub_ledger.specs.declared.ledger.answer.HubFault.TheVariants.{Strange};
@@ -20,12 +21,13 @@ mod trail;
 use crate::begun::Begun;
 use crate::closing::{count, first_wrong};
 use crate::filed_session::FiledSession;
+use crate::handed::Handed;
 use crate::seat::Seat;
-pub use answer::{Answer, HubFault};
+pub use answer::{Answer, Foreign, Full, HubFault};
 use hub_record::Receipts;
 use hub_trail::writes_entry;
 use session_core::Session;
-use session_model::{Effect, Event};
+use session_model::Event;
 use std::alloc::{AllocError, Global};
 use std::marker::Model;
 use std::sync::ledger::{Blank, Book, Ledger as ShareLedger, Share};
@@ -74,13 +76,16 @@ impl<L: Begun> Model for Ledger<L> {
 fn make_seat<L: ShareLedger>(alloc: Global, number: usize, share: Share<L>) -> Seat<L>
     requires number { number < L.parts }
     requires share { (share.parts ≡ 1) × (share.amount ≡ 0) }
-    ensures { result ≡ record { number = number; asks = false; receipts = [] } }
+    ensures { result ≡ fresh_seat number }
 {
     Seat {
         number,
         asks: false,
         told: Receipts::new(alloc),
         share,
+        steps: 0,
+        handed: 0,
+        is_told: false,
     }
 }
 
@@ -143,22 +148,25 @@ impl<L: Begun> Ledger<L> {
         seat: &mut Seat<L>,
         event: Event<'a>,
     ) -> Result<Answer<'a>, HubFault>
-        // The session makes a step of this event with this reply; the step's entry is the last one
-        // of the trail, and its effects wait for the seats of their peers.
+        // The session makes a step of this event with this reply, which typed into this window; the
+        // step's entry is the last one of the trail, and its effects wait for the seats of their
+        // peers.
         ensures step { IfOk result (λ told. Takes seat.old.number (happening event.entry)
-            told.reply self.old self.new) }
+            told.reply told.typed self.old self.new) }
         // The answer is to this event, and the seat has its receipt, which names the entry's place.
         ensures answer { IfOk result (λ told. Answers (happening event.entry) told seat.old
             seat.new) }
         ensures place { IfOk result (λ told. told.place
             ≡ placed (kept_of (happening event.entry)) (length self.old.trail.entries)) }
+        // The answer says whether the checks of the entry passed that was written.
+        ensures checks { IfOk result (λ told. HasChecks told self.new.trail.entries) }
         // If the answer has an entry, it is the one that was written into the trail.
         ensures entry { IfOk result (λ told. StandsLast told.entry self.old.trail.entries
             self.new.trail.entries) }
-        ensures full { (result ≡ Err TrailFull)
+        ensures full { (result ≡ Err (TrailFull full))
             ↔ (IsSome (kept_of (happening event.entry))
             × (length self.old.trail.entries ≡ FULL)) }
-        ensures strange { (result ≡ Err Strange)
+        ensures strange { (result ≡ Err (Strange foreign))
             ↔ (IsSome (kept_of (happening event.entry))
             × (length self.old.trail.entries < FULL)
             × (AllBelow seat.old.receipts (length self.old.trail.entries) → ⊥)) }
@@ -167,11 +175,15 @@ impl<L: Begun> Ledger<L> {
         if writes_entry(event) {
             self.file(seat, event)
         } else {
-            let reply = self.filed.take_step(seat.number, event, None)?;
+            let made = self.filed.take_step(seat.number, event, None)?;
+            let (reply, typed) = made;
+            seat.count_step();
             Ok(Answer {
                 event,
                 reply,
+                typed,
                 place: None,
+                checks: (None, false),
                 entry: None,
             })
         }
@@ -181,42 +193,51 @@ impl<L: Begun> Ledger<L> {
     fn file<'a>(&mut self, seat: &mut Seat<L>, event: Event<'a>) -> Result<Answer<'a>, HubFault>
         requires { is_some (kept_of (happening event)) ≡ true }
         ensures step { IfOk result (λ told. Takes seat.old.number (happening event.entry)
-            told.reply self.old self.new) }
+            told.reply told.typed self.old self.new) }
         ensures answer { IfOk result (λ told. Answers (happening event.entry) told seat.old
             seat.new) }
         ensures place { IfOk result (λ told. told.place
             ≡ Some (length self.old.trail.entries)) }
+        ensures checks { IfOk result (λ told. HasChecks told self.new.trail.entries) }
         ensures entry { IfOk result (λ told. StandsLast told.entry self.old.trail.entries
             self.new.trail.entries) }
-        ensures full { (result ≡ Err TrailFull) ↔ (length self.old.trail.entries ≡ FULL) }
-        ensures strange { (result ≡ Err Strange)
+        ensures full { (result ≡ Err (TrailFull full)) ↔ (length self.old.trail.entries ≡ FULL) }
+        ensures strange { (result ≡ Err (Strange foreign))
             ↔ ((length self.old.trail.entries < FULL)
             × (AllBelow seat.old.receipts (length self.old.trail.entries) → ⊥)) }
         ensures same { OnErr result ((self.new ≡ self.old) × (seat.new ≡ seat.old)) }
     {
         let place = self.filed.entries.list.len();
-        let reply = self.filed.file(seat.number, &mut seat.told, event)?;
+        let made = self.filed.file(seat.number, &mut seat.told, event)?;
+        let (reply, typed) = made;
         self.book.add(&mut seat.share, 1);
+        seat.steps = seat.steps.wrapping_add(1);
+        let checks = self.filed.checks(place);
         let entry = self.filed.copied(seat.asks, place);
         Ok(Answer {
             event,
             reply,
+            typed,
             place: Some(place),
+            checks,
             entry,
         })
     }
 
     /// Hands out the effects that wait for a seat, and tells whether a step other than a Draw came
     /// since the last take. It takes no memory.
-    pub fn take(&mut self, seat: &Seat<L>) -> (Vec<Effect>, bool)
-        ensures effects { slice_get self.old.waiting seat.now.number ≡ Some result.0.items }
-        ensures mark { slice_get self.old.marks seat.now.number ≡ Some result.1 }
+    pub fn take(&mut self, seat: &mut Seat<L>) -> (Handed, bool)
+        ensures effects { slice_get self.old.waiting seat.old.number ≡ Some result.0 }
+        ensures mark { slice_get self.old.marks seat.old.number ≡ Some result.1 }
         ensures rest { self.new ≡ record self.old {
-          waiting = slice_set self.old.waiting seat.now.number [];
-          marks = slice_set self.old.marks seat.now.number false;
+          waiting = slice_set self.old.waiting seat.old.number [];
+          marks = slice_set self.old.marks seat.old.number false;
         } }
+        ensures handed { seat.new ≡ with_handed result.0 result.1 seat.old }
     {
-        self.filed.waiting.take(self.filed.alloc, seat.number)
+        let (effects, is_told) = self.filed.waiting.take(self.filed.alloc, seat.number);
+        seat.hand(&effects, is_told);
+        (effects, is_told)
     }
 
     /// The state is that of a run, and its trail is legal.

@@ -2,7 +2,9 @@
 
 ghost use Rattle.std.specs.Prelude.{◌≡◌, ◌↔◌, ◌+◌, ◌≤◌, ◌<◌, true, length};
 ghost use Rattle.hub_ledger.specs.Closing.{AreOf, before, times};
+ghost use Rattle.hub_ledger.specs.Seats.{stepped, with_handed};
 
+use crate::handed::Handed;
 use crate::receipt::strip;
 use hub_record::{Receipts, TrailEntry};
 use std::marker::Model;
@@ -15,6 +17,11 @@ pub struct Seat<L: ShareLedger> {
     pub(crate) asks: bool,
     pub(crate) told: Receipts,
     pub(crate) share: Share<L>,
+    /// How many steps were made for it, and how many effects it was handed, modulo 2 ^ 64.
+    pub(crate) steps: u64,
+    pub(crate) handed: u64,
+    /// What it was told when it took effects last.
+    pub(crate) is_told: bool,
 }
 
 impl<L: ShareLedger> Model for Seat<L> {
@@ -23,7 +30,14 @@ impl<L: ShareLedger> Model for Seat<L> {
 
     ghost Value = { Sitting };
 
-    ghost view = { λ s. record { number = s.number; asks = s.asks; receipts = s.told.receipts } };
+    ghost view = { λ s. record {
+      number = s.number;
+      asks = s.asks;
+      receipts = s.told.receipts;
+      steps = s.steps;
+      handed = s.handed;
+      is_told = s.is_told;
+    } };
 
     ghost invariant = { λ s. (s.number < L.parts) × (s.share.parts ≡ 1)
         × (s.share.amount ≡ length s.told.receipts) × Rise s.told.receipts };
@@ -35,6 +49,21 @@ impl<L: ShareLedger> Seat<L> {
         ensures { result ≡ self.now.number }
     {
         self.number
+    }
+
+    /// Counts one more step.
+    pub(crate) fn count_step(&mut self)
+        ensures { self.new ≡ stepped self.old }
+    {
+        self.steps = self.steps.wrapping_add(1);
+    }
+
+    /// Counts effects that are handed out, and notes what is told with them.
+    pub(crate) fn hand(&mut self, effects: &Handed, is_told: bool)
+        ensures { self.new ≡ with_handed effects.now is_told self.old }
+    {
+        self.handed = self.handed.wrapping_add(effects.as_slice().len() as u64);
+        self.is_told = is_told;
     }
 
     /// From now on, an answer to this seat has the entry that was written.

@@ -5,8 +5,10 @@ ghost use Rattle.std.specs.Prelude.{slice_get, slice_set, replicate};
 ghost use Rattle.std.specs.List.{AllByRecursion};
 ghost use Rattle.session_model.specs.Trace.{happening};
 ghost use Rattle.hub_ledger.specs.Peers.{AreSeats, HasPeer, owners_of};
-ghost use Rattle.hub_ledger.specs.Routing.{views, HaveRoom, AreRouted, marked, is_draw};
+ghost use Rattle.hub_ledger.specs.Routing.{views, HaveRoom, AreRouted, marked, is_draw, typist_of};
+ghost use Rattle.hub_ledger.specs.Routing.{last_input, later, typed_in};
 
+use crate::handed::{Handed, Sent};
 use crate::peers::Peers;
 use session_model::{Effect, Event};
 use std::alloc::{AllocError, Global};
@@ -18,7 +20,7 @@ pub const MOST: usize = 256;
 /// The effects that wait for each seat, and whether a step other than a Draw came since its effects
 /// were last taken.
 pub struct SeatEffects {
-    pub lists: Vec<Vec<Effect>>,
+    pub lists: Vec<Vec<Sent>>,
     pub marks: Vec<bool>,
 }
 
@@ -53,17 +55,17 @@ impl SeatEffects {
         make_room(self.lists.as_mut_slice())
     }
 
-    /// Puts each effect after those that wait for the seat of its peer.
-    pub fn route(&mut self, peers: &Peers, effects: Vec<Effect>)
+    /// Puts each effect, which this client typed, after those that wait for the seat of its peer.
+    pub fn route(&mut self, peers: &Peers, typist: Option<u32>, effects: Vec<Effect>)
         requires seats { AreSeats (length self.old.lists.items) (owners_of peers.now) }
         requires come { AllByRecursion (HasPeer (owners_of peers.now)) effects.items }
         requires few { length effects.items ≤ 256 }
         requires room { HaveRoom 256 self.old.lists.items }
-        ensures lists { AreRouted (owners_of peers.now) effects.items
+        ensures lists { AreRouted (owners_of peers.now) typist effects.items
             (views self.old.lists.items) (views self.new.lists.items) }
         ensures marks { self.new.marks ≡ self.old.marks }
     {
-        route(self.lists.as_mut_slice(), peers, effects)
+        route(self.lists.as_mut_slice(), peers, typist, effects)
     }
 
     /// Marks every seat, unless the step was a Draw.
@@ -78,10 +80,10 @@ impl SeatEffects {
     }
 
     /// Hands out the list of effects that waits for a seat, and its mark. It takes no memory.
-    pub fn take(&mut self, alloc: Global, seat: usize) -> (Vec<Effect>, bool)
+    pub fn take(&mut self, alloc: Global, seat: usize) -> (Handed, bool)
         requires lists { seat < length self.old.lists.items }
         requires marks { seat < length self.old.marks.items }
-        ensures effects { slice_get (views self.old.lists.items) seat ≡ Some result.0.items }
+        ensures effects { slice_get (views self.old.lists.items) seat ≡ Some result.0 }
         ensures mark { slice_get self.old.marks.items seat ≡ Some result.1 }
         ensures lists { views self.new.lists.items
             ≡ slice_set (views self.old.lists.items) seat [] }
@@ -89,11 +91,11 @@ impl SeatEffects {
     {
         let effects = mem::replace(&mut self.lists[seat], Vec::new(alloc));
         let marked = mem::replace(&mut self.marks[seat], false);
-        (effects, marked)
+        (Handed::of(effects), marked)
     }
 }
 
-fn make_room(waiting: &mut [Vec<Effect>]) -> Result<(), AllocError>
+fn make_room(waiting: &mut [Vec<Sent>]) -> Result<(), AllocError>
     ensures same { views waiting.new ≡ views waiting.old }
     ensures room { OnOk result (HaveRoom 256 waiting.new) }
 {
@@ -103,17 +105,17 @@ fn make_room(waiting: &mut [Vec<Effect>]) -> Result<(), AllocError>
     Ok(())
 }
 
-fn route(waiting: &mut [Vec<Effect>], peers: &Peers, effects: Vec<Effect>)
+fn route(waiting: &mut [Vec<Sent>], peers: &Peers, typist: Option<u32>, effects: Vec<Effect>)
     requires seats { AreSeats (length waiting.old) (owners_of peers.now) }
     requires come { AllByRecursion (HasPeer (owners_of peers.now)) effects.items }
     requires few { length effects.items ≤ 256 }
     requires room { HaveRoom 256 waiting.old }
-    ensures { AreRouted (owners_of peers.now) effects.items (views waiting.old)
+    ensures { AreRouted (owners_of peers.now) typist effects.items (views waiting.old)
         (views waiting.new) }
 {
     for effect in effects {
         let seat = peers.seat_of(&effect);
-        waiting[seat].push_reserved(effect);
+        waiting[seat].push_reserved((effect, typist));
     }
 }
 
@@ -129,4 +131,44 @@ fn is_draw(event: Event) -> bool
     ensures { result ≡ is_draw (happening event.entry) }
 {
     matches!(event, Event::Draw { .. })
+}
+
+/// The client whose keys an event is.
+pub fn typist_of(event: Event) -> Option<u32>
+    ensures { result ≡ typist_of (happening event.entry) }
+{
+    match event {
+        Event::Keys { client, .. } => Some(client),
+        _ => None,
+    }
+}
+
+/// The window of an effect that is an Input, or else the one before.
+fn later(last: Option<u32>, effect: &Effect) -> Option<u32>
+    ensures { result ≡ later last effect.now }
+{
+    match effect {
+        Effect::Input(window, _) => Some(*window),
+        _ => last,
+    }
+}
+
+/// The window of the last Input of these effects.
+fn last_input(effects: &[Effect]) -> Option<u32>
+    ensures { result ≡ last_input effects.now }
+{
+    effects
+        .iter()
+        .fold(None, |last, effect| later(last, effect))
+}
+
+/// The window into which an event's step typed last. What a window's program puts out types
+/// nothing: the Inputs of that step are reports.
+pub fn typed_in(event: Event, effects: &[Effect]) -> Option<u32>
+    ensures { result ≡ typed_in (happening event.entry) effects.now }
+{
+    match event {
+        Event::Output { .. } => None,
+        _ => last_input(effects),
+    }
 }

@@ -5,11 +5,12 @@ ghost use Rattle.std.specs.Prelude.{◌≡◌, IfOk};
 ghost use Rattle.session_model.specs.Trace.{begun};
 ghost use Rattle.hub_ledger.specs.Seats.{StandsFor};
 
-use crate::entries::entry_with;
+use crate::entries::copy_of;
 use crate::steps::{are_done, line_of};
 use acl::{Bit, Edition, Object, UserId};
 use hub::{Begun, CheckFault, Hub, Session, Trail, check_trail};
-use hub_check::check_entries;
+use hub_ledger::check_entries;
+use hub_record::EntryList;
 use session_model::{Event, Refusal, Verdict};
 use std::alloc::Global;
 use std::marker::Brand;
@@ -115,26 +116,24 @@ fn bad_place(answer: Result<(), CheckFault>) -> Option<Option<usize>> {
     }
 }
 
-/// What the check answers for the trail's entries if the last one's first verdict is this.
-fn judged(alloc: Global, trail: &Trail, first: Verdict) -> Option<Option<usize>> {
-    let mut entries = Vec::new(alloc);
-    let mut verdicts = Vec::new(alloc);
-    for place in 0..trail.len() {
-        let entry = trail.at(place);
-        if place < KEYS {
-            entries.push(entry.copy(alloc).ok()?).ok()?;
-        } else {
-            verdicts = entry.verdicts().to_vec(alloc).ok()?;
+/// The trail's entries, the first verdict of the last one in this form.
+fn with_last(alloc: Global, trail: &Trail, first: Verdict) -> Option<EntryList> {
+    let mut entries = EntryList::new(alloc).ok()?;
+    for place in 0..trail.len().min(KEYS + 1) {
+        let mut entry = copy_of(alloc, trail.at(place))?;
+        if place == KEYS {
+            *entry.verdicts.first_mut()? = first;
         }
+        entries.reserve().ok()?;
+        entries.push(entry);
     }
-    *verdicts.first_mut()? = first;
-    entries.push(entry_with(alloc, TYPED, verdicts).ok()?).ok()?;
-    bad_place(check_entries(
-        alloc,
-        trail.acl_edition(),
-        trail.owner(),
-        entries.as_slice(),
-    ))
+    Some(entries)
+}
+
+/// What `check_trail` answers for a trail of these entries.
+fn judged(alloc: Global, trail: &Trail, first: Verdict) -> Option<Option<usize>> {
+    let entries = with_last(alloc, trail, first)?;
+    bad_place(check_entries(alloc, trail.acl_edition(), trail.owner(), &entries))
 }
 
 /// Whether the trail of an edition, which has this number, is legal for its owner alone, and bob's

@@ -1,7 +1,7 @@
 //! Entries, and a trail of them.
 
 use hub_record::{EntryList, Kept, KeptReply, NewEntry, TrailEntry};
-use session_model::{Done, Event, Refusal, Reply, Verdict};
+use session_model::{Done, Event, Refusal, Reply};
 use std::alloc::{AllocError, Global};
 
 fn new_entry(alloc: Global, event: Event<'_>) -> Result<NewEntry, AllocError> {
@@ -33,15 +33,22 @@ pub fn entry(alloc: Global, event: Event<'_>) -> Result<TrailEntry, AllocError> 
     Ok(new_entry(alloc, event)?.into_entry())
 }
 
-/// The entry of an event with these verdicts, which has no acts.
-pub fn entry_with(
-    alloc: Global,
-    event: Event<'_>,
-    verdicts: Vec<Verdict>,
-) -> Result<TrailEntry, AllocError> {
-    let mut made = new_entry(alloc, event)?;
-    made.verdicts = verdicts;
-    Ok(made.into_entry())
+/// A copy of an entry whose event was done, if there is memory.
+pub fn copy_of(alloc: Global, entry: &TrailEntry) -> Option<NewEntry> {
+    let finished = entry.ending().ok()?;
+    let reply: Reply = Ok(Done {
+        taken: finished.taken,
+        made: finished.made,
+        number: finished.number,
+        text: None,
+    });
+    let spare = Box::new(alloc, Refusal::NoMemory).ok()?;
+    Some(NewEntry {
+        event: entry.event().copy(alloc).ok()?,
+        verdicts: entry.verdicts().to_vec(alloc).ok()?,
+        acts: entry.acts().to_vec(alloc).ok()?,
+        reply: KeptReply::of(&reply, spare),
+    })
 }
 
 /// A trail of `count` keys.

@@ -6,7 +6,7 @@ ghost use Rattle.hub_ledger.specs.Seats.{StandsFor};
 
 use crate::steps::{are_done, line_of};
 use acl::UserId;
-use hub::{Begun, Hub, Seat, Session};
+use hub::{Begun, Hub, Seat, Sent, Session};
 use session_model::{Effect, Event};
 use std::alloc::Global;
 use std::marker::Brand;
@@ -37,9 +37,9 @@ fn beginning(owner: UserId, bob: UserId) -> [Event<'static>; 7] {
 }
 
 /// Whether this alone is said to bob's client.
-fn is_denied(effects: &[Effect]) -> bool {
+fn is_denied(effects: &[Sent]) -> bool {
     match effects {
-        [Effect::Say(0, text)] => {
+        [(Effect::Say(0, text), _)] => {
             text.as_slice() == b"denied: w on window 2: entry bob -w".as_slice()
         }
         _ => false,
@@ -65,7 +65,7 @@ fn is_told<L: Begun, R: Wait>(
     let (effects, is_marked) = hub.take(rt, seat);
     let (none, is_marked_again) = hub.take(rt, seat);
     let is_denied = is_denied(effects.as_slice()) && is_marked;
-    let is_once = none.is_empty() && !is_marked_again;
+    let is_once = none.as_slice().is_empty() && !is_marked_again;
     is_begun && is_typed && is_denied && is_once
 }
 

@@ -1,6 +1,6 @@
 //! A thousand steps of all kinds over two seats, beside a session that runs the same events: each
-//! seat takes what the session made for its own clients and windows, each answer has the session's
-//! reply, and each step but a Draw marks both seats.
+//! seat takes what the session made for its own clients and windows, with the client that typed it,
+//! each answer has the session's reply, and each step but a Draw marks both seats.
 
 ghost use Rattle.std.specs.Prelude.{◌≡◌};
 ghost use Rattle.session_model.specs.Trace.{begun};
@@ -9,7 +9,7 @@ ghost use Rattle.hub_ledger.specs.Seats.{StandsFor};
 use crate::compare::{are_same, is_same_reply, parts_of};
 use crate::turns::{STEPS, Turn, seat_of};
 use acl::UserId;
-use hub::{Begun, Hub, Seat, Session};
+use hub::{Begun, Hub, Seat, Sent, Session};
 use session_model::{Effect, Event, Reply};
 use std::alloc::Global;
 use std::marker::Brand;
@@ -19,15 +19,20 @@ use std::sync::ledger::Blank;
 /// How many turns there are.
 const TURNS: u32 = 50;
 
-/// The kinds of effects that a seat took, if they are those that the session made for its peers, in
-/// their order: the second seat's have odd serials.
-fn kinds_of(taken: &[Effect], made: &[Effect], is_second: bool) -> Option<u8> {
+/// The kinds of effects that a seat took, if they are those that the session made of an event for its
+/// peers, in their order, typed by the client whose keys it is: the second seat's have odd serials.
+fn kinds_of(taken: &[Sent], event: Event<'_>, made: &[Effect], is_second: bool) -> Option<u8> {
+    let typist = match event {
+        Event::Keys { client, .. } => Some(client),
+        _ => None,
+    };
     let mut kinds = 0u8;
     let mut next = 0;
     for effect in made {
         let effect = parts_of(effect);
         if (effect.peer % 2 == 1) == is_second {
-            if !are_same(effect, parts_of(taken.get(next)?)) {
+            let (sent, by) = taken.get(next)?;
+            if *by != typist || !are_same(effect, parts_of(sent)) {
                 return None;
             }
             kinds |= effect.kind;
@@ -47,17 +52,17 @@ fn taken<L: Begun, R: Wait>(
     rt: &R,
     hub: &Hub<L>,
     seats: &mut [Seat<L>],
+    event: Event<'_>,
     made: &[Effect],
-    marks: bool,
 ) -> Option<u8> {
     let mut kinds = 0u8;
     for seat in seats.iter_mut() {
         let is_second = seat.number() == 1;
         let (effects, is_marked) = hub.take(rt, seat);
-        if is_marked != marks {
+        if is_marked == matches!(event, Event::Draw { .. }) {
             return None;
         }
-        kinds |= kinds_of(effects.as_slice(), made, is_second)?;
+        kinds |= kinds_of(effects.as_slice(), event, made, is_second)?;
     }
     Some(kinds)
 }
@@ -122,8 +127,7 @@ fn step<L: Begun, R: Wait>(
     let reply = replies.as_slice().last()?;
     let seat = pair.seats.get_mut(number)?;
     let entries = entries_of(rt, &pair.hub, seat, event, reply)?;
-    let marks = !matches!(event, Event::Draw { .. });
-    let kinds = taken(rt, &pair.hub, &mut pair.seats, made.as_slice(), marks)?;
+    let kinds = taken(rt, &pair.hub, &mut pair.seats, event, made.as_slice())?;
     Some(Counted { entries, kinds })
 }
 

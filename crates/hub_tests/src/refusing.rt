@@ -9,9 +9,9 @@ ghost use Rattle.hub_ledger.specs.Seats.{StandsFor};
 use crate::compare::{are_same, parts_of};
 use crate::turns::{STEPS, Turn, seat_of};
 use acl::UserId;
-use hub::{Begun, HubFault, Seat, Session};
+use hub::{Begun, HubFault, Seat, Sent, Session};
 use hub_ledger::Ledger;
-use session_model::{Effect, Event};
+use session_model::Event;
 use std::alloc::Global;
 use std::marker::Brand;
 use std::sync::ledger::Blank;
@@ -22,7 +22,7 @@ const TRIES: u32 = 40;
 /// How many times effects are taken: of both seats after each step.
 const TAKES: usize = 46;
 
-type Taken = Vec<Vec<Effect>>;
+type Taken = Vec<Vec<Sent>>;
 
 /// How many bytes of an event a step took; none if it was refused.
 fn taken_of<L: Begun>(
@@ -62,10 +62,10 @@ fn is_taken<L: Begun>(ledger: &mut Ledger<L>, seat: &mut Seat<L>, event: Event<'
     false
 }
 
-fn take_all<L: Begun>(ledger: &mut Ledger<L>, seats: &[Seat<L>], taken: &mut Taken) -> bool {
-    for seat in seats {
+fn take_all<L: Begun>(ledger: &mut Ledger<L>, seats: &mut [Seat<L>], taken: &mut Taken) -> bool {
+    for seat in seats.iter_mut() {
         let (effects, _mark) = ledger.take(seat);
-        if taken.push(effects).is_err() {
+        if taken.push(effects.into_items()).is_err() {
             return false;
         }
     }
@@ -133,14 +133,14 @@ fn play_twice(alloc: Global, owner: UserId, bob: UserId) -> Option<Taken> {
 }
 
 /// The kinds of all effects, if both lists have the same effects.
-fn kinds_of(taken: &[Effect], other: &[Effect]) -> Option<u8> {
+fn kinds_of(taken: &[Sent], other: &[Sent]) -> Option<u8> {
     if taken.len() != other.len() {
         return None;
     }
     let mut kinds = 0u8;
-    for (effect, other) in taken.iter().zip(other.iter()) {
+    for ((effect, typist), (other, other_typist)) in taken.iter().zip(other.iter()) {
         let effect = parts_of(effect);
-        if !are_same(effect, parts_of(other)) {
+        if typist != other_typist || !are_same(effect, parts_of(other)) {
             return None;
         }
         kinds |= effect.kind;

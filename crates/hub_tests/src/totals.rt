@@ -32,7 +32,7 @@ fn work<L: Begun, R: Wait>(rt: &R, hub: &Hub<L>, seat: &mut Seat<L>, user: UserI
         }
         if i % 16 == 0 {
             let (effects, _marked) = hub.take(rt, seat);
-            if !effects.is_empty() {
+            if !effects.as_slice().is_empty() {
                 return false;
             }
         }

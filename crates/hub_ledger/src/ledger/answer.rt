@@ -11,18 +11,30 @@ use std::alloc::{AllocError, AllocFailed};
 use std::marker::Model;
 use thiserror::Error;
 
+/// Shows that a trail was full. Only a ledger makes it.
+#[derive(Clone, Copy, PartialEq, Eq, Debug)]
+pub struct Full {
+    pub(crate) _made: (),
+}
+
+/// Shows that a seat was of another hub. Only a ledger makes it.
+#[derive(Clone, Copy, PartialEq, Eq, Debug)]
+pub struct Foreign {
+    pub(crate) _made: (),
+}
+
 /// Why a submitted event wasn't taken.
 #[derive(Clone, Copy, PartialEq, Eq, Debug, Error)]
 pub enum HubFault {
     /// The event would write an entry, and the trail has 4,194,304 entries already.
     #[error("the trail is full")]
-    TrailFull,
+    TrailFull(Full),
     #[error("out of memory")]
     NoMemory,
     /// The event would write an entry, and the seat has a receipt whose place isn't below the
     /// trail's length.
     #[error("the seat is of another hub")]
-    Strange,
+    Strange(Foreign),
 }
 
 impl HubFault {
@@ -34,9 +46,9 @@ impl HubFault {
         ensures { result ≡ number_of_fault self }
     {
         match self {
-            HubFault::TrailFull => 1,
+            HubFault::TrailFull(_) => 1,
             HubFault::NoMemory => 2,
-            HubFault::Strange => 3,
+            HubFault::Strange(_) => 3,
         }
     }
 }
@@ -61,7 +73,9 @@ impl<T: Drop> From<AllocFailed<T>> for HubFault {
 pub struct Answer<'a> {
     pub(super) event: Event<'a>,
     pub(super) reply: Reply,
+    pub(super) typed: Option<u32>,
     pub(super) place: Option<usize>,
+    pub(super) checks: (Option<bool>, bool),
     pub(super) entry: Option<TrailEntry>,
 }
 
@@ -70,7 +84,9 @@ impl Drop for Answer<'_> {
         let Answer {
             event: _,
             reply: _,
+            typed: _,
             place: _,
+            checks: _,
             entry: _,
         } = self;
     }
@@ -85,7 +101,10 @@ impl<'a> Model for Answer<'a> {
     ghost view = { λ a. record {
       event = happening a.event;
       reply = a.reply;
+      typed = a.typed;
       place = a.place;
+      checks = a.checks.0;
+      checks_execute = a.checks.1;
       entry = a.entry;
     } };
 }
@@ -112,10 +131,19 @@ impl<'a> Answer<'a> {
         let Answer {
             event: _,
             reply,
+            typed: _,
             place: _,
+            checks: _,
             entry: _,
         } = self;
         reply
+    }
+
+    /// The window into which the step typed last: by keys, or by a command. `None` if it typed nothing.
+    pub fn typed(&self) -> Option<u32>
+        ensures { result ≡ self.now.typed }
+    {
+        self.typed
     }
 
     /// The place of the entry in the trail, from 0; `None` if the event writes no entry.
@@ -123,6 +151,21 @@ impl<'a> Answer<'a> {
         ensures { result ≡ self.now.place }
     {
         self.place
+    }
+
+    /// Whether all checks of the entry passed; `None` if nothing was checked, or if there is no
+    /// entry.
+    pub fn checks(&self) -> Option<bool>
+        ensures { result ≡ self.now.checks }
+    {
+        self.checks.0
+    }
+
+    /// Whether x on a command was among the checks of the entry.
+    pub fn checks_execute(&self) -> bool
+        ensures { result ≡ self.now.checks_execute }
+    {
+        self.checks.1
     }
 
     /// The entry, if the event writes one and the seat asks for entries. Such a seat still gets

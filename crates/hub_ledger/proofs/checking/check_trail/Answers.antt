@@ -5,6 +5,7 @@ use Rattle.hub_trail.specs.Trails.{Entry}
 use Rattle.hub_trail.specs.Judging.{AreGood, AreJudgeable, IsBadAt, IsIllegalAt}
 use Rattle.hub_trail.specs.Legal.{AreLegal}
 use Rattle.hub_check.proofs.Judged.{bad_illegal, good_legal}
+use Rattle.hub_ledger.proofs.OtherOwner.{legal_until}
 use Rattle.hub_ledger.proofs.checking.check_trail.Goals as goal
 
 -- the same entries, judged by the same edition
@@ -44,3 +45,10 @@ pub returns-clause-first : goal.returns-clause-first
 returns-clause-first c = λ place err.
     bad_for c.acl_edition.result c.args.trail.now.edition c.args.owner c.entries.result.now.entries
     c.args.trail.now.entries place c.acl_edition.ensures c.entries.ensures (c.check_entries.ensures.bad place err)
+
+pub returns-clause-legal_until : goal.returns-clause-legal_until
+returns-clause-legal_until c = λ place legal err.
+    legal_until c.args.trail.now.edition c.args.trail.now.owner c.args.owner c.args.trail.now.entries place
+    c.is_judgeable.ensures legal
+    (bad_for c.acl_edition.result c.args.trail.now.edition c.args.owner c.entries.result.now.entries
+    c.args.trail.now.entries place c.acl_edition.ensures c.entries.ensures (c.check_entries.ensures.bad place err))

@@ -2,12 +2,11 @@ use Rattle.std.proofs.Common.{◌≡◌, ◌≤◌, ◌<◌, ◌+◌, ℕ, Some}
 use Rattle.std.specs.Prelude.{slice_get, vec_len, vec_capacity}
 use Rattle.std.specs.declared.vec.Vec.{Vec}
 use Rattle.std.specs.declared.alloc.Global.{Global}
-use Rattle.session_model.specs.declared.event.Effect.{Effect}
-use Rattle.hub_ledger.specs.Routing.{views}
+use Rattle.hub_ledger.specs.Routing.{Sent, views}
 use Rattle.hub_ledger.proofs.waiting.make_room.Given as goal
 
 abbrev pub invariant-loop-i : goal.invariant-loop-i
 invariant-loop-i l = record {
   same : views l.waiting ≡ views l.initial.waiting;
-  room : (k : ℕ) (v : Vec Effect Global) → k < l.i → slice_get l.waiting k ≡ Some v → vec_len v + 256 ≤ vec_capacity v;
+  room : (k : ℕ) (v : Vec Sent Global) → k < l.i → slice_get l.waiting k ≡ Some v → vec_len v + 256 ≤ vec_capacity v;
 }

@@ -11,7 +11,7 @@ use Rattle.std.proofs.lemmas.Option.{slice_get-get_or}
 use Rattle.session_laws.proofs.Lists.{all_weaken}
 use Rattle.session_model.specs.declared.event.Effect.{Effect}
 use Rattle.hub_ledger.specs.Peers.{HasPeer, owners_of, seat_of}
-use Rattle.hub_ledger.specs.Routing.{views}
+use Rattle.hub_ledger.specs.Routing.{Sent, views}
 use Rattle.hub_ledger.proofs.Queues.{Waits, seat_there, seat_within, more_waits, room_left, append_turned}
 use Rattle.hub_ledger.proofs.waiting.route.Goals as goal
 
@@ -64,8 +64,9 @@ loop-effect-preserved c =
       all = append_turned c.loop-effect.yielded c.in-Some.effect (into_iter_items c.next.new.self) c.args.effects.items
           (rw (← steps) c.loop-effect.invariant.all);
       come = (subst (AllByRecursion (HasPeer o)) steps c.loop-effect.invariant.come).1;
-      waits = more_waits o c.loop-effect.yielded c.in-Some.effect seat (views c.args.waiting.now) c.loop-effect.waiting
-          v c.push_reserved.new.self here at_seat at c.push_reserved.ensures.items c.loop-effect.invariant.waits;
+      waits = more_waits o c.args.typist c.loop-effect.yielded c.in-Some.effect seat (views c.args.waiting.now)
+          c.loop-effect.waiting v c.push_reserved.new.self here at_seat at c.push_reserved.ensures.items
+          c.loop-effect.invariant.waits;
       room = room_left c.loop-effect.waiting seat v c.push_reserved.new.self 256 c.loop-effect.yielded c.in-Some.effect
           at c.push_reserved.ensures.len c.push_reserved.ensures.capacity c.loop-effect.invariant.room;
     }
@@ -80,8 +81,9 @@ returns c =
     ∙ ap (λ (x : List Effect). c.loop-effect.yielded ++ x) done ∙ append-nil c.loop-effect.yielded in
     record {
       found = all_weaken (HasPeer o) (λ e. IsSome (seat_of o e)) c.args.effects.items (seat_there o) c.requires.come;
-      seats = length-map c.loop-effect.waiting (λ (u : Vec Effect Global). u.items) ∙ c.loop-effect.auto.waiting
-          ∙ sym (length-map c.args.waiting.now (λ (u : Vec Effect Global). u.items));
-      waiting = subst (λ (es : List Effect). Waits o es (views c.args.waiting.now) (views c.loop-effect.waiting))
+      seats = length-map c.loop-effect.waiting (λ (u : Vec Sent Global). u.items) ∙ c.loop-effect.auto.waiting
+          ∙ sym (length-map c.args.waiting.now (λ (u : Vec Sent Global). u.items));
+      waiting = subst
+          (λ (es : List Effect). Waits o c.args.typist es (views c.args.waiting.now) (views c.loop-effect.waiting))
           (sym all) c.loop-effect.invariant.waits;
     }

@@ -4,9 +4,8 @@ use Rattle.std.specs.List.{AllByRecursion}
 use Rattle.std.specs.Vec.Iter.{into_iter_items}
 use Rattle.std.specs.declared.vec.Vec.{Vec}
 use Rattle.std.specs.declared.alloc.Global.{Global}
-use Rattle.session_model.specs.declared.event.Effect.{Effect}
 use Rattle.hub_ledger.specs.Peers.{HasPeer, owners_of}
-use Rattle.hub_ledger.specs.Routing.{views}
+use Rattle.hub_ledger.specs.Routing.{Sent, views}
 use Rattle.hub_ledger.proofs.Queues.{Waits}
 use Rattle.hub_ledger.proofs.waiting.route.Given as goal
 
@@ -16,7 +15,7 @@ invariant-loop-effect l = record {
   finite : (goal.iterator-loop-effect).is_finite l.effect-iterator;
   all : l.fn.effects.items ≡ l.yielded ++ into_iter_items l.effect-iterator;
   come : AllByRecursion (HasPeer (owners_of l.peers)) (into_iter_items l.effect-iterator);
-  waits : Waits (owners_of l.peers) l.yielded (views l.initial.waiting) (views l.waiting);
-  room : (k : ℕ) (v : Vec Effect Global) → slice_get l.waiting k ≡ Some v
+  waits : Waits (owners_of l.peers) l.fn.typist l.yielded (views l.initial.waiting) (views l.waiting);
+  room : (k : ℕ) (v : Vec Sent Global) → slice_get l.waiting k ≡ Some v
       → vec_len v + 256 ≤ vec_capacity v + length l.yielded;
 }

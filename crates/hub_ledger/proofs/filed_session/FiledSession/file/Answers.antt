@@ -13,7 +13,7 @@ returns-clause-told c =
     let copy = c.in-Some.copy.event in
     let same : Some copy ≡ event = sym (ap kept_by c.in-Some.is) ∙ c.in_ok-copy.ensures in
     let receipt : Ending → Receipt = λ (e : Ending). record { place = c.len-place.result; event = copy; reply = e } in
-    subst (λ n. IsReceived event c.in_ok-reply.reply n c.args.told.now.receipts c.push.new.self.receipts)
+    subst (λ n. IsReceived event c.in_ok-made.made.0 n c.args.told.now.receipts c.push.new.self.receipts)
     c.len-place.ensures
     (record {
       below = c.are_below.ensures.0 c.if-not-are_below.false;

@@ -1,14 +1,13 @@
-use Rattle.std.proofs.Common.{◌≡◌, ◌<◌, List, length, sym, ap, ◌∙◌, subst, false, Bool}
+use Rattle.std.proofs.Common.{◌≡◌, ◌<◌, ℕ, List, Option, length, sym, ap, ◌∙◌, subst, false, Bool}
 use Rattle.std.specs.declared.vec.Vec.{Vec}
 use Rattle.std.specs.declared.alloc.Global.{Global}
-use Rattle.session_model.specs.declared.event.Effect.{Effect}
 use Rattle.std.specs.List.{AllByRecursion}
 use Rattle.std.proofs.lemmas.List.{length-map}
 use Rattle.session_model.specs.Trace.{happening}
 use Rattle.session_core.specs.Stands.{entry_of, wants_memory}
 use Rattle.hub_trail.specs.Filing.{kept_of}
 use Rattle.hub_ledger.specs.Peers.{HasPeer, Owners, owners_of, with_peers}
-use Rattle.hub_ledger.specs.Routing.{views, marked, AreRouted}
+use Rattle.hub_ledger.specs.Routing.{Sent, views, marked, typed_in, typist_of, AreRouted}
 use Rattle.hub_ledger.specs.Slips.{with_entries, written}
 use Rattle.hub_ledger.specs.States.{state_of, trail_in}
 use Rattle.hub_ledger.proofs.Steps.{few, peers_there, made_by, filed_is, kept_after}
@@ -54,15 +53,20 @@ returns-clause-step c =
             ∙ ap (with_entries (trail_in c.args.self.now.entries)) (filed_is (kept_of event) event reply noted effects);
         owners = c.add.ensures ∙ ap (with_peers event reply c.args.seat) c.make_room-2.ensures.same;
         waiting = subst
-            (λ (now : List (List Effect)). AreRouted (owners_of c.args.self.now.peers) effects
+            (λ (now : List (List Sent)). AreRouted (owners_of c.args.self.now.peers) (typist_of event) effects
             (views c.args.self.now.waiting.lists.items) now)
-            (sym (ap (λ (v : Vec (Vec Effect Global) Global). views v.items) c.mark.ensures.lists))
+            (sym (ap (λ (v : Vec (Vec Sent Global) Global). views v.items) c.mark.ensures.lists))
             (subst
-            (λ (was : List (List Effect)). AreRouted (owners_of c.args.self.now.peers) effects was
+            (λ (was : List (List Sent)). AreRouted (owners_of c.args.self.now.peers) (typist_of event) effects was
             (views c.route.new.self.lists.items)) c.make_room-3.ensures.lists
             (subst
-            (λ (o : Owners). AreRouted o effects (views c.make_room-3.new.self.lists.items)
-            (views c.route.new.self.lists.items)) c.make_room-2.ensures.same c.route.ensures.lists));
+            (λ (o : Owners). AreRouted o (typist_of event) effects (views c.make_room-3.new.self.lists.items)
+            (views c.route.new.self.lists.items)) c.make_room-2.ensures.same
+            (subst
+            (λ (t : Option ℕ). AreRouted (owners_of c.make_room-2.new.self) t effects
+            (views c.make_room-3.new.self.lists.items) (views c.route.new.self.lists.items))
+            c.typist_of-typist.ensures c.route.ensures.lists)));
+        typed_is = c.typed_in-typed.ensures ∙ ap (typed_in event) c.as_slice.ensures.value;
         marks = c.mark.ensures.marks
             ∙ ap (λ (m : Vec Bool Global). marked event m.items) (c.route.ensures.marks ∙ c.make_room-3.ensures.marks);
       },
@@ -72,4 +76,4 @@ pub returns-clause-kept : goal.returns-clause-kept
 returns-clause-kept c =
     let here : c.args.seat < length (views c.args.self.now.waiting.lists.items) = rw length-map c.requires.seat in
     let step = returns-clause-step c in
-    kept_after (state_of c.args.self.now) _ c.args.seat _ c.requires.kept here step.2
+    kept_after (state_of c.args.self.now) _ c.args.seat _ _ c.requires.kept here step.2

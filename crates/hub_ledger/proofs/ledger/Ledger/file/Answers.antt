@@ -2,11 +2,11 @@ use Rattle.std.proofs.Common.{◌∙◌, Some, ap, refl, subst, sym, arith}
 use Rattle.std.proofs.lemmas.List.{length-map}
 use Rattle.std.specs.declared.vec.Vec.{Vec}
 use Rattle.std.specs.declared.alloc.Global.{Global}
-use Rattle.session_model.specs.declared.event.Effect.{Effect}
+use Rattle.hub_ledger.specs.Routing.{Sent}
 use Rattle.session_model.specs.Trace.{happening}
 use Rattle.hub_trail.specs.Filing.{kept_of}
 use Rattle.hub_ledger.specs.States.{State, state_of}
-use Rattle.hub_ledger.specs.Seats.{Answers, Sitting, StandsLast, Told}
+use Rattle.hub_ledger.specs.Seats.{Answers, Sitting, StandsLast, Told, stepped}
 use Rattle.hub_ledger.proofs.Filing.{answered, begins_stay, handed, one_more, seats_stay, stands_last}
 use Rattle.hub_ledger.proofs.Rising.{rise_pushed}
 use Rattle.hub_ledger.proofs.ledger.Ledger.file.Goals as goal
@@ -15,34 +15,60 @@ pub copied-entry-requires : goal.copied-entry-requires
 copied-entry-requires g c =
     let old = state_of c.self.inside.filed in
     let new = state_of c.file.new.self in
-    let more = one_more c.seat.inside.number (happening c.args.event) c.in_ok-reply.reply old new
-    c.in_ok-reply.ensures.step c.requires in
+    let more = one_more c.seat.inside.number (happening c.args.event) c.in_ok-made.made.0 c.in_ok-made.made.1 old new
+    c.in_ok-made.ensures.step c.requires in
     omega (arith, more, c.len-place.ensures)
+
+pub checks-checks-requires : goal.checks-checks-requires
+checks-checks-requires g c =
+    let old = state_of c.self.inside.filed in
+    let new = state_of c.file.new.self in
+    let more = one_more c.seat.inside.number (happening c.args.event) c.in_ok-made.made.0 c.in_ok-made.made.1 old new
+    c.in_ok-made.ensures.step c.requires in
+    omega (arith, more, c.len-place.ensures)
+
+pub returns-clause-checks : goal.returns-clause-checks
+returns-clause-checks g c = c.checks-checks.ensures
 
 pub returns-clause-entry : goal.returns-clause-entry
 returns-clause-entry g c =
     let old = state_of c.self.inside.filed in
     let new = state_of c.file.new.self in
     subst (λ (s : State). StandsLast c.copied-entry.result s.trail.entries new.trail.entries) c.self.view_is
-    (stands_last c.seat.inside.asks c.seat.inside.number (happening c.args.event) c.in_ok-reply.reply old new
-    c.len-place.result c.copied-entry.result c.in_ok-reply.ensures.step c.requires c.len-place.ensures
-    c.copied-entry.ensures)
+    (stands_last c.seat.inside.asks c.seat.inside.number (happening c.args.event) c.in_ok-made.made.0
+    c.in_ok-made.made.1 old new c.len-place.result c.copied-entry.result c.in_ok-made.ensures.step c.requires
+    c.len-place.ensures c.copied-entry.ensures)
 
 pub returns-clause-answer : goal.returns-clause-answer
 returns-clause-answer g c =
     let event = happening c.args.event in
-    let reply = c.in_ok-reply.reply in
+    let reply = c.in_ok-made.made.0 in
+    let typed = c.in_ok-made.made.1 in
     let place = c.len-place.result in
-    let was : Sitting = record
-    { number = c.seat.inside.number; asks = c.seat.inside.asks; receipts = c.seat.inside.told.receipts } in
-    let told : Told = record { event = event; reply = reply; place = Some place; entry = c.copied-entry.result } in
-    let now : Sitting = record was { receipts = c.file.new.told.receipts } in
+    let was : Sitting = record {
+      number = c.seat.inside.number;
+      asks = c.seat.inside.asks;
+      receipts = c.seat.inside.told.receipts;
+      steps = c.seat.inside.steps;
+      handed = c.seat.inside.handed;
+      is_told = c.seat.inside.is_told;
+    } in
+    let told : Told = record {
+      event = event;
+      reply = reply;
+      typed = typed;
+      place = Some place;
+      checks = c.checks-checks.result.0;
+      checks_execute = c.checks-checks.result.1;
+      entry = c.copied-entry.result;
+    } in
+    let now : Sitting = record (stepped was) { receipts = c.file.new.told.receipts } in
     subst (λ (s : Sitting). Answers event told s now) c.seat.view_is
     (record {
       same = refl;
-      receipt = answered (kept_of event) _ told was now (ap Some c.len-place.ensures) c.in_ok-reply.ensures.told refl;
-      entry = handed was event reply (state_of c.self.inside.filed) (state_of c.file.new.self) place
-          c.copied-entry.result c.in_ok-reply.ensures.step c.requires c.len-place.ensures c.copied-entry.ensures;
+      receipt = answered (kept_of event) _ told was now (ap Some c.len-place.ensures) c.in_ok-made.ensures.told refl;
+      entry = handed was event reply typed (state_of c.self.inside.filed) (state_of c.file.new.self) place
+          c.copied-entry.result c.in_ok-made.ensures.step c.requires c.len-place.ensures c.copied-entry.ensures;
     })
 
 pub invariant_of-self-2 : goal.invariant_of-self-2
@@ -50,15 +76,18 @@ invariant_of-self-2 g c =
     let inv = c.self.invariant in
     let old = state_of c.self.inside.filed in
     let new = state_of c.file.new.self in
-    let takes = c.in_ok-reply.ensures.step in
-    let more = one_more c.seat.inside.number (happening c.args.event) c.in_ok-reply.reply old new takes c.requires in
-    let stay = seats_stay c.seat.inside.number (happening c.args.event) c.in_ok-reply.reply old new takes in
-    let begins = begins_stay c.seat.inside.number (happening c.args.event) c.in_ok-reply.reply old new takes in (
+    let takes = c.in_ok-made.ensures.step in
+    let event = happening c.args.event in
+    let reply = c.in_ok-made.made.0 in
+    let typed = c.in_ok-made.made.1 in
+    let more = one_more c.seat.inside.number event reply typed old new takes c.requires in
+    let stay = seats_stay c.seat.inside.number event reply typed old new takes in
+    let begins = begins_stay c.seat.inside.number event reply typed old new takes in (
       c.file.ensures.kept,
       (let t = c.add.ensures.total in omega (arith, t, inv.1, more)),
-      omega (arith, more, c.in_ok-reply.ensures.room),
-      sym (length-map c.file.new.self.waiting.lists.items (λ (v : Vec Effect Global). v.items)) ∙ stay.0
-          ∙ length-map c.self.inside.filed.waiting.lists.items (λ (v : Vec Effect Global). v.items) ∙ inv.3,
+      omega (arith, more, c.in_ok-made.ensures.room),
+      sym (length-map c.file.new.self.waiting.lists.items (λ (v : Vec Sent Global). v.items)) ∙ stay.0
+          ∙ length-map c.self.inside.filed.waiting.lists.items (λ (v : Vec Sent Global). v.items) ∙ inv.3,
       stay.1 ∙ inv.4,
       inv.5,
       begins.0 ∙ inv.6,
@@ -68,7 +97,7 @@ invariant_of-self-2 g c =
 pub invariant_of-seat-2 : goal.invariant_of-seat-2
 invariant_of-seat-2 g c =
     let inv = c.seat.invariant in
-    let received = c.in_ok-reply.ensures.told in
+    let received = c.in_ok-made.ensures.told in
     let pushed = rise_pushed c.seat.inside.told.receipts c.seat.inside.told.receipts c.file.new.told.receipts _ refl
     received.more.2 inv.3 received.below in (
       inv.0,

@@ -4,7 +4,7 @@ use Rattle.std.specs.declared.vec.Vec.{Vec}
 use Rattle.std.specs.declared.alloc.Global.{Global}
 use Rattle.acl.specs.declared.edition.Edition.{Edition}
 use Rattle.acl.specs.declared.user_id.UserId.{UserId}
-use Rattle.session_model.specs.declared.event.Effect.{Effect}
+use Rattle.hub_ledger.specs.Routing.{Sent}
 use Rattle.session_model.specs.Trace.{begun}
 use Rattle.session_core.specs.declared.session.Session.{Session}
 use Rattle.hub_ledger.specs.States.{State, StandsFor, begun_with}
@@ -35,7 +35,7 @@ invariant_of-result g c =
       c.in_ok-filed.ensures.kept,
       c.open-book.ensures.total ∙ sym none,
       omega (arith, none),
-      sym (length-map c.in_ok-filed.filed.waiting.lists.items (λ (v : Vec Effect Global). v.items))
+      sym (length-map c.in_ok-filed.filed.waiting.lists.items (λ (v : Vec Sent Global). v.items))
           ∙ ap (λ (s : State). length s.waiting) is ∙ length-replicate c.args.seats _ ∙ c.requires.parts.1,
       ap (λ (s : State). length s.marks) is ∙ length-replicate c.args.seats _ ∙ c.requires.parts.1,
       (let some = c.requires.seats.0 in omega (arith, some, c.requires.parts.1)),

@@ -3,7 +3,7 @@ use Rattle.std.specs.Prelude.{is_some}
 use Rattle.std.proofs.lemmas.List.{length-map}
 use Rattle.std.specs.declared.vec.Vec.{Vec}
 use Rattle.std.specs.declared.alloc.Global.{Global}
-use Rattle.session_model.specs.declared.event.Effect.{Effect}
+use Rattle.hub_ledger.specs.Routing.{Sent}
 use Rattle.session_model.specs.Trace.{happening}
 use Rattle.hub_trail.specs.Filing.{kept_of}
 use Rattle.hub_ledger.specs.States.{State, state_of}
@@ -13,15 +13,15 @@ use Rattle.hub_ledger.proofs.ledger.Ledger.submit.Goals as goal
 pub invariant_of-self : goal.invariant_of-self
 invariant_of-self g c =
     let inv = c.self.invariant in
-    let same = c.in_err-reply.ensures.same in
+    let same = c.in_err-made.ensures.same in
     let entries : length c.take_step.new.self.entries.list.entries ≡ length c.self.inside.filed.entries.list.entries =
     ap (λ (s : State). length s.trail.entries) same in (
       c.take_step.ensures.kept,
       inv.1 ∙ sym entries,
       omega (arith, entries, inv.2),
-      sym (length-map c.take_step.new.self.waiting.lists.items (λ (v : Vec Effect Global). v.items))
+      sym (length-map c.take_step.new.self.waiting.lists.items (λ (v : Vec Sent Global). v.items))
           ∙ ap (λ (s : State). length s.waiting) same
-          ∙ length-map c.self.inside.filed.waiting.lists.items (λ (v : Vec Effect Global). v.items) ∙ inv.3,
+          ∙ length-map c.self.inside.filed.waiting.lists.items (λ (v : Vec Sent Global). v.items) ∙ inv.3,
       ap (λ (s : State). length s.marks) same ∙ inv.4,
       inv.5,
       ap (λ (s : State). s.trail.edition) same ∙ inv.6,
@@ -35,15 +35,15 @@ invariant_of-self-else-writes_entry g c =
     let not : is_some (kept_of event) ≡ false = sym c.writes_entry.ensures ∙ c.if-writes_entry.false in
     let old = state_of c.self.inside.filed in
     let new = state_of c.take_step.new.self in
-    let takes = c.in_ok-reply.ensures.step in
-    let entries = no_more _ event c.in_ok-reply.reply old new takes not in
-    let stay = seats_stay _ event c.in_ok-reply.reply old new takes in
-    let begins = begins_stay _ event c.in_ok-reply.reply old new takes in (
+    let takes = c.in_ok-made.ensures.step in
+    let entries = no_more _ event c.in_ok-made.made.0 c.in_ok-made.made.1 old new takes not in
+    let stay = seats_stay _ event c.in_ok-made.made.0 c.in_ok-made.made.1 old new takes in
+    let begins = begins_stay _ event c.in_ok-made.made.0 c.in_ok-made.made.1 old new takes in (
       c.take_step.ensures.kept,
       inv.1 ∙ sym entries,
       omega (arith, entries, inv.2),
-      sym (length-map c.take_step.new.self.waiting.lists.items (λ (v : Vec Effect Global). v.items)) ∙ stay.0
-          ∙ length-map c.self.inside.filed.waiting.lists.items (λ (v : Vec Effect Global). v.items) ∙ inv.3,
+      sym (length-map c.take_step.new.self.waiting.lists.items (λ (v : Vec Sent Global). v.items)) ∙ stay.0
+          ∙ length-map c.self.inside.filed.waiting.lists.items (λ (v : Vec Sent Global). v.items) ∙ inv.3,
       stay.1 ∙ inv.4,
       inv.5,
       begins.0 ∙ inv.6,
@@ -61,3 +61,6 @@ returns-then-writes_entry-clause-entry g c = c.file.ensures.entry
 
 pub returns-then-writes_entry-clause-same : goal.returns-then-writes_entry-clause-same
 returns-then-writes_entry-clause-same g c = c.file.ensures.same
+
+pub returns-then-writes_entry-clause-checks : goal.returns-then-writes_entry-clause-checks
+returns-then-writes_entry-clause-checks g c = c.file.ensures.checks

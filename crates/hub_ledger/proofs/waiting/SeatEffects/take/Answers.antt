@@ -3,12 +3,11 @@ use Rattle.std.specs.Prelude.{slice_set}
 use Rattle.std.specs.declared.vec.Vec.{Vec}
 use Rattle.std.specs.declared.alloc.Global.{Global}
 use Rattle.std.proofs.lemmas.List.{map-set}
-use Rattle.session_model.specs.declared.event.Effect.{Effect}
-use Rattle.hub_ledger.specs.Routing.{views}
+use Rattle.hub_ledger.specs.Routing.{Sent, views}
 use Rattle.hub_ledger.proofs.waiting.SeatEffects.take.Goals as goal
 
 pub returns-clause-lists : goal.returns-clause-lists
 returns-clause-lists c =
     map-set (λ v. v.items) c.args.self.now.lists.items c.args.seat c.replace-effects.new.dest
     ∙ ap (λ w. slice_set (views c.args.self.now.lists.items) c.args.seat w)
-    (ap (λ (v : Vec Effect Global). v.items) c.replace-effects.ensures.after ∙ c.new.ensures.items)
+    (ap (λ (v : Vec Sent Global). v.items) c.replace-effects.ensures.after ∙ c.new.ensures.items)
