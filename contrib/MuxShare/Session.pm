@@ -260,7 +260,7 @@ sub start_shell {
         $ENV{PATH} = "$self->{scripts}:$ENV{PATH}";
     };
     my @words = ('--socket', $self->{socket}, '--user', $self->{owner}, '--token', "$self->{own}/token",
-        '--rows', $rows, '--cols', $cols, '--keep', $self->{keep}, '--title', $self->{title});
+        '--rows', $rows, '--cols', $cols, '--keep', $self->{keep}, '--title', $self->{title}, '--stay', 0);
     my @in_window = ("$self->{scripts}/mux-door", 'run', $self->{own}, @command);
     $self->{shell} = spawn($prepare, "$self->{scripts}/mux-shell", @words, '--', @in_window);
     return if wait_for($self->{shell}, sub { !-e "$self->{own}/environment" }, START);

@@ -17,7 +17,7 @@ _mux() {
     local program=$1 current=$2 previous=$3 words='' verb=''
     COMPREPLY=()
     case $previous in
-    --socket | --users | --setup | --token | --sizes | --trail | --rights | --trails | --lock | --page | --watch-token)
+    --socket | --users | --setup | --token | --sizes | --trail | --rights | --trails | --lock | --page | --links | --watch-token)
         mapfile -t COMPREPLY < <(compgen -f -- "$current")
         compopt -o filenames 2>/dev/null
         return
@@ -33,7 +33,7 @@ _mux() {
         ;;
     --user | --rows | --cols | --title | --keep | --window | --read | --session | --for | --wait | --owner | --at | --since) return ;;
     --web | --listen | --origin | --watch | --most) return ;;
-    --presets | --guest | --again | --number | --first) return ;;
+    --presets | --guest | --again | --stay | --number | --first) return ;;
     --writers) words='all one' ;;
     *)
         # mux and mux-trail have subcommands, each with its own options.
@@ -50,7 +50,7 @@ _mux() {
             fi
         else
             words=$("$program" --help 2>/dev/null | _mux_listed)
-            [[ ${program##*/} != mux-user || $current == -* ]] || words='add replace remove give show list'
+            [[ ${program##*/} != mux-user || $current == -* ]] || words='add replace remove give show list link'
         fi
         ;;
     esac

@@ -3,10 +3,10 @@
 // through textContent alone, so none of it becomes markup, and every class name is one of a fixed list.
 (() => {
   const it = (id) => document.getElementById(id);
-  const [login, said, screen, frame, page, keys, news, bar, past] =
-    ["login", "said", "screen", "frame", "page", "keys", "news", "bar", "past"].map(it);
+  const [login, said, screen, frame, page, keys, news, bar, past, turns] =
+    ["login", "said", "screen", "frame", "page", "keys", "news", "bar", "past", "turns"].map(it);
   const watching = location.hash === "#watch";
-  const ATTACH = 0x41, WATCH = 0x56, KEYS = 0x4b, RESIZE = 0x52, DETACH = 0x44, LONGEST = 8192;
+  const ATTACH = 0x41, WATCH = 0x56, LINK = 0x4c, KEYS = 0x4b, RESIZE = 0x52, DETACH = 0x44, LONGEST = 8192;
   // `why` is the last text of the bridge; `app` is DECCKM: with it arrow keys send ESC O, and not ESC [.
   let socket = null, size = "", why = "", app = false;
   const say = (text, isFault) => {
@@ -81,17 +81,72 @@
     it("cursor").hidden = !shown;
     frame.style.setProperty("--column", column);
     frame.style.setProperty("--line", line);
-    // (who may not look back is told so in the last row)
-    if (back && page.lastChild.textContent.startsWith("denied: x on scrollview")) {
-      back = asked = 0;
-      past.hidden = true;
-    }
+    note();
     // A page that is wider than its frame follows the cursor.
     if (shown && place !== (place = `${line} ${column}`)) follow();
     timer ||= setTimeout(tell, 1000);
   };
   let place = "";
   const follow = () => it("cursor").scrollIntoView({ block: "nearest", inline: "nearest" });
+
+  // What the last rows say: the message, and above it the caption.  mux-turn tells everybody who may type, and with
+  // --title the window's title says it, too.  A raised hand is a wall.
+  const HAND = "I would like to type";
+  const GIVEN = /^\w+: (?:(\w+) may type(?: for \w+)?|nobody(?: else| but \S+)? may type|(?:the|\w+'s) turn is over)$/;
+  let turn = null, hands = new Set(), marked = false;
+  const keep = (name, value) => {
+    if (value) sessionStorage.setItem(name, JSON.stringify(value));
+    else sessionStorage.removeItem(name);
+  };
+  const kept = (name) => JSON.parse(sessionStorage.getItem(name) || "null");
+  const hear = (caption, message) => {
+    const given = GIVEN.exec(message), [, name, text] = /^(\w+): (.*)$/.exec(message) || [];
+    const titled = /^\d+ .* \((\w+) types\)$/.exec(caption);
+    if (titled) turn = titled[1];
+    else if (given) turn = given[1] || "";
+    else if (marked) turn = "";
+    marked = titled !== null;
+    if (text === HAND) hands.add(name);
+    hands.delete(turn);
+    keep("mux turn", [turn, [...hands]]);
+  };
+  const told_turn = (me, isDenied, types) => {
+    if (isDenied) return `It isn't your turn${types ? ` (${types} types)` : ""}.`;
+    if (turn && turn === me) return "It's your turn: type.";
+    return turn === null ? "" : turn ? `${turn} types.` : "Nobody has the turn.";
+  };
+  const note = () => {
+    const [caption = "", message = ""] = [...page.children].slice(-2).map((row) => row.textContent.trimEnd());
+    // Who may not look back is told so.
+    if (back && message.startsWith("denied: x on scrollview")) {
+      back = asked = 0;
+      past.hidden = true;
+    }
+    hear(caption, message);
+    const me = user ? user.name : "", lock = /^denied: window \d+ locked by (\w+)$/.exec(message);
+    const isDenied = lock || /^denied: w on window /.test(message), types = lock ? lock[1] : turn;
+    const lines = [told_turn(me, isDenied, types)];
+    if (caption === "--") lines.unshift("No window is shown.");
+    else if (/^\d+ \?$/.test(caption)) lines.unshift("You may not read this window.");
+    if (message.startsWith("denied: x on wall")) lines.push("Hands aren't raised here: ask aloud.");
+    else if (hands.size) lines.push(`${[...hands].join(", ")} would like to type.`);
+    const text = lines.join(" ").trim();
+    if (it("turn").textContent !== text) it("turn").textContent = text;
+    // Once it is there it stays, so that the page keeps its size.
+    if (text) turns.hidden = false;
+    turns.classList.toggle("mine", turn === me && me !== "" && !isDenied);
+    it("next").hidden = watching || !/^(--|\d+ \?)$/.test(caption);
+    it("hand").hidden = watching || !isDenied && turn === null || turn === me || hands.has(me);
+    const says = !turn ? "" : turn === me ? "your turn - " : `${turn} types - `;
+    document.title = `${says}mux: ${me || "wall"}`;
+  };
+  // A command at the prompt, as from any client.
+  const command = (text) => {
+    if (alive) send(KEYS, new TextEncoder().encode(text));
+    keys.focus();
+  };
+  it("hand").addEventListener("click", () => command(`\x01:wall "${HAND}"\r`));
+  it("next").addEventListener("click", () => command("\x01n"));
 
   // What is new, for screen readers: once a second at most, and at most 1,000 characters then.
   let told = [], timer = 0;
@@ -124,7 +179,7 @@
   const two = (n) => [n >> 8, n & 255];
   const wide = (pixels) => {
     frame.style.setProperty("--letter", pixels + "px");
-    frame.style.setProperty("--h", Math.round(pixels * 1.25) + "px");
+    frame.style.setProperty("--h", Math.floor(pixels * 1.25) + "px");
     const probe = span("0".repeat(50), []);
     page.append(probe);
     const { font } = getComputedStyle(page), w = probe.getBoundingClientRect().width / 50 || pixels * 0.6;
@@ -142,7 +197,7 @@
     if (pixels !== BIG) w = wide(pixels);
     known.clear();
     frame.style.setProperty("--w", w + "px");
-    const rows = clamp(height / Math.round(pixels * 1.25), 4, 200);
+    const rows = clamp(height / Math.floor(pixels * 1.25), 4, 200);
     return [...two(rows), ...two(clamp(Math.max(width / w, COLS), 20, 300))];
   };
   const resize = () => {
@@ -318,24 +373,32 @@
   const WHY = ["You have left.", "You were removed from the session.", "The session is single-user now.",
     "Your client was ended.", "The session has ended.", "This page was too slow, and the session let it go.",
     "", "The session has ended: its trail is full."];
-  // The name and the token of the user, from the login until they leave: so the page comes back by itself after a break
-  // and after a reload.  They are kept for this tab alone.  `alive`: the session let this connection in, and it answers.
-  let user = null, alive = false, heard = 0, beats = false, wait = 0, again = 0;
+  // The name and the token of the user, from the login until they leave: so the page comes back by itself after a
+  // break and after a reload.  They are kept for this tab alone.  `alive`: the session let this connection in.
+  // `secret` is that of a link, and `ends` when a page gives up whose session has ended.
+  let user = null, secret = null, alive = false, heard = 0, wait = 0, again = 0, ends = 0;
   const remember = (name, token) => {
     user = name ? { name, token } : null;
-    if (user) sessionStorage.setItem("mux", JSON.stringify(user));
-    else sessionStorage.removeItem("mux");
+    keep("mux", user);
+    if (!user) forget();
+  };
+  const forget = () => {
+    turn = null;
+    hands = new Set();
+    keep("mux turn", null);
   };
   const clear = () => {
     for (const shown of [page, news]) shown.replaceChildren();
     told = [];
     back = asked = 0;
     past.hidden = true;
-    it("cursor").hidden = true;
+    it("cursor").hidden = turns.hidden = true;
   };
   // The session let the user go: the form is there again.
   const end = (text, isFault) => {
     drop();
+    secret = null;
+    ends = 0;
     clearTimeout(again);
     say(text, isFault);
     clear();
@@ -351,38 +414,45 @@
     frame.classList.add("dead");
     if (old) old.close();
   };
-  // The connection broke.  It is tried again at once, then after 1, 2, 4 seconds; a wall waits for up to a minute.
+  // The connection broke.  The page asks each second whether the bridge is there, and then attaches: a WebSocket that
+  // is opened while the network is dead would wait for too long.  A wall asks less and less often, at last each minute.
   const lose = (text) => {
     drop();
     if (watching) clear();
-    const when = wait ? `Trying again in ${wait} s` : "Trying again";
-    say(`${text.replace(/\.$/, "")}. ${when}${watching ? "" : "; Escape gives up"}.`, true);
+    say(`${text}${/[.?]$/.test(text) ? "" : "."} Trying again${watching ? "" : "; Escape gives up"}.`, true);
     clearTimeout(again);
-    again = setTimeout(attach, wait * 1000);
-    wait = wait ? Math.min(watching ? 60 : 4, 2 * wait) : 1;
+    again = setTimeout(probe, wait * 1000);
+    wait = wait ? Math.min(watching ? 60 : 1, 2 * wait) : 1;
   };
-  const retry = () => {
-    if (!socket && (user || watching)) {
-      wait = 0;
-      clearTimeout(again);
-      attach();
+  const wants = () => !socket && (user || watching || secret);
+  const probe = () => {
+    if (!wants()) return;
+    if (ends && Date.now() > ends) {
+      end(WHY[4], true);
+      return;
     }
+    clearTimeout(again);
+    again = setTimeout(probe, Math.max(1, wait) * 1000);
+    fetch("mux.css", { method: "HEAD", cache: "no-store", signal: AbortSignal.timeout(3000) })
+      .then(({ ok }) => ok && wants() && attach(), () => {});
   };
   const attach = () => {
+    clearTimeout(again);
     login.hidden = true;
     screen.hidden = false;
     why = "No answer: mux-web isn't there, is full, or refuses this address of the page.";
     const mine = new WebSocket(location.origin.replace(/^http/, "ws") + "/rows");
     socket = mine;
     heard = Date.now();
-    beats = true;
     mine.addEventListener("open", () => {
       why = "The connection broke.";
       heard = Date.now();
       const found = fitting();
       size = String(found);
-      const who = watching ? "" : user.token + user.name;
-      send(watching ? WATCH : ATTACH, [...found, ...new TextEncoder().encode(who)]);
+      const bytes = (text) => new TextEncoder().encode(text);
+      if (secret) send(LINK, bytes(secret));
+      else if (watching) send(WATCH, found);
+      else send(ATTACH, [...found, ...bytes(user.token + user.name)]);
       empty();
       keys.focus();
     });
@@ -391,11 +461,14 @@
       const got = JSON.parse(event.data);
       heard = Date.now();
       if (got.welcome) welcome();
+      else if (got.user) redeem(got);
       else if (Array.isArray(got)) show(got);
-      else if (got.here) beats = true;
       else if (got.say !== undefined) why = got.say;
-      else if (got.gone !== undefined && watching) lose(WHY[got.gone] || why);
-      else if (got.gone !== undefined) end(WHY[got.gone] || why, got.gone > 0);
+      else if (got.gone !== undefined && (watching || got.gone === 4)) {
+        // It may begin again at once.
+        if (!watching) ends ||= Date.now() + 60000;
+        lose(WHY[got.gone] || why);
+      } else if (got.gone !== undefined) end(WHY[got.gone] || why, got.gone > 0);
     });
     mine.addEventListener("close", ({ code, reason }) => {
       if (socket !== mine) return;
@@ -410,20 +483,25 @@
   };
   const welcome = () => {
     alive = true;
-    beats = false;
-    wait = 0;
+    wait = ends = 0;
     clear();
     say("");
     frame.classList.remove("dead");
-    document.title = watching ? "mux: wall" : `mux: ${user.name}`;
+    note();
   };
   // The bridge says each few seconds that it is there.  Without a word of it the connection is dead, though the
   // browser doesn't know yet.
   setInterval(() => {
-    if (socket && beats && Date.now() - heard > 9000) lose("No answer from the session.");
+    if (socket && Date.now() - heard > 9000) lose("No answer from the session.");
   }, 500);
-  addEventListener("online", retry);
-  document.addEventListener("visibilitychange", () => document.hidden || retry());
+  addEventListener("online", probe);
+  document.addEventListener("visibilitychange", () => document.hidden || probe());
+  // A link's secret is good for one use: the bridge hands out the user and the token that it stands for.
+  const redeem = ({ user: name, token }) => {
+    secret = null;
+    drop();
+    join(name, token);
+  };
   const join = (name, token) => {
     remember(name, token);
     wait = 0;
@@ -445,7 +523,7 @@
     const isToken = /^[0-9a-f]{64}$/.test(text);
     it("token").value = isToken ? text : "";
     it("name").value = isToken ? file.name.replace(/( \(\d+\))?\.token.*$/, "") : "";
-    it("chosen").textContent = isToken ? "" : `${file.name} has no key: choose the file NAME.token that you were given.`;
+    it("chosen").textContent = isToken ? "" : `${file.name} has no key: choose the file NAME.token that you got.`;
     say("");
     if (isToken && it("name").checkValidity()) login.requestSubmit();
     event.target.value = "";
@@ -461,14 +539,20 @@
   visualViewport.addEventListener("resize", lay);
   document.body.classList.toggle("watching", watching);
   say("");
-  // A link has the name and the token behind its #, which no server sees.  It leaves the address bar and the history.
-  const link = /^#([a-z][a-z0-9_]{0,19})[:=]([0-9a-f]{64})$/.exec(location.hash);
+  // A link has a secret behind its #, or a name and a token, which no server sees.  It leaves the address bar and the
+  // history.
+  const link = /^#(?:([a-z][a-z0-9_]{0,19})[:=])?([0-9a-f]{64})$/.exec(location.hash);
   if (link) history.replaceState(null, "", location.pathname);
-  const kept = JSON.parse(sessionStorage.getItem("mux") || "null");
+  const old = kept("mux"), [last, raised] = kept("mux turn") || [null, []];
+  if (watching || old) [turn, hands] = [last, new Set(raised)];
   if (watching) attach();
   else if (!isSecureContext) say("This page takes no key over plain http: open it by https.", true);
-  else if (link) join(link[1], link[2]);
-  else if (kept) join(kept.name, kept.token);
+  else if (link && link[1]) join(link[1], link[2]);
+  else if (link) {
+    secret = link[2];
+    say("Joining ..");
+    attach();
+  } else if (old) join(old.name, old.token);
   else {
     login.hidden = false;
     it("file").focus();

@@ -93,7 +93,7 @@ class Text:
                 self.lines.append(None)
         self.lines = [line for line in self.lines if line]
         with open(path, encoding="utf-8") as file:
-            text = file.read()
+            self.whole = text = file.read()
         self.pictures = re.findall(r"```text\n(.*?)```\n", text, re.DOTALL)
         self.spans = []
         if name.endswith(".md"):
@@ -514,11 +514,14 @@ def lesson(play, accounts):
     play.run("tess", "mux-user --users ~/class/users add own tess ann bob eve")
     accounts.root("mux-user --users ~tess/class/users give ann bob eve", "it needs other logins")
     text.leave("mux-user replace", "tests/outside/consoles plays it")
+    # The setup is written as the text has it.
+    setup = re.search(r"^    multiuser on\n(?:    .*\n)*", text.whole, re.M)[0].replace("    ", "")
+    on.run("tess", "printf '%%s' '%s' > ~/class/setup; clear" % setup)
     # The block is pasted as a whole: it waits where it has to.
     block = []
     while text.lines[0][0] != "$ mux-attach --socket /srv/class/socket --token ~/class/tess.token":
         block.append(play.real(text.lines.pop(0)[0][2:]))
-    if len(block) != 10 or block[-1] != "muxd-wait --window lesson":
+    if len(block) != 5 or block[-1] != "muxd-wait --window lesson":
         raise Fault("docs/TEACHING.md: the lesson's block is another one")
     before = on.prompts("tess")
     on.type("tess", "\n".join(block) + "\n")
@@ -545,7 +548,7 @@ def lesson(play, accounts):
     turns(play, accounts)
     again(play, block[-2:])
     # A pupil who comes late: the server that runs reads the new token.
-    for line in ("mux-user --users ~/class/users add fay", "mux-command 'aclchg fay -wx #?'",
+    for line in ("mux-user --users users add fay", "mux-command 'aclchg fay -wx #?'",
                  "mux-command 'aclumask fay-wx'", "mux-command 'aclchg fay -wx #'",
                  "mux-command 'aclchg fay +x detach,next,prev,scrollview'"):
         play.run("tess", line)
@@ -566,7 +569,9 @@ def browsers(play, accounts):
     """TEACHING's class in browsers: ann's page has the lesson, and she can't type there."""
     text = play.text
     text.leave("# usermod -aG class www-data && systemctl restart nginx", "it needs nginx; tests/outside/web plays it")
-    play.run("tess", text.lines[0][0][2:])
+    for _ in range(2):
+        play.run("tess", text.lines[0][0][2:])
+    text.leave("$ mux-user --users users --page $ORIGIN link ann", "tests/outside/browser plays it")
     home = os.path.expanduser("~tess") if accounts.real else play.on.home
     with open(os.path.join(home, "class/ann.token"), "rb") as file:
         token = file.read().strip()
@@ -596,7 +601,7 @@ def turns(play, accounts):
     denied("ann")
     text.take("mux-command displays")
     on.run("tess", "mux-command displays", ["0 tess 0  1 ann 0  2 bob 0"])
-    for line, told in (("mux-turn --keep tess --window lesson ann", "ann may type"),
+    for line, told in (("mux-turn --keep tess --title --window lesson ann", "ann may type"),
                        ("mux-command wall 'well done, ann'", "well done, ann")):
         text.take(line)
         on.run("tess", line)
@@ -621,8 +626,8 @@ def turns(play, accounts):
     on.keys("tess", "C-c")
     on.wait("tess", "end of mux-turn", lambda: on.prompts("tess") > before)
     denied("bob")
-    text.take("mux-turn --keep tess none")
-    on.run("tess", "mux-turn --keep tess none; clear")
+    text.take("mux-turn --keep tess --window lesson none")
+    on.run("tess", "mux-turn --keep tess --window lesson none; clear")
     denied("ann")
     on.type("lesson", "echo still tess\n")
     on.shows("ann", r"^(\$ )?still tess")

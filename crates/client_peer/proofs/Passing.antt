@@ -1,13 +1,14 @@
 -- What a client passes on, step after step.
 use Rattle.std.proofs.Common.{◌≡◌, ℕ, List, [], ◌++◌, refl, sym, ap, ◌∙◌, subst, append-nil, append_assoc}
 use Rattle.std.proofs.Common.{Result, Ok, Err, OnErr}
+use Rattle.std.specs.Prelude.{OnOk}
 use Rattle.client_words.specs.declared.words.Way.TheVariants.{Attach}
 use Rattle.draw_check.specs.Functions.{BeginDraws}
 use Rattle.draw_check.specs.Places.{place_after}
-use Rattle.client_peer.specs.declared.standing.Standing.{Standing}
+use Rattle.client_peer.specs.declared.peer.Peer.{Peer}
 use Rattle.client_peer.specs.Showing.{Adds, Keeps, Passed, Read, IfClient, PassesOn, StopsAt}
 
-pub passes_keeps : (old new : Standing) → Keeps old new → PassesOn old new
+pub passes_keeps : (old new : Peer) → Keeps old new → PassesOn old new
 passes_keeps old new k = record {
   way = k.way;
   passes = λ is came begun stands. record {
@@ -20,14 +21,14 @@ passes_keeps old new k = record {
   };
 }
 
-pub passes_stops : (old new : Standing) → PassesOn old new → StopsAt old new
+pub passes_stops : (old new : Peer) → PassesOn old new → StopsAt old new
 passes_stops old new p is came begun stands = (p.passes is came begun stands).passed
 
-pub stops_keeps : (old new : Standing) → Keeps old new → StopsAt old new
+pub stops_keeps : (old new : Peer) → Keeps old new → StopsAt old new
 stops_keeps old new k = passes_stops old new (passes_keeps old new k)
 
 -- the same bytes wait
-pub stops_kept : (old new : Standing) → new.bytes.items ≡ old.bytes.items → StopsAt old new
+pub stops_kept : (old new : Peer) → new.bytes.items ≡ old.bytes.items → StopsAt old new
 stops_kept old new k is came begun stands = record {
   more = [];
   added = k ∙ sym (append-nil old.bytes.items);
@@ -35,13 +36,13 @@ stops_kept old new k is came begun stands = record {
 }
 
 -- not a client
-pub passes_other : (old new : Standing) → new.way ≡ old.way → (old.way ≡ Attach → ⊥) → PassesOn old new
+pub passes_other : (old new : Peer) → new.way ≡ old.way → (old.way ≡ Attach → ⊥) → PassesOn old new
 passes_other old new way other = record { way = way; passes = λ is came begun stands. absurd (other is) }
 
-pub stops_other : (old new : Standing) → (old.way ≡ Attach → ⊥) → StopsAt old new
+pub stops_other : (old new : Peer) → (old.way ≡ Attach → ⊥) → StopsAt old new
 stops_other old new other is came begun stands = absurd (other is)
 
-module _ (old middle new : Standing) (p : PassesOn old middle) where
+module _ (old middle new : Peer) (p : PassesOn old middle) where
   passed_then : (is : old.way ≡ Attach) (came : List ℕ) (begun : BeginDraws came)
       (stands : old.draws ≡ place_after came)
       → Passed middle new (came ++ (p.passes is came begun stands).passed.more) → Passed old new came
@@ -71,21 +72,21 @@ module _ (old middle new : Standing) (p : PassesOn old middle) where
         };
   }
 
-pub keeps_same : (s : Standing) → Keeps s s
+pub keeps_same : (s : Peer) → Keeps s s
 keeps_same s = record { way = refl; draws = refl; kept = refl }
 
-pub passes_same : (s : Standing) → PassesOn s s
+pub passes_same : (s : Peer) → PassesOn s s
 passes_same s = passes_keeps s s (keeps_same s)
 
 -- a text that a client hears adds no bytes
-pub passes_heard : (old new : Standing) → new.way ≡ old.way → (old.way ≡ Attach → Keeps old new) → PassesOn old new
+pub passes_heard : (old new : Peer) → new.way ≡ old.way → (old.way ≡ Attach → Keeps old new) → PassesOn old new
 passes_heard old new way k = record {
   way = way;
   passes = λ is came begun stands. (passes_keeps old new (k is)).passes is came begun stands;
 }
 
 -- the check has read a draw's bytes, and they are added
-pub passes_draw : (old middle new : Standing) (bytes : List ℕ) → middle.way ≡ old.way
+pub passes_draw : (old middle new : Peer) (bytes : List ℕ) → middle.way ≡ old.way
     → middle.bytes.items ≡ old.bytes.items
     → ((came : List ℕ) → old.draws ≡ place_after came → middle.draws ≡ place_after (came ++ bytes))
     → ((came : List ℕ) → old.draws ≡ place_after came → BeginDraws (came ++ bytes))
@@ -105,3 +106,7 @@ passes_draw old middle new bytes way kept read begin a = record {
 pub on_err_given : {T E P : Type 0} (r : Result T E) → P → OnErr r P
 on_err_given (Ok x) p = tt
 on_err_given (Err e) p = p
+
+pub on_ok_given : {T E P : Type 0} (r : Result T E) → P → OnOk r P
+on_ok_given (Ok x) p = p
+on_ok_given (Err e) p = tt

@@ -3,39 +3,39 @@ use Rattle.std.specs.Prelude.{◌≡◌, ℕ, List, ◌++◌}
 use Rattle.client_words.specs.declared.words.Way.TheVariants.{Attach}
 use Rattle.draw_check.specs.Functions.{BeginDraws}
 use Rattle.draw_check.specs.Places.{place_after}
-use Rattle.client_peer.specs.declared.standing.Standing.{Standing}
+use Rattle.client_peer.specs.declared.peer.Peer.{Peer}
 
 -- these bytes were added to those that wait for standard output
-pub record Adds (old new : Standing) (bytes : List ℕ) : Type 0 where
+pub record Adds (old new : Peer) (bytes : List ℕ) : Type 0 where
   pub way : new.way ≡ old.way
   pub draws : new.draws ≡ old.draws
   pub added : new.bytes.items ≡ old.bytes.items ++ bytes
 
-pub record Keeps (old new : Standing) : Type 0 where
+pub record Keeps (old new : Peer) : Type 0 where
   pub way : new.way ≡ old.way
   pub draws : new.draws ≡ old.draws
   pub kept : new.bytes.items ≡ old.bytes.items
 
 -- after `came` more bytes are passed on; all together begin functions that draws use
-pub record Passed (old new : Standing) (came : List ℕ) : Type 0 where
+pub record Passed (old new : Peer) (came : List ℕ) : Type 0 where
   pub more : List ℕ
   pub added : new.bytes.items ≡ old.bytes.items ++ more
   pub begin : BeginDraws (came ++ more)
 
 -- and the check has read them
-pub record Read (old new : Standing) (came : List ℕ) : Type 0 where
+pub record Read (old new : Peer) (came : List ℕ) : Type 0 where
   pub passed : Passed old new came
   pub stands : new.draws ≡ place_after (came ++ passed.more)
 
 -- a client that has passed on `came`, whatever that is
-abbrev pub IfClient : Standing → (List ℕ → Type 0) → Type 0
+abbrev pub IfClient : Peer → (List ℕ → Type 0) → Type 0
 IfClient old P =
     old.way ≡ Attach → (came : List ℕ) → BeginDraws came → old.draws ≡ place_after came → P came
 
-pub record PassesOn (old new : Standing) : Type 0 where
+pub record PassesOn (old new : Peer) : Type 0 where
   pub way : new.way ≡ old.way
   pub passes : IfClient old (Read old new)
 
 -- the same before a fault, after which the peer ends
-abbrev pub StopsAt : Standing → Standing → Type 0
+abbrev pub StopsAt : Peer → Peer → Type 0
 StopsAt old new = IfClient old (Passed old new)

@@ -1,18 +1,16 @@
-//! A peer of a server, for all of its threads: its connection, the frames that go to the server, and
-//! the messages that came from it.
+//! A peer of a server as a state machine: it takes what the server sends, what is typed or printed and
+//! the time, and has frames for the server, bytes for standard output and what is to be done next.
 #![tactic(auto)]
 
-mod host;
-mod opening;
+mod laws;
+mod looking;
+mod notice;
 mod outgoing;
-mod sending;
-mod standing;
-mod starting;
+mod peer;
 mod taking;
+mod typing;
 
-pub use host::{Connects, PeerHost, Sink, Source};
-pub use opening::{Door, prepare, warn_of_token};
-pub use outgoing::{let_out, send_detach};
-pub use sending::start_sources;
-pub use standing::{Intake, Outlet, SharedPeer, Standing};
-pub use starting::start_thread;
+pub use laws::fit_splits_nothing;
+pub use looking::Step;
+pub use outgoing::Batch;
+pub use peer::Peer;

@@ -4,14 +4,14 @@ ghost use Rattle.std.specs.Prelude.{◌≡◌, ◌++◌, OnOk, OnErr};
 ghost use Rattle.client_words.specs.declared.words.Way.TheVariants.{Attach};
 ghost use Rattle.client_peer.specs.Showing.{Keeps, Adds, PassesOn, StopsAt};
 
-use crate::standing::Standing;
-use attach_proto::{Message, ProtoFault, Reader, Told, Why};
+use crate::peer::Peer;
+use attach_proto::{LONGEST, Message, ProtoFault, Reader, Told, Why};
 use client_words::{Fault, Way, put_visible};
 use std::alloc::Global;
 use std::io::Write;
 
-// How many bytes may wait for a window's standard output.
-const MOST_WAITING: usize = 1_048_576;
+// While more bytes than this wait for standard output, the server isn't read.
+const MOST_WAITING: usize = 65_536;
 
 // How a peer ends after the server's GONE.
 fn ended(way: Way, why: Why) -> Result<Why, Fault> {
@@ -22,21 +22,18 @@ fn ended(way: Way, why: Why) -> Result<Why, Fault> {
     }
 }
 
-impl Standing {
+impl Peer {
     fn put(&mut self, bytes: &[u8]) -> Result<(), Fault>
         ensures ok { OnOk result (Adds self.old self.new bytes.now) }
         ensures err { OnErr result (Keeps self.old self.new) }
     {
-        if self.way.is_window() && self.bytes.len().saturating_add(bytes.len()) > MOST_WAITING {
-            return Err(Fault::Gone(Why::TooFarBehind));
-        }
         self.bytes.extend_from_slice(bytes)?;
         Ok(())
     }
 
     // The bytes of a draw for a client's terminal. None is passed on unless all that came consist of
     // the functions that draws use.
-    fn put_draw(&mut self, bytes: &[u8]) -> Result<(), Fault>
+    pub(crate) fn put_draw(&mut self, bytes: &[u8]) -> Result<(), Fault>
         ensures ok { OnOk result (PassesOn self.old self.new) }
         ensures err { OnErr result (StopsAt self.old self.new) }
         ensures added { OnOk result (self.new.bytes.items ≡ self.old.bytes.items ++ bytes.now) }
@@ -47,9 +44,39 @@ impl Standing {
         self.put(bytes)
     }
 
+    // Puts down a draw, unless the terminal shows the help: then a whole draw follows it.
+    fn show(&mut self, bytes: &[u8]) -> Result<(), Fault>
+        ensures ok { OnOk result (PassesOn self.old self.new) }
+        ensures err { OnErr result (StopsAt self.old self.new) }
+    {
+        if self.is_covered {
+            self.pass_over(bytes.len() == LONGEST);
+            return Ok(());
+        }
+        self.note_cut(bytes.len() == LONGEST);
+        self.put_draw(bytes)
+    }
+
+    // Notes whether a draw goes on in the next frame.
+    fn note_cut(&mut self, is_cut: bool)
+        ensures { Keeps self.old self.new }
+    {
+        self.is_cut = is_cut;
+    }
+
+    // Leaves out a draw, or the first part of one.
+    fn pass_over(&mut self, is_cut: bool)
+        ensures { Keeps self.old self.new }
+    {
+        self.is_cut = is_cut;
+        self.is_covered = is_cut || self.is_helping;
+    }
+
     fn put_size(&mut self, rows: u16, columns: u16) -> Result<(), Fault>
         ensures { Keeps self.old self.new }
     {
+        self.rows = rows;
+        self.columns = columns;
         writeln!(self.sizes, "{rows} {columns}")?;
         Ok(())
     }
@@ -74,6 +101,14 @@ impl Standing {
         Ok(())
     }
 
+    // A text after the client was let in puts down no draw.
+    fn hear_more(&mut self, text: &str) -> Result<(), Fault>
+        ensures ok { OnOk result (PassesOn self.old self.new) }
+        ensures err { OnErr result (StopsAt self.old self.new) }
+    {
+        self.hear_later(text)
+    }
+
     // Notes that the peer is let in, and puts down a window's first size.
     fn welcome(&mut self) -> Result<(), Fault>
         ensures { Keeps self.old self.new }
@@ -82,6 +117,9 @@ impl Standing {
             return Ok(());
         }
         self.is_welcome = true;
+        self.was_welcome = true;
+        self.loss = None;
+        self.times.wants_fit = self.fits;
         if self.way.is_window() {
             return self.put_size(self.rows, self.columns);
         }
@@ -95,7 +133,10 @@ impl Standing {
         ensures err { OnErr result (StopsAt self.old self.new) }
     {
         match message {
-            Message::Draw(bytes) if self.way.is_attach() => self.put_draw(bytes.as_slice()),
+            Message::Draw(bytes) if self.way.is_attach() => self.show(bytes.as_slice()),
+            Message::Say(text) if self.way.is_attach() && self.is_welcome => self.hear_more(
+                text.as_str(),
+            ),
             Message::Input(bytes) if self.way.is_window() => self.put(bytes.as_slice()),
             Message::Size { rows, columns } if self.way.is_window() => self.put_size(
                 *rows, *columns,
@@ -160,6 +201,11 @@ impl Standing {
         let mut messages = Vec::new(alloc);
         let fed = reader.feed(bytes, &mut messages);
         self.take_all(alloc, messages.as_slice(), fed)
+    }
+
+    /// Whether so much waits for standard output that the server isn't read.
+    pub fn is_behind(&self) -> bool {
+        self.bytes.len() > MOST_WAITING
     }
 
     /// Sorts the bytes of a read; no bytes mean the stream's end. Returns how the peer ended, if it

@@ -20,6 +20,21 @@ static ATTACH: [&str; 12] = [
     "--cols", "80",
 ];
 
+static ASSISTED: [&str; 14] = [
+    "mux", "attach", "--socket", SOCKET, "--user", "own", "--token", TOKEN, "--rows", "24",
+    "--cols", "80", "--assist", "--fit",
+];
+
+static AGAIN: [&str; 14] = [
+    "mux", "attach", "--socket", SOCKET, "--user", "own", "--token", TOKEN, "--rows", "24",
+    "--cols", "80", "--again", "5",
+];
+
+static STAYING: [&str; 16] = [
+    "mux", "window", "--socket", SOCKET, "--user", "own", "--token", TOKEN, "--rows", "24",
+    "--cols", "80", "--title", "sh", "--stay", "5",
+];
+
 static WINDOW: [&str; 14] = [
     "mux", "window", "--socket", SOCKET, "--user", "own", "--token", TOKEN, "--rows", "24",
     "--cols", "80", "--title", "sh",
@@ -35,7 +50,13 @@ static UNFINISHED: [&str; 4] = ["mux", "command", "--socket", SOCKET];
 #[derive(Clone, Copy)]
 enum Peer {
     Client,
+    /// With keys of its own and --fit.
+    Assisted,
+    /// It comes back, after a server that goes at once.
+    Again,
     Window,
+    /// The same of a window.
+    Staying,
     Command,
 }
 
@@ -53,7 +74,7 @@ struct Talk {
     kept_back: &'static [u8],
 }
 
-static TALKS: [Talk; 9] = [
+static TALKS: [Talk; 13] = [
     // A client: its keys are sent, and a draw is written.
     Talk {
         peer: Peer::Client,
@@ -120,6 +141,50 @@ static TALKS: [Talk; 9] = [
         written: b"",
         kept_back: b"bad",
     },
+    // C-a ? shows the keys, and isn't sent.
+    Talk {
+        peer: Peer::Assisted,
+        typed: b"x\x01?",
+        first: b"y\0\x01\0",
+        awaited: b"K\0\x01x",
+        last: b"d\0\x06hiddeng\0\x01\x04",
+        status: 0,
+        written: b"Any key comes back.",
+        kept_back: b"hidden",
+    },
+    // The window gets the terminal's size.
+    Talk {
+        peer: Peer::Assisted,
+        typed: b"",
+        first: b"y\0\x01\0",
+        awaited: b"K\0\x06\x01:fit\x0d",
+        last: b"g\0\x01\x04",
+        status: 0,
+        written: b"",
+        kept_back: b"",
+    },
+    // A client comes back when its server has gone.
+    Talk {
+        peer: Peer::Again,
+        typed: b"",
+        first: b"y\0\x01\0",
+        awaited: b"A\0G",
+        last: b"d\0\x04backg\0\x01\x04",
+        status: 0,
+        written: b"back",
+        kept_back: b"g\0",
+    },
+    // So does a window.
+    Talk {
+        peer: Peer::Staying,
+        typed: b"",
+        first: b"y\0\x01\0",
+        awaited: b"W\0",
+        last: b"i\0\x05typedg\0\x01\x03",
+        status: 0,
+        written: b"typed",
+        kept_back: b"g\0",
+    },
     // A command: what is said is written, a text a line.
     Talk {
         peer: Peer::Command,
@@ -173,6 +238,10 @@ fn awaits(stream: &mut UnixStream, came: &mut Vec<u8>, bytes: &[u8]) -> io::Resu
 
 // Serves one talk. Returns whether what it waits for came.
 fn serve<R: Stage>(rt: &R, listener: &UnixListener, talk: Talk) -> io::Result<bool> {
+    if matches!(talk.peer, Peer::Again | Peer::Staying) {
+        let (mut stream, _) = listener.accept()?;
+        stream.write_all(talk.first)?;
+    }
     let (mut stream, _) = listener.accept()?;
     let mut came = Vec::new(rt.alloc());
     stream.write_all(talk.first)?;
@@ -186,6 +255,9 @@ fn serve<R: Stage>(rt: &R, listener: &UnixListener, talk: Talk) -> io::Result<bo
 fn call<R: Stage + Threads + Wait>(rt: &R, talk: Talk) -> io::Result<bool> {
     let (status, mut output) = match talk.peer {
         Peer::Client => answer(rt, &ATTACH, talk.typed)?,
+        Peer::Assisted => answer(rt, &ASSISTED, talk.typed)?,
+        Peer::Again => answer(rt, &AGAIN, talk.typed)?,
+        Peer::Staying => answer(rt, &STAYING, talk.typed)?,
         Peer::Window => answer(rt, &WINDOW, talk.typed)?,
         Peer::Command => answer(rt, &COMMAND, talk.typed)?,
     };

@@ -20,6 +20,8 @@ pub enum Fault {
     NoDraw,
     /// The server didn't answer in time.
     NoAnswer,
+    /// Another session is at the socket now.
+    OtherSession,
     Ended,
     Gone(Why),
     NoMemory,
@@ -126,6 +128,10 @@ impl Told<'_> {
                 f,
                 "the server sent what no draw has: {socket}: nothing of it was shown (ask who runs it)"
             ),
+            Fault::OtherSession => write!(
+                f,
+                "another session is at {socket} now: the one before has ended"
+            ),
             Fault::NoAnswer => {
                 let wait = self.words.wait;
                 write!(
@@ -176,6 +182,7 @@ impl fmt::Display for Told<'_> {
             | Fault::NoServerOfOurs
             | Fault::NoDraw
             | Fault::NoAnswer
+            | Fault::OtherSession
             | Fault::Ended => self.server(f),
             Fault::Gone(why) => self.gone(why, f),
             Fault::NoMemory => write!(f, "out of memory: {}", self.words.place()),

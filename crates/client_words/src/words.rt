@@ -70,6 +70,12 @@ pub struct Words<'a> {
     pub why: bool,
     /// The byte of the input by which the user leaves.
     pub leave: Option<u8>,
+    /// Whether a window follows the terminal's size.
+    pub fit: bool,
+    /// Whether the client has keys and texts of its own.
+    pub assist: bool,
+    /// For how many seconds a client or a window tries to come back.
+    pub again: u16,
     /// How many seconds an answer may take; 0 is without limit.
     pub wait: u16,
     pub title: &'a str,
@@ -99,6 +105,12 @@ impl<'a> Words<'a> {
             sizes: matches.get_str("sizes"),
             why: matches.get_flag("why"),
             leave: matches.get_one::<u8>("leave"),
+            fit: matches.get_flag("fit"),
+            assist: matches.get_flag("assist"),
+            again: match way {
+                Way::Window => number(matches, "stay"),
+                _ => number(matches, "again"),
+            },
             wait: number(matches, "wait"),
             title: text(matches, "title"),
             keep: number(matches, "keep"),

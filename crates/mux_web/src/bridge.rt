@@ -4,16 +4,17 @@ use crate::around::{Around, browser_token, door_token, server_token};
 use crate::guest::Guest;
 use crate::halls::Halls;
 use crate::log::Log;
-use crate::seating::{enter_hall, show, tell};
+use crate::seating::{enter_hall, redeem, show, tell};
 use crate::streams::{Browser, Door};
 use mio::{Events, Poll, Registry, Token};
+use server_system::Host;
 use std::alloc::Global;
 use std::io;
 use std::io::ErrorKind;
-use std::net::Net;
 use std::sync::{Arc, Wait};
-use std::time::{Clock, Duration};
+use std::time::Duration;
 use web_client::Site;
+use web_options::WebOptions;
 
 /// The size of a read.
 const CHUNK: usize = 16_384;
@@ -39,6 +40,8 @@ pub struct Bridge<'a> {
     alloc: Global,
     site: Site,
     socket: &'a str,
+    /// The folder of the links, if there are such.
+    links: Option<&'a str>,
     /// How many pages may be there that have said who they are.
     most: usize,
     /// None if it logs nothing.
@@ -58,18 +61,18 @@ impl<'a> Bridge<'a> {
     pub fn new(
         alloc: Global,
         site: Site,
-        socket: &'a str,
-        most: usize,
+        options: WebOptions<'a>,
         log: Option<Arc<Log>>,
     ) -> io::Result<Bridge<'a>> {
         Ok(Bridge {
             alloc,
             site,
-            socket,
-            most,
+            socket: options.socket,
+            links: options.links,
+            most: options.most,
             log,
             guests: Vec::new(alloc),
-            halls: Halls::new(alloc),
+            halls: Halls::new(alloc, options.choice(alloc)?),
             buffer: vec![in alloc; 0; CHUNK]?,
             has_comers: true,
             refused: 0,
@@ -248,7 +251,7 @@ impl Bridge<'_> {
     }
 
     // One turn of a guest. Returns whether something is left to do at once.
-    fn turn_of<R: Net + Wait>(
+    fn turn_of<R: Host + Wait>(
         &mut self,
         rt: &R,
         registry: &Registry,
@@ -267,6 +270,7 @@ impl Bridge<'_> {
         if guest.wants_server() {
             guest.connect(rt, around, server_token(place));
         }
+        redeem(rt, self.links, guest);
         enter_hall(rt, (guest, place), &mut self.halls, around, &self.log);
         guest.read_server(self.buffer.as_mut_slice());
         tell(rt, &self.log, place, guest);
@@ -296,7 +300,7 @@ impl Bridge<'_> {
     }
 
     // One turn of all. Returns whether something is left to do at once.
-    fn turn<R: Net + Wait>(&mut self, rt: &R, registry: &Registry, now: Duration) -> bool {
+    fn turn<R: Host + Wait>(&mut self, rt: &R, registry: &Registry, now: Duration) -> bool {
         let mut is_busy = false;
         self.halls.turn(self.buffer.as_mut_slice());
         let around = Around {
@@ -306,6 +310,7 @@ impl Bridge<'_> {
             now,
         };
         self.halls.renew(rt, around);
+        self.halls.choose(now);
         for place in 0..self.guests.len() {
             self.read(registry, place, now);
             is_busy |= self.turn_of(rt, registry, place, now);
@@ -318,11 +323,7 @@ impl Bridge<'_> {
 }
 
 /// Serves until the system refuses to wait.
-pub fn serve<R: Net + Clock + Wait + AllocGlobal>(
-    rt: &R,
-    bridge: Bridge<'_>,
-    doors: Vec<Door>,
-) -> io::Result<()> {
+pub fn serve<R: Host + Wait>(rt: &R, bridge: Bridge<'_>, doors: Vec<Door>) -> io::Result<()> {
     let mut bridge = bridge;
     let mut doors = doors;
     let mut poll = Poll::new(rt)?;

@@ -15,7 +15,7 @@ const MOST: usize = 8;
 /// How often a connection is read in one turn.
 const READS: usize = 16;
 
-/// A client that sees no window attaches again after this number of seconds.
+/// A client that sees no window attaches again after this number of seconds, and one is sent to the chosen window.
 const PAUSE: u64 = 10;
 
 /// A page that nobody watches is closed after this number of seconds: who comes and goes doesn't use up
@@ -43,6 +43,8 @@ pub struct Hall {
     pub is_lost: bool,
     opened: Duration,
     watched: Duration,
+    /// When it was sent to the chosen window.
+    chosen: Option<Duration>,
 }
 
 impl Hall {
@@ -77,6 +79,18 @@ impl Hall {
         self.is_lost || self.client.display.gone().is_some() || alone >= Duration::from_secs(STAY)
     }
 
+    // Sends its client to the chosen window: at first, and again now and then, since the window may open later.
+    fn choose(&mut self, choice: &str, now: Duration) {
+        let is_due = match self.chosen {
+            Some(chosen) => now.saturating_sub(chosen) >= Duration::from_secs(PAUSE),
+            None => true,
+        };
+        if is_due && self.client.display.is_welcome() {
+            self.chosen = Some(now);
+            self.is_lost |= self.client.press(choice.as_bytes()).is_err();
+        }
+    }
+
     /// Whether its client is to attach again: it sees no window.
     fn is_stuck(&self, now: Duration) -> bool {
         now.saturating_sub(self.opened) >= Duration::from_secs(PAUSE)
@@ -88,6 +102,8 @@ impl Hall {
 #[derive(Drop)]
 pub struct Halls {
     alloc: Global,
+    /// The keys that choose the window to show, if one is chosen.
+    choice: Option<String>,
     list: Vec<Option<Hall>>,
     /// The serial of the next hall.
     next: u64,
@@ -95,9 +111,10 @@ pub struct Halls {
 
 impl Halls {
     /// No page yet.
-    pub fn new(alloc: Global) -> Halls {
+    pub fn new(alloc: Global, choice: Option<String>) -> Halls {
         Halls {
             alloc,
+            choice,
             list: Vec::new(alloc),
             next: 0,
         }
@@ -185,6 +202,7 @@ impl Halls {
             is_lost: false,
             opened: around.now,
             watched: around.now,
+            chosen: None,
         })
     }
 
@@ -237,6 +255,18 @@ impl Halls {
                     hall.watched = watched;
                 }
                 self.replace(place, hall);
+            }
+        }
+    }
+
+    /// Sends their clients to the chosen window.
+    pub fn choose(&mut self, now: Duration) {
+        let Some(choice) = &self.choice else {
+            return;
+        };
+        for slot in self.list.iter_mut() {
+            if let Some(hall) = slot {
+                hall.choose(choice.as_str(), now);
             }
         }
     }

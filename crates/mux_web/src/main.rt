@@ -1,12 +1,13 @@
 //! `mux-web --socket PATH --listen ADDRESS:PORT|PATH [--origin URL].. [--watch NAME --watch-token FILE]
-//! [--most N] [--page FOLDER] [--log]`: lets people join a session that `muxd` serves from their
-//! browsers.
+//! [--window W] [--links FOLDER] [--most N] [--page FOLDER] [--log]`: lets people join a session that `muxd` serves
+//! from their browsers.
 #![tactic(auto)]
 
 mod around;
 mod bridge;
 mod guest;
 mod halls;
+mod links;
 mod log;
 mod seating;
 mod serving;

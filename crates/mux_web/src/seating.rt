@@ -3,10 +3,17 @@
 use crate::around::Around;
 use crate::guest::Guest;
 use crate::halls::Halls;
+use crate::links::take_link;
 use crate::log::Log;
+use std::alloc::AllocGlobal;
+use std::fs::{File, Files};
 use std::net::Net;
 use std::sync::{Arc, Wait};
+use std::time::Clock;
 use web_client::Seat;
+
+/// What a page is told whose link stands for nothing.
+const USED: &str = "this link was used, or is too old: ask for a new one";
 
 /// Logs who is there, once the server has let them in: a name, and no token.
 pub fn tell<R: Wait>(rt: &R, log: &Option<Arc<Log>>, place: usize, guest: &mut Guest) {
@@ -46,6 +53,28 @@ pub fn enter_hall<R: Net + Wait>(
         guest.visitor.change_page();
         guest.hall = found;
     }
+}
+
+/// Gives a page that shows a link the user and the token that it stands for.
+pub fn redeem<R>(rt: &R, links: Option<&str>, guest: &mut Guest)
+where
+    R: Files<File = File> + Clock + AllocGlobal,
+{
+    let Seat::Link(secret) = &guest.visitor.seat else {
+        return;
+    };
+    if !guest.visitor.is_open() {
+        return;
+    }
+    let found = match links {
+        Some(folder) => take_link(rt, folder, secret),
+        None => None,
+    };
+    let told = match &found {
+        Some(it) => guest.visitor.hand(it.name.as_str(), it.token.as_str()),
+        None => guest.visitor.refuse(USED),
+    };
+    guest.is_over |= told.is_err();
 }
 
 /// Shows a guest the page of its own client, or of its hall.

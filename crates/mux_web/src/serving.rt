@@ -16,6 +16,29 @@ use web_options::{Listen, WebFault, WebOptions, origins_of, site_of};
 /// The system's number for a kind of addresses that it doesn't have.
 const EAFNOSUPPORT: i32 = 97;
 
+// Warns of a socket and of a folder that aren't there yet, and refuses what can't be a socket.
+fn look_for_paths<R: Host + Eprint>(rt: &R, options: WebOptions<'_>) -> Result<(), WebFault> {
+    let path = options.socket;
+    match fs::metadata(rt, path) {
+        Ok(found) if found.is_file() || found.is_dir() => {
+            return Err(WebFault::NoSocket(String::from_str(rt.alloc(), path)?));
+        }
+        Err(error) if error.kind() == ErrorKind::NotFound => {
+            let _ = eprintln!(rt; "mux-web: no server yet: {path}: start muxd with this --socket");
+        }
+        _ => {}
+    }
+    match options.links {
+        Some(folder) if !fs::exists(rt, folder).unwrap_or(true) => {
+            let _ = eprintln!(rt;
+                "mux-web: no folder of links yet: {folder}: mux-user link makes it"
+            );
+        }
+        _ => {}
+    }
+    Ok(())
+}
+
 // Serves browsers that come in through these doors.
 fn serve_at<R: Host + Threads + Wait + Eprint, O: Write>(
     rt: &R,
@@ -24,16 +47,13 @@ fn serve_at<R: Host + Threads + Wait + Eprint, O: Write>(
     doors: Vec<Door>,
     output: &mut O,
 ) -> Result<(), WebFault> {
-    if !fs::exists(rt, options.socket).unwrap_or(true) {
-        let path = options.socket;
-        let _ = eprintln!(rt; "mux-web: no server yet: {path}: start muxd with this --socket");
-    }
+    look_for_paths(rt, options)?;
     let log = if options.tells {
         Some(start_log(rt, rt.alloc())?)
     } else {
         None
     };
-    let bridge = Bridge::new(rt.alloc(), site, options.socket, options.most, log)?;
+    let bridge = Bridge::new(rt.alloc(), site, options, log)?;
     writeln!(output, "mux-web: ready")?;
     output.flush()?;
     Ok(serve(rt, bridge, doors)?)

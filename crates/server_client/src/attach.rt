@@ -1,44 +1,51 @@
 //! Runs `mux`: a client, a window, a command, or a question whether the server answers.
 
-use crate::ending::{PeerEnding, tell_end, tell_fault, tell_unseen, wait_for_answer, wait_for_end};
-use crate::leaving::wait_or_leave;
-use crate::showing::show;
-use client_peer::{Door, PeerHost, SharedPeer, Sink, Source, prepare, start_thread, warn_of_token};
-use client_words::{Fault, Way, Words, words_of};
-use std::alloc::Global;
+use crate::ending::{PeerEnding, tell_end, tell_fault, tell_unseen};
+use crate::host::{PeerHost, Sink, Source};
+use crate::opening::{prepare, warn_of_token};
+use crate::shared::{Shared, start_thread};
+use crate::typing::{resize, type_out};
+use crate::waiting::{start, wait};
+use crate::writing::write_out;
+use client_words::{Fault, Words, words_of};
+use std::alloc::{AllocError, Global};
 use std::fs::{File, Files};
 use std::io::Write;
 use std::sync::{Arc, Wait};
 use std::thread::Threads;
 
-// Waits for a peer's end.
-fn wait<R: PeerHost + Threads + Wait, I: Source, O: Sink>(
-    rt: &R,
-    shared: &Arc<SharedPeer<I, O>, Global>,
-    words: &Words<'_>,
-) -> PeerEnding {
-    match words.way {
-        Way::Attach if shared.can_leave => wait_or_leave(rt, shared),
-        Way::Command | Way::Ping if words.wait > 0 => wait_for_answer(rt, shared, words.wait),
-        _ => wait_for_end(rt, shared),
+/// The files to read once the server has let the peer in, or has taken long to do so.
+#[derive(Drop)]
+pub struct Sources<I> {
+    pub input: Option<I>,
+    /// The file from which a client's sizes are read.
+    pub asked: Option<File>,
+}
+
+impl<I: Source> Sources<I> {
+    /// Starts the threads that read them.
+    pub fn start<R: PeerHost + Threads + Wait>(
+        &mut self,
+        rt: &R,
+        shared: &Arc<Shared, Global>,
+    ) -> Result<(), AllocError> {
+        if let Some(mut file) = self.asked.take() {
+            start_thread(rt, shared, move |rt, shared| {
+                let _ = resize(rt, shared, &mut file);
+            })?;
+        }
+        if let Some(mut input) = self.input.take() {
+            start_thread(
+                rt,
+                shared,
+                move |rt, shared| type_out(rt, shared, &mut input),
+            )?;
+        }
+        Ok(())
     }
 }
 
-// Starts the threads of a peer, and waits for its end. One connects, reads the socket and writes; a
-// window's second one reads and writes only while a write of the first takes long.
-fn join<R: PeerHost + Threads + Wait, I: Source, O: Sink>(
-    rt: &R,
-    shared: &Arc<SharedPeer<I, O>, Global>,
-    door: Door,
-    words: &Words<'_>,
-) -> Result<PeerEnding, Fault> {
-    start_thread(rt, shared, move |rt, shared| show(rt, shared, Some(door)))?;
-    if shared.way.is_window() {
-        start_thread(rt, shared, |rt, shared| show(rt, shared, None))?;
-    }
-    Ok(wait(rt, shared, words))
-}
-
+// Runs a peer to its end. A thread writes, one reads each connection, and one reads standard input.
 fn run<R: PeerHost + Threads + Wait + Files<File = File> + AllocGlobal, I: Source, O: Sink>(
     rt: &R,
     words: &Words<'_>,
@@ -48,10 +55,19 @@ fn run<R: PeerHost + Threads + Wait + Files<File = File> + AllocGlobal, I: Sourc
     let alloc = rt.alloc();
     let mut kept = Vec::new(alloc);
     let (door, files) = prepare(rt, words, &mut kept)?;
-    match Arc::new(alloc, SharedPeer::new(alloc, words, files, input, output)) {
-        Ok(shared) => join(rt, &shared, door, words),
-        Err(fault) => Err(Fault::from(fault)),
-    }
+    let shared = Arc::new(alloc, Shared::new(alloc, words))?;
+    let (mut output, mut told) = (output, files.told);
+    start_thread(
+        rt,
+        &shared,
+        move |rt, shared| write_out(rt, shared, &mut output, &mut told),
+    )?;
+    start(rt, &shared, door)?;
+    let sources = Sources {
+        input: Some(input),
+        asked: files.asked,
+    };
+    Ok(wait(rt, &shared, words, sources))
 }
 
 /// Runs `mux`. The first word is the program's name. Returns the exit status: 0, 1 for a fault, 2 for

@@ -1,15 +1,10 @@
 //! The end of a peer, and the messages about it.
 
 use attach_proto::Why;
-use client_peer::{PeerHost, SharedPeer, Standing};
+use client_peer::Peer;
 use client_words::{Fault, Told, Words, explain, gone, put_visible};
 use std::alloc::Global;
 use std::io::Write;
-use std::sync::Wait;
-use std::time::Duration;
-
-// How long a window's end waits for its standard output, in milliseconds.
-const LAST_WRITING: u64 = 500;
 
 /// How a peer ended.
 #[derive(Drop)]
@@ -23,48 +18,17 @@ pub struct PeerEnding {
     pub was_welcome: bool,
 }
 
-// Whether a window's program still has bytes to read.
-fn is_awaited(standing: &Standing) -> bool {
-    standing.way.is_window() && (standing.is_writing || !standing.bytes.is_empty())
-}
-
-/// Takes how the peer ended; the session's last text is given once.
-pub fn take_ending(standing: &mut Standing) -> PeerEnding {
-    PeerEnding {
-        end: standing.ending(),
-        said: standing.said.take(),
-        has_dropped: standing.has_dropped,
-        has_left: false,
-        was_welcome: standing.is_welcome,
+impl PeerEnding {
+    /// Takes how the peer ended; the session's last text is given once.
+    pub fn take(peer: &mut Peer) -> PeerEnding {
+        PeerEnding {
+            end: peer.ending(),
+            said: peer.said.take(),
+            has_dropped: peer.has_dropped,
+            has_left: peer.has_left(),
+            was_welcome: peer.was_welcome,
+        }
     }
-}
-
-/// Waits for the peer's end, and then at most half a second until a window's program has read its
-/// bytes.
-pub fn wait_for_end<R: PeerHost + Wait, I, O>(rt: &R, shared: &SharedPeer<I, O>) -> PeerEnding {
-    let news = &shared.news;
-    let standing = news.wait_while(rt, shared.standing.lock(rt), |s| s.end.is_none());
-    let most = Duration::from_millis(LAST_WRITING);
-    let (mut standing, _) = news.wait_timeout_while(rt, standing, most, |s| is_awaited(s));
-    take_ending(&mut standing)
-}
-
-/// Waits for an answer, at most `seconds`, and then for the end that comes with it.
-pub fn wait_for_answer<R: PeerHost + Wait, I, O>(
-    rt: &R,
-    shared: &SharedPeer<I, O>,
-    seconds: u16,
-) -> PeerEnding {
-    let most = Duration::from_secs(u64::from(seconds));
-    let standing = shared.standing.lock(rt);
-    let (mut standing, waited) = shared
-        .news
-        .wait_timeout_while(rt, standing, most, |s| { s.end.is_none() && !s.is_over });
-    if waited.timed_out() {
-        standing.end_by(Err(Fault::NoAnswer));
-    }
-    drop(standing);
-    wait_for_end(rt, shared)
 }
 
 // Prints the session's text, and what a number in it means.

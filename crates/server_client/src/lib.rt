@@ -3,9 +3,13 @@
 
 mod attach;
 mod ending;
-mod leaving;
-mod showing;
-mod watching;
+mod host;
+mod opening;
+mod reading;
+mod shared;
+mod typing;
+mod waiting;
+mod writing;
 
 pub use attach::client;
-pub use client_peer::Connects;
+pub use host::Connects;

@@ -1,12 +1,12 @@
 -- Frames that messages add, one message after another.
-use Rattle.std.proofs.Common.{◌≡◌, ℕ, List, [], ◌∷◌, ◌++◌, Result, Ok, Err, OnOk, OnErr}
+use Rattle.std.proofs.Common.{◌≡◌, ℕ, List, [], ◌∷◌, ◌++◌, Result, Ok, Err, IfOk, OnOk, OnErr}
 use Rattle.std.proofs.Common.{inl, inr, sym, ap, ◌∙◌, subst, append_assoc, append-nil}
 use Rattle.std.proofs.lemmas.Grind.{flat_map-append}
 use Rattle.std.specs.List.{flat_map, AllByRecursion}
 use Rattle.attach_proto.specs.declared.message.Message.{Message}
 use Rattle.attach_proto.specs.Spelling.{spelling}
 use Rattle.web_client.specs.declared.seat.Seat.{Seat}
-use Rattle.web_client.specs.declared.seat.Seat.TheVariants.{Nobody, Own, Watching, Unknown, Left}
+use Rattle.web_client.specs.declared.seat.Seat.TheVariants.{Nobody, Own, Watching, Link, Unknown, Left}
 use Rattle.web_client.specs.Asking.{IsAskable, AddsFrames}
 use Rattle.web_client.specs.Asking.{IsApart, Asks, IsAttached, IsShared, Begins, Watches, Takes, Keeps}
 
@@ -35,6 +35,7 @@ later : (b c : Seat) → IsApart b → Asks b c → IsApart c
 later Nobody c h k = absurd h
 later (Own b) c h k = absurd h
 later (Watching rows columns) c h k = k
+later (Link secret) c h k = k
 later Unknown c h k = k
 later Left c h k = k
 
@@ -43,6 +44,7 @@ pub nothing : (s : Seat) → Asks s s
 nothing Nobody = tt
 nothing (Own c) = none c.outgoing
 nothing (Watching rows columns) = tt
+nothing (Link secret) = tt
 nothing Unknown = tt
 nothing Left = tt
 
@@ -50,6 +52,7 @@ shared : (payload : List ℕ) (s : Seat) → IsShared payload s → IsApart s
 shared payload Nobody h = h
 shared payload (Own c) h = h
 shared payload (Watching rows columns) h = tt
+shared payload (Link secret) h = tt
 shared payload Unknown h = tt
 shared payload Left h = tt
 
@@ -57,6 +60,7 @@ attached : (payload : List ℕ) (s : Seat) → IsAttached payload s → Asks Nob
 attached payload Nobody h = tt
 attached payload (Own c) h = one _ [] c.outgoing (inl tt) h.asked
 attached payload (Watching rows columns) h = tt
+attached payload (Link secret) h = tt
 attached payload Unknown h = tt
 attached payload Left h = tt
 
@@ -64,12 +68,25 @@ apart : (s : Seat) → IsApart s → Asks Nobody s
 apart Nobody h = tt
 apart (Own c) h = absurd h
 apart (Watching rows columns) h = tt
+apart (Link secret) h = tt
 apart Unknown h = tt
 apart Left h = tt
 
+-- a browser that shows a link begins
+pub linked : {E : Type 0} (r : Result Seat E) (message payload : List ℕ) → message ≡ 0x4C ∷ payload
+    → IfOk r (λ (s : Seat). s ≡ Link payload) → IfOk r (Begins message)
+linked (Ok s) message payload e h = (payload, inr (inr (e, h)))
+linked (Err x) message payload e h = tt
+
 begun : (message : List ℕ) (s : Seat) → Begins message s → Asks Nobody s
 begun message s h =
-    elim h.1 [ inl a ↦ attached h.0 s a.1 | inr b ↦ apart s (shared h.0 s b.1) ]
+    elim h.1 [
+      | inl a ↦ attached h.0 s a.1
+      | inr c ↦ elim c [
+        | inl b ↦ apart s (shared h.0 s b.1)
+        | inr b ↦ subst (λ (v : Seat). Asks Nobody v) (sym b.1) tt
+      ]
+    ]
 
 watched : (message : List ℕ) (s : Seat) → Watches message s → IsApart s
 watched message s h =
@@ -82,9 +99,11 @@ taken (Own before) message Nobody h = h
 taken (Own before) message (Own c) h =
     one h.frame before.outgoing c.outgoing (inr (message, h.asked)) h.added
 taken (Own before) message (Watching rows columns) h = h
+taken (Own before) message (Link secret) h = h
 taken (Own before) message Unknown h = h
 taken (Own before) message Left h = h
 taken (Watching rows columns) message after h = watched message after h
+taken (Link secret) message after h = absurd h
 taken Unknown message after h = absurd h
 taken Left message after h = absurd h
 
@@ -95,9 +114,11 @@ kept (Own before) Nobody h = h
 kept (Own before) (Own c) h =
     subst (λ (l : List ℕ). AddsFrames before.outgoing l) (sym h) (none before.outgoing)
 kept (Own before) (Watching rows columns) h = h
+kept (Own before) (Link secret) h = h
 kept (Own before) Unknown h = h
 kept (Own before) Left h = h
 kept (Watching rows columns) after h = subst (λ (v : Seat). IsApart v) (sym h) tt
+kept (Link secret) after h = subst (λ (v : Seat). IsApart v) (sym h) tt
 kept Unknown after h = subst (λ (v : Seat). IsApart v) (sym h) tt
 kept Left after h = subst (λ (v : Seat). IsApart v) (sym h) tt
 
@@ -107,21 +128,26 @@ more Nobody Nobody c h k = k
 more Nobody (Own b) Nobody h k = tt
 more Nobody (Own b) (Own c) h k = both [] b.outgoing c.outgoing h k
 more Nobody (Own b) (Watching rows columns) h k = tt
+more Nobody (Own b) (Link secret) h k = tt
 more Nobody (Own b) Unknown h k = tt
 more Nobody (Own b) Left h k = tt
 more Nobody (Watching rows columns) c h k = apart c k
+more Nobody (Link secret) c h k = apart c k
 more Nobody Unknown c h k = apart c k
 more Nobody Left c h k = apart c k
 more (Own a) Nobody c h k = absurd h
 more (Own a) (Own b) Nobody h k = k
 more (Own a) (Own b) (Own c) h k = both a.outgoing b.outgoing c.outgoing h k
 more (Own a) (Own b) (Watching rows columns) h k = k
+more (Own a) (Own b) (Link secret) h k = k
 more (Own a) (Own b) Unknown h k = k
 more (Own a) (Own b) Left h k = k
 more (Own a) (Watching rows columns) c h k = absurd h
+more (Own a) (Link secret) c h k = absurd h
 more (Own a) Unknown c h k = absurd h
 more (Own a) Left c h k = absurd h
 more (Watching rows columns) b c h k = later b c h k
+more (Link secret) b c h k = later b c h k
 more Unknown b c h k = later b c h k
 more Left b c h k = later b c h k
 

@@ -1,6 +1,7 @@
 -- Bytes that are added for a browser.
 use Rattle.std.proofs.Common.{◌≡◌, ℕ, List, [], ◌++◌, Option, None, Some, Result, Ok, Err, OnOk, OnErr, sym, ap, ◌∙◌}
-use Rattle.std.proofs.Common.{append_assoc, append-nil}
+use Rattle.std.proofs.Common.{append_assoc, append-nil, inl, inr, length}
+use Rattle.std.specs.Int.{w64, to_be_bytes}
 use Rattle.terminal_model.specs.Reading.{Terminal}
 use Rattle.emulator.specs.Standing.{StandsFor}
 use Rattle.web_page.specs.Laying.{Shown, page_of}
@@ -8,11 +9,17 @@ use Rattle.websocket.specs.declared.error.Error.{Error}
 use Rattle.websocket.specs.declared.protocol.config.Role.{Role}
 use Rattle.websocket.specs.declared.protocol.frame.coding.OpCode.TheVariants as code
 use Rattle.websocket.specs.declared.protocol.frame.coding.Data.TheVariants.{Text}
+use Rattle.websocket.specs.declared.protocol.frame.coding.Control.TheVariants.{Ping}
 use Rattle.websocket.specs.Connection.{Connection, Effect, Outgoing, Sends}
 use Rattle.websocket.specs.View.{Leaves}
 use Rattle.web_client.specs.declared.wire.Wire.{Wire}
 use Rattle.web_page.specs.Hearing.{Display}
-use Rattle.web_client.specs.Rows.{SendsText, Adds, IsAsFar, SendsPage, Shows}
+use Rattle.web_page.specs.Updates.{spelled}
+use Rattle.attach_proto.specs.declared.told.Told.{Told}
+use Rattle.attach_proto.specs.declared.why.Why.{Why}
+use Rattle.std.proofs.Common.{subst}
+use Rattle.web_client.specs.Rows.{SendsText, Asks, Adds, IsAsFar, SendsPage, Shows, counted}
+use Rattle.web_client.specs.Rows.{MayTell, MaySendRows, Explains, Ends, TellsLast, SendsAll, gone, welcomed}
 
 -- what a reply adds
 pub adds : (role : Role) (reply : Option Outgoing) (old new : List ℕ) → Sends role reply old new
@@ -54,3 +61,42 @@ pub shows : {A E : Type 0} (result : Result A E) (old : Display) (since : ℕ) (
 shows (Ok x) old since before v w new later after h k f = λ t b s a.
     let sent = f t b s a in (v, w, h, sent.0, k, sent.1, sent.2)
 shows (Err e) old since before v w new later after h k f = tt
+
+pub then_adds : {A E : Type 0} (r : Result A E) (a b c : Wire) → Adds a b → OnOk r (Adds b c) → OnOk r (Adds a c)
+then_adds (Ok u) a b c h k = both_add a b c h k
+then_adds (Err e) a b c h k = tt
+
+asks_add : (n : ℕ) (old new : Wire) → Asks (counted n old) new → Adds old new
+asks_add n old new h =
+    adds old.context.role
+    (Some (record { opcode = code.Control Ping; payload = to_be_bytes w64 (counted n old).sent })) old.output.items
+    new.output.items h.frame
+
+pub rows_add : (old new : Wire) → MaySendRows old new → Adds old new
+rows_add old new h =
+    elim h [
+      | inl e ↦ same_adds old new e
+      | inr s ↦ both_add old s.1 new (text_adds (spelled s.0) old s.1 s.2) (asks_add (length (spelled s.0)) s.1 new s.3)
+    ]
+
+-- that it is let in, rows, and the end, one after another
+pub then_all : {A E : Type 0} (r : Result A E) (told : Told) (old v w new : Wire) → MayTell welcomed old v
+    → MaySendRows v w → OnOk r (Ends told.refusal told.gone w new) → OnOk r (SendsAll told old new)
+then_all (Ok u) told old v w new h k e = (v, w, h, k, e)
+then_all (Err u) told old v w new h k e = tt
+
+pub ends : {A E : Type 0} (r : Result A E) (refusal : Option (List ℕ)) (told : Option Why) (why : Why)
+    (old v new : Wire) → told ≡ Some why → Explains refusal old v → OnOk r (TellsLast (gone why) v new)
+    → OnOk r (Ends refusal told old new)
+ends (Ok u) refusal told why old v new e h k =
+    subst (λ (g : Option Why). Ends refusal g old new) (sym e) (v, h, k)
+ends (Err u) refusal told why old v new e h k = tt
+
+-- a text of five pieces
+pub five : (a b c d e v w x y z : List ℕ) → v ≡ a → w ≡ v ++ b → x ≡ w ++ c → y ≡ x ++ d → z ≡ y ++ e
+    → z ≡ a ++ b ++ c ++ d ++ e
+five a b c d e v w x y z p q r s t =
+    let two : w ≡ a ++ b = q ∙ ap (λ (l : List ℕ). l ++ b) p in
+    let three : x ≡ a ++ b ++ c = r ∙ ap (λ (l : List ℕ). l ++ c) two in
+    let four : y ≡ a ++ b ++ c ++ d = s ∙ ap (λ (l : List ℕ). l ++ d) three in
+    t ∙ ap (λ (l : List ℕ). l ++ e) four

@@ -8,7 +8,7 @@ use Rattle.attach_proto.specs.declared.message.Message.TheVariants.{Attach, Keys
 use Rattle.attach_proto.specs.Spelling.{spelling}
 use Rattle.web_client.specs.declared.client.Client.{Client}
 use Rattle.web_client.specs.declared.seat.Seat.{Seat}
-use Rattle.web_client.specs.declared.seat.Seat.TheVariants.{Nobody, Own, Watching, Unknown, Left}
+use Rattle.web_client.specs.declared.seat.Seat.TheVariants.{Nobody, Own, Watching, Link, Unknown, Left}
 use Rattle.web_page.specs.Hearing.{Display, IsBlank, IsResized}
 
 -- ---- messages
@@ -48,6 +48,11 @@ abbrev pub IsOwn : Seat → (Client → Type 0) → Type 0
 IsOwn (Own c) P = P c
 IsOwn _ P = ⊥
 
+-- a browser that watches a page that others watch too
+abbrev pub IsWatcher : Seat → Type 0
+IsWatcher (Watching rows columns) = Unit {0}
+IsWatcher _ = ⊥
+
 -- a fact of a seat's own client, if it has one
 abbrev pub IfOwn : Seat → (Client → Type 0) → Type 0
 IfOwn (Own c) P = P c
@@ -80,7 +85,8 @@ abbrev pub Begins : List ℕ → Seat → Type 0
 Begins message after =
     (payload : List ℕ)
     × (((message ≡ 0x41 ∷ payload) × IsAttached payload after)
-    ⊎ ((message ≡ 0x56 ∷ payload) × IsShared payload after))
+    ⊎ ((message ≡ 0x56 ∷ payload) × IsShared payload after)
+    ⊎ ((message ≡ 0x4C ∷ payload) × (after ≡ Link payload)))
 
 -- a message of a browser that watches: another size, or the end
 abbrev pub Watches : List ℕ → Seat → Type 0
@@ -93,6 +99,7 @@ abbrev pub Takes : Seat → List ℕ → Seat → Type 0
 Takes Nobody message after = Begins message after
 Takes (Own before) message after = IsOwn after (Passes message before)
 Takes (Watching rows columns) message after = Watches message after
+Takes (Link secret) message after = ⊥
 Takes Unknown message after = ⊥
 Takes Left message after = ⊥
 
@@ -101,6 +108,7 @@ abbrev pub Keeps : Seat → Seat → Type 0
 Keeps Nobody after = after ≡ Nobody
 Keeps (Own before) after = IsOwn after (λ c. c.outgoing ≡ before.outgoing)
 Keeps (Watching rows columns) after = after ≡ Watching rows columns
+Keeps (Link secret) after = after ≡ Link secret
 Keeps Unknown after = after ≡ Unknown
 Keeps Left after = after ≡ Left
 
@@ -123,6 +131,7 @@ abbrev pub IsApart : Seat → Type 0
 IsApart Nobody = ⊥
 IsApart (Own c) = ⊥
 IsApart (Watching rows columns) = Unit {0}
+IsApart (Link secret) = Unit {0}
 IsApart Unknown = Unit {0}
 IsApart Left = Unit {0}
 
@@ -131,5 +140,6 @@ abbrev pub Asks : Seat → Seat → Type 0
 Asks Nobody after = IfOwn after (λ c. AddsFrames [] c.outgoing)
 Asks (Own before) after = IsOwn after (λ c. AddsFrames before.outgoing c.outgoing)
 Asks (Watching rows columns) after = IsApart after
+Asks (Link secret) after = IsApart after
 Asks Unknown after = IsApart after
 Asks Left after = IsApart after

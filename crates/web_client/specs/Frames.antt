@@ -9,7 +9,7 @@ use Rattle.websocket.specs.declared.protocol.state.WebSocketState.TheVariants.{A
 use Rattle.websocket.specs.Content.{Content, text, binary, ping, pong, close}
 use Rattle.websocket.specs.Connection.{Connection, Effect, read_step, StartsWithFragment, ReadAsksReply}
 use Rattle.web_client.specs.declared.seat.Seat.{Seat}
-use Rattle.web_client.specs.declared.seat.Seat.TheVariants.{Nobody, Own, Watching, Unknown, Left}
+use Rattle.web_client.specs.declared.seat.Seat.TheVariants.{Nobody, Own, Watching, Link, Unknown, Left}
 use Rattle.web_client.specs.declared.wire.Wire.{Wire}
 use Rattle.web_client.specs.declared.wire.Stage.{Stage}
 use Rattle.web_client.specs.declared.wire.Stage.TheVariants.{Request, Socket, Last}
@@ -133,6 +133,7 @@ abbrev pub IsOut : Seat → Type 0
 IsOut Nobody = ⊥
 IsOut (Own c) = ⊥
 IsOut (Watching rows columns) = ⊥
+IsOut (Link secret) = ⊥
 IsOut Unknown = Unit {0}
 IsOut Left = Unit {0}
 

@@ -8,7 +8,7 @@ use Rattle.web_client.specs.declared.wire.End.TheVariants as end
 use Rattle.web_page.specs.declared.fault.ClientFault.{ClientFault}
 use Rattle.web_page.specs.declared.fault.ClientFault.TheVariants as client
 use Rattle.web_client.specs.declared.seat.Seat.{Seat}
-use Rattle.web_client.specs.declared.seat.Seat.TheVariants.{Nobody, Own, Watching, Unknown, Left}
+use Rattle.web_client.specs.declared.seat.Seat.TheVariants.{Nobody, Own, Watching, Link, Unknown, Left}
 use Rattle.web_client.specs.declared.seat.SeatFault.{SeatFault}
 use Rattle.web_client.specs.declared.seat.SeatFault.TheVariants.{Wrong, NoMemory}
 
@@ -38,9 +38,10 @@ abbrev pub IsPublic : {A : Type 0} → Option A → Type 0
 IsPublic None = ⊥
 IsPublic (Some watcher) = Unit {0}
 
--- ATTACH, and where anybody may watch WATCH
+-- ATTACH, the secret of a link, and WATCH if anybody may watch
 abbrev pub IsFirst : {A : Type 0} → Option A → List ℕ → Type 0
-IsFirst watcher message = Has 0x41 IsAttach message ⊎ (IsPublic watcher × Has 0x56 IsSize message)
+IsFirst watcher message =
+    Has 0x41 IsAttach message ⊎ (IsPublic watcher × Has 0x56 IsSize message) ⊎ Has 0x4C IsToken message
 
 -- KEYS, RESIZE, DETACH
 abbrev pub IsAsking : List ℕ → Type 0
@@ -50,12 +51,13 @@ IsAsking message = Has 0x4B IsTyped message ⊎ Has 0x52 IsSize message ⊎ (mes
 abbrev pub IsWatching : {A : Type 0} → Option A → List ℕ → Type 0
 IsWatching watcher message = (IsPublic watcher × Has 0x52 IsSize message) ⊎ (message ≡ 0x44 ∷ [])
 
--- A browser attaches or watches first, and once. One that gave a name that no user can have, or has left,
--- sends nothing more.
+-- A browser attaches, watches or shows a link first, and once. One that showed a link, gave a name that no user can
+-- have, or has left, sends nothing more.
 abbrev pub IsAllowed : {A : Type 0} → Option A → Seat → List ℕ → Type 0
 IsAllowed watcher Nobody message = IsFirst watcher message
 IsAllowed watcher (Own c) message = IsAsking message
 IsAllowed watcher (Watching rows columns) message = IsWatching watcher message
+IsAllowed watcher (Link secret) message = ⊥
 IsAllowed watcher Unknown message = ⊥
 IsAllowed watcher Left message = ⊥
 

@@ -1,5 +1,7 @@
 -- The texts and the rows that a browser is sent.
-use Rattle.std.specs.Prelude.{◌≡◌, ◌⊎◌, ℕ, ◌+◌, ◌-◌, ◌^◌, ◌≤◌, min, true, List, [], ◌++◌, length, Some, IsSome}
+use Rattle.std.specs.Prelude.{◌≡◌, ◌⊎◌, ℕ, ◌+◌, ◌-◌, ◌^◌, ◌≤◌, min, true, List, [], ◌++◌, length, codes}
+use Rattle.std.specs.Prelude.{Option, Some, None, IsSome, decimal}
+use Rattle.std.specs.Str.{chars}
 use Rattle.std.specs.Int.{w64, to_be_bytes}
 use Rattle.websocket.specs.declared.protocol.frame.coding.OpCode.TheVariants as code
 use Rattle.websocket.specs.declared.protocol.frame.coding.Data.TheVariants.{Text}
@@ -12,6 +14,10 @@ use Rattle.web_page.specs.Laying.{Shown, laid, page_of}
 use Rattle.web_page.specs.Showing.{Sheet, IsShown}
 use Rattle.web_client.specs.declared.wire.Wire.{Wire}
 use Rattle.web_page.specs.Hearing.{Display}
+use Rattle.web_page.specs.Json.{spelled_text}
+use Rattle.attach_proto.specs.Fields.{reason}
+use Rattle.attach_proto.specs.declared.why.Why.{Why}
+use Rattle.attach_proto.specs.declared.told.Told.{Told}
 
 -- a frame with this text comes after the bytes on their way to the browser
 pub record SendsText (text : List ℕ) (old new : Wire) : Type 0 where
@@ -58,6 +64,54 @@ HasRoom w = (w.output.items ≡ []) × (w.sent ≤ w.answered + 4096)
 -- Rows are sent if the server let the client in: when the browser has read the last ones, and at the end.
 abbrev pub IsDue : Display → Wire → Type 0
 IsDue d w = (d.told.is_welcome ≡ true) × (HasRoom w ⊎ IsSome d.told.gone)
+
+-- ---- texts that a browser is told: no character of them is markup
+
+abbrev pub said : List ℕ → List ℕ
+said text = codes "{\"say\":\"" ++ spelled_text (chars text) ++ codes "\"}"
+
+-- it is let in
+abbrev pub welcomed : List ℕ
+welcomed = codes "{\"welcome\":1}"
+
+-- why it goes
+abbrev pub gone : Why → List ℕ
+gone why = codes "{\"gone\":" ++ decimal (reason why) ++ codes "}"
+
+-- the user and the token that a link stands for
+abbrev pub handed : (name token : List ℕ) → List ℕ
+handed name token =
+    codes "{\"user\":\"" ++ spelled_text (chars name) ++ codes "\",\"token\":\"" ++ spelled_text (chars token)
+    ++ codes "\"}"
+
+-- a text is told, and after it perhaps the connection's end
+abbrev pub TellsLast : List ℕ → Wire → Wire → Type 0
+TellsLast text old new = (v : Wire) × SendsText text old v × Adds v new
+
+abbrev pub MayTell : List ℕ → Wire → Wire → Type 0
+MayTell text old new = (new ≡ old) ⊎ SendsText text old new
+
+-- ---- all that a browser is sent
+
+-- an update that it is asked to answer for
+abbrev pub MaySendRows : Wire → Wire → Type 0
+MaySendRows old new =
+    (new ≡ old)
+    ⊎ ((u : Update) × (w : Wire) × SendsText (spelled u) old w × Asks (counted (length (spelled u)) w) new)
+
+abbrev pub Explains : Option (List ℕ) → Wire → Wire → Type 0
+Explains None old new = new ≡ old
+Explains (Some text) old new = SendsText (said text) old new
+
+-- nothing, or at the end why the server refused the client, and why the client is gone
+abbrev pub Ends : Option (List ℕ) → Option Why → Wire → Wire → Type 0
+Ends refusal None old new = new ≡ old
+Ends refusal (Some why) old new = (v : Wire) × Explains refusal old v × TellsLast (gone why) v new
+
+-- That it is let in, rows, and its end: these come after what is on its way, in this order, and nothing else does.
+abbrev pub SendsAll : Told → Wire → Wire → Type 0
+SendsAll told old new =
+    (v : Wire) × (w : Wire) × MayTell welcomed old v × MaySendRows v w × Ends told.refusal told.gone w new
 
 -- What is sent makes the page of a terminal that has read all draws, of what the browser shows.
 abbrev pub Shows : (old : Display) (since : ℕ) (before : Wire) (new : Display) (later : ℕ) (after : Wire) → Type 0

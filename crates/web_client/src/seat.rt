@@ -6,6 +6,7 @@ ghost use Rattle.web_client.specs.Asking.{lines_in, columns_in, IsNoName, IsAtta
 ghost use Rattle.web_client.specs.Asking.{Begins, Watches, Passes, Takes, Keeps, Asks};
 ghost use Rattle.web_client.specs.Judging.{IsSize, IsAttach, IsTyped, IsPublic, IsFirst, IsAsking, IsWatching};
 ghost use Rattle.web_client.specs.Judging.{IsAllowed, IsJudged, fault_of};
+ghost use Rattle.attach_proto.specs.Texts.{IsToken};
 
 use crate::client::Client;
 use acl::UserId;
@@ -27,6 +28,8 @@ const ATTACH: u8 = 0x41;
 
 const WATCH: u8 = 0x56;
 
+const LINK: u8 = 0x4C;
+
 const KEYS: u8 = 0x4B;
 
 const RESIZE: u8 = 0x52;
@@ -45,6 +48,8 @@ pub enum Seat {
     Own(Client),
     /// It watches a page of this size that others watch too, and has no client.
     Watching(u16, u16),
+    /// It shows the secret of a link, in place of a name and a token.
+    Link(Token),
     /// It gave a name that no user can have.
     Unknown,
     /// It has asked to leave a page that it watched.
@@ -156,6 +161,17 @@ fn watching(site: &Site, payload: &[u8]) -> Result<Seat, SeatFault>
     }
 }
 
+/// The seat of a browser that shows the secret of a link.
+fn linked(secret: &[u8]) -> Result<Seat, SeatFault>
+    ensures links { IfOk result (λ seat. seat ≡ Seat.Link secret.now) }
+    ensures judged { IsJudged (IsToken secret.now) result }
+{
+    match Token::read(secret) {
+        Some(secret) => Ok(Seat::Link(secret)),
+        None => Err(SeatFault::Wrong),
+    }
+}
+
 /// The seat of a browser by its first message.
 fn seated(alloc: Global, site: &Site, message: &[u8]) -> Result<Seat, SeatFault>
     ensures begins { IfOk result (Begins message.now) }
@@ -167,6 +183,7 @@ fn seated(alloc: Global, site: &Site, message: &[u8]) -> Result<Seat, SeatFault>
     match *kind {
         ATTACH => attached(alloc, payload),
         WATCH => watching(site, payload),
+        LINK => linked(payload),
         _ => Err(SeatFault::Wrong),
     }
 }
@@ -215,8 +232,7 @@ impl Seat {
             Seat::Nobody => self.begin(alloc, site, message),
             Seat::Own(client) => ask(client, message),
             Seat::Watching(_, _) => self.watch(site, message),
-            Seat::Unknown => Err(SeatFault::Wrong),
-            Seat::Left => Err(SeatFault::Wrong),
+            Seat::Link(_) | Seat::Unknown | Seat::Left => Err(SeatFault::Wrong),
         }
     }
 }

@@ -1,10 +1,10 @@
 //! A browser's connection: its request, its messages, and who it is.
 
-ghost use Rattle.std.specs.Prelude.{◌≡◌, ◌↔◌, ℕ, List, drop, IfOk, OnOk, OnErr, IsTrue, ◌<◌, ◌≤◌, []};
+ghost use Rattle.std.specs.Prelude.{◌≡◌, ◌↔◌, ◌⊎◌, ℕ, List, drop, IfOk, OnOk, OnErr, IsTrue, ◌<◌, ◌≤◌, []};
 ghost use Rattle.std.specs.Prelude.{length, false, true, codes, vec_len};
-ghost use Rattle.web_client.specs.Asking.{Asks, Keeps, IsOwn, IfOwn};
+ghost use Rattle.web_client.specs.Asking.{Asks, Keeps, IsOwn, IfOwn, IsWatcher};
 ghost use Rattle.web_client.specs.Sending.{IsReceived};
-ghost use Rattle.web_client.specs.Rows.{IsDue, Shows};
+ghost use Rattle.web_client.specs.Rows.{Adds, IsDue, Shows, SendsAll, TellsLast, handed};
 ghost use Rattle.web_requests.specs.Serving.{refusal};
 ghost use Rattle.web_client.specs.Frames.{page, page_after, begun, Reads, Answers, TakesMessage, TakesSome};
 ghost use Rattle.web_client.specs.Frames.{TakesBytes, IsBounded, IsWithin};
@@ -136,7 +136,7 @@ impl Visitor {
                 self.wire.tell_gone(Why::Fault)
             }
             Seat::Left => self.wire.tell_gone(Why::Detached),
-            Seat::Nobody | Seat::Own(_) | Seat::Watching(_, _) => Ok(()),
+            Seat::Nobody | Seat::Own(_) | Seat::Watching(_, _) | Seat::Link(_) => Ok(()),
         }
     }
 
@@ -265,10 +265,28 @@ impl Visitor {
         }
     }
 
+    /// Tells a page which user and token its link stands for, and ends.
+    pub fn hand(&mut self, name: &str, token: &str) -> Result<(), End>
+        ensures hands { OnOk result (TellsLast (handed name.now token.now) self.old.wire self.new.wire) }
+        ensures seat { self.new.seat ≡ self.old.seat }
+    {
+        self.wire.hand(name, token)
+    }
+
+    /// Tells a page why it isn't let in, and ends.
+    pub fn refuse(&mut self, reason: &str) -> Result<(), End>
+        ensures adds { OnOk result (Adds self.old.wire self.new.wire) }
+        ensures seat { self.new.seat ≡ self.old.seat }
+    {
+        self.wire.say(reason)?;
+        self.wire.tell_gone(Why::Fault)
+    }
+
     /// Tells the page that the bridge is there, and asks whether it is.
     pub fn ping(&mut self) -> Result<(), End>
+        ensures adds { OnOk result (Adds self.old.wire self.new.wire) }
+        ensures same { self.new ≡ record self.old { wire = self.new.wire } }
         ensures bounded { OnOk result (IsBounded self.new) }
-        ensures seat { self.new.seat ≡ self.old.seat }
     {
         if self.is_open() {
             self.wire.send_text("{\"here\":1}")?;
@@ -284,14 +302,28 @@ impl Visitor {
         self.view = View::NOTHING;
     }
 
-    /// Shows a page that others watch too.
+    // Whether it watches a page that others watch too.
+    fn is_watcher(&self) -> bool
+        ensures { IsTrue result ↔ IsWatcher self.now.seat }
+    {
+        match &self.seat {
+            Seat::Watching(_, _) => true,
+            Seat::Nobody | Seat::Own(_) | Seat::Link(_) | Seat::Unknown | Seat::Left => false,
+        }
+    }
+
+    /// Shows a page that others watch too, to a browser that watches. No other one is sent it.
     pub fn show_shared(&mut self, display: &mut Display) -> Result<(), End>
-        ensures shows { self.old.wire.stage ≡ Stage.Socket → IsDue display.old self.old.wire
-            → OnOk result (Shows display.old self.old.view.since self.old.wire
+        ensures apart { (IsWatcher self.old.seat → ⊥) → (self.new ≡ self.old) × (display.new ≡ display.old) }
+        ensures shows { self.old.wire.stage ≡ Stage.Socket → IsWatcher self.old.seat
+            → IsDue display.old self.old.wire → OnOk result (Shows display.old self.old.view.since self.old.wire
             display.new self.new.view.since self.new.wire) }
+        ensures sends { OnOk result ((self.new.wire ≡ self.old.wire)
+            ⊎ SendsAll display.old.told self.old.wire self.new.wire) }
+        ensures adds { OnOk result (Adds self.old.wire self.new.wire) }
         ensures seat { self.new.seat ≡ self.old.seat }
     {
-        if !self.is_open() {
+        if !self.is_open() || !self.is_watcher() {
             return Ok(());
         }
         self.wire.show(&mut self.view, display)
@@ -303,6 +335,9 @@ impl Visitor {
             → IfOwn self.old.seat (λ old. IsDue old.display self.old.wire
             → OnOk result (IsOwn self.new.seat (λ new. Shows old.display self.old.view.since self.old.wire
             new.display self.new.view.since self.new.wire))) }
+        ensures sends { OnOk result ((self.new.wire ≡ self.old.wire)
+            ⊎ IsOwn self.old.seat (λ old. SendsAll old.display.told self.old.wire self.new.wire)) }
+        ensures adds { OnOk result (Adds self.old.wire self.new.wire) }
         ensures bound { self.old.wire.stage ≡ Stage.Socket → OnOk result (IsWithin self.new.wire) }
         ensures keeps { Keeps self.old.seat self.new.seat }
     {

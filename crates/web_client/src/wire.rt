@@ -1,6 +1,7 @@
 //! What a browser is sent over its connection.
 
 ghost use Rattle.std.specs.Prelude.{◌≡◌, ◌↔◌, ◌+◌, ◌≤◌, [], length, drop, None, IfOk, OnOk, IfSome, IsTrue};
+ghost use Rattle.std.specs.Prelude.{true, false};
 ghost use Rattle.terminal_model.specs.Reading.{Terminal};
 ghost use Rattle.emulator.specs.Standing.{StandsFor};
 ghost use Rattle.web_page.specs.Laying.{Shown, page_of};
@@ -8,6 +9,8 @@ ghost use Rattle.web_client.specs.Judging.{end_of};
 ghost use Rattle.web_client.specs.Frames.{fresh, stands, Reads, IsWithin};
 ghost use Rattle.web_client.specs.declared.seat.Seat.{Seat};
 ghost use Rattle.web_client.specs.Rows.{SendsText, Asks, IsAsFar, SendsPage, Adds, HasRoom, IsDue, Shows};
+ghost use Rattle.web_client.specs.Rows.{said, welcomed, gone, handed, TellsLast, MayTell, MaySendRows};
+ghost use Rattle.web_client.specs.Rows.{Explains, Ends, SendsAll};
 ghost use Rattle.web_client.specs.declared.wire.End.TheVariants as end;
 
 use crate::frame::{Frame, answered_for, said};
@@ -185,6 +188,7 @@ impl Wire {
     /// Tells a text to the browser's user.
     #[tactic(auto, using(crate::proofs::Rows::text_adds))]
     pub fn say(&mut self, text: &str) -> Result<(), End>
+        ensures says { OnOk result (SendsText (said text.now) self.old self.new) }
         ensures adds { OnOk result (Adds self.old self.new) }
         ensures sent { self.new.sent ≡ self.old.sent }
     {
@@ -196,6 +200,7 @@ impl Wire {
 
     /// Tells why the session lets the browser go, and ends.
     pub fn tell_gone(&mut self, why: Why) -> Result<(), End>
+        ensures tells { OnOk result (TellsLast (gone why) self.old self.new) }
         ensures adds { OnOk result (Adds self.old self.new) }
         ensures stage { OnOk result (self.new.stage ≡ Stage.Last) }
         ensures sent { self.new.sent ≡ self.old.sent }
@@ -207,6 +212,21 @@ impl Wire {
         Ok(())
     }
 
+    /// Tells which user and token a link stands for, and ends.
+    pub fn hand(&mut self, name: &str, token: &str) -> Result<(), End>
+        ensures hands { OnOk result (TellsLast (handed name.now token.now) self.old self.new) }
+        ensures stage { OnOk result (self.new.stage ≡ Stage.Last) }
+    {
+        let mut out = String::from_str(self.alloc, "{\"user\":\"")?;
+        put_text(&mut out, name)?;
+        out.push_str("\",\"token\":\"")?;
+        put_text(&mut out, token)?;
+        out.push_str("\"}")?;
+        self.send_text(out.as_str())?;
+        self.close(CloseCode::Normal, "");
+        Ok(())
+    }
+
     // Sends what is new of a page.
     fn send_rows(&mut self, view: &mut View, display: &mut Display) -> Result<(), End>
         // The browser then shows the page of a terminal that has read all draws.
@@ -214,6 +234,7 @@ impl Wire {
             → IsAsFar view.old.since display.old.sheet b
             → OnOk result (SendsPage t b self.old self.new × StandsFor display.new.sheet.terminal t
             × IsAsFar view.new.since display.new.sheet (page_of t.screen)) }
+        ensures sends { OnOk result (MaySendRows self.old self.new) }
         ensures told { display.new.told ≡ display.old.told }
     {
         match display.update(view.since)? {
@@ -244,6 +265,10 @@ impl Wire {
 
     // Tells once that the server let the browser's client in.
     fn welcome(&mut self, view: &mut View, display: &Display) -> Result<(), End>
+        ensures tells { OnOk result (MayTell welcomed self.old self.new) }
+        ensures told { display.now.told.is_welcome ≡ true → view.old.is_welcomed ≡ false
+            → OnOk result (SendsText welcomed self.old self.new) }
+        ensures once { view.old.is_welcomed ≡ true → self.new ≡ self.old }
         ensures adds { OnOk result (Adds self.old self.new) }
         ensures since { view.new.since ≡ view.old.since }
         ensures sent { self.new.sent ≡ self.old.sent }
@@ -255,8 +280,21 @@ impl Wire {
         Ok(())
     }
 
+    // Tells why the server didn't let the client in, if it said so.
+    fn explain(&mut self, display: &Display) -> Result<(), End>
+        ensures explains { OnOk result (Explains display.now.told.refusal self.old self.new) }
+        ensures adds { OnOk result (Adds self.old self.new) }
+        ensures sent { self.new.sent ≡ self.old.sent }
+    {
+        match display.refusal() {
+            Some(text) => self.say(text),
+            None => Ok(()),
+        }
+    }
+
     // Ends if the server let the client go.
     fn end(&mut self, display: &Display) -> Result<(), End>
+        ensures ends { OnOk result (Ends display.now.told.refusal display.now.told.gone self.old self.new) }
         ensures adds { OnOk result (Adds self.old self.new) }
         ensures gone { IfSome display.now.told.gone (λ _. OnOk result (self.new.stage ≡ Stage.Last)) }
         ensures stays { display.now.told.gone ≡ None → self.new ≡ self.old }
@@ -264,9 +302,7 @@ impl Wire {
     {
         match display.gone() {
             Some(why) => {
-                if let Some(text) = display.refusal() {
-                    self.say(text)?;
-                }
+                self.explain(display)?;
                 self.tell_gone(why)
             }
             None => Ok(()),
@@ -275,6 +311,9 @@ impl Wire {
 
     // Sends what is new of a display.
     fn send_new(&mut self, view: &mut View, display: &mut Display) -> Result<(), End>
+        ensures sends { OnOk result (SendsAll display.old.told self.old self.new) }
+        // Nothing that is on its way is lost.
+        ensures adds { OnOk result (Adds self.old self.new) }
         ensures due { IsDue display.old self.old → OnOk result (Shows display.old view.old.since self.old
             display.new view.new.since self.new) }
         ensures later { (IsDue display.old self.old → ⊥)
@@ -303,6 +342,8 @@ impl Wire {
     /// Sends what is new of a display. Rows wait until the browser has answered for the last ones: what is
     /// sent then is what the page shows then.
     pub fn show(&mut self, view: &mut View, display: &mut Display) -> Result<(), End>
+        ensures sends { OnOk result (SendsAll display.old.told self.old self.new) }
+        ensures adds { OnOk result (Adds self.old self.new) }
         ensures due { IsDue display.old self.old → OnOk result (Shows display.old view.old.since self.old
             display.new view.new.since self.new) }
         ensures later { (IsDue display.old self.old → ⊥)

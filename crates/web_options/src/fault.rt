@@ -20,13 +20,19 @@ pub enum WebFault {
     NoToken(String),
     #[error("--watch and --watch-token go together")]
     Alone,
-    #[error("--watch takes the name of a user")]
-    NoName,
+    #[error("--window needs --watch: it is the window that watchers see")]
+    NobodyWatches,
+    /// The value of `--watch`.
+    #[error("invalid user name: {0}: --watch takes 1 to 20 of a-z, 0-9 and _, first a letter")]
+    NoName(String),
+    /// The value of `--socket`.
+    #[error("no socket: {0}: give the --socket of muxd")]
+    NoSocket(String),
     /// The value of `--listen`.
     #[error("can't listen on {0}: give 127.0.0.1 or [::1] with a port, such as 127.0.0.1:8090, or a path")]
     NotLocal(String),
     /// A value of `--origin`.
-    #[error("no origin: {0}: give the page's address without a path, such as https://mux.example.org")]
+    #[error("invalid --origin: {0}: give the page's address without a path, such as https://mux.example.org")]
     NotOrigin(String),
     #[error("--listen with a path needs --origin: the address of the page, such as https://mux.example.org")]
     NoOrigin,
@@ -49,7 +55,8 @@ impl WebFault {
     pub fn status(&self) -> u8 {
         match self {
             WebFault::Alone
-            | WebFault::NoName
+            | WebFault::NobodyWatches
+            | WebFault::NoName(_)
             | WebFault::NotLocal(_)
             | WebFault::NotOrigin(_)
             | WebFault::NoOrigin => 2,

@@ -22,6 +22,10 @@ pub struct WebOptions<'a> {
     pub listen: &'a str,
     watch: Option<&'a str>,
     watch_token: Option<&'a str>,
+    // The window that watchers are shown, if one is named.
+    window: Option<&'a str>,
+    /// The folder of the links, if one is named.
+    pub links: Option<&'a str>,
     /// How many pages may be open.
     pub most: usize,
     // The folder of the page, if one is named.
@@ -45,10 +49,29 @@ impl<'a> WebOptions<'a> {
             listen: matches.get_str("listen").unwrap_or(""),
             watch: matches.get_str("watch"),
             watch_token: matches.get_str("watch-token"),
+            window: matches.get_str("window"),
+            links: matches.get_str("links"),
             most: usize::from(matches.get_one::<u16>("most").unwrap_or(1)),
             page: matches.get_str("page"),
             tells: matches.get_flag("log"),
         }
+    }
+
+    /// The keys that choose the window for watchers, if one is named: the command select, at the prompt.
+    pub fn choice(&self, alloc: Global) -> Result<Option<String>, AllocError> {
+        let Some(window) = self.window else {
+            return Ok(None);
+        };
+        let mut keys = String::from_str(alloc, "\u{1}:select '")?;
+        for it in window.chars() {
+            match it {
+                '\'' => keys.push_str("'\\''")?,
+                _ if it.is_control() => {}
+                _ => keys.push(it)?,
+            }
+        }
+        keys.push_str("'\r")?;
+        Ok(Some(keys))
     }
 
     /// Where browsers come in. An address that others can reach is refused, and so is a part of one.
@@ -134,12 +157,13 @@ fn watcher_of<R: Files<File = File> + AllocGlobal>(
     match (options.watch, options.watch_token) {
         (Some(name), Some(path)) => {
             if UserId::of(name.as_bytes()).is_none() {
-                return Err(WebFault::NoName);
+                return Err(WebFault::NoName(String::from_str(rt.alloc(), name)?));
             }
             let token = token_in(rt, path)?;
             let name = String::from_str(rt.alloc(), name)?;
             Ok(Some(Watcher { name, token }))
         }
+        (None, None) if options.window.is_some() => Err(WebFault::NobodyWatches),
         (None, None) => Ok(None),
         _ => Err(WebFault::Alone),
     }

@@ -1,10 +1,10 @@
-use Rattle.std.proofs.Common.{◌≡◌, ℕ, Option, IfSome, OnOk, refl, sym, ap, ◌∙◌, subst}
+use Rattle.std.proofs.Common.{◌≡◌, ℕ, Option, IfSome, OnOk, inl, refl, sym, ap, ◌∙◌, subst}
 use Rattle.attach_proto.specs.declared.why.Why.{Why}
 use Rattle.web_client.specs.declared.wire.Stage.TheVariants.{Last}
 use Rattle.attach_proto.specs.declared.told.Told.{Told}
 use Rattle.web_page.specs.Hearing.{Display}
-use Rattle.web_client.specs.Rows.{IsAsFar}
-use Rattle.web_client.proofs.Rows.{shows}
+use Rattle.web_client.specs.Rows.{IsAsFar, Ends, MaySendRows}
+use Rattle.web_client.proofs.Rows.{both_add, rows_add, shows, then_adds, then_all}
 use Rattle.web_client.proofs.wire.Wire.send_new.Goals as goal
 use Rattle.web_client.proofs.wire.Wire.send_new.Goals.{then-is_due+in_ok-send_rows, else-is_due}
 
@@ -18,6 +18,35 @@ returns-clause-due c = λ due.
           (λ t b s f. rw (w.self-is, w.view-is, w.display-is) (w.in_ok-send_rows.ensures.rows t b s
           (subst (λ (n : ℕ). IsAsFar n c.args.display.now.sheet b) (sym c.welcome.ensures.since) f)))
       | else-is_due w ↦ absurd (cc (w.if-is_due.false, c.is_due-is_due.ensures.1 due))
+    ]
+
+pub returns-clause-sends : goal.returns-clause-sends
+returns-clause-sends c =
+    let same : c.if-is_due.display.told ≡ c.args.display.now.told =
+    elim c.if-is_due.branch [
+      | then-is_due+in_ok-send_rows w ↦ ap (λ (d : Display). d.told) w.display-is ∙ w.send_rows.ensures.told
+      | else-is_due w ↦ ap (λ (d : Display). d.told) w.display-is
+    ] in
+    let rows : MaySendRows c.welcome.new.self c.if-is_due.self =
+    elim c.if-is_due.branch [
+      | then-is_due+in_ok-send_rows w ↦ rw w.self-is w.in_ok-send_rows.ensures.sends
+      | else-is_due w ↦ inl w.self-is
+    ] in
+    then_all c.end.result c.args.display.now.told c.args.self.now c.welcome.new.self c.if-is_due.self c.end.new.self
+    c.in_ok-welcome.ensures.tells rows
+    (subst (λ (t : Told). OnOk c.end.result (Ends t.refusal t.gone c.if-is_due.self c.end.new.self)) same
+    c.end.ensures.ends)
+
+pub returns-clause-adds : goal.returns-clause-adds
+returns-clause-adds c =
+    elim c.if-is_due.branch [
+      | then-is_due+in_ok-send_rows w ↦
+          then_adds c.end.result c.args.self.now c.if-is_due.self c.end.new.self
+          (rw w.self-is (both_add c.args.self.now c.welcome.new.self w.send_rows.new.self c.in_ok-welcome.ensures.adds
+          (rows_add c.welcome.new.self w.send_rows.new.self w.in_ok-send_rows.ensures.sends))) c.end.ensures.adds
+      | else-is_due w ↦
+          then_adds c.end.result c.args.self.now c.if-is_due.self c.end.new.self
+          (rw w.self-is c.in_ok-welcome.ensures.adds) c.end.ensures.adds
     ]
 
 pub returns-clause-gone : goal.returns-clause-gone

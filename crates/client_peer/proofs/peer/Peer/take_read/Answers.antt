@@ -1,5 +1,5 @@
 use Rattle.client_peer.proofs.Passing.{passes_same}
-use Rattle.client_peer.proofs.standing.Standing.take_read.Goals as goal
+use Rattle.client_peer.proofs.peer.Peer.take_read.Goals as goal
 
 pub returns-then-is_ping-clause-ok : goal.returns-then-is_ping-clause-ok
 returns-then-is_ping-clause-ok c = passes_same c.args.self.now

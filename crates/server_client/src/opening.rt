@@ -1,7 +1,6 @@
 //! The connection with its first frame, and the files that the arguments name.
 
 use crate::host::PeerHost;
-use crate::outgoing::PATIENCE;
 use attach_proto::Token;
 use client_words::{Fault, Part, Way, Words};
 use std::alloc::Global;
@@ -12,7 +11,14 @@ use std::os::fd::AsRawFd;
 use std::os::unix::fs::MetadataExt;
 use std::os::unix::net::UnixStream;
 use std::time::Duration;
-use std::{fs, io};
+use std::{fs, io, thread};
+
+// How long a socket that has a limit may take nothing, in milliseconds, before a frame waits.
+const PATIENCE: u64 = 20;
+
+// How long a client that comes back lets windows go first, in milliseconds: one that comes before them
+// shows none.
+const GRACE: u64 = 300;
 
 // Modes of a file: those of its group and of all others.
 const OTHERS_READ: u32 = 0o044;
@@ -110,6 +116,8 @@ pub struct Door {
     /// Empty for `mux ping`, which sends nothing.
     frame: Vec<u8>,
     can_leave: bool,
+    /// How long to wait between the connection and the first frame, in milliseconds.
+    grace: u64,
 }
 
 impl Door {
@@ -129,10 +137,13 @@ impl Door {
     /// Makes the connection.
     pub fn open(&self, rt: &impl PeerHost) -> Result<UnixStream, Fault> {
         match rt.reach(self.socket.as_str()) {
-            Ok(stream) => match self.begin(&stream) {
-                Ok(()) => Ok(stream),
-                Err(error) => Err(Fault::Refused(Part::Stream, error)),
-            },
+            Ok(stream) => {
+                thread::sleep(rt, Duration::from_millis(self.grace));
+                match self.begin(&stream) {
+                    Ok(()) => Ok(stream),
+                    Err(error) => Err(Fault::Refused(Part::Stream, error)),
+                }
+            }
             Err(error) => Err(match error.kind() {
                 ErrorKind::NotFound | ErrorKind::ConnectionRefused => Fault::NoServer,
                 _ => Fault::Refused(Part::Socket, error),
@@ -152,6 +163,34 @@ fn frame_for<R: fs::Files<File = File> + AllocGlobal>(
     judge_words(rt.alloc(), words)?;
     let token = read_token(rt, words.token)?;
     Ok(words.first_frame(rt.alloc(), token)?)
+}
+
+fn door_for<R: fs::Files<File = File> + AllocGlobal>(
+    rt: &R,
+    words: &Words<'_>,
+) -> Result<Door, Fault> {
+    Ok(Door {
+        frame: frame_for(rt, words)?,
+        socket: String::from_str(rt.alloc(), words.socket)?,
+        can_leave: words.leave.is_some(),
+        grace: 0,
+    })
+}
+
+/// A door to come back by, with the token as it is now, and this size.
+pub fn another_door<R: fs::Files<File = File> + AllocGlobal>(
+    rt: &R,
+    words: &Words<'_>,
+    (rows, columns): (u16, u16),
+) -> Result<Door, Fault> {
+    let mut words = *words;
+    words.rows = rows;
+    words.columns = columns;
+    let mut door = door_for(rt, &words)?;
+    if words.way.is_attach() {
+        door.grace = GRACE;
+    }
+    Ok(door)
 }
 
 // Opens /dev/null in the place of a closed standard stream. Returns whether one was closed.
@@ -183,11 +222,7 @@ pub fn prepare<R: fs::Files<File = File> + AllocGlobal>(
     kept: &mut Vec<File>,
 ) -> Result<(Door, SizesFiles), Fault> {
     fill_closed(rt, kept)?;
-    let door = Door {
-        frame: frame_for(rt, words)?,
-        socket: String::from_str(rt.alloc(), words.socket)?,
-        can_leave: words.leave.is_some(),
-    };
+    let door = door_for(rt, words)?;
     match sizes_of(rt, words) {
         Ok(files) => Ok((door, files)),
         Err(fault) => Err(fault),

@@ -1,16 +1,16 @@
 use Rattle.std.proofs.Common.{sym, subst}
-use Rattle.client_peer.specs.declared.standing.Standing.{Standing}
+use Rattle.client_peer.specs.declared.peer.Peer.{Peer}
 use Rattle.client_peer.specs.Showing.{PassesOn}
 use Rattle.client_peer.proofs.Passing.{passes_keeps, passes_same, passes_heard, passes_then}
-use Rattle.client_peer.proofs.standing.Standing.take.Goals.{then-told+in_ok-welcome, else-told}
-use Rattle.client_peer.proofs.standing.Standing.take.Goals.{in-Some+in_ok-hear, in_default}
-use Rattle.client_peer.proofs.standing.Standing.take.Goals as goal
+use Rattle.client_peer.proofs.peer.Peer.take.Goals.{then-told+in_ok-welcome, else-told}
+use Rattle.client_peer.proofs.peer.Peer.take.Goals.{in-Some+in_ok-hear, in_default}
+use Rattle.client_peer.proofs.peer.Peer.take.Goals as goal
 
 pub returns-clause-ok : goal.returns-clause-ok
 returns-clause-ok c =
-    let first : Standing = c.put_message.new.self in
-    let second : Standing = c.if-told.self in
-    let last : Standing = c.match-told-3.self in
+    let first : Peer = c.put_message.new.self in
+    let second : Peer = c.if-told.self in
+    let last : Peer = c.match-told-3.self in
     let welcomed : PassesOn first second = elim c.if-told.branch [
       | then-told+in_ok-welcome w ↦
           subst (PassesOn first) (sym w.self-is) (passes_keeps first w.welcome.new.self w.welcome.ensures)

@@ -1,5 +1,5 @@
 use Rattle.client_peer.specs.Showing.{PassesOn}
-use Rattle.client_peer.proofs.standing.Standing.take_all.Given as goal
+use Rattle.client_peer.proofs.peer.Peer.take_all.Given as goal
 
 abbrev pub invariant-loop-message : goal.invariant-loop-message
 invariant-loop-message l = PassesOn l.fn.self l.self

@@ -1,6 +1,6 @@
 use Rattle.client_peer.specs.Showing.{StopsAt}
 use Rattle.client_peer.proofs.Passing.{passes_same, passes_then, stops_then, on_err_given}
-use Rattle.client_peer.proofs.standing.Standing.take_all.Goals as goal
+use Rattle.client_peer.proofs.peer.Peer.take_all.Goals as goal
 
 pub loop-message-init : goal.loop-message-init
 loop-message-init c = passes_same c.args.self.now

@@ -1,0 +1,304 @@
+//! What a peer does by itself, as time goes by.
+
+use crate::notice::NoticeStage;
+use crate::peer::Peer;
+use attach_proto::Why;
+use client_words::{Fault, InputStage};
+
+// How long the server may take to let a client in that can leave, before its input is read anyway, in
+// milliseconds. Keys that are typed meanwhile wait.
+const WELCOME: u64 = 50;
+
+// How long to wait for the second of two bytes that leave.
+const PAIR: u64 = 250;
+
+// How long the server may take to let the client go.
+const ANSWER: u64 = 100;
+
+// How long a window's end waits for its standard output.
+const LAST_WRITING: u64 = 500;
+
+// How long a text for the last line waits for the draw that comes with it, and stays for a key.
+const HIDDEN: u64 = 60;
+
+const READ: u64 = 1000;
+
+// How long the terminal's size has to stay the same before the window gets it.
+const SETTLED: u64 = 150;
+
+/// What a peer is waiting for.
+#[derive(Drop)]
+pub struct Times {
+    /// Standard input is being read.
+    has_begun: bool,
+    /// The byte that leaves was read last at this time, as this read.
+    paired: Option<(u64, u32)>,
+    /// The user left.
+    left_at: Option<u64>,
+    ended_at: Option<u64>,
+    /// When the server was lost.
+    lost_at: u64,
+    /// A key was typed since the last look.
+    pub has_typed: bool,
+    /// The window in focus is to get the size of its region, at this time.
+    pub wants_fit: bool,
+    pub fit_at: Option<u64>,
+}
+
+impl Times {
+    pub fn new() -> Times {
+        Times {
+            has_begun: false,
+            paired: None,
+            left_at: None,
+            ended_at: None,
+            lost_at: 0,
+            has_typed: false,
+            wants_fit: false,
+            fit_at: None,
+        }
+    }
+}
+
+/// What is to be done next.
+#[derive(Clone, Copy, PartialEq, Eq, Debug)]
+pub enum Step {
+    /// Wait for news.
+    Wait,
+    /// Wait for news, or for a moment.
+    WaitShortly,
+    /// Begin to read standard input.
+    Begin,
+    /// Send the frames that wait.
+    Send,
+    /// The connection ended. Ask whether the peer comes back.
+    Ask,
+    /// The peer has ended.
+    End,
+}
+
+impl Peer {
+    /// Looks at the time, in milliseconds, and says what is to be done next.
+    pub fn look(&mut self, now: u64) -> Step {
+        self.look_at_leaving(now);
+        if let Some(left) = self.times.left_at {
+            return self.look_left(now, left);
+        }
+        self.look_at_loss(now);
+        if self.end.is_some() {
+            return self.look_at_end(now);
+        }
+        if self.is_late(now) {
+            self.end_by(Err(Fault::NoAnswer));
+            return Step::WaitShortly;
+        }
+        if self.is_to_begin(now) {
+            self.times.has_begun = true;
+            return Step::Begin;
+        }
+        if self.is_welcome && !self.held.is_empty() {
+            let _ = self.let_out();
+        }
+        self.look_at_notice(now);
+        self.look_at_fit(now);
+        if self.can_send() {
+            return Step::Send;
+        }
+        if self.waits_for_time() {
+            Step::WaitShortly
+        } else {
+            Step::Wait
+        }
+    }
+
+    // Leaves if the byte that leaves came, and no second one in time.
+    fn look_at_leaving(&mut self, now: u64) {
+        if self.times.left_at.is_some() {
+            return;
+        }
+        match self.typing.stage() {
+            InputStage::Reading => self.times.paired = None,
+            InputStage::Waiting => self.look_at_pair(now),
+            InputStage::Left => {}
+        }
+        if matches!(self.typing.stage(), InputStage::Left) {
+            self.times.left_at = Some(now);
+            // Without memory the connection's end says it.
+            let _ = self.detach();
+        }
+    }
+
+    fn look_at_pair(&mut self, now: u64) {
+        let reads = self.typing.reads;
+        match self.times.paired {
+            Some((since, read)) if read == reads => {
+                if now.saturating_sub(since) >= PAIR {
+                    self.typing.leave();
+                }
+            }
+            _ => self.times.paired = Some((now, reads)),
+        }
+    }
+
+    fn look_left(&mut self, now: u64, left: u64) -> Step {
+        if self.end.is_some() || self.is_lost() || now.saturating_sub(left) >= ANSWER {
+            Step::End
+        } else if self.can_send() {
+            Step::Send
+        } else {
+            Step::WaitShortly
+        }
+    }
+
+    // Gives up a server that doesn't come back in time.
+    fn look_at_loss(&mut self, now: u64) {
+        let waited = now.saturating_sub(self.times.lost_at);
+        if self.is_lost() && self.again < u16::MAX && waited >= u64::from(self.again) * 1000 {
+            self.is_final = true;
+            self.end = self.loss;
+        }
+        if self.is_final && self.end.is_none() {
+            self.end = self.loss;
+        }
+    }
+
+    fn look_at_end(&mut self, now: u64) -> Step {
+        if !self.is_final {
+            return Step::Ask;
+        }
+        let ended = self.times.ended_at.unwrap_or(now);
+        self.times.ended_at = Some(ended);
+        let is_written = !self.is_writing && !self.has_output();
+        if is_written || self.is_lost() {
+            Step::End
+        } else if !self.way.is_window() {
+            Step::Wait
+        } else if now.saturating_sub(ended) >= LAST_WRITING {
+            Step::End
+        } else {
+            Step::WaitShortly
+        }
+    }
+
+    // Whether an answer was waited for too long.
+    fn is_late(&self, now: u64) -> bool {
+        (self.way.is_command() || self.way.is_ping())
+            && self.wait > 0
+            && now >= u64::from(self.wait) * 1000
+    }
+
+    // Whether standard input is to be read now.
+    fn is_to_begin(&self, now: u64) -> bool {
+        (self.way.is_attach() || self.way.is_window())
+            && !self.times.has_begun
+            && (self.is_welcome || self.typing.can_leave() && now >= WELCOME)
+    }
+
+    fn look_at_notice(&mut self, now: u64) {
+        let has_typed = self.times.has_typed;
+        self.times.has_typed = false;
+        match self.notice.stage {
+            NoticeStage::Nothing => {}
+            NoticeStage::New => self.notice.stage = NoticeStage::Due(now.saturating_add(HIDDEN)),
+            NoticeStage::Due(at) if now >= at && !self.is_cut && !self.is_covered => {
+                self.notice.stage = NoticeStage::Shown(now);
+                let _ = self.put_notice();
+            }
+            NoticeStage::Shown(at) if has_typed && now.saturating_sub(at) >= READ => {
+                self.notice.stage = NoticeStage::Nothing;
+                let _ = self.redraw();
+            }
+            NoticeStage::Due(_) | NoticeStage::Shown(_) => {}
+        }
+    }
+
+    // Gives the window in focus its region's size, once the terminal's stays the same and the session
+    // waits for no key.
+    fn look_at_fit(&mut self, now: u64) {
+        if !self.times.wants_fit || !self.is_welcome {
+            return;
+        }
+        let at = self.times.fit_at.unwrap_or(now.saturating_add(SETTLED));
+        self.times.fit_at = Some(at);
+        if now < at || !self.typing.is_at_rest() {
+            return;
+        }
+        self.times.wants_fit = false;
+        self.times.fit_at = None;
+        let mut keys = Vec::new(self.alloc);
+        if self.typing.fit(&mut keys).is_ok() {
+            let _ = self.put_keys(&keys);
+        }
+    }
+
+    /// Whether the user left.
+    pub fn has_left(&self) -> bool {
+        self.times.left_at.is_some()
+    }
+
+    /// Whether a text is to be shown on the last line.
+    pub fn has_notice(&self) -> bool {
+        self.notice.stage == NoticeStage::New
+    }
+
+    // Whether something is to be done after a time, without news.
+    fn waits_for_time(&self) -> bool {
+        let has_notice = matches!(self.notice.stage, NoticeStage::New | NoticeStage::Due(_));
+        let waits_for_input = self.typing.can_leave() && !self.times.has_begun;
+        let is_asked = (self.way.is_command() || self.way.is_ping()) && self.wait > 0;
+        has_notice
+            || waits_for_input
+            || is_asked
+            || self.times.paired.is_some()
+            || self.times.wants_fit && self.typing.is_at_rest()
+            || self.is_lost()
+    }
+
+    // Whether an end is one after which the server may come back. One that was planned is followed by
+    // another server. A peer that tries to come back may be refused for a while, but not for ever if it
+    // isn't known any more.
+    fn may_return(&self, end: Result<Why, Fault>, is_planned: bool) -> bool {
+        match end {
+            Ok(why) => why == Why::Quit && is_planned,
+            Err(Fault::Gone(Why::TrailFull)) => true,
+            Err(Fault::Gone(Why::Fault)) => !self.is_welcome && !self.is_unknown(),
+            Err(Fault::Ended | Fault::NoServer | Fault::NoToken | Fault::Refused(..)) => true,
+            Err(_) => false,
+        }
+    }
+
+    fn is_unknown(&self) -> bool {
+        match &self.said {
+            Some(said) => said.as_str().starts_with("unknown user") && self.way.is_attach(),
+            None => false,
+        }
+    }
+
+    /// Decides whether the peer comes back, after its connection has ended: if the socket's folder is
+    /// there, for some seconds from the first loss on. It says so once.
+    pub fn comes_back(&mut self, now: u64, is_planned: bool, has_place: bool) -> bool {
+        let Some(end) = self.end else {
+            return false;
+        };
+        let may_return = has_place && self.may_return(end, is_planned);
+        self.is_final |= self.again == 0 || !self.was_welcome || !may_return;
+        if !self.is_final && self.loss.is_none() {
+            self.loss = Some(end);
+            self.times.lost_at = now;
+            self.tell_loss();
+        }
+        !self.is_final
+    }
+
+    // Says on a client's terminal that its server is gone. CAN ends what may have been cut.
+    fn tell_loss(&mut self) {
+        if !self.way.is_attach() {
+            return;
+        }
+        let text = b"the server is gone; waiting for it to come back (C-c leaves)";
+        if self.notify(text).is_ok() && self.bytes.push(0x18).is_ok() {
+            let _ = self.put_notice();
+            self.notice.stage = NoticeStage::Nothing;
+        }
+    }
+}

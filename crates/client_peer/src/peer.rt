@@ -1,0 +1,196 @@
+//! The state of a peer.
+
+ghost use Rattle.std.specs.Prelude.{◌≡◌, []};
+ghost use Rattle.draw_check.specs.Places.{place_after};
+
+use crate::looking::Times;
+use crate::notice::Notice;
+use crate::typing::Typing;
+use attach_proto::Why;
+use client_words::{Fault, Size, Way, Words};
+use draw_check::DrawCheck;
+use std::alloc::Global;
+use std::mem;
+
+/// A peer: what it has for standard output and for the server, and how it ended.
+#[derive(Drop)]
+pub struct Peer {
+    pub alloc: Global,
+    pub way: Way,
+    /// The size of a client's terminal or of a window.
+    pub rows: u16,
+    pub columns: u16,
+    /// Whether the window in focus follows the terminal's size.
+    pub fits: bool,
+    /// For how many seconds the peer tries to come back.
+    pub again: u16,
+    /// For how many seconds an answer is waited for; 0 is without limit.
+    pub wait: u16,
+    /// Bytes for standard output.
+    pub bytes: Vec<u8>,
+    /// Checks what the server sends for a client's terminal.
+    pub draws: DrawCheck,
+    /// The last draw goes on in the next frame.
+    pub is_cut: bool,
+    /// The terminal shows the client's help, so draws are dropped.
+    pub is_covered: bool,
+    /// The help is asked for.
+    pub is_helping: bool,
+    pub notice: Notice,
+    /// Lines for the sizes' file.
+    pub sizes: Vec<u8>,
+    /// A thread is writing to standard output.
+    pub is_writing: bool,
+    /// Frames for the server.
+    pub frames: Vec<u8>,
+    /// How many of their bytes were sent.
+    pub sent: usize,
+    /// A thread is sending frames.
+    pub is_sending: bool,
+    /// The connection took nothing for a while: who waits for the time sends the rest.
+    pub is_stuck: bool,
+    /// The connection takes no more frames.
+    pub is_shut: bool,
+    /// Counts the connections.
+    pub connection: u32,
+    /// What a window's program printed while no server was there.
+    pub held: Vec<u8>,
+    pub typing: Typing,
+    /// This connection's server let the peer in.
+    pub is_welcome: bool,
+    /// A server let the peer in at some time.
+    pub was_welcome: bool,
+    /// The session's last text before it let the peer in.
+    pub said: Option<String>,
+    /// How the connection ended.
+    pub end: Option<Result<Why, Fault>>,
+    /// How the connection ended that is to be replaced by another one.
+    pub loss: Option<Result<Why, Fault>>,
+    /// The peer doesn't come back.
+    pub is_final: bool,
+    /// Why standard input or standard output failed.
+    pub fault: Option<Fault>,
+    /// A line of the sizes' file wasn't a size.
+    pub has_dropped: bool,
+    pub times: Times,
+}
+
+impl Peer {
+    pub fn new(alloc: Global, words: &Words<'_>) -> Peer
+        ensures way { result.way ≡ words.now.way }
+        ensures none { result.bytes.items ≡ [] }
+        ensures unread { result.draws ≡ place_after [] }
+    {
+        Peer {
+            alloc,
+            way: words.way,
+            rows: words.rows,
+            columns: words.columns,
+            fits: words.fit,
+            again: words.again,
+            wait: words.wait,
+            bytes: Vec::new(alloc),
+            draws: DrawCheck::new(),
+            is_cut: false,
+            is_covered: false,
+            is_helping: false,
+            notice: Notice::new(alloc),
+            sizes: Vec::new(alloc),
+            is_writing: false,
+            frames: Vec::new(alloc),
+            sent: 0,
+            is_sending: false,
+            is_stuck: false,
+            is_shut: false,
+            connection: 0,
+            held: Vec::new(alloc),
+            typing: Typing::new(words),
+            is_welcome: false,
+            was_welcome: false,
+            said: None,
+            end: None,
+            loss: None,
+            is_final: false,
+            fault: None,
+            has_dropped: false,
+            times: Times::new(),
+        }
+    }
+
+    /// Begins another connection.
+    pub fn begin(&mut self) {
+        self.draws = DrawCheck::new();
+        self.is_cut = false;
+        self.is_covered = false;
+        self.is_helping = false;
+        self.frames.clear();
+        self.sent = 0;
+        self.is_stuck = false;
+        self.is_shut = false;
+        self.connection = self.connection.wrapping_add(1);
+        self.typing.begin();
+        self.is_welcome = false;
+        self.said = None;
+        self.end = None;
+    }
+
+    /// Notes how the connection ended. Only the first call counts.
+    pub fn end_by(&mut self, end: Result<Why, Fault>) {
+        if self.end.is_none() {
+            self.end = Some(end);
+        }
+    }
+
+    /// How the peer ended. A fault of its input or output replaces a good end.
+    pub fn ending(&self) -> Result<Why, Fault> {
+        match (self.end, self.fault) {
+            (Some(Ok(_)), Some(fault)) => Err(fault),
+            (Some(end), _) => end,
+            (None, _) => Err(Fault::Ended),
+        }
+    }
+
+    /// Whether the server is gone, and another one is waited for.
+    pub fn is_lost(&self) -> bool {
+        self.loss.is_some()
+    }
+
+    /// Takes a new size of the terminal, even if it is the old one: then all is drawn anew.
+    pub fn resize(&mut self, size: Size) -> Result<(), Fault> {
+        let is_new = size.rows != self.rows || size.columns != self.columns;
+        self.rows = size.rows;
+        self.columns = size.columns;
+        self.times.wants_fit |= self.fits && is_new;
+        self.times.fit_at = None;
+        self.redraw()
+    }
+
+    /// Whether something waits for standard output or for the sizes' file.
+    pub fn has_output(&self) -> bool {
+        !self.bytes.is_empty() || !self.sizes.is_empty()
+    }
+
+    /// Takes what waits for standard output and for the sizes' file.
+    pub fn begin_writing(&mut self) -> (Vec<u8>, Vec<u8>) {
+        self.is_writing = true;
+        (
+            mem::replace(&mut self.bytes, Vec::new(self.alloc)),
+            mem::replace(&mut self.sizes, Vec::new(self.alloc)),
+        )
+    }
+
+    /// Notes that it was written, or why it wasn't: then the peer ends. A window that has ended anyway
+    /// may have a program that reads no more.
+    pub fn end_writing(&mut self, fault: Option<Fault>) {
+        self.is_writing = false;
+        let Some(fault) = fault else {
+            return;
+        };
+        if self.end.is_none() || !self.way.is_window() {
+            self.fault = Some(fault);
+        }
+        self.bytes.clear();
+        self.is_final = true;
+        self.end_by(Err(fault));
+    }
+}

@@ -1,0 +1,283 @@
+//! What is typed or printed, on its way to the server.
+
+ghost use Rattle.std.specs.Prelude.{◌≡◌, ◌++◌, ◌∷◌, [], ℕ, List, IsTrue};
+ghost use Rattle.keys.specs.Grammar.{items, nothing};
+ghost use Rattle.client_peer.specs.Fitting.{Follows};
+
+use crate::notice::NoticeStage;
+use crate::peer::Peer;
+use client_words::{Fault, InputStage, LeaveReader, Words};
+use keys::{KeyItem, KeyReader};
+use std::alloc::AllocError;
+use std::io::Write;
+
+/// The most lines that a view can be moved back.
+const MOST_BACK: u16 = 2000;
+
+const ETX: u8 = 0x03;
+
+/// Reads what is typed along with the session, and looks for the byte that leaves.
+#[derive(Drop)]
+pub struct Typing {
+    leave: Option<LeaveReader>,
+    keys: KeyReader,
+    /// The command key was typed, and the key after it is still to come.
+    is_begun: bool,
+    /// Whether the client has keys of its own. Then the command key is sent with the one after it.
+    pub assists: bool,
+    /// How many lines the view was moved back by the client's own keys.
+    back: u16,
+    /// How often something was typed, counted round.
+    pub reads: u32,
+    /// The help was asked for.
+    asks_help: bool,
+}
+
+// The length of the keys to scroll by a page with which some bytes begin, and whether it is up: those
+// of xterm and of rxvt.
+fn scroll_keys(bytes: &[u8]) -> Option<(usize, bool)> {
+    for (keys, is_up) in [
+        (b"\x1b[5;2~".as_slice(), true),
+        (b"\x1b[6;2~".as_slice(), false),
+        (b"\x1b[5$".as_slice(), true),
+        (b"\x1b[6$".as_slice(), false),
+    ] {
+        if bytes.starts_with(keys) {
+            return Some((keys.len(), is_up));
+        }
+    }
+    None
+}
+
+impl Typing {
+    pub fn new(words: &Words<'_>) -> Typing {
+        let leave = match words.leave {
+            Some(byte) => Some(LeaveReader::new(byte)),
+            None => None,
+        };
+        Typing {
+            leave,
+            keys: KeyReader::new(),
+            is_begun: false,
+            assists: words.assist,
+            back: 0,
+            reads: 0,
+            asks_help: false,
+        }
+    }
+
+    /// Begins with another session, which has read no key.
+    pub fn begin(&mut self) {
+        self.keys = KeyReader::new();
+        self.is_begun = false;
+        self.back = 0;
+    }
+
+    /// Whether there is a byte that leaves, whatever the server does.
+    pub fn can_leave(&self) -> bool {
+        self.leave.is_some()
+    }
+
+    /// How far the input was read in looking for the byte that leaves.
+    pub fn stage(&self) -> InputStage {
+        match &self.leave {
+            Some(leave) => leave.stage(),
+            None => InputStage::Reading,
+        }
+    }
+
+    /// Leaves by the byte that waits.
+    pub fn leave(&mut self) {
+        if let Some(leave) = &mut self.leave {
+            leave.leave();
+        }
+    }
+
+    /// Whether the session waits for no key: no prompt is open, and the command key wasn't typed last.
+    pub fn is_at_rest(&self) -> bool
+        ensures { (keys : List ℕ) → Follows self.now keys → IsTrue result → (items keys).1 ≡ nothing }
+    {
+        !self.is_begun && self.keys.prompt().is_none()
+    }
+
+    // Reads a key along with the session.
+    fn follow(&mut self, key: u8) -> Option<KeyItem>
+        ensures { (keys : List ℕ) → Follows self.old keys → Follows self.new (keys ++ key ∷ []) }
+    {
+        let item = self.keys.push(key);
+        self.is_begun = item.is_none();
+        item
+    }
+
+    fn follow_all(&mut self, keys: &[u8]) {
+        for key in keys {
+            self.follow(*key);
+        }
+    }
+
+    // Gives a command by the prompt, between two keys.
+    fn give(&mut self, line: &[u8], out: &mut Vec<u8>) -> Result<(), AllocError> {
+        let from = out.len();
+        out.extend_from_slice(b"\x01:")?;
+        out.extend_from_slice(line)?;
+        out.push(b'\r')?;
+        self.follow_all(out.get(from..).unwrap_or(&[]));
+        Ok(())
+    }
+
+    /// Gives the window its region's size, between two keys.
+    pub fn fit(&mut self, out: &mut Vec<u8>) -> Result<(), AllocError> {
+        self.give(b"fit", out)
+    }
+
+    // Moves the view this many lines back.
+    fn scroll(&mut self, back: u16, out: &mut Vec<u8>) -> Result<(), Fault> {
+        let mut line = Vec::new(*out.allocator());
+        write!(line, "scrollview {back}")?;
+        self.give(&line, out)?;
+        self.back = back;
+        Ok(())
+    }
+
+    // Moves the view by a page.
+    fn turn(&mut self, is_up: bool, page: u16, out: &mut Vec<u8>) -> Result<(), Fault> {
+        let back = if is_up {
+            self.back.saturating_add(page).min(MOST_BACK)
+        } else {
+            self.back.saturating_sub(page)
+        };
+        self.scroll(back, out)
+    }
+
+    // Takes a key that isn't the client's own. The command key waits for the one after it, which may ask
+    // for the help; the session drops that one.
+    fn press(&mut self, key: u8, is_last: bool, out: &mut Vec<u8>) -> Result<(), Fault> {
+        if self.back > 0 && self.is_at_rest() {
+            self.scroll(0, out)?;
+        }
+        let is_second = self.is_begun;
+        match self.follow(key) {
+            None => {}
+            Some(KeyItem::Command(b'?')) => self.asks_help = is_last,
+            Some(_) => {
+                if is_second {
+                    out.push(1)?;
+                }
+                out.push(key)?;
+            }
+        }
+        Ok(())
+    }
+
+    // Appends what is to be sent of some keys.
+    fn assist(&mut self, keys: &[u8], page: u16, out: &mut Vec<u8>) -> Result<(), Fault> {
+        let mut skip = 0usize;
+        for at in 0..keys.len() {
+            let rest = keys.get(at..).unwrap_or(&[]);
+            if skip > 0 {
+                skip -= 1;
+            } else if self.is_at_rest()
+                && let Some((count, is_up)) = scroll_keys(rest)
+            {
+                self.turn(is_up, page, out)?;
+                skip = count.saturating_sub(1);
+            } else {
+                self.press(keys[at], rest.len() == 1, out)?;
+            }
+        }
+        Ok(())
+    }
+
+    // Appends the input without the byte that leaves.
+    fn read(&mut self, input: &[u8], out: &mut Vec<u8>) -> Result<(), AllocError> {
+        self.reads = self.reads.wrapping_add(1);
+        match &mut self.leave {
+            Some(leave) => leave.feed(input, out),
+            None => out.extend_from_slice(input),
+        }
+    }
+}
+
+impl Peer {
+    /// Takes what was read of standard input.
+    pub fn type_in(&mut self, input: &[u8]) -> Result<(), Fault> {
+        let mut bytes = Vec::new(self.alloc);
+        self.typing.read(input, &mut bytes)?;
+        if self.way.is_window() {
+            self.print(&bytes)?;
+            return Ok(());
+        }
+        if bytes.is_empty() {
+            return Ok(());
+        }
+        self.times.has_typed = true;
+        self.press(&bytes)
+    }
+
+    // Takes keys. They are dropped while no server is there, and one takes the help away.
+    fn press(&mut self, keys: &[u8]) -> Result<(), Fault> {
+        if self.is_lost() {
+            if keys.contains(&ETX) {
+                self.is_final = true;
+                self.end = self.loss;
+            }
+            return Ok(());
+        }
+        if self.is_helping {
+            self.is_helping = false;
+            self.is_covered = self.is_cut;
+            return self.redraw();
+        }
+        if !self.typing.assists {
+            if self.fits {
+                self.typing.follow_all(keys);
+            }
+            self.put_keys(keys)?;
+            return Ok(());
+        }
+        self.assist(keys)
+    }
+
+    // Takes keys of a client that has its own.
+    fn assist(&mut self, keys: &[u8]) -> Result<(), Fault> {
+        let mut out = Vec::new(self.alloc);
+        let page = self.rows.saturating_sub(3);
+        let before = self.typing.back;
+        self.typing.assist(keys, page, &mut out)?;
+        self.put_keys(&out)?;
+        if self.typing.back != before {
+            self.tell_scrolled()?;
+        }
+        if self.typing.asks_help {
+            self.typing.asks_help = false;
+            self.help()?;
+        }
+        Ok(())
+    }
+
+    // Says how to come back.
+    fn tell_scrolled(&mut self) -> Result<(), Fault> {
+        let back = self.typing.back;
+        if back == 0 {
+            self.notice.stage = NoticeStage::Nothing;
+            return self.redraw();
+        }
+        let mut text = Vec::new(self.alloc);
+        write!(
+            text,
+            "{back} lines back; Shift-PgDn goes forward, any other key to the end"
+        )?;
+        self.notify(&text)?;
+        Ok(())
+    }
+
+    /// Takes the end of standard input.
+    pub fn end_input(&mut self, fault: Option<Fault>) -> Result<(), AllocError> {
+        if fault.is_some() {
+            self.fault = fault;
+        }
+        self.is_final |= self.is_lost();
+        self.again = 0;
+        self.detach()
+    }
+}

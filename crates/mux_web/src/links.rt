@@ -1,0 +1,44 @@
+//! Links: each stands for a user and a token, and is good for one use.
+
+use attach_proto::Token;
+use std::alloc::AllocGlobal;
+use std::fs;
+use std::fs::{File, Files};
+use std::time::{Clock, SystemTime};
+
+/// What a link stands for.
+#[derive(Drop)]
+pub struct Handed {
+    pub name: String,
+    pub token: String,
+}
+
+// What the file of a link says, a line NAME TOKEN SECONDS: it counts until that many seconds after 1970.
+fn read_link<R: Clock + AllocGlobal>(rt: &R, text: &str) -> Option<Handed> {
+    let (name, rest) = text.trim_ascii_end().split_once(' ')?;
+    let (token, end) = rest.split_once(' ')?;
+    let end = end.parse::<u64>().ok()?;
+    let now = SystemTime::now(rt)
+        .ok()?
+        .duration_since(SystemTime::UNIX_EPOCH)
+        .ok()?;
+    if now.as_secs() >= end {
+        return None;
+    }
+    let name = String::from_str(rt.alloc(), name).ok()?;
+    let token = String::from_str(rt.alloc(), token).ok()?;
+    Some(Handed { name, token })
+}
+
+/// What the link with this secret stands for. Its file in the folder has the secret as its name, and only one use can
+/// remove it. None if it was used, is too old, or never was.
+pub fn take_link<R>(rt: &R, folder: &str, secret: &Token) -> Option<Handed>
+where
+    R: Files<File = File> + Clock + AllocGlobal,
+{
+    let digits = str::from_utf8(secret.as_slice()).ok()?;
+    let path = format!(in rt.alloc(); "{folder}/{digits}").ok()?;
+    let text = fs::read_to_string(rt, path.as_str()).ok()?;
+    fs::remove_file(rt, path.as_str()).ok()?;
+    read_link(rt, text.as_str())
+}

@@ -1,0 +1,78 @@
+//! Connects, and reads what the server sends.
+
+use crate::host::PeerHost;
+use crate::opening::Door;
+use crate::shared::{Seat, Shared};
+use attach_proto::{LONGEST, Why};
+use client_words::{Fault, Part};
+use std::alloc::Global;
+use std::io::{ErrorKind, Read};
+use std::os::unix::net::UnixStream;
+use std::sync::{Arc, Wait};
+
+// Connects, and lends the connection to the other threads.
+fn connect<R: PeerHost + Wait>(
+    rt: &R,
+    shared: &Shared,
+    door: &Door,
+) -> Result<Arc<UnixStream, Global>, Fault> {
+    let stream = Arc::new(shared.alloc, door.open(rt)?)?;
+    let theirs = Arc::try_clone(&stream)?;
+    shared.seat.lock(rt).stream = Some(theirs);
+    Ok(stream)
+}
+
+// Sorts the bytes of a read. Returns how the connection ended, if it did.
+fn take<R: Wait>(
+    rt: &R,
+    shared: &Shared,
+    bytes: &[u8],
+) -> Result<Option<Result<Why, Fault>>, Fault> {
+    let mut guard = shared.seat.lock(rt);
+    let Seat { peer, reader, .. } = &mut *guard;
+    let was_welcome = peer.is_welcome;
+    let end = peer.take_read(shared.alloc, reader, bytes)?;
+    let is_news = peer.is_welcome != was_welcome || peer.has_notice();
+    drop(guard);
+    shared.work.notify_all();
+    if is_news {
+        shared.news.notify_all();
+    }
+    Ok(end)
+}
+
+// Waits while too much waits for standard output.
+fn wait_for_room<R: Wait>(rt: &R, shared: &Shared) {
+    let seat = shared.seat.lock(rt);
+    let _ = shared.work.wait_while(
+        rt,
+        seat,
+        |seat| seat.peer.is_behind() && seat.peer.end.is_none(),
+    );
+}
+
+// Reads until the connection ends. Returns how it did.
+fn read_all<R: PeerHost + Wait>(rt: &R, shared: &Shared, door: &Door) -> Result<Why, Fault> {
+    let stream = connect(rt, shared, door)?;
+    let mut stream: &UnixStream = &stream;
+    let mut buffer = vec![in shared.alloc; 0; LONGEST]?;
+    for _ in rt.forever() {
+        wait_for_room(rt, shared);
+        let end = match stream.read(buffer.as_mut_slice()) {
+            Ok(count) => take(rt, shared, &buffer[..count])?,
+            Err(error) if error.kind() == ErrorKind::Interrupted => None,
+            Err(error) => return Err(Fault::Refused(Part::Stream, error)),
+        };
+        if let Some(end) = end {
+            return end;
+        }
+    }
+    Err(Fault::Ended)
+}
+
+/// Serves one connection, until it ends.
+pub fn serve<R: PeerHost + Wait>(rt: &R, shared: &Shared, door: &Door) {
+    let end = read_all(rt, shared, door);
+    shared.seat.lock(rt).peer.end_by(end);
+    shared.tell();
+}

@@ -1,0 +1,76 @@
+//! What the threads of a peer share, and how they begin.
+
+use crate::host::PeerHost;
+use attach_proto::{Reader, Side};
+use client_peer::Peer;
+use client_words::Words;
+use std::alloc::{AllocError, Global};
+use std::os::unix::net::UnixStream;
+use std::sync::{Arc, Condvar, Mutex, Wait};
+use std::thread;
+use std::thread::Threads;
+
+/// A peer with its present connection.
+#[derive(Drop)]
+pub struct Seat {
+    pub peer: Peer,
+    /// Cuts what comes on the connection into messages.
+    pub reader: Reader,
+    pub stream: Option<Arc<UnixStream, Global>>,
+}
+
+/// A peer, for all of its threads.
+#[derive(Drop)]
+pub struct Shared {
+    pub alloc: Global,
+    pub seat: Mutex<Seat>,
+    /// Signals that the peer's next step may be another one.
+    pub news: Condvar,
+    /// Signals that something waits for standard output, or that there is room for more.
+    pub work: Condvar,
+}
+
+impl Shared {
+    pub fn new(alloc: Global, words: &Words<'_>) -> Shared {
+        Shared {
+            alloc,
+            seat: Mutex::new(Seat {
+                peer: Peer::new(alloc, words),
+                reader: Reader::new(alloc, Side::Peer),
+                stream: None,
+            }),
+            news: Condvar::new(),
+            work: Condvar::new(),
+        }
+    }
+
+    /// Begins another connection.
+    pub fn begin<R: Wait>(&self, rt: &R) {
+        let mut seat = self.seat.lock(rt);
+        seat.peer.begin();
+        seat.reader = Reader::new(self.alloc, Side::Peer);
+        seat.stream = None;
+    }
+
+    /// Wakes all threads.
+    pub fn tell(&self) {
+        self.news.notify_all();
+        self.work.notify_all();
+    }
+}
+
+/// Starts a thread for a peer. Nobody joins it: it may wait for its source for ever, and the program
+/// ends without it.
+pub fn start_thread<R, F>(rt: &R, shared: &Arc<Shared, Global>, run: F) -> Result<(), AllocError>
+where
+    R: PeerHost + Threads + Wait,
+    F: FnOnce(&R, &Arc<Shared, Global>) + Send + Drop + 'static,
+    requires { F.IsAlwaysCallable run }
+{
+    let theirs = Arc::try_clone(shared)?;
+    let rt_there = *rt;
+    match thread::spawn(rt, move || run(&rt_there, &theirs)) {
+        Ok(_) => Ok(()),
+        Err(error) => Err(AllocError::from(error)),
+    }
+}

@@ -1,0 +1,108 @@
+//! Reads standard input and the sizes' file, and sends what they say.
+
+ghost use Rattle.std.specs.Io.{ReadsAtMost};
+
+use crate::host::{PeerHost, Source};
+use crate::shared::Shared;
+use crate::writing::send;
+use attach_proto::LONGEST;
+use client_words::{Fault, InputStage, Part, SizeLines};
+use std::alloc::AllocError;
+use std::fs::File;
+use std::io;
+use std::io::{ErrorKind, Read};
+use std::sync::Wait;
+
+// The errno of a terminal whose other end has gone: it counts as the end of the input.
+const EIO: i32 = 5;
+
+// Reads the input. 0 bytes mean its end.
+fn read_input<I: Read>(input: &mut I, buffer: &mut [u8]) -> io::Result<usize>
+    ensures { ReadsAtMost result buffer.new }
+{
+    match input.read(buffer) {
+        Err(error) if error.raw_os_error() == Some(EIO) => Ok(0),
+        read => read,
+    }
+}
+
+// Sends input that was read. Returns whether to go on.
+fn take<R: Wait>(rt: &R, shared: &Shared, input: &[u8]) -> Result<bool, Fault> {
+    let mut seat = shared.seat.lock(rt);
+    seat.peer.type_in(input)?;
+    let goes_on = !matches!(seat.peer.typing.stage(), InputStage::Left);
+    let is_stuck = seat.peer.is_stuck;
+    drop(seat);
+    // The input may have put something on the terminal.
+    shared.tell();
+    if !is_stuck {
+        send(rt, shared);
+    }
+    let seat = shared.seat.lock(rt);
+    let seat = shared.work.wait_while(rt, seat, |seat| seat.peer.is_full());
+    Ok(goes_on && !seat.peer.is_final)
+}
+
+// Reads and sends the input. Returns whether it came to its end, or why it can't be read any more.
+fn take_all<R: Wait, I: Source>(rt: &R, shared: &Shared, input: &mut I) -> Result<bool, Fault> {
+    let mut buffer = vec![in shared.alloc; 0; LONGEST]?;
+    for _ in 0..u64::MAX {
+        let goes_on = match read_input(input, buffer.as_mut_slice()) {
+            Ok(0) => return Ok(true),
+            Ok(count) => take(rt, shared, &buffer[..count])?,
+            Err(error) if error.kind() == ErrorKind::Interrupted => true,
+            Err(error) => return Err(Fault::Refused(Part::Input, error)),
+        };
+        if !goes_on {
+            return Ok(false);
+        }
+    }
+    Ok(true)
+}
+
+/// Reads and sends the input, and DETACH at its end.
+pub fn type_out<R: PeerHost + Wait, I: Source>(rt: &R, shared: &Shared, input: &mut I) {
+    let fault = match take_all(rt, shared, input) {
+        Ok(true) => None,
+        Ok(false) => return shared.tell(),
+        Err(fault) => Some(fault),
+    };
+    let _ = shared.seat.lock(rt).peer.end_input(fault);
+    send(rt, shared);
+}
+
+// Sends the last of the sizes whose lines these bytes complete. Returns whether to go on.
+fn take_sizes<R: Wait>(rt: &R, shared: &Shared, lines: &mut SizeLines, bytes: &[u8]) -> bool {
+    let Ok(size) = lines.feed(bytes) else {
+        return false;
+    };
+    let mut seat = shared.seat.lock(rt);
+    seat.peer.has_dropped |= lines.has_dropped();
+    let is_kept = match size {
+        Some(size) => seat.peer.resize(size).is_ok(),
+        None => true,
+    };
+    drop(seat);
+    send(rt, shared);
+    is_kept
+}
+
+/// Sends sizes until the file ends; of several that came at once only the last.
+pub fn resize<R: PeerHost + Wait>(
+    rt: &R,
+    shared: &Shared,
+    file: &mut File,
+) -> Result<(), AllocError> {
+    let mut lines = SizeLines::new(shared.alloc);
+    let mut buffer = vec![in shared.alloc; 0; LONGEST]?;
+    for _ in 0..u64::MAX {
+        let goes_on = match file.read(buffer.as_mut_slice()) {
+            Ok(0) | Err(_) => false,
+            Ok(count) => take_sizes(rt, shared, &mut lines, &buffer[..count]),
+        };
+        if !goes_on {
+            break;
+        }
+    }
+    Ok(())
+}
