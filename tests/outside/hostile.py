@@ -379,9 +379,9 @@ def pasted():
         paste.start()
         time.sleep(3)
         check("a paste of 3 MB waits for the window", paste.is_alive())
-        check("the window stays", b"\n" in server.give(b"windows") and not heard.gone())
+        check("the window stays", b"sh" in server.give(b"windows") and not heard.gone())
         grown = server.resident() - memory
-        check("and muxd grows by less than 2 MB", grown < 2 * MB, f"{grown}")
+        check("and muxd grows by less than 4 MB", grown < 4 * MB, f"{grown}")
         other.sendall(frame(KEYS, b"!"))
         time.sleep(0.2)
         other.sendall(frame(KEYS, b"!!") + frame(KEYS, b"\x01d"))
