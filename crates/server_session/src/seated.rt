@@ -1,40 +1,40 @@
 //! A loop's seat in the session that it shares.
 
+ghost use Rattle.std.specs.Prelude.{◌≡◌};
+ghost use Rattle.server_session.specs.Outcomes.{checked, outcome_of};
+
 use crate::accounts::Accounts;
 use crate::shared_session::SharedSession;
-use acl::{Bit, UserId};
+use acl::UserId;
 use hub::{Begun, HubFault, Seat};
 use server_connections::{End, GuestKind, SeatAnswer, SeatFault, SessionSeat};
 use server_users::{Outcome, Users};
-use session_model::{Effect, Event, Refusal, Reply, Verdict};
+use session_model::{Effect, Event, Refusal, Reply};
 use std::sync::Wait;
 use std::time::{Clock, Duration};
 
-// Whether a check was passed.
-fn is_passed(verdict: &Verdict) -> bool {
-    match verdict {
-        Verdict::Right { answer, .. } => *answer,
-        Verdict::Lock { user, holder, .. } => holder.is_none_or(|holder| holder == *user),
+// What came of a step that was done, from whether all its checks passed and whether one was for a command.
+fn checked(checks: Option<bool>, execute: bool) -> Outcome
+    ensures { result ≡ checked checks execute }
+{
+    let Some(passed) = checks else {
+        return Outcome::Unchecked;
+    };
+    match passed {
+        false => Outcome::Denied,
+        true if execute => Outcome::Granted,
+        true => Outcome::Typed,
     }
 }
 
-// Whether a check was made for a command.
-fn is_of_command(verdict: &Verdict) -> bool {
-    match verdict {
-        Verdict::Right { bit, .. } => *bit == Bit::Execute,
-        Verdict::Lock { .. } => false,
-    }
-}
-
-// What came of a step, from its reply and the checks that were made for it.
-fn outcome_of(reply: &Reply, verdicts: &[Verdict]) -> Outcome {
+// What came of a step, from its reply and its checks.
+fn outcome_of(reply: &Reply, checks: Option<bool>, execute: bool) -> Outcome
+    ensures { result ≡ outcome_of reply.now checks execute }
+{
     match reply {
         Err(Refusal::NoMemory) => Outcome::Untaken,
         Err(_) => Outcome::Denied,
-        Ok(_) if verdicts.is_empty() => Outcome::Unchecked,
-        Ok(_) if !verdicts.iter().all(|verdict| is_passed(verdict)) => Outcome::Denied,
-        Ok(_) if verdicts.iter().any(|verdict| is_of_command(verdict)) => Outcome::Granted,
-        Ok(_) => Outcome::Typed,
+        Ok(_) => checked(checks, execute),
     }
 }
 
@@ -66,6 +66,12 @@ impl<'a, L: Begun> Seated<'a, L> {
 }
 
 impl<L: Begun> SessionSeat for Seated<'_, L> {
+    ghost known = { λ s. s.shared.now.users };
+
+    ghost steps = { λ s. s.seat.steps };
+
+    ghost handed = { λ s. s.seat.handed };
+
     fn users(&self) -> &Users {
         &self.shared.users
     }
@@ -77,20 +83,19 @@ impl<L: Begun> SessionSeat for Seated<'_, L> {
                     Some(place) => self.accounts.trail.add(place, answer.entry()),
                     None => None,
                 };
-                // There is no entry if memory for its copy was refused.
-                let outcome = match answer.entry() {
-                    Some(entry) => outcome_of(answer.reply(), entry.verdicts()),
-                    None => Outcome::Granted,
-                };
+                let (checks, execute) = (answer.checks(), answer.checks_execute());
+                let outcome = outcome_of(answer.reply(), checks, execute);
+                let typed = answer.typed();
                 Ok(SeatAnswer {
                     reply: answer.into_reply(),
                     filled,
                     outcome,
+                    typed,
                 })
             }
             Err(HubFault::NoMemory) => Err(SeatFault::NoMemory),
-            Err(HubFault::TrailFull) => Err(SeatFault::Over(End::TrailFull)),
-            Err(HubFault::Strange) => Err(SeatFault::Over(End::Fault)),
+            Err(HubFault::TrailFull(_)) => Err(SeatFault::Over(End::TrailFull)),
+            Err(HubFault::Strange(_)) => Err(SeatFault::Over(End::Fault)),
         }
     }
 
@@ -120,7 +125,20 @@ impl<L: Begun> SessionSeat for Seated<'_, L> {
         self.shared.has_stopped() || self.accounts.trail.is_full()
     }
 
-    fn take<R: Wait>(&mut self, rt: &R) -> (Vec<Effect>, bool) {
-        self.shared.hub.take(rt, &mut self.seat)
+    fn take<R: Wait>(&mut self, rt: &R) -> (Vec<(Effect, Option<u32>)>, bool) {
+        let (handed, is_told) = self.shared.hub.take(rt, &mut self.seat);
+        (handed.into_items(), is_told)
+    }
+
+    fn may_type<R: Wait>(&self, rt: &R, client: u32, window: u32) -> bool {
+        self.shared.hub.may_type(rt, client, window)
+    }
+
+    fn set_full<R: Wait>(&self, rt: &R, window: u32, is_full: bool) {
+        self.accounts.full_windows.set(rt, window, is_full);
+    }
+
+    fn is_full<R: Wait>(&self, rt: &R, window: u32) -> bool {
+        self.accounts.full_windows.has(rt, window)
     }
 }

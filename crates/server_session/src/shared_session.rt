@@ -1,5 +1,9 @@
 //! What the loops share.
 
+ghost use Rattle.std.specs.Prelude.{◌≡◌, ◌+◌, ◌%◌, ◌^◌, IfOk, OnErr};
+ghost use Rattle.session_model.specs.Trace.{happening};
+ghost use Rattle.hub_ledger.specs.Seats.{Answers};
+
 use hub::{Answer, Begun, Hub, HubFault, Seat};
 use server_trail::Recorder;
 use server_users::Users;
@@ -16,14 +20,24 @@ pub struct SharedSession<L: Begun> {
 }
 
 impl<L: Begun> SharedSession<L> {
+    #[tactic(auto, using(crate::proofs::Steps::one_step))]
     /// Submits an event to the session. If that makes an entry, its line goes to the trail's file.
     pub fn submit<'a>(
         &self,
         rt: &impl Wait,
         seat: &mut Seat<L>,
         event: Event<'a>,
-    ) -> Result<Answer<'a>, HubFault> {
-        let answer = self.hub.submit(rt, seat, event)?;
+    ) -> Result<Answer<'a>, HubFault>
+        ensures answer { IfOk result (λ told. Answers (happening event.entry) told seat.old
+            seat.new) }
+        ensures steps { IfOk result (λ told. seat.new.steps ≡ (seat.old.steps + 1) % 2 ^ 64) }
+        ensures handed { seat.new.handed ≡ seat.old.handed }
+        ensures same { OnErr result (seat.new ≡ seat.old) }
+    {
+        let answer = match self.hub.submit(rt, seat, event) {
+            Ok(answer) => answer,
+            Err(fault) => return Err(fault),
+        };
         if let (Some(recorder), Some(place)) = (&self.recorder, answer.place()) {
             recorder.put(rt, place, answer.entry());
         }
