@@ -4,6 +4,7 @@
 
 mod accounts;
 mod full_windows;
+mod left_clients;
 mod loop_body;
 mod seated;
 mod setting_up;

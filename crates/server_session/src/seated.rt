@@ -131,7 +131,11 @@ impl<L: Begun> SessionSeat for Seated<'_, L> {
     }
 
     fn may_type<R: Wait>(&self, rt: &R, client: u32, window: u32) -> bool {
-        self.shared.hub.may_type(rt, client, window)
+        self.shared.hub.may_type(rt, client, window) || self.accounts.left.has(rt, client)
+    }
+
+    fn set_left<R: Wait>(&self, rt: &R, client: u32) {
+        self.accounts.left.add(rt, client);
     }
 
     fn set_full<R: Wait>(&self, rt: &R, window: u32, is_full: bool) {
