@@ -7,7 +7,6 @@ mod around;
 mod bridge;
 mod guest;
 mod halls;
-mod links;
 mod log;
 mod seating;
 mod serving;

@@ -3,7 +3,6 @@
 use crate::around::Around;
 use crate::guest::Guest;
 use crate::halls::Halls;
-use crate::links::take_link;
 use crate::log::Log;
 use std::alloc::AllocGlobal;
 use std::fs::{File, Files};
@@ -11,6 +10,7 @@ use std::net::Net;
 use std::sync::{Arc, Wait};
 use std::time::Clock;
 use web_client::Seat;
+use web_options::take_link;
 
 /// What a page is told whose link stands for nothing.
 const USED: &str = "this link was used, or is too old: ask for a new one";

@@ -5,39 +5,15 @@ use crate::log::start_log;
 use crate::streams::Door;
 use program_words::{of_web, tell};
 use server_system::{Host, SocketPath};
-use std::fs;
 use std::io::{ErrorKind, Write};
 use std::net::{IpAddr, Ipv4Addr, Ipv6Addr, SocketAddr};
 use std::sync::Wait;
 use std::thread::Threads;
 use web_client::Site;
-use web_options::{Listen, WebFault, WebOptions, origins_of, site_of};
+use web_options::{Listen, WebFault, WebOptions, look_for_paths, origins_of, site_of};
 
 /// The system's number for a kind of addresses that it doesn't have.
 const EAFNOSUPPORT: i32 = 97;
-
-// Warns of a socket and of a folder that aren't there yet, and refuses what can't be a socket.
-fn look_for_paths<R: Host + Eprint>(rt: &R, options: WebOptions<'_>) -> Result<(), WebFault> {
-    let path = options.socket;
-    match fs::metadata(rt, path) {
-        Ok(found) if found.is_file() || found.is_dir() => {
-            return Err(WebFault::NoSocket(String::from_str(rt.alloc(), path)?));
-        }
-        Err(error) if error.kind() == ErrorKind::NotFound => {
-            let _ = eprintln!(rt; "mux-web: no server yet: {path}: start muxd with this --socket");
-        }
-        _ => {}
-    }
-    match options.links {
-        Some(folder) if !fs::exists(rt, folder).unwrap_or(true) => {
-            let _ = eprintln!(rt;
-                "mux-web: no folder of links yet: {folder}: mux-user link makes it"
-            );
-        }
-        _ => {}
-    }
-    Ok(())
-}
 
 // Serves browsers that come in through these doors.
 fn serve_at<R: Host + Threads + Wait + Eprint, O: Write>(
