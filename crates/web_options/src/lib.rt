@@ -7,6 +7,6 @@ mod options;
 mod paths;
 
 pub use fault::WebFault;
-pub use links::{Handed, take_link};
+pub use links::{Linked, take_link};
 pub use options::{Listen, WebOptions, origins_of, site_of};
 pub use paths::look_for_paths;

@@ -8,13 +8,13 @@ use std::time::{Clock, SystemTime};
 
 /// What a link stands for.
 #[derive(Drop)]
-pub struct Handed {
+pub struct Linked {
     pub name: String,
     pub token: String,
 }
 
 // What the file of a link says, a line NAME TOKEN SECONDS: it counts until that many seconds after 1970.
-fn read_link<R: Clock + AllocGlobal>(rt: &R, text: &str) -> Option<Handed> {
+fn read_link<R: Clock + AllocGlobal>(rt: &R, text: &str) -> Option<Linked> {
     let (name, rest) = text.trim_ascii_end().split_once(' ')?;
     let (token, end) = rest.split_once(' ')?;
     let end = end.parse::<u64>().ok()?;
@@ -27,12 +27,12 @@ fn read_link<R: Clock + AllocGlobal>(rt: &R, text: &str) -> Option<Handed> {
     }
     let name = String::from_str(rt.alloc(), name).ok()?;
     let token = String::from_str(rt.alloc(), token).ok()?;
-    Some(Handed { name, token })
+    Some(Linked { name, token })
 }
 
 /// What the link with this secret stands for. Its file in the folder has the secret as its name, and only one use can
 /// remove it. None if it was used, is too old, or never was.
-pub fn take_link<R>(rt: &R, folder: &str, secret: &Token) -> Option<Handed>
+pub fn take_link<R>(rt: &R, folder: &str, secret: &Token) -> Option<Linked>
 where
     R: Files<File = File> + Clock + AllocGlobal,
 {
