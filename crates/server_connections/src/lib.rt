@@ -3,6 +3,7 @@
 #![tactic(auto)]
 
 mod connections;
+mod fullness;
 mod marks;
 mod news;
 mod peer;

@@ -22,12 +22,6 @@ use std::time::Duration;
 // A connection for which more bytes wait is told to go.
 const MOST_UNSENT: usize = 1_048_576;
 
-// If more bytes wait for a window, what is typed into it has to wait until fewer than half of them do.
-const FULL: usize = 262_144;
-
-// More frames than these that were typed do the same, however short they are.
-const MOST_FRAMES: usize = 4_096;
-
 // A connection has this many seconds for its first message, and again to read its last frame.
 const PATIENCE: u64 = 10;
 
@@ -133,7 +127,7 @@ pub struct Peer<S> {
     /// The window into which its next keys go, if they do and that is known.
     pub types_into: Option<u32>,
     /// The window of which all loops were told that it is full.
-    full: Option<u32>,
+    pub(crate) full: Option<u32>,
     /// What it asked for waits until its user may cause more entries, until the users' file was looked
     /// at, or until its size may change again.
     pub is_held: bool,
@@ -328,31 +322,6 @@ impl<S: Drop> Peer<S> {
             ↔ ((listens self.now.stage ≡ true) × (1048576 < length self.now.turn.unsent)) }
     {
         self.listens() && self.turn.unsent() > MOST_UNSENT
-    }
-
-    // Whether what is typed into it has to wait, if it is a window: much waits for it, or it did and
-    // not little does now.
-    fn is_stuffed(&self) -> bool {
-        let (bytes, frames) = (self.turn.unsent(), self.turn.typed_frames());
-        if self.full.is_some() {
-            bytes >= FULL / 2 || frames >= MOST_FRAMES / 2
-        } else {
-            bytes > FULL || frames > MOST_FRAMES
-        }
-    }
-
-    /// What all loops are to be told of it: the window's serial, and whether what is typed into it has
-    /// to wait.
-    pub fn take_fullness(&mut self) -> Option<(u32, bool)> {
-        let full = match self.role {
-            Role::Window(window) if self.listens() && self.is_stuffed() => Some(window),
-            _ => None,
-        };
-        match (std::mem::replace(&mut self.full, full), full) {
-            (None, Some(window)) => Some((window, true)),
-            (Some(window), None) => Some((window, false)),
-            _ => None,
-        }
     }
 
     /// Whether it waits for this.

@@ -16,5 +16,7 @@ returns-in-Ok-clause-put g c =
       was = ap (λ (s : Slab (Peer g.row.S.Denot)). get s c.in-Some.key) (sym peers) ∙ sym c.in-Some-touch.ensures.value;
       turn = c.put.new.turn;
       put = c.in-Ok.ensures.ok;
-      new_is = ap (λ (s : Slab (Peer g.row.S.Denot)). with_value s c.in-Some.key (record c.in-Some-touch.peer.now { turn = c.put.new.turn })) peers;
+      new_is = ap
+          (λ (s : Slab (Peer g.row.S.Denot)).
+          with_value s c.in-Some.key (record c.in-Some-touch.peer.now { turn = c.put.new.turn })) peers;
     })
