@@ -10,8 +10,6 @@ mod page;
 #[cfg(test)]
 mod peer;
 #[cfg(test)]
-mod ready;
-#[cfg(test)]
 mod served;
 #[cfg(test)]
 mod together;

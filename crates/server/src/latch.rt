@@ -57,6 +57,11 @@ impl Latch {
         !loops.has_failed
     }
 
+    /// Whether a loop couldn't be started.
+    pub fn has_failed(&self, rt: &impl Wait) -> bool {
+        self.loops.lock(rt).has_failed
+    }
+
     /// Tells the loops whether they are to serve.
     pub fn open(&self, rt: &impl Wait, serve: bool) {
         self.loops.lock(rt).serve = Some(serve);

@@ -11,7 +11,7 @@ use server_session::{
 use server_system::{Host, LastLine, ServeFault, Setup, SocketPath};
 use server_trail::{Cause, Journal};
 use std::alloc::Global;
-use std::io::{self, Write};
+use std::io::Write;
 use std::rt::{HostRuntime, Stderr};
 use std::sync::Wait;
 use std::thread::Threads;
@@ -77,6 +77,9 @@ impl<G: Gate + Copy + Sync + Drop> Server<'_, G> {
     // How the server ended. `agrees` says whether every answer stands in the trail.
     fn outcome(&self, rt: &impl Wait, agrees: bool) -> Result<(), ServeFault> {
         match (self.shared.over.get().copied(), self.trail_fault(rt)) {
+            (Some(End::Fault) | None, _) if self.shared.latch.has_failed(rt) => {
+                Err(ServeFault::NoThread)
+            }
             (Some(End::Fault) | None, _) => Err(ServeFault::Loop),
             (Some(End::Quit), _) if !agrees => Err(ServeFault::Trail),
             (_, Some(fault)) => Err(fault),
@@ -104,7 +107,6 @@ impl<G: Gate + Copy + Sync + Drop> Server<'_, G> {
         match kept {
             Ok(agrees) => self.outcome(rt, agrees),
             Err(LoopsFault::NoMemory) => Err(ServeFault::NoMemory),
-            Err(LoopsFault::NoThread) => Err(ServeFault::NoThread),
             Err(LoopsFault::Untold(error)) => Err(ServeFault::Untold(error)),
             Err(LoopsFault::Setup(fault)) => Err(self.setup.wrong(alloc, fault)),
             Err(LoopsFault::Refused(number, said)) => Err(self.setup.refused(alloc, number, &said)),
@@ -147,21 +149,12 @@ where
         self.leave(rt);
     }
 
-    fn stand_by<B: FnOnce() -> io::Result<()> + Drop>(
-        &self,
-        rt: &R,
-        begun: B,
-    ) -> Option<io::Result<()>> {
-        let told = if self.shared.latch.await_all(rt) {
-            Some(begun())
-        } else {
-            None
-        };
-        self.shared.latch.open(rt, matches!(&told, Some(Ok(()))));
+    fn stand_by(&self, rt: &R) {
+        let is_whole = self.shared.latch.await_all(rt);
+        self.shared.latch.open(rt, is_whole);
         let mut errors = self.log;
         self.shared.log.write_all(rt, &mut errors);
         self.await_trail(rt);
-        told
     }
 
     fn recorder(&self, alloc: Global, loops: usize) -> Option<Recorder> {

@@ -28,8 +28,6 @@ const MOST: usize = 8;
 #[derive(Debug, Drop)]
 pub enum LoopsFault {
     NoMemory,
-    /// The system refused a thread.
-    NoThread,
     /// A line of the setup can be no command.
     Setup(SetupFault),
     /// The setup's line of this number was refused with this text.
@@ -69,17 +67,8 @@ pub trait LoopBody<P: Drop, R> {
     /// The system refused a loop its thread.
     fn fail(&self, rt: &R);
 
-    /// Runs in the thread that began the loops, until they have ended. Calls `begun` once they all
-    /// serve, and returns what it returns; None if they can't serve.
-    fn stand_by<B: FnOnce() -> io::Result<()> + Drop>(
-        &self,
-        rt: &R,
-        begun: B,
-    ) -> Option<io::Result<()>>
-        requires { B.IsAlwaysCallable begun }
-    {
-        Some(begun())
-    }
+    /// Runs in the thread that began the loops, until they have ended.
+    fn stand_by(&self, _rt: &R) {}
 
     /// What takes the trail's lines from this number of loops; None if no file is written.
     fn recorder(&self, _alloc: Global, _loops: usize) -> Option<Recorder> {
@@ -119,51 +108,41 @@ impl<L: Begun> RunningSession<L> {
 }
 
 // Runs every loop to its end, each in a thread of its own, with one of these seats and places.
-fn run_all<L, P, K, R, B>(
+fn run_all<L, P, K, R>(
     rt: &R,
     running: &RunningSession<L>,
-    beginnings: (Vec<Seat<L>>, Vec<P>),
+    mut seats: Vec<Seat<L>>,
+    places: Vec<P>,
     loop_body: &K,
-    begun: B,
-) -> Result<(), LoopsFault>
+)
 where
     L: Begun + Send + Sync,
     P: Send + Drop,
     K: LoopBody<P, R> + Sync,
     R: Clock + Threads + Wait + Sync,
-    B: FnOnce() -> io::Result<()> + Drop,
-    requires { B.IsAlwaysCallable begun }
 {
-    let (mut seats, places) = beginnings;
     thread::scope(thread::scope_env(), rt, |scope| {
-        if let Some(recorder) = &running.shared.recorder {
-            let writing = scope.spawn(move || loop_body.write_trail(rt, recorder));
-            if writing.is_err() {
-                return Err(LoopsFault::NoThread);
-            }
-        }
-        let mut is_refused = false;
         for place in places {
             let Some(seat) = seats.pop() else {
-                break;
+                return;
             };
             let started = scope.spawn(move || {
                 let left = loop_body.run(rt, &running.shared, seat, place);
                 running.leave(rt, left);
             });
             if started.is_err() {
-                is_refused = true;
                 loop_body.fail(rt);
                 running.leave(rt, None);
             }
         }
-        match loop_body.stand_by(rt, begun) {
-            Some(Ok(())) => Ok(()),
-            Some(Err(error)) => Err(LoopsFault::Untold(error)),
-            None if is_refused => Err(LoopsFault::NoThread),
-            None => Err(LoopsFault::NoMemory),
+        if let Some(recorder) = &running.shared.recorder {
+            let writing = scope.spawn(move || loop_body.write_trail(rt, recorder));
+            if writing.is_err() {
+                loop_body.fail(rt);
+            }
         }
-    })
+        loop_body.stand_by(rt);
+    });
 }
 
 // A new session of this owner.
@@ -260,7 +239,7 @@ where
     P: Send + Drop,
     K: LoopBody<P, R> + Sync,
     R: Clock + Threads + Wait + Sync,
-    B: FnOnce() -> io::Result<()> + Drop,
+    B: FnOnce() -> io::Result<()>,
     requires blank { (parts.blank.name ≡ L.name) × (parts.blank.parts ≡ L.parts)
         × (parts.loops ≡ L.parts) × (0 < parts.loops) × (parts.loops ≤ 8) }
     requires session { (L.edition ≡ Second) × (L.owner ≡ parts.owner) }
@@ -268,17 +247,20 @@ where
 {
     let Start { users, places, .. } = start;
     let (running, seats) = begin::<L, P, K, R>(rt, parts, users, loop_body)?;
-    let served = run_all(rt, &running, (seats, places), loop_body, begun);
+    let has_begun = begun();
+    if has_begun.is_ok() {
+        run_all(rt, &running, seats, places, loop_body);
+    }
     let RunningSession { shared, left } = running;
     let SharedSession { hub, .. } = shared;
     let (trail, wrong) = hub.close(left.into_inner());
-    served?;
+    has_begun.map_err(LoopsFault::Untold)?;
     loop_body.compare(rt, &trail);
     Ok(wrong.is_none())
 }
 
-/// Keeps a new session: runs a loop for each of 1 to 8 places, each in a thread of its own, and calls
-/// `begun` once they serve, until all have ended. The answer is whether every answer that a loop was given stands in the
+/// Keeps a new session: calls `begun`, and runs a loop for each of 1 to 8 places, each in a thread of
+/// its own, until all have ended. The answer is whether every answer that a loop was given stands in the
 /// session's trail.
 pub fn keep<P, K, R, B>(
     rt: &R,
@@ -290,7 +272,7 @@ where
     P: Send + Drop,
     K: LoopBody<P, R> + Sync,
     R: Clock + Threads + Wait + Sync,
-    B: FnOnce() -> io::Result<()> + Drop,
+    B: FnOnce() -> io::Result<()>,
     requires { B.IsAlwaysCallable begun }
 {
     let loops = start.places.len().clamp(1, MOST);
