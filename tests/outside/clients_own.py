@@ -305,7 +305,7 @@ def fitted_window():
                                  env={**os.environ, "MUX": WORDS.mux, "HOME": room})
         time.sleep(1)
         with Terminal(attach_words(server, "--fit")) as it:
-            assert it.is_drawn(), "it isn't attached"
+            assert it.has(b"0 sh", 20), f"it isn't attached: {it.out}"
             it.read(1)
             it.type(b"stty size\r")
             check("at the start", it.shows(b"22 80"), str(it.out[-200:]))
@@ -440,7 +440,7 @@ def survives():
         shell = subprocess.Popen(words, env={**os.environ, "MUX": WORDS.mux, "HOME": room})
         time.sleep(1)
         with Terminal([script("mux-attach"), *common, "--again", "20"]) as it:
-            assert it.is_drawn(), "it isn't attached"
+            assert it.has(b"0 sh", 20), f"it isn't attached: {it.out}"
             it.type(b"kept=$((6 * 7))\r")
             it.read(0.5)
             for count in range(3):
@@ -452,8 +452,9 @@ def survives():
                 words = [WORDS.muxd, "--socket", path, "--users", str(server.users)]
                 server.program = subprocess.Popen(words, stdout=subprocess.PIPE)
                 server.program.stdout.readline()
+                begin = len(it.out)
                 check("the page comes back", it.is_drawn())
-                it.read(0.5)
+                check("and the window", it.has(b"0 sh", 20, begin), str(it.out[begin:]))
                 it.type(b"echo here $kept $$\r")
                 check("with the same shell", it.shows(b"here 42"), str(it.out[-300:]))
             it.type(LEAVE)
