@@ -95,9 +95,6 @@ class Terminal(play.Terminal):
         """Whether the session is shown: a first draw resets the terminal."""
         return self.shows(b"\x1bc")
 
-    def children(self):
-        return [number for number, data in play.processes("stat") if int(play.stat_of(data)[1]) == self.pid]
-
 
 def run(words, seconds=60, **more):
     """Runs mux: its status, standard output and error, and how long it took."""
@@ -275,7 +272,7 @@ def suspended():
             it.shows(b"ready>")
             it.type(" ".join(attach_words(server)).encode() + b"\n")
             assert it.is_drawn(), "it isn't attached"
-            group = os.getpgid(it.children()[0])
+            group = os.getpgid(play.children(it.pid)[0])
             os.killpg(group, number)
             check(f"{name}: the shell is back", it.shows(b"ready>"))
             it.type(b"echo $((6 * 7))\n")
@@ -295,7 +292,7 @@ def killed_script():
             it.shows(b"ready>")
             it.type(" ".join(attach_words(server)).encode() + b"\n")
             assert it.is_drawn(), "it isn't attached"
-            os.kill(it.children()[0], signal.SIGKILL)
+            os.kill(play.children(it.pid)[0], signal.SIGKILL)
             check(f"{shell[0]}: the shell is back", it.shows(b"ready>", 5))
             it.read(1)
             it.type(b"echo $((6 * 7))\n")

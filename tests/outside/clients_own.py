@@ -1,32 +1,23 @@
 #!/usr/bin/env python3
 """What clients do by themselves: texts of the server, help, scrolling, fitting, coming back; and windows that stay.
 
-tests/outside/clients_own.py [--muxd PATH] [--mux PATH] [PART..] prints a line for each check, and ends with status 1 if
-one failed.  Needs perl.
+Needs perl.
 """
-
-import argparse
-import fcntl
 import os
 import random
-import re
-import signal
 import socket
-import struct
 import subprocess
 import sys
 import tempfile
-import termios
 import threading
 import time
 from pathlib import Path
 
 sys.dont_write_bytecode = True
-import clients
-import strain
-from clients import LEAVE, WELCOME, Fake, Terminal, attach_words, script, token_of
+import play
+from clients import LEAVE, WELCOME, Fake, Terminal, attach_words, token_of
 from peer import TOKEN, frame, pieces, two
-from strain import Server, check
+from play import WORDS, Server, check, once, read, script
 
 QUIT, REMOVED = frame(b"g", b"\x04"), frame(b"g", b"\x01")
 DROPPED = b"keys were dropped: they waited for a second"
@@ -36,7 +27,7 @@ class Client:
     """mux with pipes, beside a server that does what it is told."""
 
     def __init__(self, words, **more):
-        self.it = subprocess.Popen([strain.WORDS.mux, *words], stdin=subprocess.PIPE, stdout=subprocess.PIPE,
+        self.it = subprocess.Popen([WORDS.mux, *words], stdin=subprocess.PIPE, stdout=subprocess.PIPE,
                                    stderr=subprocess.PIPE, **more)
         self.out = b""
         threading.Thread(target=self.read, daemon=True).start()
@@ -62,10 +53,7 @@ class Client:
             pipe.close()
 
     def shows(self, text, seconds=5):
-        end = time.monotonic() + seconds
-        while text not in self.out and time.monotonic() < end:
-            time.sleep(0.01)
-        return text in self.out
+        return once(lambda: text in self.out, seconds, 0.01)
 
     def status(self, seconds=5):
         try:
@@ -124,16 +112,13 @@ class Servers:
         os.unlink(self.path)
 
     def frames(self):
-        return clients.Fake.frames(self)
+        return Fake.frames(self)
 
     def payload(self, kind):
         return b"".join(it for at, it in self.frames() if at == kind)
 
     def has(self, kind, data, seconds=5):
-        end = time.monotonic() + seconds
-        while data not in self.payload(kind) and time.monotonic() < end:
-            time.sleep(0.01)
-        return data in self.payload(kind)
+        return once(lambda: data in self.payload(kind), seconds, 0.01)
 
     def words(self, way, *more):
         who = ["--socket", self.path, "--user", "own", "--token", self.token]
@@ -150,7 +135,7 @@ class Servers:
 
 
 def said_later():
-    """A text of the server that no draw has is shown on the last line, with the place saved, until a key a second later."""
+    """A text of the server that no draw has is shown on the last line until a key a second later."""
     with Fake(WELCOME + frame(b"d", b"\x1bcpage") + frame(b"s", DROPPED + b"\x1b]0;x\x07")) as fake:
         with Client(fake.words()) as it:
             wanted = b"\x1b7\x1b[24;1H\x1b[0;7mmux: " + DROPPED + b"\\x1b]0;x\\x07\x1b[m\x1b[K\x1b8"
@@ -162,13 +147,15 @@ def said_later():
             it.type(b"b", 0.3)
             whole = two(24) + two(80)
             check("a key a second later asks for a whole draw",
-                  fake.frames()[1:] in ([(b"K", b"b"), (b"R", whole)], [(b"R", whole), (b"K", b"b")]), str(fake.frames()))
+                  fake.frames()[1:] in ([(b"K", b"b"), (b"R", whole)], [(b"R", whole), (b"K", b"b")]),
+                  str(fake.frames()))
     with Fake(WELCOME + frame(b"s", b"denied: w on window 0: entry bob -w") + frame(b"s", b"line: 1 at 0")) as fake:
         with Client(fake.words()) as it:
             time.sleep(0.5)
             check("texts of the session are the status line's", it.out == b"", str(it.out))
         with Fake(WELCOME + frame(b"s", b"line: 1 at 0")) as fake, Client(fake.words("--assist")) as it:
-            check("with --assist a refusal by number is explained", it.shows(b"line: 1 at 0 (unknown command)"), str(it.out))
+            check("with --assist a refusal by number is explained", it.shows(b"line: 1 at 0 (unknown command)"),
+                  str(it.out))
     # a draw that is cut at the longest frame: the text waits for its end
     long = (b"\x1b[m" * 3000)[:8192]
     with Fake(WELCOME + frame(b"d", long) + frame(b"s", DROPPED)) as fake, Client(fake.words()) as it:
@@ -183,9 +170,8 @@ def slow_program():
     """A window whose program reads nothing stays, stops reading the server, and loses nothing."""
     with Servers() as at:
         words = at.words("window", "--title", "sh")
-        client = {}
         ends = os.pipe()
-        it = subprocess.Popen([strain.WORDS.mux, *words], stdin=subprocess.PIPE, stdout=ends[1],
+        it = subprocess.Popen([WORDS.mux, *words], stdin=subprocess.PIPE, stdout=ends[1],
                               stderr=subprocess.PIPE)
         os.close(ends[1])
         at.begin()
@@ -222,15 +208,17 @@ def helped():
         time.sleep(0.2)
         check("draws wait outside", len(it.out) == shown, str(it.out[shown:]))
         it.type(b"q", 0.3)
-        check("a key asks for a whole draw, and isn't typed", fake.frames() == [(b"R", two(24) + two(80))], str(fake.frames()))
+        check("a key asks for a whole draw, and isn't typed", fake.frames() == [(b"R", two(24) + two(80))],
+              str(fake.frames()))
         fake.kept[-1].sendall(frame(b"d", b"\x1bcagain"))
         check("and draws are shown again", it.shows(b"\x1bcagain"))
         it.type(b"\x01\x01?\x01:?\r\x01a?\x01d", 0.3)
         typed = fake.typed()
-        check("in the prompt, after C-a C-a and after C-a a it is a key", typed == b"\x01\x01?\x01:?\r\x01a?\x01d", str(typed))
+        check("in the prompt, after C-a C-a and after C-a a it is a key", typed == b"\x01\x01?\x01:?\r\x01a?\x01d",
+              str(typed))
     with Fake(WELCOME) as fake, Client(fake.words()) as it:
-        it.type(b"\x01?", 0.3)
-        check("without --assist it is sent", fake.typed() == b"\x01?", str(fake.typed()))
+        it.type(b"\x01?")
+        check("without --assist it is sent", once(lambda: fake.typed() == b"\x01?", 5), str(fake.typed()))
 
 
 def scrolled():
@@ -274,7 +262,7 @@ def read_items(keys):
 
 
 def fitted():
-    """While somebody types, a terminal is resized 1,000 times: each size is sent, and nothing that is typed is lost or split."""
+    """While somebody types, a terminal is resized 1,000 times: nothing that is typed is lost or split."""
     rand = random.Random(7)
     with Fake(WELCOME) as fake:
         sizes = f"{fake.folder.name}/sizes"
@@ -282,7 +270,8 @@ def fitted():
         told = os.open(sizes, os.O_RDWR)
         with Client(fake.words("--fit", "--sizes", sizes)) as it:
             it.type(b"", 0.5)
-            alphabet = [b"ab", b"\x01n", b"\x01", b":", b"title x", b"\r", b"\x1b[A", b"\x01a", b"\x1b", b"c", b"\x7f", "é".encode()]
+            alphabet = [b"ab", b"\x01n", b"\x01", b":", b"title x", b"\r", b"\x1b[A", b"\x01a", b"\x1b", b"c", b"\x7f",
+                        "é".encode()]
             typed = b""
             for count in range(1000):
                 os.write(told, b"%d %d\n" % (24 + count % 100, 80 + count % 97))
@@ -297,12 +286,14 @@ def fitted():
             items = read_items(got)
             fits = items.count(("line", b"fit"))
             rest = [item for item in items if item != ("line", b"fit")]
-            check("what was typed reads as it was typed", rest == read_items(typed), f"{len(rest)} {len(read_items(typed))}")
+            check("what was typed reads as it was typed", rest == read_items(typed),
+                  f"{len(rest)} {len(read_items(typed))}")
             check("the window was fitted now and then, and not for each size", 20 < fits < 130, str(fits))
             frames = fake.frames()
             last = max(at for at, (kind, _) in enumerate(frames) if kind == b"R")
             fit = max(at for at, (_, data) in enumerate(frames) if data == b"\x01:fit\r")
-            check("at last after the last size", fit > last and frames[last][1] == two(24 + 999 % 100) + two(80 + 999 % 97), "")
+            check("at last after the last size",
+                  fit > last and frames[last][1] == two(24 + 999 % 100) + two(80 + 999 % 97))
         os.close(told)
 
 
@@ -311,15 +302,15 @@ def fitted_window():
     with Server() as server, tempfile.TemporaryDirectory() as room:
         common = ["--socket", server.path, "--user", "own", "--token", token_of(server)]
         shell = subprocess.Popen([script("mux-shell"), *common, "--title", "sh", "--rows", "10", "--cols", "40", "sh"],
-                                 env={**os.environ, "MUX": strain.WORDS.mux, "HOME": room})
+                                 env={**os.environ, "MUX": WORDS.mux, "HOME": room})
         time.sleep(1)
         with Terminal(attach_words(server, "--fit")) as it:
-            assert it.is_drawn(), "it isn't attached"
+            assert it.has(b"0 sh", 20), f"it isn't attached: {it.out}"
             it.read(1)
             it.type(b"stty size\r")
             check("at the start", it.shows(b"22 80"), str(it.out[-200:]))
             for rows, cols in ((30, 100), (20, 60)):
-                fcntl.ioctl(it.fd, termios.TIOCSWINSZ, struct.pack("HHHH", rows, cols, 0, 0))
+                it.resize(rows, cols)
                 it.read(1)
                 it.type(b"stty size\r")
                 check(f"after a change to {rows} by {cols}", it.shows(b"%d %d" % (rows - 2, cols)), str(it.out[-200:]))
@@ -329,7 +320,7 @@ def fitted_window():
 
 
 def attached_again():
-    """A client whose server goes comes back: it says so, drops keys, and ends by C-c, by its time, or where it is final."""
+    """A client whose server goes says so, drops keys, comes back, and ends by C-c, by its time, or at a final end."""
     with Servers() as at, Client(at.words("attach", "--again", "5")) as it:
         at.begin(WELCOME + frame(b"d", b"\x1bcone"))
         check("attached", it.shows(b"one"))
@@ -349,7 +340,8 @@ def attached_again():
     for name, last, mark, status in (("no word", b"", False, None), ("a full trail", frame(b"g", b"\7"), False, None),
                                      ("quit, planned", QUIT, True, None), ("quit", QUIT, False, 0),
                                      ("removed", REMOVED, False, 1), ("single-user", frame(b"g", b"\2"), False, 1),
-                                     ("a fault", frame(b"g", b"\6"), False, 1), ("detached", frame(b"g", b"\0"), False, 0)):
+                                     ("a fault", frame(b"g", b"\6"), False, 1),
+                                     ("detached", frame(b"g", b"\0"), False, 0)):
         with Servers() as at, Client(at.words("attach", "--again", "2")) as it:
             at.begin()
             time.sleep(0.2)
@@ -414,7 +406,7 @@ def stays():
             at.peer.sendall(frame(b"i", b"typed"))
             check("what is typed comes", it.shows(b"typed"))
             time.sleep(0.2)
-            check("the size is told again", Path(sizes).read_bytes() == b"24 80\n30 100\n30 100\n", Path(sizes).read_text())
+            check("the size is told again", read(sizes) == "24 80\n30 100\n30 100\n", read(sizes))
             at.end()
             time.sleep(0.2)
             block = b"".join(b"%07d\n" % number for number in range(131072))
@@ -444,11 +436,11 @@ def survives():
         server = Server()
         path, token = server.path, token_of(server)
         common = ["--socket", path, "--user", "own", "--token", token]
-        shell = subprocess.Popen([script("mux-shell"), *common, "--title", "sh", "--stay", "20", "env", "PS1=in> ", "sh"],
-                                 env={**os.environ, "MUX": strain.WORDS.mux, "HOME": room})
+        words = [script("mux-shell"), *common, "--title", "sh", "--stay", "20", "env", "PS1=in> ", "sh"]
+        shell = subprocess.Popen(words, env={**os.environ, "MUX": WORDS.mux, "HOME": room})
         time.sleep(1)
         with Terminal([script("mux-attach"), *common, "--again", "20"]) as it:
-            assert it.is_drawn(), "it isn't attached"
+            assert it.has(b"0 sh", 20), f"it isn't attached: {it.out}"
             it.type(b"kept=$((6 * 7))\r")
             it.read(0.5)
             for count in range(3):
@@ -457,11 +449,12 @@ def survives():
                 if os.path.exists(path):
                     os.unlink(path)
                 check("the client says so", it.shows(b"the server is gone"), str(it.out[-300:]))
-                words = [strain.WORDS.muxd, "--socket", path, "--users", str(server.users)]
+                words = [WORDS.muxd, "--socket", path, "--users", str(server.users)]
                 server.program = subprocess.Popen(words, stdout=subprocess.PIPE)
                 server.program.stdout.readline()
+                begin = len(it.out)
                 check("the page comes back", it.is_drawn())
-                it.read(0.5)
+                check("and the window", it.has(b"0 sh", 20, begin), str(it.out[begin:]))
                 it.type(b"echo here $kept $$\r")
                 check("with the same shell", it.shows(b"here 42"), str(it.out[-300:]))
             it.type(LEAVE)
@@ -473,26 +466,5 @@ def survives():
 PARTS = (said_later, slow_program, helped, scrolled, fitted, fitted_window, attached_again, stays, survives)
 
 
-def main():
-    reader = argparse.ArgumentParser(description=__doc__)
-    top = clients.TOP
-    reader.add_argument("--muxd", default=os.environ.get("MUXD", str(top / "bin/muxd")), help="the server's program")
-    reader.add_argument("--mux", default=os.environ.get("MUX", str(top / "bin/mux")), help="the client's program")
-    names = [play.__name__ for play in PARTS]
-    reader.add_argument("parts", nargs="*", metavar="PART", help=f"what is played, of {', '.join(names)}")
-    strain.WORDS = words = reader.parse_args()
-    for name in words.parts:
-        if name not in names:
-            reader.error(f"no part has the name {name}")
-    for play in PARTS:
-        if words.parts and play.__name__ not in words.parts:
-            continue
-        try:
-            play()
-        except (AssertionError, OSError, subprocess.TimeoutExpired) as error:
-            check(f"{play.__name__} is played to its end", False, f"{type(error).__name__}: {error}")
-    sys.exit(1 if strain.failed else 0)
-
-
 if __name__ == "__main__":
-    main()
+    play.main(PARTS)

@@ -14,7 +14,7 @@ sys.dont_write_bytecode = True
 import play
 from peer import (DETACH, DONE, DRAW, KEYS, NO_WINDOW, OUTPUT, RESIZE, SAY, attach, command, cut, frame, pieces, two,
                   window)
-from play import WORDS, Server, all_of, check, has_come, welcome
+from play import WORDS, Server, all_of, check, has_come, once, welcome
 
 GUEST, STRANGER = (b"eve", b"1" * 64), (b"zoe", b"2" * 64)
 MB = 1_000_000
@@ -348,14 +348,6 @@ def denied_later():
         check("a command by keys waits for a second at most", took < 1.5, f"{took:.2f} s")
 
 
-def waits_for(is_so, seconds=30):
-    """Whether something is so within these seconds."""
-    end = time.monotonic() + seconds
-    while not is_so() and time.monotonic() < end:
-        time.sleep(0.02)
-    return bool(is_so())
-
-
 def pasted():
     """A paste of 3 MB waits for a window that doesn't read: the window stays, commands by keys are done, and all of it
     arrives in order."""
@@ -385,13 +377,13 @@ def pasted():
         third.sendall(frame(KEYS, b"!"))
         time.sleep(0.2)
         third.sendall(frame(KEYS, b"\x01d"))
-        check("a command that no keys are before is done", waits_for(left.gone, 5))
+        check("a command that no keys are before is done", once(left.gone, 5))
         shell = Listener(shell)
         length = len(data) + 4
-        check("all of it arrives once the window reads", waits_for(lambda: len(shell.typed()) >= length, 60),
+        check("all of it arrives once the window reads", once(lambda: len(shell.typed()) >= length, 60),
               f"{len(shell.typed())} of {length}")
         check("in order", shell.typed().replace(b"!", b"") == data)
-        check("and so does the command that waited", waits_for(told.gone, 5))
+        check("and so does the command that waited", once(told.gone, 5))
 
 
 def left_behind(name, take, marks):
@@ -411,7 +403,7 @@ def left_behind(name, take, marks):
         check(f"{name}: it is taken", server.give(take).endswith(DONE))
         time.sleep(0.5)
         shell = Listener(shell)
-        check(f"{name}: what the owner typed arrives", waits_for(lambda: b"mine" in shell.typed()))
+        check(f"{name}: what the owner typed arrives", once(lambda: b"mine" in shell.typed()))
         time.sleep(1)
         check(f"{name}: what the guest typed ahead doesn't", b"evil" not in shell.typed(), str(shell.typed()[-20:]))
         if marks:
@@ -419,7 +411,7 @@ def left_behind(name, take, marks):
             time.sleep(2)
             check(f"{name}: nor after the right is given back", b"evil" not in shell.typed())
             client.sendall(frame(KEYS, b"good"))
-            check(f"{name}: what they type then does", waits_for(lambda: shell.typed().endswith(b"good"), 5))
+            check(f"{name}: what they type then does", once(lambda: shell.typed().endswith(b"good"), 5))
         del heard
 
 
@@ -438,7 +430,7 @@ def taken_back():
         time.sleep(1)
         assert server.give(b"windows").endswith(DONE)
         shell = Listener(shell)
-        check("what somebody typed who left arrives", waits_for(lambda: shell.typed().endswith(b"last\r")),
+        check("what somebody typed who left arrives", once(lambda: shell.typed().endswith(b"last\r")),
               str(shell.typed()[-20:]))
 
 
@@ -486,13 +478,13 @@ def reads_only():
             path = f"{folder}/trail"
             with Server(words=("--trail", path)) as server:
                 admit(server)
-                shell = server.admit(window())
-                for line in (b"aclchg eve +x detach,scrollview", b"aclchg eve +r 0"):
-                    assert server.give(line).endswith(DONE), line
-                attack = Attack(server.path, 4, lambda _: attach(*GUEST), data)
-                time.sleep(WORDS.seconds)
-                attack.stop()
-                assert server.give(b"quit").endswith(DONE) and server.ends_within(10) == 0
+                with server.admit(window()):
+                    for line in (b"aclchg eve +x detach,scrollview", b"aclchg eve +r 0"):
+                        assert server.give(line).endswith(DONE), line
+                    attack = Attack(server.path, 4, lambda _: attach(*GUEST), data)
+                    time.sleep(WORDS.seconds)
+                    attack.stop()
+                    assert server.give(b"quit").endswith(DONE) and server.ends_within(10) == 0
             entries = Path(path).read_bytes().count(b"\n")
             most = 2_000 + 6 * (WORDS.seconds + 5) + 50
             check(f"{name}: at most 2,000 entries at once, then six a second", entries < most, f"{entries}")

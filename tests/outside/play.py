@@ -7,6 +7,7 @@ import argparse
 import collections
 import contextlib
 import fcntl
+import functools
 import os
 import pty
 import pwd
@@ -70,6 +71,17 @@ def skip(why):
     """Ends a play that can't be played here."""
     print(f"{os.path.basename(sys.argv[0])}: it can't be played here: {why}")
     sys.exit(2)
+
+
+def for_root(part):
+    """A part that is left out without root."""
+    @functools.wraps(part)
+    def played():
+        if os.getuid():
+            left_out(part.__name__, "it needs root")
+        else:
+            part()
+    return played
 
 
 def once(holds, seconds=15, pause=0.05):
@@ -184,6 +196,27 @@ def processes(file="cmdline"):
 def stat_of(data):
     """The fields of a stat of /proc after the name: the state, the parent, the group, the session, the terminal, .."""
     return data.rpartition(b") ")[2].decode().split()
+
+
+def children(pid):
+    """The children of a process."""
+    return sorted(number for number, data in processes("stat") if int(stat_of(data)[1]) == pid)
+
+
+def tree(pid):
+    """The descendants of a process."""
+    found = [pid]
+    for it in found:
+        found += children(it)
+    return set(found[1:])
+
+
+def command_of(pid):
+    """The words of a process."""
+    try:
+        return read(f"/proc/{pid}/cmdline").replace("\0", " ").strip()
+    except OSError:
+        return ""
 
 
 def kill(numbers, sign=signal.SIGKILL):

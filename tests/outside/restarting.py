@@ -1,7 +1,5 @@
-"""Sessions of `muxd-run --again` in folders of their own, their windows and their trails, for plays of restarts.
-
-MUX_BIN names the folder of the programs (bin/, if it isn't set), MUX_CONTRIB that of the scripts.
-"""
+"""Sessions of `muxd-run --again` in folders of their own, their windows and their trails, for plays of restarts."""
+import contextlib
 import os
 import subprocess
 import tempfile
@@ -9,12 +7,9 @@ import threading
 import time
 
 import peer
+from play import WORDS, once, processes, read, run, script
 
-TOP = os.path.dirname(os.path.dirname(os.path.dirname(os.path.realpath(__file__))))
-BIN = os.environ.get("MUX_BIN", f"{TOP}/bin")
-CONTRIB = os.environ.get("MUX_CONTRIB", f"{TOP}/contrib")
 USERS = ["own", "ann", "bob", "eve", "kim", "gus"]
-failed = []
 # Names and commands of random lines.
 NAMES = ["ann", "bob", "eve", "kim", "lee", "max", "ned", "oda", "pia", "quo", "rex", "sue"]
 COMMANDS = ("acladd aclchg acldel aclgrp aclumask writelock defwritelock multiuser wall detach select next prev "
@@ -22,18 +17,17 @@ COMMANDS = ("acladd aclchg acldel aclgrp aclumask writelock defwritelock multius
             "displays quit").split()
 
 
-def check(name, is_so, said=""):
-    print(f"{'ok      ' if is_so else 'FAILED  '}{name}{'' if is_so else f': {said}'}", flush=True)
-    if not is_so:
-        failed.append(name)
+def programs():
+    """The environment in which scripts call the programs that are played."""
+    known = {name: value for name, value in os.environ.items() if not name.startswith("MUX")}
+    return {**known, "MUXD": WORDS.muxd, "MUX": WORDS.mux, "MUX_TRAIL": WORDS.mux_trail}
 
 
 class Trail:
     """Users' own bits on windows, and windows by serial, after the entries up to each place."""
 
     def __init__(self, path):
-        with open(path, encoding="ascii") as file:
-            data = file.read()
+        data = read(path)
         self.path, self.lines = path, data[: data.rfind("\n") + 1].splitlines()
         self.known, self.bits, self.windows, self.masks, self.preset = [], {}, {}, {}, set("rwx")
 
@@ -107,26 +101,16 @@ class Session:
 
     def followers(self):
         """The processes of mux-again."""
-        found = []
-        for number in filter(str.isdigit, os.listdir("/proc")):
-            try:
-                with open(f"/proc/{number}/cmdline", "rb") as file:
-                    words = file.read().split(b"\0")
-            except OSError:
-                continue
-            if self.socket.encode() in words and any(word.endswith(b"mux-again") for word in words):
-                found.append(int(number))
-        return found
+        return [number for number, data in processes() if self.socket.encode() in (words := data.split(b"\0"))
+                and any(word.endswith(b"mux-again") for word in words)]
 
     def write_users(self, users):
         peer.write_private(f"{self.at}/users", "".join(f"{user} {self.tokens[user]}\n" for user in users).encode())
 
     def begin(self):
-        env = {**os.environ, "MUXD": f"{BIN}/muxd", "MUX": f"{BIN}/mux", "MUX_TRAIL": f"{BIN}/mux-trail"}
         words = ["--socket", self.socket, "--users", f"{self.at}/users", "--trails", f"{self.at}/trails", "--again",
-                 self.again,
-                 "--setup", f"{self.at}/first"]
-        return subprocess.Popen([f"{CONTRIB}/muxd-run", *words], env=env, stdout=subprocess.PIPE, stderr=self.log,
+                 self.again, "--setup", f"{self.at}/first"]
+        return subprocess.Popen([script("muxd-run"), *words], env=programs(), stdout=subprocess.PIPE, stderr=self.log,
                                 stdin=subprocess.DEVNULL)
 
     def start(self):
@@ -136,8 +120,7 @@ class Session:
             raise RuntimeError(f"the server isn't ready: {said} {self.said()[-500:]}")
 
     def said(self):
-        with open(f"{self.at}/log", encoding="utf-8", errors="replace") as file:
-            return file.read()
+        return read(f"{self.at}/log")
 
     def kill(self):
         self.server.kill()
@@ -146,9 +129,8 @@ class Session:
 
     def stop(self, *words):
         """Ends it by muxd-stop."""
-        env = {**os.environ, "MUX": f"{BIN}/mux"}
-        done = subprocess.Popen([f"{CONTRIB}/muxd-stop", "--socket", self.socket, "--users", f"{self.at}/users", *words,
-                                 str(self.server.pid)], env=env)
+        done = subprocess.Popen([script("muxd-stop"), "--socket", self.socket, "--users", f"{self.at}/users", *words,
+                                 str(self.server.pid)], env=programs())
         self.server.wait(60)
         done.wait(60)
         self.server.stdout.close()
@@ -175,15 +157,11 @@ class Session:
         raise RuntimeError("muxd has no trail")
 
     def until(self, holds, seconds):
-        end = time.monotonic() + seconds
-        while time.monotonic() < end:
-            try:
-                if holds():
-                    return True
-            except OSError:
-                pass
-            time.sleep(0.02)
-        return False
+        """Whether something holds within this time, in which the server may be gone."""
+        def does():
+            with contextlib.suppress(OSError):
+                return holds()
+        return once(does, seconds, 0.02)
 
     def is_back(self, seconds=25):
         """Whether all came back, and is in the file."""
@@ -200,8 +178,7 @@ class Session:
 
     def state(self):
         """What mux-trail who says, rights by window, and the list of windows."""
-        said = subprocess.run([f"{BIN}/mux-trail", "who", self.trail()], capture_output=True, text=True,
-                              check=True).stdout
+        said = run(WORDS.mux_trail, "who", self.trail(), check=True).stdout
         lists = [line for line in said.splitlines() if line.split()[0] in ("user", "commands", "masks", "newcomer")]
         held = sorted(line.split()[4] for line in said.splitlines() if line.startswith("window ")
                       and " held by " in line)

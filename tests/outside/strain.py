@@ -131,8 +131,8 @@ def few_descriptors():
 
 def winding_up():
     with Server() as server:
-        deaf = server.admit(window())
-        client = server.admit(attach())
+        # The window is one that reads nothing.
+        client, _ = server.admit(attach()), server.admit(window())
         for _ in range(60):
             client.sendall(frame(KEYS, b"x" * 8192))
         stop = threading.Event()
