@@ -47,14 +47,7 @@ pub struct Server<'a, G> {
     pub journal: Option<Journal<'a>>,
 }
 
-impl<G: Gate + Copy + Sync + Drop> Server<'_, G> {
-    // The fault of the trail's file, if there is one.
-    fn trail_fault(&self, rt: &impl Wait) -> Option<ServeFault> {
-        let journal = self.journal.as_ref()?;
-        let fault = journal.fault(rt)?;
-        Some(ServeFault::of_trail(self.shared.alloc, journal.path(), fault))
-    }
-
+impl<G: Drop> Server<'_, G> {
     // A loop has ended. After the last one nobody can connect, so another server may take the place.
     fn leave(&self, rt: &impl Wait) {
         if self.shared.log.leave(rt) {
@@ -72,6 +65,15 @@ impl<G: Gate + Copy + Sync + Drop> Server<'_, G> {
             let path = journal.path();
             let _ = writeln!(errors, "muxd: trail {path}: waits for its disk");
         }
+    }
+}
+
+impl<G: Gate + Copy + Sync + Drop> Server<'_, G> {
+    // The fault of the trail's file, if there is one.
+    fn trail_fault(&self, rt: &impl Wait) -> Option<ServeFault> {
+        let journal = self.journal.as_ref()?;
+        let fault = journal.fault(rt)?;
+        Some(ServeFault::of_trail(self.shared.alloc, journal.path(), fault))
     }
 
     // How the server ended. `agrees` says whether every answer stands in the trail.
