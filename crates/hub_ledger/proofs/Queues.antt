@@ -15,7 +15,7 @@ use Rattle.session_laws.proofs.Lists.{equal, itself}
 use Rattle.session_model.specs.declared.event.Effect.{Effect}
 use Rattle.session_model.specs.declared.event.Effect.TheVariants.{Input, Deliver, Say, Size, Gone}
 use Rattle.session_model.specs.declared.event.Peer.TheVariants as peer
-use Rattle.hub_ledger.specs.Peers.{Owners, AreSeats, seat_of, HasPeer}
+use Rattle.hub_peers.specs.Peers.{Owners, AreSeats, seat_of, HasPeer}
 use Rattle.hub_ledger.specs.Routing.{Sent, is_for, sent_by, views}
 use Rattle.hub_ledger.proofs.Places.{slice_get-set, slice_get-set_here, slice_get-set_other}
 

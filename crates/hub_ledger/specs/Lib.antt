@@ -5,6 +5,5 @@ pub mod Faults
 pub mod Seats
 pub mod Closing
 pub mod Laws
-pub mod Peers
 pub mod Routing
 pub mod Rising

@@ -9,7 +9,7 @@ use Rattle.std.specs.declared.alloc.Global.{Global}
 use Rattle.session_model.specs.declared.event.Effect.{Effect}
 use Rattle.session_model.specs.declared.event.Effect.TheVariants.{Input}
 use Rattle.session_model.specs.Trace.{EventValue, Draw, Keys, Output}
-use Rattle.hub_ledger.specs.Peers.{Owners, seat_of}
+use Rattle.hub_peers.specs.Peers.{Owners, seat_of}
 
 -- an effect, with the client that typed it
 abbrev pub Sent : Type 0

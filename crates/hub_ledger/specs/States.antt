@@ -10,7 +10,7 @@ use Rattle.session_core.specs.Noted.{Noted}
 pub use Rattle.session_core.specs.Stands.{StandsFor, entry_of}
 use Rattle.hub_trail.specs.Trails.{Trail}
 use Rattle.hub_trail.specs.Filing.{filed, trail_of}
-use Rattle.hub_ledger.specs.Peers.{Owners, AreSeats, owners_of, with_peers}
+use Rattle.hub_peers.specs.Peers.{Owners, AreSeats, owners_of, with_peers}
 use Rattle.hub_ledger.specs.Routing.{Sent, views, AreRouted, marked, typed_in, typist_of}
 use Rattle.hub_ledger.specs.declared.growing_trail.GrowingTrail.{GrowingTrail}
 use Rattle.hub_ledger.specs.declared.filed_session.FiledSession.{FiledSession}

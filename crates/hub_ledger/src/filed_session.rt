@@ -17,12 +17,12 @@ ghost use Rattle.hub_ledger.specs.declared.ledger.TheConstants.{FULL};
 
 use crate::growing_trail::GrowingTrail;
 use crate::ledger::{FULL, Foreign, Full, HubFault};
-use crate::peers::Peers;
 use crate::prepared::Prepared;
 use crate::receipt::are_below;
 use crate::waiting::{SeatEffects, typed_in, typist_of};
 use acl::{Edition, UserId};
 use hub_check::all_pass;
+use hub_peers::Peers;
 use hub_record::{EntryList, KeptReply, Receipts, TrailEntry};
 use hub_trail::asks_for_command;
 use session_core::{Notes, Session};

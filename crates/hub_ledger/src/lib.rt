@@ -10,7 +10,6 @@ mod growing_trail;
 mod handed;
 mod laws;
 mod ledger;
-mod peers;
 mod prepared;
 mod receipt;
 mod seat;

@@ -10,7 +10,7 @@ use Rattle.std.proofs.lemmas.List.{length-map}
 use Rattle.std.proofs.lemmas.Option.{slice_get-get_or}
 use Rattle.session_laws.proofs.Lists.{all_weaken}
 use Rattle.session_model.specs.declared.event.Effect.{Effect}
-use Rattle.hub_ledger.specs.Peers.{HasPeer, owners_of, seat_of}
+use Rattle.hub_peers.specs.Peers.{HasPeer, owners_of, seat_of}
 use Rattle.hub_ledger.specs.Routing.{Sent, views}
 use Rattle.hub_ledger.proofs.Queues.{Waits, seat_there, seat_within, more_waits, room_left, append_turned}
 use Rattle.hub_ledger.proofs.waiting.route.Goals as goal

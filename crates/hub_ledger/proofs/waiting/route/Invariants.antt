@@ -4,7 +4,7 @@ use Rattle.std.specs.List.{AllByRecursion}
 use Rattle.std.specs.Vec.Iter.{into_iter_items}
 use Rattle.std.specs.declared.vec.Vec.{Vec}
 use Rattle.std.specs.declared.alloc.Global.{Global}
-use Rattle.hub_ledger.specs.Peers.{HasPeer, owners_of}
+use Rattle.hub_peers.specs.Peers.{HasPeer, owners_of}
 use Rattle.hub_ledger.specs.Routing.{Sent, views}
 use Rattle.hub_ledger.proofs.Queues.{Waits}
 use Rattle.hub_ledger.proofs.waiting.route.Given as goal

@@ -6,7 +6,7 @@ use Rattle.std.proofs.lemmas.List.{length-map}
 use Rattle.session_model.specs.Trace.{happening}
 use Rattle.session_core.specs.Stands.{entry_of, wants_memory}
 use Rattle.hub_trail.specs.Filing.{kept_of}
-use Rattle.hub_ledger.specs.Peers.{HasPeer, Owners, owners_of, with_peers}
+use Rattle.hub_peers.specs.Peers.{HasPeer, Owners, owners_of, with_peers}
 use Rattle.hub_ledger.specs.Routing.{Sent, views, marked, typed_in, typist_of, AreRouted}
 use Rattle.hub_ledger.specs.Slips.{with_entries, written}
 use Rattle.hub_ledger.specs.States.{state_of, trail_in}

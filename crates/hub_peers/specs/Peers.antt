@@ -9,7 +9,7 @@ use Rattle.session_model.specs.declared.event.Effect.TheVariants.{Gone}
 use Rattle.session_model.specs.declared.event.Peer.TheVariants as peer
 use Rattle.session_model.specs.Trace.{EventValue, Reply}
 use Rattle.hub_trail.specs.Peers.{attaches, opens}
-use Rattle.hub_ledger.specs.declared.peers.Peers.{Peers}
+use Rattle.hub_peers.specs.declared.peers.Peers.{Peers}
 
 -- the seats of clients, and those of windows, by serial
 pub record Owners : Type 0 where
