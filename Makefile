@@ -83,7 +83,7 @@ lint:
 	@for file in $(shell grep -s -l -m 1 '^.!/usr/bin/perl' contrib/*); do perl -c $$file || exit 1; done
 	tic -c contrib/mux.ti
 	cat contrib/mux.ti contrib/vt220.ti | tic -c /dev/stdin
-	cd man && mandoc -T lint *.1 *.5 *.8
+	@for page in man/*.[158]; do man/whole $$page | mandoc -T lint -W warning || exit 1; done
 	tests/outside/empty_edits
 	tools/edits --look
 	tools/lint
