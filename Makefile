@@ -75,7 +75,7 @@ outside:
 PYTHON = $(sort $(wildcard bench/*.py tests/outside/*.py) \
     $(shell grep -s -l -m 1 '^.!.*python3' tools/* examples/* tests/outside/*))
 lint:
-	shellcheck -x -s sh $(SCRIPTS) contrib/MuxShare/options.sh contrib/lib/mux.sh $(shell grep -l -m 1 '^.!/bin/sh' examples/* tests/outside/*)
+	shellcheck -x -s sh $(SCRIPTS) contrib/lib/mux.sh $(shell grep -l -m 1 '^.!/bin/sh' examples/* tests/outside/*)
 	shellcheck -s bash contrib/completions/mux.bash
 	@for file in $(PYTHON); do \
 	    python3 -c 'import sys; compile(open(sys.argv[1]).read(), sys.argv[1], "exec")' $$file || exit 1; \
