@@ -62,15 +62,16 @@
     }
     flush();
   };
+  // Blanks at the end of a row that show nothing are no part of what you copy.
+  const trimmed = (runs) => {
+    if (runs.length && !(runs[runs.length - 2] & 0xf0a)) runs.push(runs.pop().replace(/ +$/, ""));
+    return JSON.stringify(runs);
+  };
   const paint = (row, text) => {
     const runs = JSON.parse(text);
     row.runs = text;
     row.replaceChildren();
-    for (let i = 0; i < runs.length; i += 2) {
-      // Blanks at the end of a row that show nothing are no part of what you copy.
-      const isBare = i + 2 === runs.length && !(runs[i] & 0xf0a);
-      put(row, runs[i], isBare ? runs[i + 1].replace(/ +$/, "") : runs[i + 1]);
-    }
+    for (let i = 0; i < runs.length; i += 2) put(row, runs[i], runs[i + 1]);
     // Without a break an empty row would be no line of what you copy.
     if (!row.firstChild) row.append(document.createElement("br"));
   };
@@ -90,13 +91,14 @@
       page.insertBefore(document.createElement("div"), page.children[last] || null);
     }
   };
-  const show = ([rows, , line, column, shown, inverted, arrows, ...changed]) => {
+  const show = ([rows, columns, line, column, shown, inverted, arrows, ...changed]) => {
     while (page.children.length > rows) page.lastChild.remove();
     while (page.children.length < rows) page.append(document.createElement("div"));
     const wanted = [...page.children].map((row) => row.runs);
-    for (const [n, ...runs] of changed) wanted[n] = JSON.stringify(runs);
+    for (const [n, ...runs] of changed) wanted[n] = trimmed(runs);
     if (changed.length > 1) scroll(wanted, changed[0][0], changed[changed.length - 1][0]);
     wanted.forEach((text, n) => text === page.children[n].runs || paint(page.children[n], text));
+    frame.style.setProperty("--columns", columns);
     app = arrows === 1;
     frame.classList.toggle("inverted", inverted === 1);
     it("cursor").hidden = !shown;
