@@ -156,7 +156,12 @@ impl<'a> Bridge<'a> {
     }
 
     // Takes browsers that wait at the listeners. Returns whether more may be taken at once.
-    fn accept_all(&mut self, listeners: &[WebListener], registry: &Registry, now: Duration) -> bool {
+    fn accept_all(
+        &mut self,
+        listeners: &[WebListener],
+        registry: &Registry,
+        now: Duration,
+    ) -> bool {
         let mut has_more = false;
         if self.has_comers {
             self.has_comers = false;
@@ -322,7 +327,11 @@ impl Bridge<'_> {
 }
 
 /// Serves until the system refuses to wait.
-pub fn serve<R: Host + Wait>(rt: &R, bridge: Bridge<'_>, listeners: Vec<WebListener>) -> io::Result<()> {
+pub fn serve<R: Host + Wait>(
+    rt: &R,
+    bridge: Bridge<'_>,
+    listeners: Vec<WebListener>,
+) -> io::Result<()> {
     let mut bridge = bridge;
     let mut listeners = listeners;
     let mut poll = Poll::new(rt)?;

@@ -113,7 +113,8 @@ impl Relay {
     /// Whether its page says now who it is: a user, or one who watches.
     pub fn begins(&mut self) -> bool {
         let begins = match &self.visitor.identity {
-            Identity::Own(_) | Identity::Watching(_, _) => !self.has_begun && self.visitor.is_open(),
+            Identity::Own(_) | Identity::Watching(_, _) => !self.has_begun
+                && self.visitor.is_open(),
             _ => false,
         };
         self.has_begun = self.has_begun || begins;
@@ -234,7 +235,9 @@ impl Relay {
     // Writes what its own client has for the server.
     fn write_server(&mut self) {
         let is_lost = match (&mut self.server, &mut self.visitor.identity) {
-            (Upstream::Connected(server), Identity::Own(client)) => { client.send_all(server).is_err() }
+            (Upstream::Connected(server), Identity::Own(client)) => {
+                client.send_all(server).is_err()
+            }
             _ => false,
         };
         if is_lost {

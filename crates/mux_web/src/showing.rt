@@ -3,6 +3,7 @@
 use crate::halls::Halls;
 use crate::log::WebLog;
 use crate::relay::{ENDED, Relay};
+use crate::streams::Around;
 use std::alloc::AllocGlobal;
 use std::fs::{File, Files};
 use std::net::Net;
