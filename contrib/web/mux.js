@@ -97,7 +97,7 @@
     const wanted = [...page.children].map((row) => row.runs);
     for (const [n, ...runs] of changed) wanted[n] = trimmed(runs);
     if (changed.length > 1) scroll(wanted, changed[0][0], changed[changed.length - 1][0]);
-    wanted.forEach((text, n) => text === page.children[n].runs || paint(page.children[n], text));
+    wanted.forEach((text, n) => !text || text === page.children[n].runs || paint(page.children[n], text));
     frame.style.setProperty("--columns", columns);
     app = arrows === 1;
     frame.classList.toggle("inverted", inverted === 1);
@@ -338,7 +338,15 @@
     else if (value !== " ") typed(plain(value.replace(/^ /, "")));
   };
   screen.addEventListener("keydown", (event) => {
-    if (event.isComposing || event.keyCode === 229 || bar.contains(event.target)) return;
+    if (event.isComposing || event.keyCode === 229) return;
+    // Tab goes to the window, so Ctrl-F10 goes to the buttons, and Escape comes back.
+    const isOut = event.target.matches("button");
+    const [first] = [...screen.querySelectorAll("button")].filter((it) => it.offsetWidth);
+    if (isOut && event.key === "Escape") keys.focus();
+    else if (event.ctrlKey && event.key === "F10" && first) first.focus();
+    else if (!isOut) press(event);
+  });
+  const press = (event) => {
     if (!alive && event.key === "Escape" && user) {
       end(WHY[0]);
       return;
@@ -353,7 +361,7 @@
     if (found === undefined) return;
     event.preventDefault();
     typed(found);
-  });
+  };
   keys.addEventListener("compositionstart", () => keys.classList.add("composing"));
   keys.addEventListener("compositionend", () => {
     keys.classList.remove("composing");
