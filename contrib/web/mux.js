@@ -62,20 +62,43 @@
     }
     flush();
   };
-  const paint = (row, runs) => {
+  // Blanks at the end of a row that show nothing are no part of what you copy.
+  const trimmed = (runs) => {
+    if (runs.length && !(runs[runs.length - 2] & 0xf0a)) runs.push(runs.pop().replace(/ +$/, ""));
+    return JSON.stringify(runs);
+  };
+  const paint = (row, text) => {
+    const runs = JSON.parse(text);
+    row.runs = text;
     row.replaceChildren();
-    for (let i = 0; i < runs.length; i += 2) {
-      // Blanks at the end of a row that show nothing are no part of what you copy.
-      const isBare = i + 2 === runs.length && !(runs[i] & 0xf0a);
-      put(row, runs[i], isBare ? runs[i + 1].replace(/ +$/, "") : runs[i + 1]);
-    }
+    for (let i = 0; i < runs.length; i += 2) put(row, runs[i], runs[i + 1]);
     // Without a break an empty row would be no line of what you copy.
     if (!row.firstChild) row.append(document.createElement("br"));
   };
-  const show = ([rows, , line, column, shown, inverted, arrows, ...changed]) => {
+  // Output scrolls: most of these rows are now what rows below them were.  Then those move, and what is selected there
+  // stays selected.
+  const scroll = (wanted, first, last) => {
+    const old = [...page.children].map((row) => row.runs);
+    let best = 0, most = 0;
+    for (let by = 1; by <= last - first; by++) {
+      let same = 0;
+      for (let n = first; n <= last - by; n++) same += wanted[n] === old[n + by] && /"[^"]*[^ "]/.test(wanted[n]);
+      if (same > most) [best, most] = [by, same];
+    }
+    if (2 * most <= last - first - best) return;
+    for (let n = 0; n < best; n++) {
+      page.children[first].remove();
+      page.insertBefore(document.createElement("div"), page.children[last] || null);
+    }
+  };
+  const show = ([rows, columns, line, column, shown, inverted, arrows, ...changed]) => {
     while (page.children.length > rows) page.lastChild.remove();
     while (page.children.length < rows) page.append(document.createElement("div"));
-    for (const [n, ...runs] of changed) paint(page.children[n], runs);
+    const wanted = [...page.children].map((row) => row.runs);
+    for (const [n, ...runs] of changed) wanted[n] = trimmed(runs);
+    if (changed.length > 1) scroll(wanted, changed[0][0], changed[changed.length - 1][0]);
+    wanted.forEach((text, n) => !text || text === page.children[n].runs || paint(page.children[n], text));
+    frame.style.setProperty("--columns", columns);
     app = arrows === 1;
     frame.classList.toggle("inverted", inverted === 1);
     it("cursor").hidden = !shown;
@@ -315,7 +338,15 @@
     else if (value !== " ") typed(plain(value.replace(/^ /, "")));
   };
   screen.addEventListener("keydown", (event) => {
-    if (event.isComposing || event.keyCode === 229 || bar.contains(event.target)) return;
+    if (event.isComposing || event.keyCode === 229) return;
+    // Tab goes to the window, so Ctrl-F10 goes to the buttons, and Escape comes back.
+    const isOut = event.target.matches("button");
+    const [first] = [...screen.querySelectorAll("button")].filter((it) => it.offsetWidth);
+    if (isOut && event.key === "Escape") keys.focus();
+    else if (event.ctrlKey && event.key === "F10" && first) first.focus();
+    else if (!isOut) press(event);
+  });
+  const press = (event) => {
     if (!alive && event.key === "Escape" && user) {
       end(WHY[0]);
       return;
@@ -330,7 +361,7 @@
     if (found === undefined) return;
     event.preventDefault();
     typed(found);
-  });
+  };
   keys.addEventListener("compositionstart", () => keys.classList.add("composing"));
   keys.addEventListener("compositionend", () => {
     keys.classList.remove("composing");
@@ -400,7 +431,10 @@
     secret = null;
     ends = 0;
     clearTimeout(again);
-    say(text, isFault);
+    // What is wrong with the name or the key stands there.
+    const isWrong = text === "unknown user or wrong token";
+    it("wrong").textContent = isWrong ? "Nobody has this name and this key." : "";
+    say(isWrong ? "" : text, isFault);
     clear();
     remember(null);
     screen.hidden = true;
@@ -513,7 +547,7 @@
     event.preventDefault();
     const token = it("token").value.trim();
     it("token").value = it("file").value = "";
-    it("chosen").textContent = "";
+    it("chosen").textContent = it("wrong").textContent = "";
     join(it("name").value.trim().toLowerCase(), token);
   });
   // A file NAME.token of new-token.  It replaces what the fields had.
@@ -525,6 +559,7 @@
     it("token").value = isToken ? text : "";
     it("name").value = isToken ? file.name.replace(/( \(\d+\))?\.token.*$/, "") : "";
     it("chosen").textContent = isToken ? "" : `${file.name} has no key: choose the file NAME.token that you got.`;
+    it("wrong").textContent = "";
     say("");
     if (isToken && it("name").checkValidity()) login.requestSubmit();
     event.target.value = "";

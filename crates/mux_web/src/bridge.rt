@@ -1,11 +1,10 @@
 //! The loop of a bridge: one thread, and all connections.
 
-use crate::around::{Around, browser_token, door_token, server_token};
-use crate::guest::Guest;
 use crate::halls::Halls;
-use crate::log::Log;
-use crate::seating::{enter_hall, redeem, show, tell};
-use crate::streams::{Browser, Door};
+use crate::log::WebLog;
+use crate::relay::Relay;
+use crate::showing::{enter_hall, redeem, show, tell};
+use crate::streams::{Around, Browser, WebListener, browser_token, listener_token, server_token};
 use mio::{Events, Poll, Registry, Token};
 use server_system::Host;
 use std::alloc::Global;
@@ -45,11 +44,11 @@ pub struct Bridge<'a> {
     /// How many pages may be there that have said who they are.
     most: usize,
     /// None if it logs nothing.
-    log: Option<Arc<Log>>,
-    guests: Vec<Option<Guest>>,
+    log: Option<Arc<WebLog>>,
+    relays: Vec<Option<Relay>>,
     halls: Halls,
     buffer: Vec<u8>,
-    /// Browsers may wait at a door. It tells of those that come, and not again of those that wait.
+    /// Browsers may wait at a listener. It tells of those that come, and not again of those that wait.
     has_comers: bool,
     /// How many logins were refused since a line told of such.
     refused: u64,
@@ -62,7 +61,7 @@ impl<'a> Bridge<'a> {
         alloc: Global,
         site: Site,
         options: WebOptions<'a>,
-        log: Option<Arc<Log>>,
+        log: Option<Arc<WebLog>>,
     ) -> io::Result<Bridge<'a>> {
         Ok(Bridge {
             alloc,
@@ -71,7 +70,7 @@ impl<'a> Bridge<'a> {
             links: options.links,
             most: options.most,
             log,
-            guests: Vec::new(alloc),
+            relays: Vec::new(alloc),
             halls: Halls::new(alloc, options.choice(alloc)?),
             buffer: vec![in alloc; 0; CHUNK]?,
             has_comers: true,
@@ -81,29 +80,29 @@ impl<'a> Bridge<'a> {
     }
 
     fn free_place(&mut self) -> io::Result<usize> {
-        if let Some(place) = self.guests.iter().position(|guest| guest.is_none()) {
+        if let Some(place) = self.relays.iter().position(|relay| relay.is_none()) {
             return Ok(place);
         }
-        let place = self.guests.len();
-        self.guests.push(None)?;
+        let place = self.relays.len();
+        self.relays.push(None)?;
         Ok(place)
     }
 
     fn count(&self) -> usize {
-        self.guests.iter().filter(|guest| guest.is_some()).count()
+        self.relays.iter().filter(|relay| relay.is_some()).count()
     }
 
     // The place of the oldest connection that hasn't said who it is.
     fn oldest_silent(&self) -> Option<usize> {
         let mut oldest: Option<(usize, Duration)> = None;
-        for (place, guest) in self.guests.iter().enumerate() {
-            if let Some(guest) = guest {
+        for (place, relay) in self.relays.iter().enumerate() {
+            if let Some(relay) = relay {
                 let is_older = match oldest {
-                    Some((_, began)) => guest.began() < began,
+                    Some((_, began)) => relay.began() < began,
                     None => true,
                 };
-                if !guest.has_begun() && is_older {
-                    oldest = Some((place, guest.began()));
+                if !relay.has_begun() && is_older {
+                    oldest = Some((place, relay.began()));
                 }
             }
         }
@@ -115,7 +114,7 @@ impl<'a> Bridge<'a> {
 
     // Leaves a place free.
     fn release(&mut self, place: usize) {
-        if let Some(slot) = self.guests.get_mut(place) {
+        if let Some(slot) = self.relays.get_mut(place) {
             *slot = None;
         }
     }
@@ -131,17 +130,17 @@ impl<'a> Bridge<'a> {
         }
         let place = self.free_place()?;
         browser.register(registry, browser_token(place))?;
-        if let Some(slot) = self.guests.get_mut(place) {
-            *slot = Some(Guest::new(self.alloc, browser, now));
+        if let Some(slot) = self.relays.get_mut(place) {
+            *slot = Some(Relay::new(self.alloc, browser, now));
         }
         Ok(())
     }
 
-    // Takes browsers that wait at a door. Returns whether more may be taken at once. If the system refuses to
+    // Takes browsers that wait at a listener. Returns whether more may be taken at once. If the system refuses to
     // hand one over, it is asked again soon.
-    fn accept(&mut self, door: &Door, registry: &Registry, now: Duration) -> bool {
+    fn accept(&mut self, listener: &WebListener, registry: &Registry, now: Duration) -> bool {
         for _ in 0..COMERS {
-            match door.accept() {
+            match listener.accept() {
                 Ok(browser) => {
                     // (one that can't be let in is closed)
                     let _ = self.let_in(browser, registry, now);
@@ -156,13 +155,18 @@ impl<'a> Bridge<'a> {
         true
     }
 
-    // Takes browsers that wait at the doors. Returns whether more may be taken at once.
-    fn accept_all(&mut self, doors: &[Door], registry: &Registry, now: Duration) -> bool {
+    // Takes browsers that wait at the listeners. Returns whether more may be taken at once.
+    fn accept_all(
+        &mut self,
+        listeners: &[WebListener],
+        registry: &Registry,
+        now: Duration,
+    ) -> bool {
         let mut has_more = false;
         if self.has_comers {
             self.has_comers = false;
-            for door in doors {
-                has_more |= self.accept(door, registry, now);
+            for listener in listeners {
+                has_more |= self.accept(listener, registry, now);
             }
         }
         has_more
@@ -197,9 +201,9 @@ impl<'a> Bridge<'a> {
     fn mark(&mut self, token: Token) {
         let Token(number) = token;
         let place = number / 4;
-        match (number % 4, self.guests.get_mut(place)) {
-            (1, Some(Some(guest))) => guest.browser_ready = true,
-            (2, Some(Some(guest))) => guest.server_ready = true,
+        match (number % 4, self.relays.get_mut(place)) {
+            (1, Some(Some(relay))) => relay.browser_ready = true,
+            (2, Some(Some(relay))) => relay.server_ready = true,
             (3, _) => self.halls.mark(place),
             (0, _) => self.has_comers = true,
             _ => {}
@@ -208,13 +212,13 @@ impl<'a> Bridge<'a> {
 
     // Whether the page at this place is one too many: of all, or of its address.
     fn is_full(&self, place: usize) -> bool {
-        let Some(Some(guest)) = self.guests.get(place) else {
+        let Some(Some(relay)) = self.relays.get(place) else {
             return false;
         };
-        let address = guest.visitor.address.as_slice();
+        let address = relay.visitor.address.as_slice();
         let mut all = 0usize;
         let mut same = 0usize;
-        for (number, other) in self.guests.iter().enumerate() {
+        for (number, other) in self.relays.iter().enumerate() {
             if let Some(other) = other {
                 if number != place && other.has_begun() && other.visitor.is_open() {
                     all = all.saturating_add(1);
@@ -232,7 +236,7 @@ impl<'a> Bridge<'a> {
 impl Bridge<'_> {
     // Reads one browser. A page that is one too many is turned away: when it opens, or when it says who it is.
     fn read(&mut self, registry: &Registry, place: usize, now: Duration) {
-        let Some(Some(guest)) = self.guests.get_mut(place) else {
+        let Some(Some(relay)) = self.relays.get_mut(place) else {
             return;
         };
         let around = Around {
@@ -241,16 +245,16 @@ impl Bridge<'_> {
             socket: self.socket,
             now,
         };
-        let opens = guest.read_browser(around, self.buffer.as_mut_slice());
-        let begins = guest.begins();
+        let opens = relay.read_browser(around, self.buffer.as_mut_slice());
+        let begins = relay.begins();
         if (opens || begins) && self.is_full(place) {
-            if let Some(Some(guest)) = self.guests.get_mut(place) {
-                guest.turn_away(opens, FULL);
+            if let Some(Some(relay)) = self.relays.get_mut(place) {
+                relay.turn_away(opens, FULL);
             }
         }
     }
 
-    // One turn of a guest. Returns whether something is left to do at once.
+    // One turn of a relay. Returns whether something is left to do at once.
     fn turn_of<R: Host + Wait>(
         &mut self,
         rt: &R,
@@ -258,7 +262,7 @@ impl Bridge<'_> {
         place: usize,
         now: Duration,
     ) -> bool {
-        let Some(Some(guest)) = self.guests.get_mut(place) else {
+        let Some(Some(relay)) = self.relays.get_mut(place) else {
             return false;
         };
         let around = Around {
@@ -267,27 +271,27 @@ impl Bridge<'_> {
             socket: self.socket,
             now,
         };
-        if guest.wants_server() {
-            guest.connect(rt, around, server_token(place));
+        if relay.wants_server() {
+            relay.connect(rt, around, server_token(place));
         }
-        redeem(rt, self.links, guest);
-        enter_hall(rt, (guest, place), &mut self.halls, around, &self.log);
-        guest.read_server(self.buffer.as_mut_slice());
-        tell(rt, &self.log, place, guest);
-        guest.write_all();
-        show(guest, &mut self.halls);
-        guest.write_all();
-        guest.look(now);
-        guest.is_busy()
+        redeem(rt, self.links, relay);
+        enter_hall(rt, (relay, place), &mut self.halls, around, &self.log);
+        relay.read_server(self.buffer.as_mut_slice());
+        tell(rt, &self.log, place, relay);
+        relay.write_all();
+        show(relay, &mut self.halls);
+        relay.write_all();
+        relay.look(now);
+        relay.is_busy()
     }
 
-    // Lets a guest go that is over.
+    // Lets a relay go that is over.
     fn let_go<R: Wait>(&mut self, rt: &R, place: usize) {
-        let Some(slot) = self.guests.get_mut(place) else {
+        let Some(slot) = self.relays.get_mut(place) else {
             return;
         };
         let (is_over, is_told, is_refused) = match slot {
-            Some(guest) => (guest.is_over, guest.is_told(), guest.is_refused()),
+            Some(relay) => (relay.is_over, relay.is_told(), relay.is_refused()),
             None => (false, false, false),
         };
         if is_over {
@@ -311,7 +315,7 @@ impl Bridge<'_> {
         };
         self.halls.renew(rt, around);
         self.halls.choose(now);
-        for place in 0..self.guests.len() {
+        for place in 0..self.relays.len() {
             self.read(registry, place, now);
             is_busy |= self.turn_of(rt, registry, place, now);
             self.let_go(rt, place);
@@ -323,13 +327,17 @@ impl Bridge<'_> {
 }
 
 /// Serves until the system refuses to wait.
-pub fn serve<R: Host + Wait>(rt: &R, bridge: Bridge<'_>, doors: Vec<Door>) -> io::Result<()> {
+pub fn serve<R: Host + Wait>(
+    rt: &R,
+    bridge: Bridge<'_>,
+    listeners: Vec<WebListener>,
+) -> io::Result<()> {
     let mut bridge = bridge;
-    let mut doors = doors;
+    let mut listeners = listeners;
     let mut poll = Poll::new(rt)?;
     let registry = poll.registry().try_clone()?;
-    for (number, door) in doors.iter_mut().enumerate() {
-        door.register(&registry, door_token(number))?;
+    for (number, listener) in listeners.iter_mut().enumerate() {
+        listener.register(&registry, listener_token(number))?;
     }
     let mut events = Events::with_capacity(rt.alloc(), 1024)?;
     let mut is_busy = false;
@@ -343,7 +351,7 @@ pub fn serve<R: Host + Wait>(rt: &R, bridge: Bridge<'_>, doors: Vec<Door>) -> io
         for event in &events {
             bridge.mark(event.token());
         }
-        let has_more = bridge.accept_all(&doors, &registry, now);
+        let has_more = bridge.accept_all(&listeners, &registry, now);
         is_busy = bridge.turn(rt, &registry, now) || has_more;
     }
     Ok(())

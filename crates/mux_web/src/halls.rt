@@ -1,13 +1,12 @@
 //! Pages that several watchers share: one client of the server for each size.
 
-use crate::around::{Around, hall_token};
-use crate::streams::{Arrival, arrival_of};
+use crate::streams::{Around, ReadOutcome, hall_token, outcome_of};
 use mio::net::UnixStream;
 use std::alloc::Global;
 use std::io::Read;
 use std::net::Net;
 use std::time::Duration;
-use web_client::Client;
+use web_client::SharedClient;
 
 /// How many pages are shared at most.
 const MOST: usize = 8;
@@ -34,7 +33,7 @@ pub struct HallNumber {
 pub struct Hall {
     serial: u64,
     size: (u16, u16),
-    pub client: Client,
+    pub client: SharedClient,
     stream: UnixStream,
     pub is_ready: bool,
     /// How many watch it.
@@ -54,12 +53,12 @@ impl Hall {
             if !self.is_ready || self.is_lost {
                 break;
             }
-            match arrival_of(self.stream.read(buffer)) {
-                Arrival::Nothing => self.is_ready = false,
-                Arrival::End => self.is_lost = true,
-                Arrival::Bytes(count) => {
+            match outcome_of(self.stream.read(buffer)) {
+                ReadOutcome::Nothing => self.is_ready = false,
+                ReadOutcome::End => self.is_lost = true,
+                ReadOutcome::Bytes(count) => {
                     let count = count.min(buffer.len());
-                    if self.client.display.hear_all(&buffer[..count]).is_err() {
+                    if self.client.hear(&buffer[..count]).is_err() {
                         self.is_lost = true;
                     }
                 }
@@ -76,7 +75,7 @@ impl Hall {
             self.watched = now;
         }
         let alone = now.saturating_sub(self.watched);
-        self.is_lost || self.client.display.gone().is_some() || alone >= Duration::from_secs(STAY)
+        self.is_lost || self.client.display().gone().is_some() || alone >= Duration::from_secs(STAY)
     }
 
     // Sends its client to the chosen window: at first, and again now and then, since the window may open later.
@@ -85,16 +84,16 @@ impl Hall {
             Some(chosen) => now.saturating_sub(chosen) >= Duration::from_secs(PAUSE),
             None => true,
         };
-        if is_due && self.client.display.is_welcome() {
+        if is_due && self.client.display().is_welcome() {
             self.chosen = Some(now);
-            self.is_lost |= self.client.press(choice.as_bytes()).is_err();
+            self.is_lost |= self.client.choose(choice.as_bytes()).is_err();
         }
     }
 
     /// Whether its client is to attach again: it sees no window.
     fn is_stuck(&self, now: Duration) -> bool {
         now.saturating_sub(self.opened) >= Duration::from_secs(PAUSE)
-            && self.client.display.is_vacant()
+            && self.client.display().is_vacant()
     }
 }
 
@@ -187,8 +186,7 @@ impl Halls {
         place: usize,
     ) -> Option<Hall> {
         let watcher = around.site.watcher.as_ref()?;
-        let token = watcher.token.copied();
-        let client = Client::attach(self.alloc, rows, columns, token, watcher.name.as_str()).ok()?;
+        let client = SharedClient::attach(self.alloc, rows, columns, watcher).ok()?;
         let stream = around.connect(rt, hall_token(place)).ok()?;
         let serial = self.next;
         self.next = serial.saturating_add(1);

@@ -15,25 +15,25 @@ const LOOK: u64 = 3_600;
 
 // Lines that weren't written yet.
 #[derive(Drop)]
-struct UnwrittenLines {
+struct WaitingLines {
     text: String,
     left_out: u64,
 }
 
 /// Lines on their way to standard error. The loop never waits for a slow reader of them.
 #[derive(Drop)]
-pub struct Log {
+pub struct WebLog {
     alloc: Global,
-    waiting: Mutex<UnwrittenLines>,
+    waiting: Mutex<WaitingLines>,
     news: Condvar,
 }
 
-impl Log {
+impl WebLog {
     /// No line yet.
-    pub fn new(alloc: Global) -> Log {
-        Log {
+    pub fn new(alloc: Global) -> WebLog {
+        WebLog {
             alloc,
-            waiting: Mutex::new(UnwrittenLines {
+            waiting: Mutex::new(WaitingLines {
                 text: String::new(alloc),
                 left_out: 0,
             }),
@@ -81,11 +81,11 @@ impl Log {
 }
 
 /// Starts a log, with the thread that writes it.
-pub fn start_log<R>(rt: &R, alloc: Global) -> io::Result<Arc<Log>>
+pub fn start_log<R>(rt: &R, alloc: Global) -> io::Result<Arc<WebLog>>
 where
     R: Eprint + Threads + Wait + Copy + Send + 'static,
 {
-    let log = Arc::new(alloc, Log::new(alloc))?;
+    let log = Arc::new(alloc, WebLog::new(alloc))?;
     let theirs = Arc::try_clone(&log)?;
     let rt_there = *rt;
     let started = thread::spawn(rt, move || {

@@ -3,13 +3,12 @@
 //! from their browsers.
 #![tactic(auto)]
 
-mod around;
 mod bridge;
-mod guest;
 mod halls;
 mod log;
-mod seating;
+mod relay;
 mod serving;
+mod showing;
 mod streams;
 
 use crate::serving::run;

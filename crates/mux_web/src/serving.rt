@@ -2,7 +2,7 @@
 
 use crate::bridge::{Bridge, serve};
 use crate::log::start_log;
-use crate::streams::Door;
+use crate::streams::WebListener;
 use program_words::{of_web, tell};
 use server_system::{Host, SocketPath};
 use std::io::{ErrorKind, Write};
@@ -15,12 +15,12 @@ use web_options::{Listen, WebFault, WebOptions, look_for_paths, origins_of, site
 /// The system's number for a kind of addresses that it doesn't have.
 const EAFNOSUPPORT: i32 = 97;
 
-// Serves browsers that come in through these doors.
+// Serves browsers that come in through these listeners.
 fn serve_at<R: Host + Threads + Wait + Eprint, O: Write>(
     rt: &R,
     options: WebOptions<'_>,
     site: Site,
-    doors: Vec<Door>,
+    listeners: Vec<WebListener>,
     output: &mut O,
 ) -> Result<(), WebFault> {
     look_for_paths(rt, options)?;
@@ -32,7 +32,7 @@ fn serve_at<R: Host + Threads + Wait + Eprint, O: Write>(
     let bridge = Bridge::new(rt.alloc(), site, options, log)?;
     writeln!(output, "mux-web: ready")?;
     output.flush()?;
-    Ok(serve(rt, bridge, doors)?)
+    Ok(serve(rt, bridge, listeners)?)
 }
 
 // The other address at which a browser may look for localhost.
@@ -47,31 +47,31 @@ fn other_loopback(address: SocketAddr) -> Option<SocketAddr> {
     }
 }
 
-// Doors at an address of this machine, and at the other one that localhost may be: else another account could
-// listen there. A machine that lacks that one has no such door.
-fn doors_at<R: Host>(
+// Listeners at an address of this machine, and at the other one that localhost may be: else another account could
+// listen there. A machine that lacks that one has no such listener.
+fn listeners_at<R: Host>(
     rt: &R,
     options: WebOptions<'_>,
     address: SocketAddr,
-) -> Result<Vec<Door>, WebFault> {
-    let mut doors = Vec::new(rt.alloc());
-    match Door::tcp(rt, address) {
-        Ok(door) => doors.push(door)?,
+) -> Result<Vec<WebListener>, WebFault> {
+    let mut listeners = Vec::new(rt.alloc());
+    match WebListener::tcp(rt, address) {
+        Ok(listener) => listeners.push(listener)?,
         Err(error) => {
             let name = String::from_str(rt.alloc(), options.listen)?;
             return Err(WebFault::NotMade(name, error));
         }
     }
     let Some(other) = other_loopback(address) else {
-        return Ok(doors);
+        return Ok(listeners);
     };
-    match Door::tcp(rt, other) {
-        Ok(door) => doors.push(door)?,
+    match WebListener::tcp(rt, other) {
+        Ok(listener) => listeners.push(listener)?,
         Err(error) if error.kind() == ErrorKind::AddrNotAvailable => {}
         Err(error) if error.raw_os_error() == Some(EAFNOSUPPORT) => {}
         Err(error) => return Err(WebFault::Shared(other, error)),
     }
-    Ok(doors)
+    Ok(listeners)
 }
 
 // Serves at an address of this machine.
@@ -82,8 +82,8 @@ fn serve_address<R: Host + Threads + Wait + Eprint, O: Write>(
     address: SocketAddr,
     output: &mut O,
 ) -> Result<(), WebFault> {
-    let doors = doors_at(rt, options, address)?;
-    serve_at(rt, options, site, doors, output)
+    let listeners = listeners_at(rt, options, address)?;
+    serve_at(rt, options, site, listeners, output)
 }
 
 // Serves at a socket, which is removed if the system refuses to wait. A signal ends the program at once and
@@ -97,9 +97,9 @@ fn serve_socket<R: Host + Threads + Wait + Eprint, O: Write>(
 ) -> Result<(), WebFault> {
     match SocketPath::listen(rt, rt.alloc(), path) {
         Ok((place, listener)) => {
-            let mut doors = Vec::new(rt.alloc());
-            doors.push(Door::Unix(listener))?;
-            let served = serve_at(rt, options, site, doors, output);
+            let mut listeners = Vec::new(rt.alloc());
+            listeners.push(WebListener::Unix(listener))?;
+            let served = serve_at(rt, options, site, listeners, output);
             place.leave(rt, rt);
             served
         }

@@ -6,11 +6,52 @@ use mio::{Interest, Registry, Token};
 use std::io;
 use std::io::{ErrorKind, Read, Write};
 use std::net::{Net, SocketAddr};
-use web_client::drop_front;
+use std::time::Duration;
+use web_client::Site;
+
+/// The token of the listener of this number.
+pub fn listener_token(number: usize) -> Token {
+    Token(number.saturating_mul(4))
+}
+
+/// The token of the browser at this place.
+pub fn browser_token(place: usize) -> Token {
+    Token(place.saturating_mul(4).saturating_add(1))
+}
+
+/// The token of the own client of the browser at this place.
+pub fn server_token(place: usize) -> Token {
+    Token(place.saturating_mul(4).saturating_add(2))
+}
+
+/// The token of the hall at this place.
+pub fn hall_token(place: usize) -> Token {
+    Token(place.saturating_mul(4).saturating_add(3))
+}
+
+/// What all connections of a bridge use in a turn.
+#[derive(Clone, Copy)]
+pub struct Around<'a> {
+    pub registry: &'a Registry,
+    pub site: &'a Site,
+    /// The server's socket.
+    pub socket: &'a str,
+    pub now: Duration,
+}
+
+impl Around<'_> {
+    /// A new connection to the server.
+    pub fn connect<R: Net>(&self, rt: &R, token: Token) -> io::Result<UnixStream> {
+        let mut stream = UnixStream::connect(rt, self.socket)?;
+        let both = Interest::READABLE | Interest::WRITABLE;
+        self.registry.register(&mut stream, token, both)?;
+        Ok(stream)
+    }
+}
 
 /// Where browsers come in.
 #[derive(Drop)]
-pub enum Door {
+pub enum WebListener {
     Tcp(TcpListener),
     Unix(UnixListener),
 }
@@ -22,29 +63,29 @@ pub enum Browser {
     Unix(UnixStream),
 }
 
-impl Door {
+impl WebListener {
     /// Listens on an address.
-    pub fn tcp<R: Net>(rt: &R, address: SocketAddr) -> io::Result<Door> {
-        Ok(Door::Tcp(TcpListener::bind(rt, address)?))
+    pub fn tcp<R: Net>(rt: &R, address: SocketAddr) -> io::Result<WebListener> {
+        Ok(WebListener::Tcp(TcpListener::bind(rt, address)?))
     }
 
     /// Waits for connections.
     pub fn register(&mut self, registry: &Registry, token: Token) -> io::Result<()> {
         match self {
-            Door::Tcp(it) => registry.register(it, token, Interest::READABLE),
-            Door::Unix(it) => registry.register(it, token, Interest::READABLE),
+            WebListener::Tcp(it) => registry.register(it, token, Interest::READABLE),
+            WebListener::Unix(it) => registry.register(it, token, Interest::READABLE),
         }
     }
 
     /// Takes the next connection.
     pub fn accept(&self) -> io::Result<Browser> {
         match self {
-            Door::Tcp(it) => {
+            WebListener::Tcp(it) => {
                 let (stream, _) = it.accept()?;
                 stream.set_nodelay(true)?;
                 Ok(Browser::Tcp(stream))
             }
-            Door::Unix(it) => {
+            WebListener::Unix(it) => {
                 let (stream, _) = it.accept()?;
                 Ok(Browser::Unix(stream))
             }
@@ -87,43 +128,21 @@ impl Write for Browser {
 
 /// What a read came to.
 #[derive(Clone, Copy)]
-pub enum Arrival {
+pub enum ReadOutcome {
     Bytes(usize),
     Nothing,
     End,
 }
 
 /// What a read of this answer came to.
-pub fn arrival_of(read: io::Result<usize>) -> Arrival {
+pub fn outcome_of(read: io::Result<usize>) -> ReadOutcome {
     match read {
-        Ok(0) => Arrival::End,
-        Ok(count) => Arrival::Bytes(count),
+        Ok(0) => ReadOutcome::End,
+        Ok(count) => ReadOutcome::Bytes(count),
         Err(error) => match error.kind() {
-            ErrorKind::WouldBlock => Arrival::Nothing,
-            ErrorKind::Interrupted => Arrival::Bytes(0),
-            _ => Arrival::End,
+            ErrorKind::WouldBlock => ReadOutcome::Nothing,
+            ErrorKind::Interrupted => ReadOutcome::Bytes(0),
+            _ => ReadOutcome::End,
         },
     }
-}
-
-/// Writes what waits, as far as it is taken. Returns whether the connection stands.
-pub fn write_some<W: Write>(bytes: &mut Vec<u8>, writer: &mut W) -> bool {
-    for _ in 0..u64::MAX {
-        if bytes.is_empty() {
-            return true;
-        }
-        match writer.write(bytes.as_slice()) {
-            Ok(0) => return false,
-            Ok(count) => {
-                let count = count.min(bytes.len());
-                drop_front(bytes, count);
-            }
-            Err(error) => match error.kind() {
-                ErrorKind::WouldBlock => return true,
-                ErrorKind::Interrupted => {}
-                _ => return false,
-            },
-        }
-    }
-    true
 }

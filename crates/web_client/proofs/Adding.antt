@@ -5,8 +5,8 @@ use Rattle.std.proofs.lemmas.Grind.{flat_map-append}
 use Rattle.std.specs.List.{flat_map, AllByRecursion}
 use Rattle.attach_proto.specs.declared.message.Message.{Message}
 use Rattle.attach_proto.specs.Spelling.{spelling}
-use Rattle.web_client.specs.declared.seat.Seat.{Seat}
-use Rattle.web_client.specs.declared.seat.Seat.TheVariants.{Nobody, Own, Watching, Link, Unknown, Left}
+use Rattle.web_client.specs.declared.identity.Identity.{Identity}
+use Rattle.web_client.specs.declared.identity.Identity.TheVariants.{Nobody, Own, Watching, Link, Unknown, Left}
 use Rattle.web_client.specs.Asking.{IsAskable, AddsFrames}
 use Rattle.web_client.specs.Asking.{IsApart, Asks, IsAttached, IsShared, Begins, Watches, Takes, Keeps}
 
@@ -30,8 +30,8 @@ both a b c p q = (
       ∙ ap (λ (l : List ℕ). a ++ l) (sym (flat_map-append spelling p.0 q.0)),
 )
 
--- a seat that never has a client goes on so
-later : (b c : Seat) → IsApart b → Asks b c → IsApart c
+-- a identity that never has a client goes on so
+later : (b c : Identity) → IsApart b → Asks b c → IsApart c
 later Nobody c h k = absurd h
 later (Own b) c h k = absurd h
 later (Watching rows columns) c h k = k
@@ -40,7 +40,7 @@ later Unknown c h k = k
 later Left c h k = k
 
 -- nothing was asked
-pub nothing : (s : Seat) → Asks s s
+pub nothing : (s : Identity) → Asks s s
 nothing Nobody = tt
 nothing (Own c) = none c.outgoing
 nothing (Watching rows columns) = tt
@@ -48,7 +48,7 @@ nothing (Link secret) = tt
 nothing Unknown = tt
 nothing Left = tt
 
-shared : (payload : List ℕ) (s : Seat) → IsShared payload s → IsApart s
+shared : (payload : List ℕ) (s : Identity) → IsShared payload s → IsApart s
 shared payload Nobody h = h
 shared payload (Own c) h = h
 shared payload (Watching rows columns) h = tt
@@ -56,7 +56,7 @@ shared payload (Link secret) h = tt
 shared payload Unknown h = tt
 shared payload Left h = tt
 
-attached : (payload : List ℕ) (s : Seat) → IsAttached payload s → Asks Nobody s
+attached : (payload : List ℕ) (s : Identity) → IsAttached payload s → Asks Nobody s
 attached payload Nobody h = tt
 attached payload (Own c) h = one _ [] c.outgoing (inl tt) h.asked
 attached payload (Watching rows columns) h = tt
@@ -64,7 +64,7 @@ attached payload (Link secret) h = tt
 attached payload Unknown h = tt
 attached payload Left h = tt
 
-apart : (s : Seat) → IsApart s → Asks Nobody s
+apart : (s : Identity) → IsApart s → Asks Nobody s
 apart Nobody h = tt
 apart (Own c) h = absurd h
 apart (Watching rows columns) h = tt
@@ -73,27 +73,27 @@ apart Unknown h = tt
 apart Left h = tt
 
 -- a browser that shows a link begins
-pub linked : {E : Type 0} (r : Result Seat E) (message payload : List ℕ) → message ≡ 0x4C ∷ payload
-    → IfOk r (λ (s : Seat). s ≡ Link payload) → IfOk r (Begins message)
+pub linked : {E : Type 0} (r : Result Identity E) (message payload : List ℕ) → message ≡ 0x4C ∷ payload
+    → IfOk r (λ (s : Identity). s ≡ Link payload) → IfOk r (Begins message)
 linked (Ok s) message payload e h = (payload, inr (inr (e, h)))
 linked (Err x) message payload e h = tt
 
-begun : (message : List ℕ) (s : Seat) → Begins message s → Asks Nobody s
+begun : (message : List ℕ) (s : Identity) → Begins message s → Asks Nobody s
 begun message s h =
     elim h.1 [
       | inl a ↦ attached h.0 s a.1
       | inr c ↦ elim c [
         | inl b ↦ apart s (shared h.0 s b.1)
-        | inr b ↦ subst (λ (v : Seat). Asks Nobody v) (sym b.1) tt
+        | inr b ↦ subst (λ (v : Identity). Asks Nobody v) (sym b.1) tt
       ]
     ]
 
-watched : (message : List ℕ) (s : Seat) → Watches message s → IsApart s
+watched : (message : List ℕ) (s : Identity) → Watches message s → IsApart s
 watched message s h =
-    elim h [ inl a ↦ shared a.0 s a.2 | inr b ↦ subst (λ (v : Seat). IsApart v) (sym b.1) tt ]
+    elim h [ inl a ↦ shared a.0 s a.2 | inr b ↦ subst (λ (v : Identity). IsApart v) (sym b.1) tt ]
 
 -- a message that is taken adds a frame at most
-pub taken : (s : Seat) (message : List ℕ) (after : Seat) → Takes s message after → Asks s after
+pub taken : (s : Identity) (message : List ℕ) (after : Identity) → Takes s message after → Asks s after
 taken Nobody message after h = begun message after h
 taken (Own before) message Nobody h = h
 taken (Own before) message (Own c) h =
@@ -108,8 +108,8 @@ taken Unknown message after h = absurd h
 taken Left message after h = absurd h
 
 -- one that isn't taken adds none
-pub kept : (s after : Seat) → Keeps s after → Asks s after
-kept Nobody after h = subst (λ (v : Seat). Asks Nobody v) (sym h) tt
+pub kept : (s after : Identity) → Keeps s after → Asks s after
+kept Nobody after h = subst (λ (v : Identity). Asks Nobody v) (sym h) tt
 kept (Own before) Nobody h = h
 kept (Own before) (Own c) h =
     subst (λ (l : List ℕ). AddsFrames before.outgoing l) (sym h) (none before.outgoing)
@@ -117,13 +117,13 @@ kept (Own before) (Watching rows columns) h = h
 kept (Own before) (Link secret) h = h
 kept (Own before) Unknown h = h
 kept (Own before) Left h = h
-kept (Watching rows columns) after h = subst (λ (v : Seat). IsApart v) (sym h) tt
-kept (Link secret) after h = subst (λ (v : Seat). IsApart v) (sym h) tt
-kept Unknown after h = subst (λ (v : Seat). IsApart v) (sym h) tt
-kept Left after h = subst (λ (v : Seat). IsApart v) (sym h) tt
+kept (Watching rows columns) after h = subst (λ (v : Identity). IsApart v) (sym h) tt
+kept (Link secret) after h = subst (λ (v : Identity). IsApart v) (sym h) tt
+kept Unknown after h = subst (λ (v : Identity). IsApart v) (sym h) tt
+kept Left after h = subst (λ (v : Identity). IsApart v) (sym h) tt
 
 -- frames that were added after others
-pub more : (a b c : Seat) → Asks a b → Asks b c → Asks a c
+pub more : (a b c : Identity) → Asks a b → Asks b c → Asks a c
 more Nobody Nobody c h k = k
 more Nobody (Own b) Nobody h k = tt
 more Nobody (Own b) (Own c) h k = both [] b.outgoing c.outgoing h k
@@ -152,13 +152,13 @@ more Unknown b c h k = later b c h k
 more Left b c h k = later b c h k
 
 -- so a message adds a frame at most, whether it is taken or not
-pub either : {A E : Type 0} (r : Result A E) (s after : Seat) (message : List ℕ)
+pub either : {A E : Type 0} (r : Result A E) (s after : Identity) (message : List ℕ)
     → OnOk r (Takes s message after) → OnErr r (Keeps s after) → Asks s after
 either (Ok v) s after message h k = taken s message after h
 either (Err e) s after message h k = kept s after k
 
-pub then_same : (a b c : Seat) → Asks a b → c ≡ b → Asks a c
-then_same a b c h e = subst (λ (s : Seat). Asks a s) (sym e) h
+pub then_same : (a b c : Identity) → Asks a b → c ≡ b → Asks a c
+then_same a b c h e = subst (λ (s : Identity). Asks a s) (sym e) h
 
-pub then_more : (a b c d : Seat) → Asks a b → c ≡ b → Asks c d → Asks a d
+pub then_more : (a b c d : Identity) → Asks a b → c ≡ b → Asks c d → Asks a d
 then_more a b c d h e k = more a c d (then_same a b c h e) k

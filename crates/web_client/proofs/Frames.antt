@@ -13,10 +13,10 @@ use Rattle.websocket.specs.Content.{Content, received_content}
 use Rattle.websocket.specs.Connection.{Connection, Effect}
 use Rattle.websocket.specs.View.{Returns, ReadLeaves}
 use Rattle.websocket.proofs.StreamLemmas.{TookFrame_from_read}
-use Rattle.web_client.specs.declared.seat.Seat.{Seat}
-use Rattle.web_client.specs.declared.wire.Stage.TheVariants.{Socket, Last}
-use Rattle.web_client.specs.declared.frame.Frame.{Frame}
-use Rattle.web_client.specs.declared.frame.Frame.TheVariants as frame
+use Rattle.web_client.specs.declared.identity.Identity.{Identity}
+use Rattle.web_client.specs.declared.wire.Phase.TheVariants.{Socket, Last}
+use Rattle.web_client.specs.declared.frame.PageFrame.{PageFrame}
+use Rattle.web_client.specs.declared.frame.PageFrame.TheVariants as frame
 use Rattle.web_client.specs.Frames.{Page, Says, SaysNothing, Closes, IsSaid, BeginsWith, IsRead, Reads}
 use Rattle.web_client.specs.Frames.{GoesOn, EndsWith, TakesMessage, answered_after}
 use Rattle.web_client.specs.Frames.{TakesFrame, TakesFrames, EndsAt, TakesSome}
@@ -65,15 +65,15 @@ shrinks f old new h =
 -- This many frames were taken, and the connection goes on; or fewer, and it has ended.
 abbrev pub Went : {A : Type 0} → Option A → ℕ → Page → Page → Type 0
 Went watcher count old now =
-    (TakesFrames count old now × (now.stage ≡ Socket))
-    ⊎ ((n : ℕ) × (last : Page) × TakesFrames n old last × (now.stage ≡ Last) × EndsAt watcher last now.seat)
+    (TakesFrames count old now × (now.phase ≡ Socket))
+    ⊎ ((n : ℕ) × (last : Page) × TakesFrames n old last × (now.phase ≡ Last) × EndsAt watcher last now.identity)
 
-pub started : {A : Type 0} (watcher : Option A) (p : Page) → p.stage ≡ Socket → Went watcher 0 p p
+pub started : {A : Type 0} (watcher : Option A) (p : Page) → p.phase ≡ Socket → Went watcher 0 p p
 unfolding TakesFrames
 started watcher p e = inl (refl, e)
 
 going : {A : Type 0} (watcher : Option A) (count : ℕ) (old now : Page) → Went watcher count old now
-    → now.stage ≡ Socket → TakesFrames count old now
+    → now.phase ≡ Socket → TakesFrames count old now
 going watcher count old now w e = elim w [ inl h ↦ h.0 | inr h ↦ absurd (cc (e, h.3)) ]
 
 one_more : (n : ℕ) (old between new : Page) → TakesFrames n old between → TakesFrame between new
@@ -88,17 +88,17 @@ next_one n old between new k t =
     subst (λ (m : ℕ). TakesFrames m old new) e (one_more n old between new k t)
 
 pub after_other : {A : Type 0} (watcher : Option A) (count : ℕ) (old now next : Page) → Went watcher count old now
-    → now.stage ≡ Socket → Reads now frame.Other next → next.seat ≡ now.seat → Went watcher (count + 1) old next
+    → now.phase ≡ Socket → Reads now frame.Other next → next.identity ≡ now.identity → Went watcher (count + 1) old next
 after_other watcher count old now next w e r s =
     let k = going watcher count old now w e in
     inl (
       next_one count old now next k (record { frame = r.0; read = r.1; taken = inl (r.2, s) }),
-      r.1.stage ∙ e,
+      r.1.phase ∙ e,
     )
 
 pub after_message : {A : Type 0} (watcher : Option A) (message : List ℕ) (count : ℕ) (old now read next : Page)
-    → Went watcher count old now → now.stage ≡ Socket
-    → ((f : ℕ × Effect) × IsRead f now read × Says f.1.message message) → read.seat ≡ now.seat
+    → Went watcher count old now → now.phase ≡ Socket
+    → ((f : ℕ × Effect) × IsRead f now read × Says f.1.message message) → read.identity ≡ now.identity
     → TakesMessage watcher message read next → Went watcher (count + 1) old next
 after_message watcher message count old now read next w e r s t =
     let k = going watcher count old now w e in
@@ -108,14 +108,14 @@ after_message watcher message count old now read next w e r s t =
           frame = r.0;
           read = record {
             next = r.1.next;
-            stage = h.stage ∙ r.1.stage;
+            phase = h.phase ∙ r.1.phase;
             socket = h.socket ∙ r.1.socket;
             waiting = h.waiting ∙ r.1.waiting;
             answered = h.answered ∙ r.1.answered;
           };
-          taken = inr (message, r.2, subst (λ (v : Seat). GoesOn v message next.seat) s h.seat);
+          taken = inr (message, r.2, subst (λ (v : Identity). GoesOn v message next.identity) s h.identity);
         }),
-        h.stage ∙ (r.1.stage ∙ e),
+        h.phase ∙ (r.1.phase ∙ e),
       )
       | inr h ↦ inr (
         count,
@@ -127,7 +127,7 @@ after_message watcher message count old now read next w e r s t =
           message,
           r.1.next,
           r.2,
-          subst (λ (v : Seat). EndsWith watcher v message next.seat) s h.1,
+          subst (λ (v : Identity). EndsWith watcher v message next.identity) s h.1,
         )),
       )
     ]
@@ -139,18 +139,18 @@ pub shifted : {A : Type 0} (watcher : Option A) (message : List ℕ) (old new : 
 shifted watcher message old new a b e t =
     elim t [
       | inl h ↦ inl (record {
-        stage = h.stage;
+        phase = h.phase;
         socket = h.socket;
         waiting = e;
         answered = h.answered;
-        seat = h.seat;
+        identity = h.identity;
       })
       | inr h ↦ inr h
     ]
 
 -- no frame was read any more
 pub after_none : {A : Type 0} (watcher : Option A) (count : ℕ) (old now next : Page) → Went watcher count old now
-    → now.stage ≡ Socket → Reads now frame.None next → next.seat ≡ now.seat → TakesSome watcher old next false
+    → now.phase ≡ Socket → Reads now frame.None next → next.identity ≡ now.identity → TakesSome watcher old next false
 after_none watcher count old now next w e r s =
     let k = going watcher count old now w e in
     elim r [
@@ -165,15 +165,15 @@ after_none watcher count old now next w e r s =
 
 -- 64 frames were taken, or the connection has ended
 pub after_all : {A : Type 0} (watcher : Option A) (count : ℕ) (old now : Page) (more : Bool)
-    → Went watcher count old now → (now.stage ≡ Socket → count ≡ 64) → (more ≡ true → now.stage ≡ Socket)
-    → (now.stage ≡ Socket → more ≡ true) → TakesSome watcher old now more
+    → Went watcher count old now → (now.phase ≡ Socket → count ≡ 64) → (more ≡ true → now.phase ≡ Socket)
+    → (now.phase ≡ Socket → more ≡ true) → TakesSome watcher old now more
 after_all watcher count old now true w n f g =
     (count, now, going watcher count old now w (f refl), (n (f refl), refl))
 after_all watcher count old now false w n f g =
     elim w [ inl h ↦ absurd (cc (g h.1)) | inr h ↦ (h.0, h.1, h.2, inr (h.3, h.4)) ]
 
 -- bytes that were read are counted with those that were read before
-pub further : (taken count : ℕ) (old new : Page) (said : Frame) (items rest : List ℕ)
+pub further : (taken count : ℕ) (old new : Page) (said : PageFrame) (items rest : List ℕ)
     → new.waiting ≡ drop (taken + count) items → drop taken items ≡ rest
     → Reads old said (record new { waiting = drop count rest }) → Reads old said new
 further taken count old new said items rest w d h =
@@ -182,17 +182,17 @@ further taken count old new said items rest w d h =
     subst (λ (l : List ℕ). Reads old said (record new { waiting = l })) (sym same) h
 
 -- a frame was read, and this is what it says
-pub read_whole : (f : ℕ × Effect) (said : Frame) (content : Option Content) (old new : Page) → BeginsWith old f
+pub read_whole : (f : ℕ × Effect) (said : PageFrame) (content : Option Content) (old new : Page) → BeginsWith old f
     → content ≡ f.1.message → IsSaid content said → new.socket ≡ f.1.next → new.waiting ≡ drop f.0 old.waiting
     → new.answered ≡ answered_after content old.answered
-    → (said ≡ frame.None → new.stage ≡ Last) → ((said ≡ frame.None → ⊥) → new.stage ≡ old.stage) → Reads old said new
+    → (said ≡ frame.None → new.phase ≡ Last) → ((said ≡ frame.None → ⊥) → new.phase ≡ old.phase) → Reads old said new
 read_whole f frame.None content old new b m h s w a last same =
     inr (last refl, inr (f, b, subst Closes m h))
 read_whole f frame.Other content old new b m h s w a last same = (
   f,
   record {
     next = b;
-    stage = same (λ e. cc e);
+    phase = same (λ e. cc e);
     socket = s;
     waiting = w;
     answered = a ∙ ap (λ (it : Option Content). answered_after it old.answered) m;
@@ -203,7 +203,7 @@ read_whole f (frame.Message message) content old new b m h s w a last same = (
   f,
   record {
     next = b;
-    stage = same (λ e. cc e);
+    phase = same (λ e. cc e);
     socket = s;
     waiting = w;
     answered = a ∙ ap (λ (it : Option Content). answered_after it old.answered) m;

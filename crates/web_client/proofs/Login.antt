@@ -5,7 +5,7 @@ use Rattle.std.proofs.lemmas.List.{take_all}
 use Rattle.attach_proto.specs.declared.message.Message.TheVariants.{Attach}
 use Rattle.attach_proto.specs.Spelling.{spelling}
 use Rattle.attach_proto.specs.Texts.{token_of, is_token}
-use Rattle.web_client.specs.declared.client.Client.{Client}
+use Rattle.web_client.specs.declared.client.WebClient.{WebClient}
 use Rattle.web_page.specs.Hearing.{IsBlank}
 use Rattle.web_client.specs.Asking.{lines_in, columns_in, IsLogin}
 
@@ -21,7 +21,7 @@ rest_is n l = take_all (length l - n) (drop n l) (omega (arith, length-drop n l)
 pub read_token : (bytes token : List ℕ) → Some token ≡ token_of bytes → token ≡ bytes
 read_token bytes token e = chosen (is_token bytes) bytes token e
 
-pub login : (payload : List ℕ) (rows columns : ℕ) (token name : List ℕ) (c : Client) → rows ≡ lines_in payload
+pub login : (payload : List ℕ) (rows columns : ℕ) (token name : List ℕ) (c : WebClient) → rows ≡ lines_in payload
     → columns ≡ columns_in payload → token ≡ take 64 (drop 4 payload) → name ≡ drop 68 payload
     → c.outgoing ≡ spelling (Attach rows columns token name) → IsBlank rows columns name c.display
     → IsLogin payload c

@@ -6,7 +6,7 @@ use Rattle.attach_proto.specs.declared.told.Told.{Told}
 use Rattle.attach_proto.specs.Streams.{Reading}
 use Rattle.web_page.specs.Showing.{Sheet}
 use Rattle.web_page.proofs.Blank.{same-blank}
-use Rattle.web_client.specs.declared.client.Client.{Client}
+use Rattle.web_client.specs.declared.client.WebClient.{WebClient}
 use Rattle.web_page.specs.Hearing.{Display, IsBlank}
 use Rattle.web_client.specs.Asking.{lines_in, columns_in, IsLogin}
 
@@ -38,7 +38,7 @@ one-blank rows columns name a b p q =
     (same-blank rows columns a.sheet b.sheet p.sheet q.sheet)
     ∙ ap (λ (t : Told). record b { told = t }) (p.told ∙ sym q.told)
 
-pub same-display : (p q : List ℕ) (a b : Client) → take 4 p ≡ take 4 q → drop 68 p ≡ drop 68 q → IsLogin p a
+pub same-display : (p q : List ℕ) (a b : WebClient) → take 4 p ≡ take 4 q → drop 68 p ≡ drop 68 q → IsLogin p a
     → IsLogin q b → a.display ≡ b.display
 same-display p q a b e f s t =
     one-blank (lines_in q) (columns_in q) (drop 68 q) a.display b.display

@@ -6,9 +6,9 @@ use Rattle.acl.specs.Names.{named_by}
 use Rattle.attach_proto.specs.declared.message.Message.{Message}
 use Rattle.attach_proto.specs.declared.message.Message.TheVariants.{Attach, Keys, Resize, Detach}
 use Rattle.attach_proto.specs.Spelling.{spelling}
-use Rattle.web_client.specs.declared.client.Client.{Client}
-use Rattle.web_client.specs.declared.seat.Seat.{Seat}
-use Rattle.web_client.specs.declared.seat.Seat.TheVariants.{Nobody, Own, Watching, Link, Unknown, Left}
+use Rattle.web_client.specs.declared.client.WebClient.{WebClient}
+use Rattle.web_client.specs.declared.identity.Identity.{Identity}
+use Rattle.web_client.specs.declared.identity.Identity.TheVariants.{Nobody, Own, Watching, Link, Unknown, Left}
 use Rattle.web_page.specs.Hearing.{Display, IsBlank, IsResized}
 
 -- ---- messages
@@ -35,31 +35,31 @@ Redraws (Resize rows columns) old new = IsResized rows columns old new
 Redraws _ old new = new ≡ old
 
 -- the client passes on what a message asks for, after all that waited
-pub record Passes (message : List ℕ) (before after : Client) : Type 0 where
+pub record Passes (message : List ℕ) (before after : WebClient) : Type 0 where
   pub frame : Message
   pub asked : IsAskedBy message frame
   pub added : after.outgoing ≡ before.outgoing ++ spelling frame
   pub shown : Redraws frame before.display after.display
 
--- ---- seats
+-- ---- identities
 
--- a seat that has a client of its own, of which this holds
-abbrev pub IsOwn : Seat → (Client → Type 0) → Type 0
+-- a identity that has a client of its own, of which this holds
+abbrev pub IsOwn : Identity → (WebClient → Type 0) → Type 0
 IsOwn (Own c) P = P c
 IsOwn _ P = ⊥
 
 -- a browser that watches a page that others watch too
-abbrev pub IsWatcher : Seat → Type 0
+abbrev pub IsWatcher : Identity → Type 0
 IsWatcher (Watching rows columns) = Unit {0}
 IsWatcher _ = ⊥
 
--- a fact of a seat's own client, if it has one
-abbrev pub IfOwn : Seat → (Client → Type 0) → Type 0
+-- a fact of a identity's own client, if it has one
+abbrev pub IfOwn : Identity → (WebClient → Type 0) → Type 0
 IfOwn (Own c) P = P c
 IfOwn _ P = Unit {0}
 
 -- the client of a browser that gave a size, a token and a name: of the token it has the frame
-pub record IsLogin (payload : List ℕ) (c : Client) : Type 0 where
+pub record IsLogin (payload : List ℕ) (c : WebClient) : Type 0 where
   pub asked : c.outgoing
       ≡ spelling (Attach (lines_in payload) (columns_in payload) (take 64 (drop 4 payload)) (drop 68 payload))
   pub shown : IsBlank (lines_in payload) (columns_in payload) (drop 68 payload) c.display
@@ -68,20 +68,20 @@ pub record IsLogin (payload : List ℕ) (c : Client) : Type 0 where
 abbrev pub IsNoName : List ℕ → Type 0
 IsNoName name = (named_by name ≡ None) ⊎ (¬ (IsUtf8 name))
 
-abbrev pub IsAttached : List ℕ → Seat → Type 0
+abbrev pub IsAttached : List ℕ → Identity → Type 0
 IsAttached payload (Own c) = IsLogin payload c
 IsAttached payload Unknown = IsNoName (drop 68 payload)
 IsAttached payload _ = ⊥
 
 -- a place before a shared page, whose size is a multiple of 6 by 20
-abbrev pub IsShared : List ℕ → Seat → Type 0
+abbrev pub IsShared : List ℕ → Identity → Type 0
 IsShared payload (Watching rows columns) =
     (length payload ≡ 4) × (rows ≡ max (lines_in payload - lines_in payload % 6) 4)
     × (columns ≡ max (columns_in payload - columns_in payload % 20) 20)
 IsShared payload _ = ⊥
 
 -- the first message
-abbrev pub Begins : List ℕ → Seat → Type 0
+abbrev pub Begins : List ℕ → Identity → Type 0
 Begins message after =
     (payload : List ℕ)
     × (((message ≡ 0x41 ∷ payload) × IsAttached payload after)
@@ -89,13 +89,13 @@ Begins message after =
     ⊎ ((message ≡ 0x4C ∷ payload) × (after ≡ Link payload)))
 
 -- a message of a browser that watches: another size, or the end
-abbrev pub Watches : List ℕ → Seat → Type 0
+abbrev pub Watches : List ℕ → Identity → Type 0
 Watches message after =
     ((payload : List ℕ) × (message ≡ 0x52 ∷ payload) × IsShared payload after)
     ⊎ ((message ≡ 0x44 ∷ []) × (after ≡ Left))
 
 -- what a message that is taken does
-abbrev pub Takes : Seat → List ℕ → Seat → Type 0
+abbrev pub Takes : Identity → List ℕ → Identity → Type 0
 Takes Nobody message after = Begins message after
 Takes (Own before) message after = IsOwn after (Passes message before)
 Takes (Watching rows columns) message after = Watches message after
@@ -104,7 +104,7 @@ Takes Unknown message after = ⊥
 Takes Left message after = ⊥
 
 -- a message that isn't taken adds nothing
-abbrev pub Keeps : Seat → Seat → Type 0
+abbrev pub Keeps : Identity → Identity → Type 0
 Keeps Nobody after = after ≡ Nobody
 Keeps (Own before) after = IsOwn after (λ c. c.outgoing ≡ before.outgoing)
 Keeps (Watching rows columns) after = after ≡ Watching rows columns
@@ -126,8 +126,8 @@ abbrev pub AddsFrames : List ℕ → List ℕ → Type 0
 AddsFrames before after =
     (ms : List Message) × AllByRecursion IsAskable ms × (after ≡ before ++ flat_map spelling ms)
 
--- a seat that never has a client
-abbrev pub IsApart : Seat → Type 0
+-- a identity that never has a client
+abbrev pub IsApart : Identity → Type 0
 IsApart Nobody = ⊥
 IsApart (Own c) = ⊥
 IsApart (Watching rows columns) = Unit {0}
@@ -136,7 +136,7 @@ IsApart Unknown = Unit {0}
 IsApart Left = Unit {0}
 
 -- Frames were added for the browser's own client, and nothing else. One that watches never has a client.
-abbrev pub Asks : Seat → Seat → Type 0
+abbrev pub Asks : Identity → Identity → Type 0
 Asks Nobody after = IfOwn after (λ c. AddsFrames [] c.outgoing)
 Asks (Own before) after = IsOwn after (λ c. AddsFrames before.outgoing c.outgoing)
 Asks (Watching rows columns) after = IsApart after

@@ -8,46 +8,46 @@ use Rattle.websocket.specs.declared.protocol.config.Role.TheVariants.{Server}
 use Rattle.websocket.specs.declared.protocol.state.WebSocketState.TheVariants.{Active}
 use Rattle.websocket.specs.Content.{Content, text, binary, ping, pong, close}
 use Rattle.websocket.specs.Connection.{Connection, Effect, read_step, StartsWithFragment, ReadAsksReply}
-use Rattle.web_client.specs.declared.seat.Seat.{Seat}
-use Rattle.web_client.specs.declared.seat.Seat.TheVariants.{Nobody, Own, Watching, Link, Unknown, Left}
+use Rattle.web_client.specs.declared.identity.Identity.{Identity}
+use Rattle.web_client.specs.declared.identity.Identity.TheVariants.{Nobody, Own, Watching, Link, Unknown, Left}
 use Rattle.web_client.specs.declared.wire.Wire.{Wire}
-use Rattle.web_client.specs.declared.wire.Stage.{Stage}
-use Rattle.web_client.specs.declared.wire.Stage.TheVariants.{Request, Socket, Last}
-use Rattle.web_client.specs.declared.frame.Frame.{Frame}
-use Rattle.web_client.specs.declared.frame.Frame.TheVariants as frame
+use Rattle.web_client.specs.declared.wire.Phase.{Phase}
+use Rattle.web_client.specs.declared.wire.Phase.TheVariants.{Request, Socket, Last}
+use Rattle.web_client.specs.declared.frame.PageFrame.{PageFrame}
+use Rattle.web_client.specs.declared.frame.PageFrame.TheVariants as frame
 use Rattle.web_client.specs.declared.visitor.Visitor.{Visitor}
 use Rattle.web_requests.specs.declared.site.Site.{Site}
-use Rattle.web_requests.specs.declared.requests.Answer.{Answer}
-use Rattle.web_requests.specs.declared.requests.Answer.TheVariants as answer
+use Rattle.web_requests.specs.declared.requests.Response.{Response}
+use Rattle.web_requests.specs.declared.requests.Response.TheVariants as answer
 use Rattle.web_requests.specs.Serving.{AnswersBytes}
 use Rattle.web_client.specs.Asking.{Takes, Keeps}
 use Rattle.web_client.specs.Judging.{IsAllowed}
 
--- how far a page's connection is, its WebSocket, the bytes that came and weren't read, its seat, and how many bytes
+-- how far a page's connection is, its WebSocket, the bytes that came and weren't read, its identity, and how many bytes
 -- of rows it has answered for
 pub record Page : Type 0 where
-  pub stage : Stage
+  pub phase : Phase
   pub socket : Connection
   pub waiting : List ℕ
-  pub seat : Seat
+  pub identity : Identity
   pub answered : ℕ
 
 -- a page with this wire, of which these bytes wait
-abbrev pub stands : Wire → List ℕ → Seat → Page
-stands wire waiting seat = record {
-  stage = wire.stage;
+abbrev pub stands : Wire → List ℕ → Identity → Page
+stands wire waiting identity = record {
+  phase = wire.phase;
   socket = wire.context;
   waiting = waiting;
-  seat = seat;
+  identity = identity;
   answered = wire.answered;
 }
 
 abbrev pub page : Visitor → Page
-page v = stands v.wire v.input.items v.seat
+page v = stands v.wire v.input.items v.identity
 
 -- the first bytes of those that came are read, and still there
 abbrev pub page_after : ℕ → Visitor → Page
-page_after n v = stands v.wire (drop n v.input.items) v.seat
+page_after n v = stands v.wire (drop n v.input.items) v.identity
 
 -- a WebSocket of a server that has read nothing: frames are masked, and no message is longer than a kind and a payload
 abbrev pub fresh : Connection
@@ -60,7 +60,7 @@ fresh = record {
 
 -- a connection that has sent nothing
 abbrev pub begun : Page
-begun = record { stage = Request; socket = fresh; waiting = []; seat = Nobody; answered = 0 }
+begun = record { phase = Request; socket = fresh; waiting = []; identity = Nobody; answered = 0 }
 
 -- ---- frames
 
@@ -82,7 +82,7 @@ Closes (Some (close reason)) = Unit {0}
 Closes _ = ⊥
 
 -- what a frame that was read says
-abbrev pub IsSaid : Option Content → Frame → Type 0
+abbrev pub IsSaid : Option Content → PageFrame → Type 0
 IsSaid content frame.None = Closes content
 IsSaid content frame.Other = SaysNothing content
 IsSaid content (frame.Message message) = Says content message.items
@@ -113,23 +113,23 @@ IsBroken p =
 -- the frame was read
 pub record IsRead (f : ℕ × Effect) (old new : Page) : Type 0 where
   pub next : BeginsWith old f
-  pub stage : new.stage ≡ old.stage
+  pub phase : new.phase ≡ old.phase
   pub socket : new.socket ≡ f.1.next
   pub waiting : new.waiting ≡ drop f.0 old.waiting
   pub answered : new.answered ≡ answered_after f.1.message old.answered
 
 -- one frame: it was read, or it isn't whole, or the connection ends at it
-abbrev pub Reads : Page → Frame → Page → Type 0
+abbrev pub Reads : Page → PageFrame → Page → Type 0
 Reads old frame.None new =
     (Waits old × (new ≡ old))
-    ⊎ ((new.stage ≡ Last) × (IsBroken old ⊎ ((f : ℕ × Effect) × BeginsWith old f × Closes f.1.message)))
+    ⊎ ((new.phase ≡ Last) × (IsBroken old ⊎ ((f : ℕ × Effect) × BeginsWith old f × Closes f.1.message)))
 Reads old frame.Other new = (f : ℕ × Effect) × IsRead f old new × SaysNothing f.1.message
 Reads old (frame.Message message) new = (f : ℕ × Effect) × IsRead f old new × Says f.1.message message.items
 
 -- ---- messages
 
 -- a browser whose name no user can have, or that has left: its connection ends
-abbrev pub IsOut : Seat → Type 0
+abbrev pub IsOut : Identity → Type 0
 IsOut Nobody = ⊥
 IsOut (Own c) = ⊥
 IsOut (Watching rows columns) = ⊥
@@ -138,24 +138,24 @@ IsOut Unknown = Unit {0}
 IsOut Left = Unit {0}
 
 -- a message that is taken, and after which the connection goes on
-abbrev pub GoesOn : Seat → List ℕ → Seat → Type 0
+abbrev pub GoesOn : Identity → List ℕ → Identity → Type 0
 GoesOn before message after = Takes before message after × (IsOut after → ⊥)
 
 -- a message at which the connection ends: it isn't allowed, or it is the last
-abbrev pub EndsWith : {A : Type 0} → Option A → Seat → List ℕ → Seat → Type 0
+abbrev pub EndsWith : {A : Type 0} → Option A → Identity → List ℕ → Identity → Type 0
 EndsWith watcher before message after =
     ((IsAllowed watcher before message → ⊥) × Keeps before after) ⊎ (Takes before message after × IsOut after)
 
 pub record GoesOnBy (message : List ℕ) (old new : Page) : Type 0 where
-  pub stage : new.stage ≡ old.stage
+  pub phase : new.phase ≡ old.phase
   pub socket : new.socket ≡ old.socket
   pub waiting : new.waiting ≡ old.waiting
   pub answered : new.answered ≡ old.answered
-  pub seat : GoesOn old.seat message new.seat
+  pub identity : GoesOn old.identity message new.identity
 
 abbrev pub TakesMessage : {A : Type 0} → Option A → List ℕ → Page → Page → Type 0
 TakesMessage watcher message old new =
-    GoesOnBy message old new ⊎ ((new.stage ≡ Last) × EndsWith watcher old.seat message new.seat)
+    GoesOnBy message old new ⊎ ((new.phase ≡ Last) × EndsWith watcher old.identity message new.identity)
 
 -- ---- any number of frames
 
@@ -163,24 +163,24 @@ TakesMessage watcher message old new =
 pub record TakesFrame (old new : Page) : Type 0 where
   pub frame : ℕ × Effect
   pub read : IsRead frame old new
-  pub taken : (SaysNothing frame.1.message × (new.seat ≡ old.seat))
-      ⊎ ((message : List ℕ) × Says frame.1.message message × GoesOn old.seat message new.seat)
+  pub taken : (SaysNothing frame.1.message × (new.identity ≡ old.identity))
+      ⊎ ((message : List ℕ) × Says frame.1.message message × GoesOn old.identity message new.identity)
 
 unfoldable pub TakesFrames : ℕ → Page → Page → Type 0
 TakesFrames zero old new = new ≡ old
 TakesFrames (suc n) old new = (between : Page) × TakesFrames n old between × TakesFrame between new
 
 -- the connection ends at the next frame, which isn't read, or whose message is the last or wrong
-abbrev pub EndsAt : {A : Type 0} → Option A → Page → Seat → Type 0
+abbrev pub EndsAt : {A : Type 0} → Option A → Page → Identity → Type 0
 EndsAt watcher p after =
-    (IsBroken p × (after ≡ p.seat))
-    ⊎ (((f : ℕ × Effect) × BeginsWith p f × Closes f.1.message × (after ≡ p.seat))
+    (IsBroken p × (after ≡ p.identity))
+    ⊎ (((f : ℕ × Effect) × BeginsWith p f × Closes f.1.message × (after ≡ p.identity))
     ⊎ ((f : ℕ × Effect) × (message : List ℕ) × BeginsWith p f × Says f.1.message message
-    × EndsWith watcher p.seat message after))
+    × EndsWith watcher p.identity message after))
 
 -- no frame is left that is whole, or the connection ended at one
 abbrev pub IsDone : {A : Type 0} → Option A → Page → Page → Type 0
-IsDone watcher last new = (Waits last × (new ≡ last)) ⊎ ((new.stage ≡ Last) × EndsAt watcher last new.seat)
+IsDone watcher last new = (Waits last × (new ≡ last)) ⊎ ((new.phase ≡ Last) × EndsAt watcher last new.identity)
 
 -- Frames that are whole were read, one after another, and their messages taken: all of them, up to one at which the
 -- connection ends; or the first 64, and more may be left.
@@ -191,27 +191,27 @@ TakesSome watcher old new more =
 
 -- What an answer does: nothing if the request isn't whole yet; it is the last one; or a WebSocket begins after the
 -- bytes of the request.
-abbrev pub Answers : Answer → Visitor → Visitor → Type 0
+abbrev pub Answers : Response → Visitor → Visitor → Type 0
 Answers answer.Part old new = new ≡ old
 Answers (answer.Page bytes) old new =
-    (new.wire.stage ≡ Last) × (new.seat ≡ old.seat)
+    (new.wire.phase ≡ Last) × (new.identity ≡ old.identity)
     × (new.wire.output.items ≡ old.wire.output.items ++ bytes.items)
-Answers (answer.Socket opening) old new =
-    (page new ≡ record (page old) { stage = Socket; waiting = drop opening.request old.input.items })
-    × (new.wire.output.items ≡ old.wire.output.items ++ opening.answer.items) × (new.address ≡ opening.address)
+Answers (answer.Socket upgrade) old new =
+    (page new ≡ record (page old) { phase = Socket; waiting = drop upgrade.request old.input.items })
+    × (new.wire.output.items ≡ old.wire.output.items ++ upgrade.answer.items) × (new.address ≡ upgrade.address)
 
 -- the answer was given, and the frames that came after the request were taken
-abbrev pub TakesRequest : Site → Answer → Visitor → Visitor → Bool → Type 0
+abbrev pub TakesRequest : Site → Response → Visitor → Visitor → Bool → Type 0
 TakesRequest site answer.Part old new more = new ≡ old
 TakesRequest site (answer.Page bytes) old new more = Answers (answer.Page bytes) old new
-TakesRequest site (answer.Socket opening) old new more =
-    TakesSome site.watcher (record (page old) { stage = Socket; waiting = drop opening.request old.input.items })
+TakesRequest site (answer.Socket upgrade) old new more =
+    TakesSome site.watcher (record (page old) { phase = Socket; waiting = drop upgrade.request old.input.items })
     (page new) more
 
 -- what came of a browser is taken, and more may be left
-abbrev pub TakesBytes : Site → Stage → Visitor → Visitor → Bool → Type 0
+abbrev pub TakesBytes : Site → Phase → Visitor → Visitor → Bool → Type 0
 TakesBytes site Request old new more =
-    (a : Answer) × AnswersBytes site old.input.items a × TakesRequest site a old new more
+    (a : Response) × AnswersBytes site old.input.items a × TakesRequest site a old new more
 TakesBytes site Socket old new more = TakesSome site.watcher (page old) (page new) more
 TakesBytes site Last old new more = page new ≡ page old
 

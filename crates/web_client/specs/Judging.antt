@@ -3,14 +3,14 @@ use Rattle.std.specs.Prelude.{◌≡◌, ◌⊎◌, ◌≤◌, ℕ, List, [], �
 use Rattle.attach_proto.specs.Texts.{IsToken}
 use Rattle.web_page.specs.declared.sheet.SheetFault.{SheetFault}
 use Rattle.web_page.specs.declared.sheet.SheetFault.TheVariants as sheet
-use Rattle.web_client.specs.declared.wire.End.{End}
-use Rattle.web_client.specs.declared.wire.End.TheVariants as end
+use Rattle.web_client.specs.declared.wire.WireFault.{WireFault}
+use Rattle.web_client.specs.declared.wire.WireFault.TheVariants as end
 use Rattle.web_page.specs.declared.fault.ClientFault.{ClientFault}
 use Rattle.web_page.specs.declared.fault.ClientFault.TheVariants as client
-use Rattle.web_client.specs.declared.seat.Seat.{Seat}
-use Rattle.web_client.specs.declared.seat.Seat.TheVariants.{Nobody, Own, Watching, Link, Unknown, Left}
-use Rattle.web_client.specs.declared.seat.SeatFault.{SeatFault}
-use Rattle.web_client.specs.declared.seat.SeatFault.TheVariants.{Wrong, NoMemory}
+use Rattle.web_client.specs.declared.identity.Identity.{Identity}
+use Rattle.web_client.specs.declared.identity.Identity.TheVariants.{Nobody, Own, Watching, Link, Unknown, Left}
+use Rattle.web_client.specs.declared.identity.MessageFault.{MessageFault}
+use Rattle.web_client.specs.declared.identity.MessageFault.TheVariants.{Wrong, NoMemory}
 
 -- ---- payloads
 
@@ -53,7 +53,7 @@ IsWatching watcher message = (IsPublic watcher × Has 0x52 IsSize message) ⊎ (
 
 -- A browser attaches, watches or shows a link first, and once. One that showed a link, gave a name that no user can
 -- have, or has left, sends nothing more.
-abbrev pub IsAllowed : {A : Type 0} → Option A → Seat → List ℕ → Type 0
+abbrev pub IsAllowed : {A : Type 0} → Option A → Identity → List ℕ → Type 0
 IsAllowed watcher Nobody message = IsFirst watcher message
 IsAllowed watcher (Own c) message = IsAsking message
 IsAllowed watcher (Watching rows columns) message = IsWatching watcher message
@@ -64,7 +64,7 @@ IsAllowed watcher Left message = ⊥
 -- ---- faults
 
 -- A message is wrong if it isn't allowed, and no other is. One that is allowed is taken, unless memory is refused.
-abbrev pub IsJudged : {A : Type 0} → Type 0 → Result A SeatFault → Type 0
+abbrev pub IsJudged : {A : Type 0} → Type 0 → Result A MessageFault → Type 0
 IsJudged Allowed (Ok taken) = Allowed
 IsJudged Allowed (Err Wrong) = Allowed → ⊥
 IsJudged Allowed (Err NoMemory) = Allowed
@@ -75,12 +75,12 @@ FailsFor Said client.NoMemory = Unit {0}
 FailsFor Said client.Unspellable = Said → ⊥
 FailsFor Said client.BadFrame = ⊥
 
-abbrev pub fault_of : ClientFault → SeatFault
+abbrev pub fault_of : ClientFault → MessageFault
 fault_of client.NoMemory = NoMemory
 fault_of client.Unspellable = Wrong
 fault_of client.BadFrame = Wrong
 
 -- what a page that can't be updated ends with
-abbrev pub end_of : SheetFault → End
+abbrev pub end_of : SheetFault → WireFault
 end_of sheet.NoMemory = end.NoMemory
 end_of sheet.TooOld = end.Broken

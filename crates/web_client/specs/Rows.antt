@@ -17,11 +17,12 @@ use Rattle.web_page.specs.Hearing.{Display}
 use Rattle.web_page.specs.Json.{spelled_text}
 use Rattle.attach_proto.specs.Fields.{reason}
 use Rattle.attach_proto.specs.declared.why.Why.{Why}
+use Rattle.attach_proto.specs.declared.why.Why.TheVariants.{Fault}
 use Rattle.attach_proto.specs.declared.told.Told.{Told}
 
 -- a frame with this text comes after the bytes on their way to the browser
 pub record SendsText (text : List ℕ) (old new : Wire) : Type 0 where
-  pub stage : new.stage ≡ old.stage
+  pub phase : new.phase ≡ old.phase
   pub context : new.context ≡ old.context
   pub counts : (new.sent ≡ old.sent) × (new.answered ≡ old.answered)
   pub frame : Sends old.context.role (Some (record { opcode = code.Data Text; payload = text })) old.output.items
@@ -30,7 +31,7 @@ pub record SendsText (text : List ℕ) (old new : Wire) : Type 0 where
 -- The browser is asked to answer for all rows that it was sent: a ping with their number of bytes. Its pong has the
 -- same, and comes after it has read what was sent before.
 pub record Asks (old new : Wire) : Type 0 where
-  pub stage : new.stage ≡ old.stage
+  pub phase : new.phase ≡ old.phase
   pub context : new.context ≡ old.context
   pub counts : (new.sent ≡ old.sent) × (new.answered ≡ old.answered)
   pub frame : Sends old.context.role
@@ -74,6 +75,10 @@ said text = codes "{\"say\":\"" ++ spelled_text (chars text) ++ codes "\"}"
 abbrev pub welcomed : List ℕ
 welcomed = codes "{\"welcome\":1}"
 
+-- the bridge is there
+abbrev pub here : List ℕ
+here = codes "{\"here\":1}"
+
 -- why it goes
 abbrev pub gone : Why → List ℕ
 gone why = codes "{\"gone\":" ++ decimal (reason why) ++ codes "}"
@@ -87,6 +92,14 @@ handed name token =
 -- a text is told, and after it perhaps the connection's end
 abbrev pub TellsLast : List ℕ → Wire → Wire → Type 0
 TellsLast text old new = (v : Wire) × SendsText text old v × Adds v new
+
+-- why it isn't let in, and then its end
+abbrev pub Refuses : List ℕ → Wire → Wire → Type 0
+Refuses reason old new = (v : Wire) × SendsText (said reason) old v × TellsLast (gone Fault) v new
+
+-- that the bridge is there, and the browser is asked whether it is
+abbrev pub TellsHere : Wire → Wire → Type 0
+TellsHere old new = (v : Wire) × SendsText here old v × Asks v new
 
 abbrev pub MayTell : List ℕ → Wire → Wire → Type 0
 MayTell text old new = (new ≡ old) ⊎ SendsText text old new

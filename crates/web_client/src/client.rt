@@ -1,10 +1,13 @@
 //! A client of the server: the frames that go to it, and what came from it.
 
-ghost use Rattle.std.specs.Prelude.{◌≡◌, ◌++◌, ◌≤◌, ℕ, List, length, IfOk, OnOk, OnErr, IfErr};
+ghost use Rattle.std.specs.Prelude.{◌≡◌, ◌++◌, ◌≤◌, ℕ, List, length, take, drop, Err, IfOk, OnOk, OnErr, IfErr};
+ghost use Rattle.std.specs.String.{string_bytes};
 ghost use Rattle.attach_proto.specs.Spelling.{spelling, IsSpellable};
-ghost use Rattle.web_client.specs.Sending.{IsSent};
-ghost use Rattle.web_page.specs.Hearing.{IsBlank, IsResized};
+ghost use Rattle.web_page.specs.Hearing.{IsBlank, IsResized, Hears};
+ghost use Rattle.web_client.specs.Asking.{IsLogin};
 ghost use Rattle.web_client.specs.Judging.{IsTyped, FailsFor};
+ghost use Rattle.web_client.specs.Sending.{IsSent};
+ghost use Rattle.web_client.specs.declared.client.WebClient.{WebClient as Attached};
 
 use crate::outgoing::Outgoing;
 use attach_proto::{Bytes, Message, Text, Token, WriteFault, write_message};
@@ -12,10 +15,11 @@ use std::alloc::Global;
 use std::io;
 use std::io::Write;
 use web_page::{ClientFault, Display};
+use web_requests::Watcher;
 
 /// A client of the server, over a connection of its own.
 #[derive(Drop)]
-pub struct Client {
+pub struct WebClient {
     alloc: Global,
     /// The frames that wait for the server. The token is in them, and nowhere else.
     pub outgoing: Outgoing,
@@ -23,7 +27,7 @@ pub struct Client {
     pub display: Display,
 }
 
-impl Client {
+impl WebClient {
     // Puts the frame of a message after those that wait.
     fn ask(&mut self, message: &Message) -> Result<(), ClientFault>
         ensures ok { OnOk result (self.new
@@ -46,13 +50,13 @@ impl Client {
         columns: u16,
         token: Token,
         name: &str,
-    ) -> Result<Client, ClientFault>
+    ) -> Result<WebClient, ClientFault>
         ensures asks { IfOk result (λ c. c.outgoing
             ≡ spelling (Message.Attach rows columns token name.now)) }
         ensures display { IfOk result (λ c. IsBlank rows columns name.now c.display) }
         ensures fault { IfErr result (FailsFor (length name.now ≤ 8124)) }
     {
-        let mut client = Client {
+        let mut client = WebClient {
             alloc,
             outgoing: Outgoing::new(alloc),
             display: Display::new(alloc, rows, columns, name)?,
@@ -119,3 +123,69 @@ impl Client {
         self.outgoing.send_all(server)
     }
 }
+
+/// A client whose page many browsers are shown: one of the user as whom anybody may watch, and of nobody else.
+#[derive(Drop)]
+pub struct SharedClient {
+    // Only this module and the browsers that watch reach it, so no other client is shown to them.
+    pub(crate) client: WebClient,
+}
+
+impl SharedClient {
+    /// A client of the user as whom anybody may watch, on a page of this many lines and columns.
+    pub fn attach(
+        alloc: Global,
+        rows: u16,
+        columns: u16,
+        watcher: &Watcher,
+    ) -> Result<SharedClient, ClientFault>
+        ensures asks { IfOk result (λ c. c.client.outgoing
+            ≡ spelling (Message.Attach rows columns watcher.now.token (string_bytes watcher.now.name))) }
+        ensures display { IfOk result (λ c. IsBlank rows columns (string_bytes watcher.now.name) c.client.display) }
+    {
+        let token = watcher.token.copied();
+        let client = WebClient::attach(alloc, rows, columns, token, watcher.name.as_str())?;
+        Ok(SharedClient { client })
+    }
+
+    /// What the server has told it.
+    pub fn display(&self) -> &Display
+        ensures { result.now ≡ self.now.client.display }
+    {
+        &self.client.display
+    }
+
+    /// Takes bytes of the server.
+    pub fn hear(&mut self, bytes: &[u8]) -> Result<(), ClientFault>
+        ensures hears { (result ≡ Err ClientFault.NoMemory → ⊥)
+            → Hears self.old.client.display bytes.now self.new.client.display }
+        ensures asks { self.new.client.outgoing ≡ self.old.client.outgoing }
+    {
+        self.client.display.hear_all(bytes)
+    }
+
+    /// Passes on keys that choose its window.
+    pub fn choose(&mut self, keys: &[u8]) -> Result<(), ClientFault>
+        ensures ok { OnOk result (self.new.client ≡ record self.old.client {
+          outgoing = self.old.client.outgoing ++ spelling (Message.Keys keys.now);
+        }) }
+        ensures err { OnErr result (self.new ≡ self.old) }
+    {
+        self.client.press(keys)
+    }
+
+    /// Writes the bytes that wait, as far as the server takes them.
+    pub fn send_all<W: Write>(&mut self, server: &mut W) -> io::Result<()>
+        ensures sent { (put : List ℕ) → IsSent put (W.contents server.old) self.old.client.outgoing
+            → IsSent put (W.contents server.new) self.new.client.outgoing }
+        ensures display { self.new.client.display ≡ self.old.client.display }
+    {
+        self.client.send_all(server)
+    }
+}
+
+/// Two browsers that give the same size and name, but other tokens, have the same display.
+pub fn tokens_change_no_display()
+    ensures { (p q : List ℕ) (a b : Attached) → take 4 p ≡ take 4 q → drop 68 p ≡ drop 68 q
+        → IsLogin p a → IsLogin q b → a.display ≡ b.display }
+{}

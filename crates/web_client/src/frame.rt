@@ -4,13 +4,13 @@ ghost use Rattle.std.specs.Prelude.{◌≡◌, ◌↔◌, option_map, IfOk, IfSo
 ghost use Rattle.websocket.specs.Content.{received_content, IsReceivedInside, HasValidText};
 ghost use Rattle.web_client.specs.Frames.{answered_by, answered_after, IsSaid};
 
-use crate::wire::End;
+use crate::wire::WireFault;
 use std::alloc::Global;
 use websocket::protocol::{Message, Received};
 
 /// What a frame of the page was.
 #[derive(Drop)]
-pub enum Frame {
+pub enum PageFrame {
     /// It isn't whole, or the connection ends with it.
     None,
     /// It has no message for the bridge.
@@ -18,32 +18,36 @@ pub enum Frame {
     Message(Vec<u8>),
 }
 
-impl Frame {
+impl PageFrame {
     /// Whether no more frames are read now.
     pub fn is_last(&self) -> bool
-        ensures { IsTrue result ↔ (self.now ≡ Frame.None) }
+        ensures { IsTrue result ↔ (self.now ≡ PageFrame.None) }
     {
         match self {
-            Frame::None => true,
-            Frame::Other | Frame::Message(_) => false,
+            PageFrame::None => true,
+            PageFrame::Other | PageFrame::Message(_) => false,
         }
     }
 }
 
 /// What a frame says that was read, if it ends a message. A page sends no texts.
-pub fn said(alloc: Global, received: &Option<Received>, input: &[u8]) -> Result<Frame, End>
+pub fn said(
+    alloc: Global,
+    received: &Option<Received>,
+    input: &[u8],
+) -> Result<PageFrame, WireFault>
     requires inside { IfSome received.now (IsReceivedInside input.now) }
     requires text { IfSome received.now (λ it. HasValidText (received_content input.now it)) }
     ensures { IfOk result (IsSaid (option_map (received_content input.now) received.now)) }
 {
     match received {
         Some(received) => match received.message(input) {
-            Message::Binary(bytes) => Ok(Frame::Message(bytes.to_vec(alloc)?)),
-            Message::Text(_) => Ok(Frame::Message(Vec::new(alloc))),
-            Message::Close(_) => Ok(Frame::None),
-            Message::Ping(_) | Message::Pong(_) => Ok(Frame::Other),
+            Message::Binary(bytes) => Ok(PageFrame::Message(bytes.to_vec(alloc)?)),
+            Message::Text(_) => Ok(PageFrame::Message(Vec::new(alloc))),
+            Message::Close(_) => Ok(PageFrame::None),
+            Message::Ping(_) | Message::Pong(_) => Ok(PageFrame::Other),
         },
-        None => Ok(Frame::Other),
+        None => Ok(PageFrame::Other),
     }
 }
 

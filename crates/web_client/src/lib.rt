@@ -4,18 +4,14 @@
 
 mod client;
 mod frame;
-mod front;
-mod laws;
+mod identity;
 mod outgoing;
-mod seat;
 mod visitor;
 mod wire;
 
-pub use client::Client;
-pub use front::drop_front;
-pub use laws::tokens_change_no_display;
-pub use seat::{Seat, fitted};
+pub use client::{SharedClient, WebClient, tokens_change_no_display};
+pub use identity::{Identity, fitted};
 pub use visitor::Visitor;
 pub use web_page::{ClientFault, Display};
 pub use web_requests::{Site, SiteFile, Watcher, refusal};
-pub use wire::End;
+pub use wire::WireFault;

@@ -3,22 +3,22 @@
 ghost use Rattle.std.specs.Prelude.{◌≡◌, ◌↔◌, ◌⊎◌, ℕ, List, drop, IfOk, OnOk, OnErr, IsTrue, ◌<◌, ◌≤◌, []};
 ghost use Rattle.std.specs.Prelude.{length, false, true, codes, vec_len};
 ghost use Rattle.web_client.specs.Asking.{Asks, Keeps, IsOwn, IfOwn, IsWatcher};
-ghost use Rattle.web_client.specs.Sending.{IsReceived};
-ghost use Rattle.web_client.specs.Rows.{Adds, IsDue, Shows, SendsAll, TellsLast, handed};
+ghost use Rattle.web_client.specs.Sending.{IsReceived, IsSent};
+ghost use Rattle.web_client.specs.Rows.{Adds, IsDue, Shows, SendsAll, TellsLast, TellsHere, Refuses, said, handed};
 ghost use Rattle.web_requests.specs.Serving.{refusal};
 ghost use Rattle.web_client.specs.Frames.{page, page_after, begun, Reads, Answers, TakesMessage, TakesSome};
 ghost use Rattle.web_client.specs.Frames.{TakesBytes, IsBounded, IsWithin};
 
-use crate::frame::Frame;
-use crate::front::drop_front;
-use crate::seat::{Seat, SeatFault};
-use crate::wire::{End, Stage, View, Wire};
+use crate::client::SharedClient;
+use crate::frame::PageFrame;
+use crate::identity::{Identity, MessageFault};
+use crate::outgoing::{drop_front, write_all};
+use crate::wire::{Phase, SentPage, Wire, WireFault};
 use attach_proto::Why;
 use std::alloc::Global;
 use std::io;
-use std::io::Read;
-use web_page::Display;
-use web_requests::{Answer, Opening, Site, answered, refusal};
+use std::io::{Read, Write};
+use web_requests::{Response, Site, Upgrade, answered, refusal};
 use websocket::protocol::CloseCode;
 
 /// While more bytes wait for the server, or for the browser, the browser isn't read.
@@ -38,9 +38,9 @@ const UNKNOWN: &str = "unknown user or wrong token";
 pub struct Visitor {
     input: Vec<u8>,
     wire: Wire,
-    view: View,
+    view: SentPage,
     /// Who the browser is.
-    pub seat: Seat,
+    pub identity: Identity,
     /// The address that the web server before the bridge saw; empty if it told none.
     pub address: Vec<u8>,
 }
@@ -55,44 +55,48 @@ impl Visitor {
         Visitor {
             input: Vec::new(alloc),
             wire: Wire::new(alloc),
-            view: View::NOTHING,
-            seat: Seat::Nobody,
+            view: SentPage::NOTHING,
+            identity: Identity::Nobody,
             address: Vec::new(alloc),
         }
     }
 
     /// Whether nothing is read any more.
     pub fn is_last(&self) -> bool
-        ensures { IsTrue result ↔ (self.now.wire.stage ≡ Stage.Last) }
+        ensures { IsTrue result ↔ (self.now.wire.phase ≡ Phase.Last) }
     {
-        self.wire.stage == Stage::Last
+        self.wire.phase == Phase::Last
     }
 
     /// Whether its page is open.
     pub fn is_open(&self) -> bool
-        ensures { IsTrue result ↔ (self.now.wire.stage ≡ Stage.Socket) }
+        ensures { IsTrue result ↔ (self.now.wire.phase ≡ Phase.Socket) }
     {
-        self.wire.stage == Stage::Socket
+        self.wire.phase == Phase::Socket
     }
 
     /// Whether the browser is to be read: it isn't while much waits for its client or for itself.
     pub fn can_read(&self) -> bool
-        ensures last { self.now.wire.stage ≡ Stage.Last → result ≡ false }
-        ensures own { IfOwn self.now.seat (λ c. 65536 < length c.outgoing → result ≡ false) }
+        ensures last { self.now.wire.phase ≡ Phase.Last → result ≡ false }
+        ensures own { IfOwn self.now.identity (λ c. 65536 < length c.outgoing → result ≡ false) }
         ensures output { 65536 < length self.now.wire.output.items → result ≡ false }
-        ensures other { (self.now.wire.stage ≡ Stage.Last → ⊥) → length self.now.wire.output.items ≤ 65536
-            → IfOwn self.now.seat (λ c. length c.outgoing ≤ 65536) → result ≡ true }
+        ensures other { (self.now.wire.phase ≡ Phase.Last → ⊥) → length self.now.wire.output.items ≤ 65536
+            → IfOwn self.now.identity (λ c. length c.outgoing ≤ 65536) → result ≡ true }
     {
-        let waiting = match &self.seat {
-            Seat::Own(client) => client.waiting(),
+        let waiting = match &self.identity {
+            Identity::Own(client) => client.waiting(),
             _ => 0,
         };
         !self.is_last() && waiting <= MUCH && self.wire.output.len() <= MUCH
     }
 
-    /// The bytes on their way to the browser.
-    pub fn output(&mut self) -> &mut Vec<u8> {
-        &mut self.wire.output
+    /// Writes what waits for the browser, as far as it takes it.
+    pub fn send_all<B: Write>(&mut self, browser: &mut B) -> io::Result<()>
+        ensures sent { (put : List ℕ) → IsSent put (B.contents browser.old) self.old.wire.output.items
+            → IsSent put (B.contents browser.new) self.new.wire.output.items }
+        ensures rest { self.new ≡ record self.old { wire = record self.old.wire { output = self.new.wire.output } } }
+    {
+        write_all(&mut self.wire.output, browser)
     }
 
     /// Whether no bytes wait for the browser.
@@ -103,12 +107,12 @@ impl Visitor {
     }
 
     // Reads one frame of the page, after the bytes that were taken.
-    fn read_frame(&mut self, taken: &mut usize) -> Result<Frame, End>
+    fn read_frame(&mut self, taken: &mut usize) -> Result<PageFrame, WireFault>
         requires { taken.old ≤ vec_len self.old.input }
         ensures reads { IfOk result (λ frame. Reads (page_after taken.old self.old) frame
             (page_after taken.new self.new)) }
         ensures within { taken.new ≤ vec_len self.new.input }
-        ensures seat { self.new.seat ≡ self.old.seat }
+        ensures identity { self.new.identity ≡ self.old.identity }
     {
         let read = self.wire.read(&mut self.input.as_mut_slice()[*taken..])?;
         *taken += read.1;
@@ -116,47 +120,48 @@ impl Visitor {
     }
 
     // Takes one message of the page.
-    fn take_message(&mut self, site: &Site, message: &[u8]) -> Result<(), End>
+    fn take_message(&mut self, site: &Site, message: &[u8]) -> Result<(), WireFault>
         ensures takes { OnOk result (TakesMessage site.now.watcher message.now (page self.old)
             (page self.new)) }
         ensures input { self.new.input.items ≡ self.old.input.items }
-        ensures asks { Asks self.old.seat self.new.seat }
+        ensures asks { Asks self.old.identity self.new.identity }
     {
-        match self.seat.take(self.wire.alloc, site, message) {
+        match self.identity.take(self.wire.alloc, site, message) {
             Ok(()) => {}
-            Err(SeatFault::Wrong) => {
+            Err(MessageFault::Wrong) => {
                 self.wire.close(CloseCode::Policy, "not understood");
                 return Ok(());
             }
-            Err(SeatFault::NoMemory) => return Err(End::NoMemory),
+            Err(MessageFault::NoMemory) => return Err(WireFault::NoMemory),
         }
-        match &self.seat {
-            Seat::Unknown => {
+        match &self.identity {
+            Identity::Unknown => {
                 self.wire.say(UNKNOWN)?;
                 self.wire.tell_gone(Why::Fault)
             }
-            Seat::Left => self.wire.tell_gone(Why::Detached),
-            Seat::Nobody | Seat::Own(_) | Seat::Watching(_, _) | Seat::Link(_) => Ok(()),
+            Identity::Left => self.wire.tell_gone(Why::Detached),
+            Identity::Nobody | Identity::Own(_) | Identity::Watching(_, _) | Identity::Link(_) =>
+                Ok(()),
         }
     }
 
     // Takes frames that are whole. Returns whether more may be left.
-    fn read_frames(&mut self, site: &Site) -> Result<bool, End>
-        requires { self.old.wire.stage ≡ Stage.Socket }
+    fn read_frames(&mut self, site: &Site) -> Result<bool, WireFault>
+        requires { self.old.wire.phase ≡ Phase.Socket }
         ensures takes { IfOk result (TakesSome site.now.watcher (page self.old) (page self.new)) }
-        ensures asks { Asks self.old.seat self.new.seat }
+        ensures asks { Asks self.old.identity self.new.identity }
     {
         let mut taken = 0;
         let mut count = 0;
         'frames: while self.is_open() && count < FRAMES {
             count += 1;
             match self.read_frame(&mut taken)? {
-                Frame::None => {
+                PageFrame::None => {
                     drop_front(&mut self.input, taken);
                     return Ok(false);
                 }
-                Frame::Other => {}
-                Frame::Message(message) => self.take_message(site, &message)?,
+                PageFrame::Other => {}
+                PageFrame::Message(message) => self.take_message(site, &message)?,
             }
         }
         drop_front(&mut self.input, taken);
@@ -164,29 +169,29 @@ impl Visitor {
     }
 
     // Takes the answer to a request.
-    fn take_answer(&mut self, answer: Answer) -> Result<(), End>
-        requires { self.old.wire.stage ≡ Stage.Request }
+    fn take_answer(&mut self, answer: Response) -> Result<(), WireFault>
+        requires { self.old.wire.phase ≡ Phase.Request }
         ensures ok { OnOk result (Answers answer self.old self.new) }
         ensures err { OnErr result (page self.new ≡ page self.old) }
-        ensures seat { self.new.seat ≡ self.old.seat }
+        ensures identity { self.new.identity ≡ self.old.identity }
     {
         match answer {
-            Answer::Part => {}
-            Answer::Page(bytes) => {
+            Response::Part => {}
+            Response::Page(bytes) => {
                 self.wire.output.extend_from_slice(&bytes)?;
-                self.wire.stage = Stage::Last;
+                self.wire.phase = Phase::Last;
             }
-            Answer::Socket(opening) => {
-                let Opening {
+            Response::Socket(upgrade) => {
+                let Upgrade {
                     answer,
                     request,
                     address,
-                } = opening;
+                } = upgrade;
                 self.wire.output.extend_from_slice(&answer)?;
                 let request = request.min(self.input.len());
                 drop_front(&mut self.input, request);
                 self.address = address;
-                self.wire.stage = Stage::Socket;
+                self.wire.phase = Phase::Socket;
             }
         }
         Ok(())
@@ -196,7 +201,7 @@ impl Visitor {
     pub fn receive<B: Read>(&mut self, browser: &mut B, buffer: &mut [u8]) -> io::Result<usize>
         ensures received { (sent : List ℕ) → IsReceived sent (B.remaining browser.old) self.old.input.items
             → OnOk result (IsReceived sent (B.remaining browser.new) self.new.input.items) }
-        ensures seat { self.new.seat ≡ self.old.seat }
+        ensures identity { self.new.identity ≡ self.old.identity }
     {
         let count = browser.read(buffer)?;
         self.input.extend_from_slice(&buffer[..count])?;
@@ -204,21 +209,21 @@ impl Visitor {
     }
 
     // Whether what is kept for it is within its bounds.
-    fn check_bounds(&self) -> Result<(), End>
+    fn check_bounds(&self) -> Result<(), WireFault>
         ensures { OnOk result (IsBounded self.now) }
     {
         if self.input.len() > MOST_INPUT {
-            return Err(End::TooFarBehind);
+            return Err(WireFault::TooFarBehind);
         }
         self.wire.check_bound()
     }
 
     // Takes what came of the browser.
-    fn take_some(&mut self, site: &Site) -> Result<bool, End>
-        ensures takes { IfOk result (TakesBytes site.now self.old.wire.stage self.old self.new) }
-        ensures asks { Asks self.old.seat self.new.seat }
+    fn take_some(&mut self, site: &Site) -> Result<bool, WireFault>
+        ensures takes { IfOk result (TakesBytes site.now self.old.wire.phase self.old self.new) }
+        ensures asks { Asks self.old.identity self.new.identity }
     {
-        if self.wire.stage == Stage::Request {
+        if self.wire.phase == Phase::Request {
             let answer = answered(self.wire.alloc, site, &self.input)?;
             self.take_answer(answer)?;
         }
@@ -231,9 +236,9 @@ impl Visitor {
 
     /// Takes what came of the browser, up to 64 frames at once. Returns whether more may be left. For its own client
     /// it adds frames that the browser may ask for, and nothing else.
-    pub fn take(&mut self, site: &Site) -> Result<bool, End>
-        ensures takes { IfOk result (TakesBytes site.now self.old.wire.stage self.old self.new) }
-        ensures asks { Asks self.old.seat self.new.seat }
+    pub fn take(&mut self, site: &Site) -> Result<bool, WireFault>
+        ensures takes { IfOk result (TakesBytes site.now self.old.wire.phase self.old self.new) }
+        ensures asks { Asks self.old.identity self.new.identity }
         ensures bounded { OnOk result (IsBounded self.new) }
     {
         let more = self.take_some(site)?;
@@ -242,49 +247,56 @@ impl Visitor {
     }
 
     /// Answers a browser that has just opened its page with a refusal, since the bridge is full.
-    pub fn turn_away(&mut self) -> Result<(), End>
-        ensures { OnOk result ((self.new.wire.stage ≡ Stage.Last) × (self.new.seat ≡ Seat.Nobody)
+    pub fn turn_away(&mut self) -> Result<(), WireFault>
+        ensures { OnOk result ((self.new.wire.phase ≡ Phase.Last) × (self.new.identity ≡ Identity.Nobody)
             × (self.new.wire.output.items ≡ refusal (codes "503 Service Unavailable"))) }
     {
         let bytes = refusal(self.wire.alloc, "503 Service Unavailable")?;
         self.wire.output = bytes;
-        self.wire.stage = Stage::Last;
-        self.seat = Seat::Nobody;
+        self.wire.phase = Phase::Last;
+        self.identity = Identity::Nobody;
         Ok(())
     }
 
     /// The server's connection ended, or there is none.
-    pub fn lose(&mut self, reason: &str)
-        ensures open { self.old.wire.stage ≡ Stage.Socket → self.new.wire.stage ≡ Stage.Last }
-        ensures other { (self.old.wire.stage ≡ Stage.Socket → ⊥) → self.new ≡ self.old }
-        ensures seat { self.new.seat ≡ self.old.seat }
+    pub fn lose(&mut self, reason: &str) -> Result<(), WireFault>
+        ensures tells { self.old.wire.phase ≡ Phase.Socket
+            → OnOk result (TellsLast (said reason.now) self.old.wire self.new.wire) }
+        ensures last { self.old.wire.phase ≡ Phase.Socket → OnOk result (self.new.wire.phase ≡ Phase.Last) }
+        ensures other { (self.old.wire.phase ≡ Phase.Socket → ⊥) → self.new ≡ self.old }
+        ensures identity { self.new.identity ≡ self.old.identity }
     {
         if self.is_open() {
-            let _ = self.wire.say(reason);
+            self.wire.say(reason)?;
             self.wire.close(CloseCode::Away, reason);
         }
+        Ok(())
     }
 
     /// Tells a page which user and token its link stands for, and ends.
-    pub fn hand(&mut self, name: &str, token: &str) -> Result<(), End>
+    pub fn hand(&mut self, name: &str, token: &str) -> Result<(), WireFault>
         ensures hands { OnOk result (TellsLast (handed name.now token.now) self.old.wire self.new.wire) }
-        ensures seat { self.new.seat ≡ self.old.seat }
+        ensures last { OnOk result (self.new.wire.phase ≡ Phase.Last) }
+        ensures identity { self.new.identity ≡ self.old.identity }
     {
         self.wire.hand(name, token)
     }
 
     /// Tells a page why it isn't let in, and ends.
-    pub fn refuse(&mut self, reason: &str) -> Result<(), End>
-        ensures adds { OnOk result (Adds self.old.wire self.new.wire) }
-        ensures seat { self.new.seat ≡ self.old.seat }
+    pub fn refuse(&mut self, reason: &str) -> Result<(), WireFault>
+        ensures tells { OnOk result (Refuses reason.now self.old.wire self.new.wire) }
+        ensures last { OnOk result (self.new.wire.phase ≡ Phase.Last) }
+        ensures identity { self.new.identity ≡ self.old.identity }
     {
         self.wire.say(reason)?;
         self.wire.tell_gone(Why::Fault)
     }
 
     /// Tells the page that the bridge is there, and asks whether it is.
-    pub fn ping(&mut self) -> Result<(), End>
-        ensures adds { OnOk result (Adds self.old.wire self.new.wire) }
+    pub fn ping(&mut self) -> Result<(), WireFault>
+        ensures asks { self.old.wire.phase ≡ Phase.Socket
+            → OnOk result (TellsHere self.old.wire self.new.wire) }
+        ensures closed { (self.old.wire.phase ≡ Phase.Socket → ⊥) → self.new ≡ self.old }
         ensures same { self.new ≡ record self.old { wire = self.new.wire } }
         ensures bounded { OnOk result (IsBounded self.new) }
     {
@@ -299,53 +311,62 @@ impl Visitor {
     pub fn change_page(&mut self)
         ensures { self.new ≡ record self.old { view = record { is_welcomed = false; since = 0 } } }
     {
-        self.view = View::NOTHING;
+        self.view = SentPage::NOTHING;
     }
 
-    // Whether it watches a page that others watch too.
-    fn is_watcher(&self) -> bool
-        ensures { IsTrue result ↔ IsWatcher self.now.seat }
+    /// Whether it watches a page that others watch too. It is shown that page, and every other browser its own.
+    pub fn is_watcher(&self) -> bool
+        ensures { IsTrue result ↔ IsWatcher self.now.identity }
     {
-        match &self.seat {
-            Seat::Watching(_, _) => true,
-            Seat::Nobody | Seat::Own(_) | Seat::Link(_) | Seat::Unknown | Seat::Left => false,
+        match &self.identity {
+            Identity::Watching(_, _) => true,
+            Identity::Nobody
+            | Identity::Own(_)
+            | Identity::Link(_)
+            | Identity::Unknown
+            | Identity::Left => false,
         }
     }
 
-    /// Shows a page that others watch too, to a browser that watches. No other one is sent it.
-    pub fn show_shared(&mut self, display: &mut Display) -> Result<(), End>
-        ensures apart { (IsWatcher self.old.seat → ⊥) → (self.new ≡ self.old) × (display.new ≡ display.old) }
-        ensures shows { self.old.wire.stage ≡ Stage.Socket → IsWatcher self.old.seat
-            → IsDue display.old self.old.wire → OnOk result (Shows display.old self.old.view.since self.old.wire
-            display.new self.new.view.since self.new.wire) }
-        ensures sends { OnOk result ((self.new.wire ≡ self.old.wire)
-            ⊎ SendsAll display.old.told self.old.wire self.new.wire) }
+    /// Shows the page of a shared client to a browser that watches. No other one is sent it.
+    pub fn show_shared(&mut self, shared: &mut SharedClient) -> Result<(), WireFault>
+        ensures apart { (IsWatcher self.old.identity → ⊥) → (self.new ≡ self.old) × (shared.new ≡ shared.old) }
+        ensures closed { (self.old.wire.phase ≡ Phase.Socket → ⊥) → (self.new ≡ self.old)
+            × (shared.new ≡ shared.old) }
+        ensures shows { self.old.wire.phase ≡ Phase.Socket → IsWatcher self.old.identity
+            → IsDue shared.old.client.display self.old.wire
+            → OnOk result (Shows shared.old.client.display self.old.view.since self.old.wire
+            shared.new.client.display self.new.view.since self.new.wire) }
+        ensures sends { self.old.wire.phase ≡ Phase.Socket → IsWatcher self.old.identity
+            → OnOk result (SendsAll shared.old.client.display.told self.old.wire self.new.wire) }
         ensures adds { OnOk result (Adds self.old.wire self.new.wire) }
-        ensures seat { self.new.seat ≡ self.old.seat }
+        ensures identity { self.new.identity ≡ self.old.identity }
     {
         if !self.is_open() || !self.is_watcher() {
             return Ok(());
         }
-        self.wire.show(&mut self.view, display)
+        self.wire.show(&mut self.view, &mut shared.client.display)
     }
 
     /// Shows the page of its own client: what the browser is sent is made from the display alone.
-    pub fn show_own(&mut self) -> Result<(), End>
-        ensures shows { self.old.wire.stage ≡ Stage.Socket
-            → IfOwn self.old.seat (λ old. IsDue old.display self.old.wire
-            → OnOk result (IsOwn self.new.seat (λ new. Shows old.display self.old.view.since self.old.wire
+    pub fn show_own(&mut self) -> Result<(), WireFault>
+        ensures apart { (IsOwn self.old.identity (λ _. Unit {0}) → ⊥) → self.new ≡ self.old }
+        ensures closed { (self.old.wire.phase ≡ Phase.Socket → ⊥) → self.new ≡ self.old }
+        ensures shows { self.old.wire.phase ≡ Phase.Socket
+            → IfOwn self.old.identity (λ old. IsDue old.display self.old.wire
+            → OnOk result (IsOwn self.new.identity (λ new. Shows old.display self.old.view.since self.old.wire
             new.display self.new.view.since self.new.wire))) }
-        ensures sends { OnOk result ((self.new.wire ≡ self.old.wire)
-            ⊎ IsOwn self.old.seat (λ old. SendsAll old.display.told self.old.wire self.new.wire)) }
+        ensures sends { self.old.wire.phase ≡ Phase.Socket
+            → IfOwn self.old.identity (λ old. OnOk result (SendsAll old.display.told self.old.wire self.new.wire)) }
         ensures adds { OnOk result (Adds self.old.wire self.new.wire) }
-        ensures bound { self.old.wire.stage ≡ Stage.Socket → OnOk result (IsWithin self.new.wire) }
-        ensures keeps { Keeps self.old.seat self.new.seat }
+        ensures bound { self.old.wire.phase ≡ Phase.Socket → OnOk result (IsWithin self.new.wire) }
+        ensures keeps { Keeps self.old.identity self.new.identity }
     {
         if !self.is_open() {
             return Ok(());
         }
-        match &mut self.seat {
-            Seat::Own(client) => self.wire.show(&mut self.view, &mut client.display),
+        match &mut self.identity {
+            Identity::Own(client) => self.wire.show(&mut self.view, &mut client.display),
             _ => self.wire.check_bound(),
         }
     }

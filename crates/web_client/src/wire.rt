@@ -7,13 +7,13 @@ ghost use Rattle.emulator.specs.Standing.{StandsFor};
 ghost use Rattle.web_page.specs.Laying.{Shown, page_of};
 ghost use Rattle.web_client.specs.Judging.{end_of};
 ghost use Rattle.web_client.specs.Frames.{fresh, stands, Reads, IsWithin};
-ghost use Rattle.web_client.specs.declared.seat.Seat.{Seat};
+ghost use Rattle.web_client.specs.declared.identity.Identity.{Identity};
 ghost use Rattle.web_client.specs.Rows.{SendsText, Asks, IsAsFar, SendsPage, Adds, HasRoom, IsDue, Shows};
 ghost use Rattle.web_client.specs.Rows.{said, welcomed, gone, handed, TellsLast, MayTell, MaySendRows};
 ghost use Rattle.web_client.specs.Rows.{Explains, Ends, SendsAll};
-ghost use Rattle.web_client.specs.declared.wire.End.TheVariants as end;
+ghost use Rattle.web_client.specs.declared.wire.WireFault.TheVariants as end;
 
-use crate::frame::{Frame, answered_for, said};
+use crate::frame::{PageFrame, answered_for, said};
 use attach_proto::Why;
 use std::alloc::{AllocError, Global};
 use web_page::{Display, SheetFault, put_text};
@@ -32,7 +32,7 @@ const LONGEST: usize = 8_193;
 
 /// Why a connection ends at once.
 #[derive(Clone, Copy, Debug, PartialEq, Eq)]
-pub enum End {
+pub enum WireFault {
     /// The WebSocket can't send any more.
     Broken,
     /// Too many bytes wait for the browser.
@@ -40,28 +40,28 @@ pub enum End {
     NoMemory,
 }
 
-impl From<AllocError> for End {
+impl From<AllocError> for WireFault {
     ghost from_gives = { λ _ e. e ≡ end.NoMemory };
 
-    fn from(_error: AllocError) -> End {
-        End::NoMemory
+    fn from(_error: AllocError) -> WireFault {
+        WireFault::NoMemory
     }
 }
 
-impl From<SheetFault> for End {
+impl From<SheetFault> for WireFault {
     ghost from_gives = { λ fault e. e ≡ end_of fault };
 
-    fn from(fault: SheetFault) -> End {
+    fn from(fault: SheetFault) -> WireFault {
         match fault {
-            SheetFault::NoMemory => End::NoMemory,
-            SheetFault::TooOld => End::Broken,
+            SheetFault::NoMemory => WireFault::NoMemory,
+            SheetFault::TooOld => WireFault::Broken,
         }
     }
 }
 
 /// How far a connection has come.
 #[derive(Clone, Copy, PartialEq, Eq)]
-pub enum Stage {
+pub enum Phase {
     Request,
     Socket,
     /// What waits is sent, and then the connection ends.
@@ -70,15 +70,15 @@ pub enum Stage {
 
 /// What a browser was sent of a client's page.
 #[derive(Clone, Copy)]
-pub struct View {
+pub struct SentPage {
     is_welcomed: bool,
     // All changes before this moment; nothing if it is 0.
     since: u64,
 }
 
-impl View {
+impl SentPage {
     /// Nothing was sent.
-    pub const NOTHING: View = View {
+    pub const NOTHING: SentPage = SentPage {
         is_welcomed: false,
         since: 0,
     };
@@ -88,7 +88,7 @@ impl View {
 #[derive(Drop)]
 pub struct Wire {
     pub alloc: Global,
-    pub stage: Stage,
+    pub phase: Phase,
     /// Bytes on their way to the browser.
     pub output: Vec<u8>,
     pub context: WebSocketContext,
@@ -101,7 +101,7 @@ pub struct Wire {
 impl Wire {
     /// A connection that has sent nothing.
     pub fn new(alloc: Global) -> Wire
-        ensures stage { result.stage ≡ Stage.Request }
+        ensures phase { result.phase ≡ Phase.Request }
         ensures output { result.output.items ≡ [] }
         ensures context { result.context ≡ fresh }
         ensures answered { result.answered ≡ 0 }
@@ -113,7 +113,7 @@ impl Wire {
         };
         Wire {
             alloc,
-            stage: Stage::Request,
+            phase: Phase::Request,
             output: Vec::new(alloc),
             context: WebSocketContext::new(alloc, Role::Server, config),
             sent: 0,
@@ -122,24 +122,24 @@ impl Wire {
     }
 
     /// Reads the frame that these bytes begin with. Returns what it was, and how many bytes it has.
-    pub fn read(&mut self, rest: &mut [u8]) -> Result<(Frame, usize), End>
-        ensures reads { (s : Seat) → IfOk result (λ read. Reads (stands self.old rest.old s) read.0
+    pub fn read(&mut self, rest: &mut [u8]) -> Result<(PageFrame, usize), WireFault>
+        ensures reads { (s : Identity) → IfOk result (λ read. Reads (stands self.old rest.old s) read.0
             (stands self.new (drop read.1 rest.new) s)) }
         ensures within { IfOk result (λ read. read.1 ≤ length rest.old) }
     {
         let step = match self.context.read(rest, &mut self.output, &mut NoMask) {
-            Ok(FrameStatus::Partial(_)) => return Ok((Frame::None, 0)),
+            Ok(FrameStatus::Partial(_)) => return Ok((PageFrame::None, 0)),
             Ok(FrameStatus::Complete(step)) => step,
             Err(_) => {
                 self.close(CloseCode::Protocol, "");
-                return Ok((Frame::None, 0));
+                return Ok((PageFrame::None, 0));
             }
         };
         let frame = said(self.alloc, &step.message, rest)?;
         let answered = answered_for(&step.message, rest, self.answered);
         self.answered = answered;
         if frame.is_last() {
-            self.stage = Stage::Last;
+            self.phase = Phase::Last;
         }
         Ok((frame, step.consumed))
     }
@@ -147,18 +147,18 @@ impl Wire {
     /// Sends a close frame, after which the connection ends.
     pub fn close(&mut self, code: CloseCode, reason: &str)
         ensures adds { Adds self.old self.new }
-        ensures stage { self.new.stage ≡ Stage.Last }
+        ensures phase { self.new.phase ≡ Phase.Last }
         ensures sent { self.new.sent ≡ self.old.sent }
     {
         let frame = CloseFrame { code, reason };
         let _ = self
             .context
             .close(Some(frame), &mut self.output, &mut NoMask);
-        self.stage = Stage::Last;
+        self.phase = Phase::Last;
     }
 
     /// Sends a text.
-    pub fn send_text(&mut self, text: &str) -> Result<(), End>
+    pub fn send_text(&mut self, text: &str) -> Result<(), WireFault>
         ensures sends { OnOk result (SendsText text.now self.old self.new) }
         ensures sent { self.new.sent ≡ self.old.sent }
     {
@@ -167,12 +167,12 @@ impl Wire {
             .write(Message::Text(text), &mut self.output, &mut NoMask)
         {
             Ok(()) => Ok(()),
-            Err(_) => Err(End::Broken),
+            Err(_) => Err(WireFault::Broken),
         }
     }
 
     /// Asks the browser to answer for the rows that it was sent. A browser answers a ping after what came before it.
-    pub fn ask(&mut self) -> Result<(), End>
+    pub fn ask(&mut self) -> Result<(), WireFault>
         ensures { OnOk result (Asks self.old self.new) }
     {
         let count = self.sent.to_be_bytes();
@@ -181,13 +181,13 @@ impl Wire {
             .write(Message::Ping(&count), &mut self.output, &mut NoMask)
         {
             Ok(()) => Ok(()),
-            Err(_) => Err(End::Broken),
+            Err(_) => Err(WireFault::Broken),
         }
     }
 
     /// Tells a text to the browser's user.
     #[tactic(auto, using(crate::proofs::Rows::text_adds))]
-    pub fn say(&mut self, text: &str) -> Result<(), End>
+    pub fn say(&mut self, text: &str) -> Result<(), WireFault>
         ensures says { OnOk result (SendsText (said text.now) self.old self.new) }
         ensures adds { OnOk result (Adds self.old self.new) }
         ensures sent { self.new.sent ≡ self.old.sent }
@@ -199,10 +199,10 @@ impl Wire {
     }
 
     /// Tells why the session lets the browser go, and ends.
-    pub fn tell_gone(&mut self, why: Why) -> Result<(), End>
+    pub fn tell_gone(&mut self, why: Why) -> Result<(), WireFault>
         ensures tells { OnOk result (TellsLast (gone why) self.old self.new) }
         ensures adds { OnOk result (Adds self.old self.new) }
-        ensures stage { OnOk result (self.new.stage ≡ Stage.Last) }
+        ensures phase { OnOk result (self.new.phase ≡ Phase.Last) }
         ensures sent { self.new.sent ≡ self.old.sent }
     {
         let number = why.number();
@@ -213,9 +213,9 @@ impl Wire {
     }
 
     /// Tells which user and token a link stands for, and ends.
-    pub fn hand(&mut self, name: &str, token: &str) -> Result<(), End>
+    pub fn hand(&mut self, name: &str, token: &str) -> Result<(), WireFault>
         ensures hands { OnOk result (TellsLast (handed name.now token.now) self.old self.new) }
-        ensures stage { OnOk result (self.new.stage ≡ Stage.Last) }
+        ensures phase { OnOk result (self.new.phase ≡ Phase.Last) }
     {
         let mut out = String::from_str(self.alloc, "{\"user\":\"")?;
         put_text(&mut out, name)?;
@@ -228,7 +228,7 @@ impl Wire {
     }
 
     // Sends what is new of a page.
-    fn send_rows(&mut self, view: &mut View, display: &mut Display) -> Result<(), End>
+    fn send_rows(&mut self, view: &mut SentPage, display: &mut Display) -> Result<(), WireFault>
         // The browser then shows the page of a terminal that has read all draws.
         ensures rows { (t : Terminal) (b : Shown) → StandsFor display.old.sheet.terminal t
             → IsAsFar view.old.since display.old.sheet b
@@ -264,7 +264,7 @@ impl Wire {
     }
 
     // Tells once that the server let the browser's client in.
-    fn welcome(&mut self, view: &mut View, display: &Display) -> Result<(), End>
+    fn welcome(&mut self, view: &mut SentPage, display: &Display) -> Result<(), WireFault>
         ensures tells { OnOk result (MayTell welcomed self.old self.new) }
         ensures told { display.now.told.is_welcome ≡ true → view.old.is_welcomed ≡ false
             → OnOk result (SendsText welcomed self.old self.new) }
@@ -281,7 +281,7 @@ impl Wire {
     }
 
     // Tells why the server didn't let the client in, if it said so.
-    fn explain(&mut self, display: &Display) -> Result<(), End>
+    fn explain(&mut self, display: &Display) -> Result<(), WireFault>
         ensures explains { OnOk result (Explains display.now.told.refusal self.old self.new) }
         ensures adds { OnOk result (Adds self.old self.new) }
         ensures sent { self.new.sent ≡ self.old.sent }
@@ -293,10 +293,10 @@ impl Wire {
     }
 
     // Ends if the server let the client go.
-    fn end(&mut self, display: &Display) -> Result<(), End>
+    fn end(&mut self, display: &Display) -> Result<(), WireFault>
         ensures ends { OnOk result (Ends display.now.told.refusal display.now.told.gone self.old self.new) }
         ensures adds { OnOk result (Adds self.old self.new) }
-        ensures gone { IfSome display.now.told.gone (λ _. OnOk result (self.new.stage ≡ Stage.Last)) }
+        ensures gone { IfSome display.now.told.gone (λ _. OnOk result (self.new.phase ≡ Phase.Last)) }
         ensures stays { display.now.told.gone ≡ None → self.new ≡ self.old }
         ensures sent { self.new.sent ≡ self.old.sent }
     {
@@ -310,7 +310,7 @@ impl Wire {
     }
 
     // Sends what is new of a display.
-    fn send_new(&mut self, view: &mut View, display: &mut Display) -> Result<(), End>
+    fn send_new(&mut self, view: &mut SentPage, display: &mut Display) -> Result<(), WireFault>
         ensures sends { OnOk result (SendsAll display.old.told self.old self.new) }
         // Nothing that is on its way is lost.
         ensures adds { OnOk result (Adds self.old self.new) }
@@ -319,7 +319,7 @@ impl Wire {
         ensures later { (IsDue display.old self.old → ⊥)
             → (view.new.since ≡ view.old.since) × (display.new ≡ display.old)
             × (self.new.sent ≡ self.old.sent) }
-        ensures gone { IfSome display.old.told.gone (λ _. OnOk result (self.new.stage ≡ Stage.Last)) }
+        ensures gone { IfSome display.old.told.gone (λ _. OnOk result (self.new.phase ≡ Phase.Last)) }
     {
         let is_due = self.is_due(display);
         self.welcome(view, display)?;
@@ -330,26 +330,22 @@ impl Wire {
     }
 
     /// Whether what waits for the browser is within its bound: it isn't given up.
-    pub fn check_bound(&self) -> Result<(), End>
+    pub fn check_bound(&self) -> Result<(), WireFault>
         ensures { OnOk result (IsWithin self.now) }
     {
         if self.output.len() > MOST_OUTPUT {
-            return Err(End::TooFarBehind);
+            return Err(WireFault::TooFarBehind);
         }
         Ok(())
     }
 
     /// Sends what is new of a display. Rows wait until the browser has answered for the last ones: what is
     /// sent then is what the page shows then.
-    pub fn show(&mut self, view: &mut View, display: &mut Display) -> Result<(), End>
+    pub fn show(&mut self, view: &mut SentPage, display: &mut Display) -> Result<(), WireFault>
         ensures sends { OnOk result (SendsAll display.old.told self.old self.new) }
         ensures adds { OnOk result (Adds self.old self.new) }
         ensures due { IsDue display.old self.old → OnOk result (Shows display.old view.old.since self.old
             display.new view.new.since self.new) }
-        ensures later { (IsDue display.old self.old → ⊥)
-            → (view.new.since ≡ view.old.since) × (display.new ≡ display.old)
-            × (self.new.sent ≡ self.old.sent) }
-        ensures gone { IfSome display.old.told.gone (λ _. OnOk result (self.new.stage ≡ Stage.Last)) }
         ensures bound { OnOk result (IsWithin self.new) }
     {
         self.send_new(view, display)?;

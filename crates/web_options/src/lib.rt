@@ -4,9 +4,7 @@
 mod fault;
 mod links;
 mod options;
-mod paths;
 
 pub use fault::WebFault;
 pub use links::{Linked, take_link};
-pub use options::{Listen, WebOptions, origins_of, site_of};
-pub use paths::look_for_paths;
+pub use options::{Listen, WebOptions, look_for_paths, origins_of, site_of};

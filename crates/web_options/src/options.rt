@@ -4,8 +4,10 @@ use crate::fault::WebFault;
 use acl::UserId;
 use attach_proto::Token;
 use clap::ArgMatches;
+use server_system::Host;
 use std::alloc::{AllocError, Global};
 use std::fs::{File, Files};
+use std::io::ErrorKind;
 use std::net::{IpAddr, SocketAddr};
 use std::{env, fs};
 use web_client::{Site, Watcher};
@@ -231,4 +233,27 @@ pub fn site_of<R: Files<File = File> + AllocGlobal>(
         read_file(rt, &mut site, folder.as_str(), name)?;
     }
     Ok(site)
+}
+
+/// Warns of a socket and of a folder that aren't there yet, and refuses what can't be a socket.
+pub fn look_for_paths<R: Host + Eprint>(rt: &R, options: WebOptions<'_>) -> Result<(), WebFault> {
+    let path = options.socket;
+    match fs::metadata(rt, path) {
+        Ok(found) if found.is_file() || found.is_dir() => {
+            return Err(WebFault::NoSocket(String::from_str(rt.alloc(), path)?));
+        }
+        Err(error) if error.kind() == ErrorKind::NotFound => {
+            let _ = eprintln!(rt; "mux-web: no server yet: {path}: start muxd with this --socket");
+        }
+        _ => {}
+    }
+    match options.links {
+        Some(folder) if !fs::exists(rt, folder).unwrap_or(true) => {
+            let _ = eprintln!(rt;
+                "mux-web: no folder of links yet: {folder}: mux-user link makes it"
+            );
+        }
+        _ => {}
+    }
+    Ok(())
 }

@@ -13,8 +13,8 @@ use Rattle.websocket.specs.Headers.{Fields, fields_of, eq_ignore_case, field_lin
 use Rattle.websocket.specs.Handshake.{requested_key, IsValidKey, accept_key_of, response_bytes}
 use Rattle.web_requests.specs.declared.site.SiteFile.{SiteFile}
 use Rattle.web_requests.specs.declared.site.Site.{Site}
-use Rattle.web_requests.specs.declared.requests.Answer.{Answer}
-use Rattle.web_requests.specs.declared.requests.Answer.TheVariants.{Part, Page, Socket}
+use Rattle.web_requests.specs.declared.requests.Response.{Response}
+use Rattle.web_requests.specs.declared.requests.Response.TheVariants.{Part, Page, Socket}
 
 -- ---- files
 
@@ -45,7 +45,7 @@ unfoldable pub guards : List ℕ
 guards =
     field_line (codes "Content-Security-Policy")
     (codes "default-src 'none'; script-src 'self'; style-src 'self'; connect-src 'self'; "
-    ++ codes "base-uri 'none'; form-action 'none'; frame-ancestors 'none'")
+    ++ codes "img-src data:; base-uri 'none'; form-action 'none'; frame-ancestors 'none'")
     ++ field_line (codes "X-Content-Type-Options") (codes "nosniff")
     ++ field_line (codes "Referrer-Policy") (codes "no-referrer")
     ++ field_line (codes "Cache-Control") (codes "no-store")
@@ -124,51 +124,51 @@ is_let_in site (Some origin) = lets_in site origin
 
 -- ---- what answers a request
 
-abbrev pub IsPage : List ℕ → Answer → Type 0
+abbrev pub IsPage : List ℕ → Response → Type 0
 IsPage bytes Part = ⊥
 IsPage bytes (Page made) = made.items ≡ bytes
-IsPage bytes (Socket opening) = ⊥
+IsPage bytes (Socket upgrade) = ⊥
 
-abbrev pub IsPart : Answer → Type 0
+abbrev pub IsPart : Response → Type 0
 IsPart Part = Unit {0}
 IsPart (Page made) = ⊥
-IsPart (Socket opening) = ⊥
+IsPart (Socket upgrade) = ⊥
 
 -- A WebSocket begins after the bytes of the request.
-abbrev pub Opens : (accept : List ℕ) (request : ℕ) (address : List ℕ) → Answer → Type 0
+abbrev pub Opens : (accept : List ℕ) (request : ℕ) (address : List ℕ) → Response → Type 0
 Opens accept request address Part = ⊥
 Opens accept request address (Page made) = ⊥
-Opens accept request address (Socket opening) =
-    (opening.answer.items ≡ response_bytes accept []) × (opening.request ≡ request)
-    × (opening.address.items ≡ address)
+Opens accept request address (Socket upgrade) =
+    (upgrade.answer.items ≡ response_bytes accept []) × (upgrade.request ≡ request)
+    × (upgrade.address.items ≡ address)
 
 -- by RFC 6455: the key of the request, or why it is no request for a WebSocket
-abbrev pub Upgrades : Request → Result (List ℕ) HandshakeError → Answer → Type 0
+abbrev pub Upgrades : Request → Result (List ℕ) HandshakeError → Response → Type 0
 Upgrades q (Err e) answer = IsPage (refusal (codes "400 Bad Request")) answer
 Upgrades q (Ok key) answer =
     (¬ (IsValidKey key) × IsPage (refusal (codes "400 Bad Request")) answer)
     ⊎ (IsValidKey key × Opens (accept_key_of key) q.len (address_of q.fields) answer)
 
 -- a request for the rows
-abbrev pub AnswersSocket : Site → Request → Answer → Type 0
+abbrev pub AnswersSocket : Site → Request → Response → Type 0
 AnswersSocket site q answer =
     MatchBool (is_let_in site (value_of q.fields (codes "Origin")))
     (Upgrades q (requested_key q.method q.minor q.fields) answer)
     (IsPage (refusal (codes "403 Forbidden")) answer)
 
 -- a request for a file
-abbrev pub page_for : Site → Request → List ℕ
-page_for site q =
-    cond (bytes_eq q.method (codes "GET")) (reply_with (file_at site.files.items q.path) true)
-    (cond (bytes_eq q.method (codes "HEAD")) (reply_with (file_at site.files.items q.path) false)
+abbrev pub page_for : Site → (method path : List ℕ) → List ℕ
+page_for site method path =
+    cond (bytes_eq method (codes "GET")) (reply_with (file_at site.files.items path) true)
+    (cond (bytes_eq method (codes "HEAD")) (reply_with (file_at site.files.items path) false)
     (refusal (codes "405 Method Not Allowed")))
 
-abbrev pub AnswersRequest : Site → Request → Answer → Type 0
+abbrev pub AnswersRequest : Site → Request → Response → Type 0
 AnswersRequest site q answer =
-    MatchBool (bytes_eq q.path (codes "/rows")) (AnswersSocket site q answer) (IsPage (page_for site q) answer)
+    MatchBool (bytes_eq q.path (codes "/rows")) (AnswersSocket site q answer) (IsPage (page_for site q.method q.path) answer)
 
 -- The bytes begin with a request, or may still become one, or have no request's head of at most 64 fields.
-abbrev pub AnswersBytes : Site → List ℕ → Answer → Type 0
+abbrev pub AnswersBytes : Site → List ℕ → Response → Type 0
 AnswersBytes site bytes answer =
     ((h : RequestHead) × (rest : List ℕ) × ReadsRequest bytes h rest × AnswersRequest site (request_of h) answer)
     ⊎ ((HasNoRequest bytes × MayBecomeRequest bytes × (length bytes < 16384) × IsPart answer)

@@ -4,5 +4,5 @@
 mod requests;
 mod site;
 
-pub use requests::{Answer, Opening, answered, refusal};
+pub use requests::{Response, Upgrade, answered, refusal};
 pub use site::{Site, SiteFile, Watcher};

@@ -6,7 +6,7 @@ ghost use Rattle.websocket.specs.Headers.{fields_of, eq_ignore_case};
 ghost use Rattle.std.specs.String.{string_bytes};
 ghost use Rattle.web_requests.specs.Serving.{guards, head_of, reply, refusal, reply_with, file_at};
 ghost use Rattle.web_requests.specs.Serving.{value_of, address_of};
-ghost use Rattle.web_requests.specs.Serving.{spanned, IsPage, Opens, AnswersSocket, AnswersRequest, AnswersBytes};
+ghost use Rattle.web_requests.specs.Serving.{spanned, IsPage, Opens, page_for, AnswersSocket, AnswersBytes};
 
 use crate::site::Site;
 use httparse::Status;
@@ -24,18 +24,18 @@ const LONGEST_ADDRESS: usize = 64;
 
 /// What a request is answered by.
 #[derive(Drop)]
-pub enum Answer {
+pub enum Response {
     /// The request's head is incomplete.
     Part,
     /// These bytes, and then the end.
     Page(Vec<u8>),
     /// These bytes, and then messages.
-    Socket(Opening),
+    Socket(Upgrade),
 }
 
 /// A WebSocket that begins.
 #[derive(Drop)]
-pub struct Opening {
+pub struct Upgrade {
     /// The answer to its request.
     pub answer: Vec<u8>,
     /// The length of its request.
@@ -47,7 +47,7 @@ pub struct Opening {
 // What each answer says to a browser: no code but of files of this origin, no frames, nothing kept.
 const GUARDS: &[u8] =
     b"Content-Security-Policy: default-src 'none'; script-src 'self'; style-src 'self'; \
-connect-src 'self'; base-uri 'none'; form-action 'none'; frame-ancestors 'none'\r\n\
+connect-src 'self'; img-src data:; base-uri 'none'; form-action 'none'; frame-ancestors 'none'\r\n\
 X-Content-Type-Options: nosniff\r\n\
 Referrer-Policy: no-referrer\r\n\
 Cache-Control: no-store\r\n\
@@ -99,10 +99,10 @@ pub fn refusal(alloc: Global, status: &str) -> Result<Vec<u8>, AllocError>
     page(alloc, status, "text/plain", status.as_bytes(), true)
 }
 
-fn refused(alloc: Global, status: &str) -> Result<Answer, AllocError>
+fn refused(alloc: Global, status: &str) -> Result<Response, AllocError>
     ensures { IfOk result (IsPage (refusal status.now)) }
 {
-    Ok(Answer::Page(refusal(alloc, status)?))
+    Ok(Response::Page(refusal(alloc, status)?))
 }
 
 // Whether a header has this name, in any case.
@@ -158,12 +158,12 @@ fn opened(
     accept: &[u8; 28],
     request: usize,
     address: Vec<u8>,
-) -> Result<Answer, AllocError>
+) -> Result<Response, AllocError>
     ensures { IfOk result (Opens accept.now request address.items) }
 {
     let mut answer = Vec::new(alloc);
     match write_response(accept, &[], &mut answer) {
-        Ok(()) => Ok(Answer::Socket(Opening {
+        Ok(()) => Ok(Response::Socket(Upgrade {
             answer,
             request,
             address,
@@ -178,7 +178,7 @@ fn socket(
     head: &[u8],
     found: &RequestSpans,
     spans: &[HeaderSpan],
-) -> Result<Answer, AllocError>
+) -> Result<Response, AllocError>
     requires { IsRequestWithin head.now spans.now found.now }
     ensures { IfOk result (AnswersSocket site.now (spanned head.now spans.now found.now)) }
 {
@@ -194,50 +194,38 @@ fn socket(
     opened(alloc, &accept, found.len, address)
 }
 
-fn file(alloc: Global, site: &Site, path: &[u8], is_shown: bool) -> Result<Answer, AllocError>
-    ensures { IfOk result (IsPage (reply_with (file_at site.now.files.items path.now) is_shown)) }
+// A file, for a request that asks to see it or only its head.
+fn file(alloc: Global, site: &Site, method: &[u8], path: &[u8]) -> Result<Response, AllocError>
+    ensures { IfOk result (IsPage (page_for site.now method.now path.now)) }
 {
+    let is_shown = method == b"GET".as_slice();
+    if !is_shown && method != b"HEAD".as_slice() {
+        return refused(alloc, "405 Method Not Allowed");
+    }
     match site.file(path) {
         Some(file) => {
             let bytes = page(alloc, "200 OK", file.kind, &file.content, is_shown)?;
-            Ok(Answer::Page(bytes))
+            Ok(Response::Page(bytes))
         }
         None => refused(alloc, "404 Not Found"),
     }
 }
 
-// What answers a request.
-fn answer_to(
-    alloc: Global,
-    site: &Site,
-    head: &[u8],
-    found: &RequestSpans,
-    spans: &[HeaderSpan],
-) -> Result<Answer, AllocError>
-    requires { IsRequestWithin head.now spans.now found.now }
-    ensures { IfOk result (AnswersRequest site.now (spanned head.now spans.now found.now)) }
-{
-    let method = found.method.of(head);
-    let path = found.path.of(head);
-    if path == b"/rows".as_slice() {
-        socket(alloc, site, head, found, spans)
-    } else if method == b"GET".as_slice() {
-        file(alloc, site, path, true)
-    } else if method == b"HEAD".as_slice() {
-        file(alloc, site, path, false)
-    } else {
-        refused(alloc, "405 Method Not Allowed")
-    }
-}
-
 /// What answers the request that these bytes begin with.
-pub fn answered(alloc: Global, site: &Site, bytes: &[u8]) -> Result<Answer, AllocError>
+pub fn answered(alloc: Global, site: &Site, bytes: &[u8]) -> Result<Response, AllocError>
     ensures { IfOk result (AnswersBytes site.now bytes.now) }
 {
     let mut spans = [EMPTY_HEADER_SPAN; MOST_HEADERS];
     match parse_request(bytes, &mut spans) {
-        Ok(Status::Complete(found)) => answer_to(alloc, site, bytes, &found, &spans),
-        Ok(Status::Partial) if bytes.len() < LONGEST_HEAD => Ok(Answer::Part),
+        Ok(Status::Complete(found)) => {
+            let path = found.path.of(bytes);
+            if path == b"/rows".as_slice() {
+                socket(alloc, site, bytes, &found, &spans)
+            } else {
+                file(alloc, site, found.method.of(bytes), path)
+            }
+        }
+        Ok(Status::Partial) if bytes.len() < LONGEST_HEAD => Ok(Response::Part),
         Ok(Status::Partial) => refused(alloc, "431 Request Header Fields Too Large"),
         Err(_) => refused(alloc, "400 Bad Request"),
     }

@@ -20,8 +20,8 @@ returns-clause-reads c =
     c.read.new.rest refl
     (behind c.args.taken.now c.args.self.now.input.len all c.read.new.rest _ _ within
     (sym c.as_mut_slice.ensures.len) lent)
-    (subst (λ (l : List ℕ). Reads (stands c.args.self.now.wire l c.args.self.now.seat)
-    c.in_ok-read.read.0 (stands c.read.new.self (drop c.in_ok-read.read.1 c.read.new.rest) c.args.self.now.seat))
+    (subst (λ (l : List ℕ). Reads (stands c.args.self.now.wire l c.args.self.now.identity)
+    c.in_ok-read.read.0 (stands c.read.new.self (drop c.in_ok-read.read.1 c.read.new.rest) c.args.self.now.identity))
     (take_rest c.as_mut_slice.result.now c.args.taken.now
     ∙ ap (λ (l : List ℕ). drop c.args.taken.now l) c.as_mut_slice.ensures.value)
-    (c.in_ok-read.ensures.reads c.args.self.now.seat))
+    (c.in_ok-read.ensures.reads c.args.self.now.identity))

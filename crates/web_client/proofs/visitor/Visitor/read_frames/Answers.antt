@@ -1,5 +1,5 @@
 use Rattle.std.proofs.Common.{List, ℕ, ◌≤◌, length, drop, refl, sym, ap, subst, arith}
-use Rattle.web_client.specs.declared.frame.Frame.{Frame}
+use Rattle.web_client.specs.declared.frame.PageFrame.{PageFrame}
 use Rattle.web_client.specs.Frames.{page, page_after, Reads, TakesMessage}
 use Rattle.web_client.proofs.Adding.{then_same, then_more, nothing}
 use Rattle.web_client.proofs.Frames.{started, after_other, after_message, shifted}
@@ -10,32 +10,32 @@ frames-init c = record {
   went = started c.args.site.now.watcher (page c.args.self.now) c.requires;
   within = omega arith;
   few = omega arith;
-  asks = nothing c.args.self.now.seat;
+  asks = nothing c.args.self.now.identity;
 }
 
 pub frames-preserved-in-Other : goal.frames-preserved-in-Other
 frames-preserved-in-Other c =
-    let r = subst (λ (f : Frame). Reads (page_after c.frames.taken c.frames.self) f
+    let r = subst (λ (f : PageFrame). Reads (page_after c.frames.taken c.frames.self) f
     (page_after c.read_frame.new.taken c.read_frame.new.self)) c.in-Other.is c.in_ok-read_frame.ensures.reads in
     record {
       went = after_other c.args.site.now.watcher c.frames.count (page c.args.self.now)
           (page_after c.frames.taken c.frames.self) (page_after c.read_frame.new.taken c.read_frame.new.self)
-          c.frames.invariant.went (c.frames-test.ensures.0 refl) r c.read_frame.ensures.seat;
+          c.frames.invariant.went (c.frames-test.ensures.0 refl) r c.read_frame.ensures.identity;
       within = omega (arith, c.read_frame.ensures.within, c.read_frame.new.self.input.ok);
       few = omega (arith, c.if-count-lt-FRAMES.true);
-      asks = then_same c.args.self.now.seat c.frames.self.seat c.read_frame.new.self.seat c.frames.invariant.asks
-          c.read_frame.ensures.seat;
+      asks = then_same c.args.self.now.identity c.frames.self.identity c.read_frame.new.self.identity c.frames.invariant.asks
+          c.read_frame.ensures.identity;
     }
 
 pub frames-preserved : goal.frames-preserved
 frames-preserved c =
-    let r = subst (λ (f : Frame). Reads (page_after c.frames.taken c.frames.self) f
+    let r = subst (λ (f : PageFrame). Reads (page_after c.frames.taken c.frames.self) f
     (page_after c.read_frame.new.taken c.read_frame.new.self)) c.in-Message.is c.in_ok-read_frame.ensures.reads in
     record {
       went = after_message c.args.site.now.watcher c.in-Message.message.items c.frames.count (page c.args.self.now)
           (page_after c.frames.taken c.frames.self) (page_after c.read_frame.new.taken c.read_frame.new.self)
           (page_after c.read_frame.new.taken c.take_message.new.self) c.frames.invariant.went
-          (c.frames-test.ensures.0 refl) r c.read_frame.ensures.seat
+          (c.frames-test.ensures.0 refl) r c.read_frame.ensures.identity
           (shifted c.args.site.now.watcher c.in-Message.message.items (page c.read_frame.new.self)
           (page c.take_message.new.self) (drop c.read_frame.new.taken c.read_frame.new.self.input.items)
           (drop c.read_frame.new.taken c.take_message.new.self.input.items)
@@ -47,11 +47,11 @@ frames-preserved c =
           omega (arith, c.read_frame.ensures.within, c.read_frame.new.self.input.ok) in
           subst (λ (l : List ℕ). c.read_frame.new.taken ≤ length l) (sym c.take_message.ensures.input) before;
       few = omega (arith, c.if-count-lt-FRAMES.true);
-      asks = then_more c.args.self.now.seat c.frames.self.seat c.read_frame.new.self.seat
-          c.take_message.new.self.seat c.frames.invariant.asks c.read_frame.ensures.seat c.take_message.ensures.asks;
+      asks = then_more c.args.self.now.identity c.frames.self.identity c.read_frame.new.self.identity
+          c.take_message.new.self.identity c.frames.invariant.asks c.read_frame.ensures.identity c.take_message.ensures.asks;
     }
 
 pub returns-in_err-take_message-in-Message-clause-asks : goal.returns-in_err-take_message-in-Message-clause-asks
 returns-in_err-take_message-in-Message-clause-asks c =
-    then_more c.args.self.now.seat c.frames.self.seat c.read_frame.new.self.seat c.take_message.new.self.seat
-    c.frames.invariant.asks c.read_frame.ensures.seat c.take_message.ensures.asks
+    then_more c.args.self.now.identity c.frames.self.identity c.read_frame.new.self.identity c.take_message.new.self.identity
+    c.frames.invariant.asks c.read_frame.ensures.identity c.take_message.ensures.asks

@@ -9,7 +9,7 @@ invariant-frames l = record {
   went : Went l.site.watcher l.count (page l.fn.self) (page_after l.taken l.self);
   within : l.taken ≤ length l.self.input.items;
   few : l.count ≤ 64;
-  asks : Asks l.fn.self.seat l.self.seat;
+  asks : Asks l.fn.self.identity l.self.identity;
 }
 
 abbrev pub decreases-frames : goal.decreases-frames

@@ -1,7 +1,7 @@
 use Rattle.std.proofs.Common.{◌≡◌, ℕ, List, false, rules, sym, subst}
 use Rattle.web_client.specs.declared.visitor.Visitor.{Visitor}
-use Rattle.web_client.specs.declared.wire.Stage.{Stage}
-use Rattle.web_client.specs.declared.wire.Stage.TheVariants as stage
+use Rattle.web_client.specs.declared.wire.Phase.{Phase}
+use Rattle.web_client.specs.declared.wire.Phase.TheVariants as phase
 use Rattle.web_requests.specs.Serving.{AnswersBytes}
 use Rattle.web_client.specs.Frames.{Answers, TakesBytes}
 use Rattle.web_client.proofs.Answering.{unopened, ended}
@@ -10,11 +10,11 @@ use Rattle.web_client.proofs.visitor.Visitor.take_some.Goals.{then-eq+in_ok-answ
 
 pub returns-else-is_open-clause-takes : goal.returns-else-is_open-clause-takes
 returns-else-is_open-clause-takes c =
-    let closed : c.if-eq.self.wire.stage ≡ stage.Socket → ⊥ = λ e. cc (c.if-is_open.false, c.is_open.ensures.1 e) in
+    let closed : c.if-eq.self.wire.phase ≡ phase.Socket → ⊥ = λ e. cc (c.if-is_open.false, c.is_open.ensures.1 e) in
     elim c.if-eq.branch [
       | then-eq+in_ok-answer+in_ok-take_answer w ↦
-          let begun : c.args.self.now.wire.stage ≡ stage.Request = search rules in
-          subst (λ (s : Stage). TakesBytes c.args.site.now s c.args.self.now c.if-eq.self false) (sym begun) (
+          let begun : c.args.self.now.wire.phase ≡ phase.Request = search rules in
+          subst (λ (s : Phase). TakesBytes c.args.site.now s c.args.self.now c.if-eq.self false) (sym begun) (
             w.in_ok-answer.answer,
             subst (λ (l : List ℕ). AnswersBytes c.args.site.now l w.in_ok-answer.answer) w.deref.ensures.value
                 w.in_ok-answer.ensures,
@@ -24,8 +24,8 @@ returns-else-is_open-clause-takes c =
                 closed,
           )
       | else-eq w ↦
-          subst (λ (v : Visitor). TakesBytes c.args.site.now c.args.self.now.wire.stage c.args.self.now v false)
+          subst (λ (v : Visitor). TakesBytes c.args.site.now c.args.self.now.wire.phase c.args.self.now v false)
           (sym w.self-is)
-          (ended c.args.site.now c.args.self.now.wire.stage c.args.self.now false (λ e. search rules)
-          (λ e. closed (subst (λ (v : Visitor). v.wire.stage ≡ stage.Socket) (sym w.self-is) e)))
+          (ended c.args.site.now c.args.self.now.wire.phase c.args.self.now false (λ e. search rules)
+          (λ e. closed (subst (λ (v : Visitor). v.wire.phase ≡ phase.Socket) (sym w.self-is) e)))
     ]

@@ -1,6 +1,6 @@
 use Rattle.std.proofs.Common.{◌≡◌, ℕ, Option, IfSome, OnOk, inl, refl, sym, ap, ◌∙◌, subst}
 use Rattle.attach_proto.specs.declared.why.Why.{Why}
-use Rattle.web_client.specs.declared.wire.Stage.TheVariants.{Last}
+use Rattle.web_client.specs.declared.wire.Phase.TheVariants.{Last}
 use Rattle.attach_proto.specs.declared.told.Told.{Told}
 use Rattle.web_page.specs.Hearing.{Display}
 use Rattle.web_client.specs.Rows.{IsAsFar, Ends, MaySendRows}
@@ -57,7 +57,7 @@ returns-clause-gone c =
           ap (λ (d : Display). d.told.gone) w.display-is ∙ ap (λ (t : Told). t.gone) w.send_rows.ensures.told
       | else-is_due w ↦ ap (λ (d : Display). d.told.gone) w.display-is
     ] in
-    subst (λ (g : Option Why). IfSome g (λ _. OnOk c.end.result (c.end.new.self.stage ≡ Last))) same c.end.ensures.gone
+    subst (λ (g : Option Why). IfSome g (λ _. OnOk c.end.result (c.end.new.self.phase ≡ Last))) same c.end.ensures.gone
 
 pub returns-in_err-welcome-clause-later : goal.returns-in_err-welcome-clause-later
 returns-in_err-welcome-clause-later c = λ n. (c.welcome.ensures.since, refl, c.welcome.ensures.sent)

@@ -1,5 +1,5 @@
 use Rattle.web_client.proofs.Tokens.{same-display}
-use Rattle.web_client.proofs.laws.tokens_change_no_display.Goals as goal
+use Rattle.web_client.proofs.client.tokens_change_no_display.Goals as goal
 
 pub returns : goal.returns
 returns c = same-display

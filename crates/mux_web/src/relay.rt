@@ -1,15 +1,14 @@
 //! A browser, and the connection to the server of its own client.
 
-use crate::around::Around;
 use crate::halls::HallNumber;
-use crate::streams::{Arrival, Browser, arrival_of, write_some};
+use crate::streams::{Around, Browser, ReadOutcome, outcome_of};
 use mio::Token;
 use mio::net::UnixStream;
 use std::alloc::Global;
 use std::io::Read;
 use std::net::Net;
 use std::time::Duration;
-use web_client::{Seat, Visitor};
+use web_client::{Identity, Visitor};
 
 /// A browser has this number of seconds for its request and its first message.
 const PATIENCE: u64 = 20;
@@ -23,12 +22,15 @@ const DEAD: u64 = 10;
 /// A page that takes nothing, and of which nothing is taken, ends after this number of seconds.
 const STUCK: u64 = 60;
 
+/// What a page is told when its client's connection has ended.
+pub const ENDED: &str = "the session's connection ended";
+
 /// How often a connection is read in one turn.
 const READS: usize = 16;
 
 /// The own client's connection to the server.
 #[derive(Drop)]
-enum Server {
+enum Upstream {
     /// There was none yet.
     Unasked,
     Connected(UnixStream),
@@ -38,10 +40,10 @@ enum Server {
 
 /// A browser, and its own client's connection.
 #[derive(Drop)]
-pub struct Guest {
+pub struct Relay {
     pub visitor: Visitor,
     browser: Browser,
-    server: Server,
+    server: Upstream,
     /// The hall whose page it watches.
     pub hall: Option<HallNumber>,
     pub browser_ready: bool,
@@ -57,13 +59,13 @@ pub struct Guest {
     pub is_over: bool,
 }
 
-impl Guest {
+impl Relay {
     /// A browser that has just come.
-    pub fn new(alloc: Global, browser: Browser, now: Duration) -> Guest {
-        Guest {
+    pub fn new(alloc: Global, browser: Browser, now: Duration) -> Relay {
+        Relay {
             visitor: Visitor::new(alloc),
             browser,
-            server: Server::Unasked,
+            server: Upstream::Unasked,
             hall: None,
             browser_ready: true,
             server_ready: false,
@@ -87,13 +89,13 @@ impl Guest {
             if self.has_more || !self.browser_ready || !self.visitor.can_read() {
                 break;
             }
-            match arrival_of(self.visitor.receive(&mut self.browser, buffer)) {
-                Arrival::Nothing => self.browser_ready = false,
-                Arrival::End => {
+            match outcome_of(self.visitor.receive(&mut self.browser, buffer)) {
+                ReadOutcome::Nothing => self.browser_ready = false,
+                ReadOutcome::End => {
                     self.is_over = true;
                     self.browser_ready = false;
                 }
-                Arrival::Bytes(_) => self.take(around),
+                ReadOutcome::Bytes(_) => self.take(around),
             }
         }
         !was_open && self.visitor.is_open()
@@ -110,8 +112,9 @@ impl Guest {
 
     /// Whether its page says now who it is: a user, or one who watches.
     pub fn begins(&mut self) -> bool {
-        let begins = match &self.visitor.seat {
-            Seat::Own(_) | Seat::Watching(_, _) => !self.has_begun && self.visitor.is_open(),
+        let begins = match &self.visitor.identity {
+            Identity::Own(_) | Identity::Watching(_, _) => !self.has_begun
+                && self.visitor.is_open(),
             _ => false,
         };
         self.has_begun = self.has_begun || begins;
@@ -121,7 +124,7 @@ impl Guest {
     /// There is no place for its page, which opens now or is open.
     pub fn turn_away(&mut self, opens: bool, reason: &str) {
         if !opens {
-            self.visitor.lose(reason);
+            self.lose(reason);
         } else if self.visitor.turn_away().is_err() {
             self.is_over = true;
         }
@@ -141,14 +144,14 @@ impl Guest {
     pub fn wants_server(&self) -> bool {
         self.has_begun
             && self.visitor.is_open()
-            && matches!(&self.visitor.seat, Seat::Own(_))
-            && matches!(&self.server, Server::Unasked)
+            && matches!(&self.visitor.identity, Identity::Own(_))
+            && matches!(&self.server, Upstream::Unasked)
     }
 
     /// The name of its user if the server has just let it in.
     pub fn is_let_in(&mut self) -> Option<&str> {
-        match &self.visitor.seat {
-            Seat::Own(client) if client.display.is_welcome() && !self.is_told => {
+        match &self.visitor.identity {
+            Identity::Own(client) if client.display.is_welcome() && !self.is_told => {
                 self.is_told = true;
                 Some(client.display.name())
             }
@@ -168,9 +171,9 @@ impl Guest {
 
     /// Whether it gave a name and a token with which nobody is let in.
     pub fn is_refused(&self) -> bool {
-        match &self.visitor.seat {
-            Seat::Own(client) => !self.is_told && client.display.gone().is_some(),
-            Seat::Unknown => true,
+        match &self.visitor.identity {
+            Identity::Own(client) => !self.is_told && client.display.gone().is_some(),
+            Identity::Unknown => true,
             _ => false,
         }
     }
@@ -178,21 +181,26 @@ impl Guest {
     /// Connects its own client.
     pub fn connect<R: Net>(&mut self, rt: &R, around: Around<'_>, token: Token) {
         match around.connect(rt, token) {
-            Ok(stream) => self.server = Server::Connected(stream),
-            Err(_) => self.visitor.lose("no server: is muxd running?"),
+            Ok(stream) => self.server = Upstream::Connected(stream),
+            Err(_) => self.lose("no server: is muxd running?"),
         }
+    }
+
+    /// Tells its page why it ends.
+    pub fn lose(&mut self, reason: &str) {
+        self.is_over |= self.visitor.lose(reason).is_err();
     }
 
     // Its own client's connection ended. If the server said why, the page is still to be told that.
     fn lose_server(&mut self) {
-        let is_told = match &self.visitor.seat {
-            Seat::Own(client) => client.display.gone().is_some(),
+        let is_told = match &self.visitor.identity {
+            Identity::Own(client) => client.display.gone().is_some(),
             _ => false,
         };
         if !is_told {
-            self.visitor.lose("the session's connection ended");
+            self.lose(ENDED);
         }
-        self.server = Server::Lost;
+        self.server = Upstream::Lost;
         self.server_ready = false;
     }
 
@@ -202,21 +210,21 @@ impl Guest {
             if !self.server_ready {
                 return;
             }
-            let Server::Connected(server) = &mut self.server else {
+            let Upstream::Connected(server) = &mut self.server else {
                 return;
             };
-            match arrival_of(server.read(buffer)) {
-                Arrival::Nothing => self.server_ready = false,
-                Arrival::End => self.lose_server(),
-                Arrival::Bytes(count) => self.hear(&buffer[..count.min(buffer.len())]),
+            match outcome_of(server.read(buffer)) {
+                ReadOutcome::Nothing => self.server_ready = false,
+                ReadOutcome::End => self.lose_server(),
+                ReadOutcome::Bytes(count) => self.hear(&buffer[..count.min(buffer.len())]),
             }
         }
     }
 
     // Its own client takes bytes of the server.
     fn hear(&mut self, bytes: &[u8]) {
-        let is_lost = match &mut self.visitor.seat {
-            Seat::Own(client) => client.display.hear_all(bytes).is_err(),
+        let is_lost = match &mut self.visitor.identity {
+            Identity::Own(client) => client.display.hear_all(bytes).is_err(),
             _ => false,
         };
         if is_lost {
@@ -226,8 +234,10 @@ impl Guest {
 
     // Writes what its own client has for the server.
     fn write_server(&mut self) {
-        let is_lost = match (&mut self.server, &mut self.visitor.seat) {
-            (Server::Connected(server), Seat::Own(client)) => { client.send_all(server).is_err() }
+        let is_lost = match (&mut self.server, &mut self.visitor.identity) {
+            (Upstream::Connected(server), Identity::Own(client)) => {
+                client.send_all(server).is_err()
+            }
             _ => false,
         };
         if is_lost {
@@ -238,7 +248,7 @@ impl Guest {
     /// Writes what waits for either side.
     pub fn write_all(&mut self) {
         self.write_server();
-        if !write_some(self.visitor.output(), &mut self.browser) {
+        if self.visitor.send_all(&mut self.browser).is_err() {
             self.is_over = true;
         }
     }
@@ -252,7 +262,7 @@ impl Guest {
 
     /// Whether something is left to do without an event.
     pub fn is_busy(&self) -> bool {
-        let has_server = matches!(&self.server, Server::Connected(_));
+        let has_server = matches!(&self.server, Upstream::Connected(_));
         !self.is_over
             && (((self.has_more || self.browser_ready) && self.visitor.can_read())
                 || (self.server_ready && has_server))
@@ -261,8 +271,8 @@ impl Guest {
     // Whether it was silent for too long.
     fn is_silent(&self, now: Duration, takes: bool) -> bool {
         let silent = now.saturating_sub(self.heard);
-        match &self.visitor.seat {
-            Seat::Nobody => now.saturating_sub(self.began) > Duration::from_secs(PATIENCE),
+        match &self.visitor.identity {
+            Identity::Nobody => now.saturating_sub(self.began) > Duration::from_secs(PATIENCE),
             _ if takes => silent > Duration::from_secs(DEAD),
             _ => silent > Duration::from_secs(STUCK),
         }

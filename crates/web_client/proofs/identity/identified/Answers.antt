@@ -1,6 +1,6 @@
 use Rattle.std.proofs.Common.{rules}
 use Rattle.web_client.proofs.Adding.{linked}
-use Rattle.web_client.proofs.seat.seated.Goals as goal
+use Rattle.web_client.proofs.identity.identified.Goals as goal
 
 pub returns-in-76-clause-begins : goal.returns-in-76-clause-begins
 returns-in-76-clause-begins c =

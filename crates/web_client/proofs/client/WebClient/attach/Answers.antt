@@ -1,6 +1,6 @@
 use Rattle.std.proofs.lemmas.Result.{err_from_is_err_and}
 use Rattle.web_client.proofs.Judging.{attach_fails}
-use Rattle.web_client.proofs.client.Client.attach.Goals as goal
+use Rattle.web_client.proofs.client.WebClient.attach.Goals as goal
 
 pub returns-in_err-ask-clause-fault : goal.returns-in_err-ask-clause-fault
 returns-in_err-ask-clause-fault c =

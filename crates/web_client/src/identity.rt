@@ -8,7 +8,7 @@ ghost use Rattle.web_client.specs.Judging.{IsSize, IsAttach, IsTyped, IsPublic, 
 ghost use Rattle.web_client.specs.Judging.{IsAllowed, IsJudged, fault_of};
 ghost use Rattle.attach_proto.specs.Texts.{IsToken};
 
-use crate::client::Client;
+use crate::client::WebClient;
 use acl::UserId;
 use attach_proto::{LONGEST, Token};
 use std::alloc::Global;
@@ -41,11 +41,11 @@ const BEFORE_NAME: usize = 68;
 
 /// Who a browser is.
 #[derive(Drop)]
-pub enum Seat {
+pub enum Identity {
     /// It hasn't said who it is.
     Nobody,
     /// A client that is its own.
-    Own(Client),
+    Own(WebClient),
     /// It watches a page of this size that others watch too, and has no client.
     Watching(u16, u16),
     /// It shows the secret of a link, in place of a name and a token.
@@ -58,20 +58,20 @@ pub enum Seat {
 
 /// Why a message was not taken.
 #[derive(Clone, Copy, Debug, PartialEq, Eq)]
-pub enum SeatFault {
+pub enum MessageFault {
     /// It may not ask for this, or not now.
     Wrong,
     NoMemory,
 }
 
-impl From<ClientFault> for SeatFault {
+impl From<ClientFault> for MessageFault {
     ghost from_gives = { λ fault e. e ≡ fault_of fault };
 
-    fn from(fault: ClientFault) -> SeatFault {
+    fn from(fault: ClientFault) -> MessageFault {
         match fault {
-            ClientFault::NoMemory => SeatFault::NoMemory,
-            ClientFault::Unspellable => SeatFault::Wrong,
-            ClientFault::BadFrame => SeatFault::Wrong,
+            ClientFault::NoMemory => MessageFault::NoMemory,
+            ClientFault::Unspellable => MessageFault::Wrong,
+            ClientFault::BadFrame => MessageFault::Wrong,
         }
     }
 }
@@ -121,92 +121,92 @@ fn name_of(bytes: &[u8]) -> Option<&str>
     }
 }
 
-/// The seat of a browser that says who it is.
-fn attached(alloc: Global, payload: &[u8]) -> Result<Seat, SeatFault>
+/// The identity of a browser that says who it is.
+fn attached(alloc: Global, payload: &[u8]) -> Result<Identity, MessageFault>
     ensures attaches { IfOk result (IsAttached payload.now) }
     ensures judged { IsJudged (IsAttach payload.now) result }
 {
     let Some((rows, columns)) = size_of(payload) else {
-        return Err(SeatFault::Wrong);
+        return Err(MessageFault::Wrong);
     };
     if payload.len() < BEFORE_NAME || LONGEST < payload.len() {
-        return Err(SeatFault::Wrong);
+        return Err(MessageFault::Wrong);
     }
     let Some(token) = Token::read(&payload[4..BEFORE_NAME]) else {
-        return Err(SeatFault::Wrong);
+        return Err(MessageFault::Wrong);
     };
     match name_of(&payload[BEFORE_NAME..]) {
         Some(name) => {
-            let client = Client::attach(alloc, rows, columns, token, name)?;
-            Ok(Seat::Own(client))
+            let client = WebClient::attach(alloc, rows, columns, token, name)?;
+            Ok(Identity::Own(client))
         }
-        None => Ok(Seat::Unknown),
+        None => Ok(Identity::Unknown),
     }
 }
 
-/// The seat of a browser that only watches, if this is allowed.
-fn watching(site: &Site, payload: &[u8]) -> Result<Seat, SeatFault>
+/// The identity of a browser that only watches, if this is allowed.
+fn watching(site: &Site, payload: &[u8]) -> Result<Identity, MessageFault>
     ensures watches { IfOk result (IsShared payload.now) }
     ensures judged { IsJudged (IsPublic site.now.watcher × IsSize payload.now) result }
 {
     if site.watcher.is_none() || payload.len() != 4 {
-        return Err(SeatFault::Wrong);
+        return Err(MessageFault::Wrong);
     }
     match size_of(payload) {
         Some(size) => {
             let (rows, columns) = fitted(size);
-            Ok(Seat::Watching(rows, columns))
+            Ok(Identity::Watching(rows, columns))
         }
-        None => Err(SeatFault::Wrong),
+        None => Err(MessageFault::Wrong),
     }
 }
 
-/// The seat of a browser that shows the secret of a link.
-fn linked(secret: &[u8]) -> Result<Seat, SeatFault>
-    ensures links { IfOk result (λ seat. seat ≡ Seat.Link secret.now) }
+/// The identity of a browser that shows the secret of a link.
+fn linked(secret: &[u8]) -> Result<Identity, MessageFault>
+    ensures links { IfOk result (λ identity. identity ≡ Identity.Link secret.now) }
     ensures judged { IsJudged (IsToken secret.now) result }
 {
     match Token::read(secret) {
-        Some(secret) => Ok(Seat::Link(secret)),
-        None => Err(SeatFault::Wrong),
+        Some(secret) => Ok(Identity::Link(secret)),
+        None => Err(MessageFault::Wrong),
     }
 }
 
-/// The seat of a browser by its first message.
-fn seated(alloc: Global, site: &Site, message: &[u8]) -> Result<Seat, SeatFault>
+/// The identity of a browser by its first message.
+fn identified(alloc: Global, site: &Site, message: &[u8]) -> Result<Identity, MessageFault>
     ensures begins { IfOk result (Begins message.now) }
     ensures judged { IsJudged (IsFirst site.now.watcher message.now) result }
 {
     let Some((kind, payload)) = message.split_first() else {
-        return Err(SeatFault::Wrong);
+        return Err(MessageFault::Wrong);
     };
     match *kind {
         ATTACH => attached(alloc, payload),
         WATCH => watching(site, payload),
         LINK => linked(payload),
-        _ => Err(SeatFault::Wrong),
+        _ => Err(MessageFault::Wrong),
     }
 }
 
-impl Seat {
+impl Identity {
     // Takes the first message.
-    fn begin(&mut self, alloc: Global, site: &Site, message: &[u8]) -> Result<(), SeatFault>
+    fn begin(&mut self, alloc: Global, site: &Site, message: &[u8]) -> Result<(), MessageFault>
         ensures ok { OnOk result (Begins message.now self.new) }
         ensures err { OnErr result (self.new ≡ self.old) }
         ensures judged { IsJudged (IsFirst site.now.watcher message.now) result }
     {
-        *self = seated(alloc, site, message)?;
+        *self = identified(alloc, site, message)?;
         Ok(())
     }
 
     // Takes a message of a browser that watches.
-    fn watch(&mut self, site: &Site, message: &[u8]) -> Result<(), SeatFault>
+    fn watch(&mut self, site: &Site, message: &[u8]) -> Result<(), MessageFault>
         ensures ok { OnOk result (Watches message.now self.new) }
         ensures err { OnErr result (self.new ≡ self.old) }
         ensures judged { IsJudged (IsWatching site.now.watcher message.now) result }
     {
         let Some((kind, payload)) = message.split_first() else {
-            return Err(SeatFault::Wrong);
+            return Err(MessageFault::Wrong);
         };
         match *kind {
             RESIZE => {
@@ -214,69 +214,69 @@ impl Seat {
                 Ok(())
             }
             DETACH if payload.is_empty() => {
-                *self = Seat::Left;
+                *self = Identity::Left;
                 Ok(())
             }
-            _ => Err(SeatFault::Wrong),
+            _ => Err(MessageFault::Wrong),
         }
     }
 
     /// Takes one message of the browser, if it is allowed. One that isn't taken adds nothing for its client.
-    pub fn take(&mut self, alloc: Global, site: &Site, message: &[u8]) -> Result<(), SeatFault>
+    pub fn take(&mut self, alloc: Global, site: &Site, message: &[u8]) -> Result<(), MessageFault>
         ensures ok { OnOk result (Takes self.old message.now self.new) }
         ensures err { OnErr result (Keeps self.old self.new) }
         ensures asks { Asks self.old self.new }
         ensures judged { IsJudged (IsAllowed site.now.watcher self.old message.now) result }
     {
         match self {
-            Seat::Nobody => self.begin(alloc, site, message),
-            Seat::Own(client) => ask(client, message),
-            Seat::Watching(_, _) => self.watch(site, message),
-            Seat::Link(_) | Seat::Unknown | Seat::Left => Err(SeatFault::Wrong),
+            Identity::Nobody => self.begin(alloc, site, message),
+            Identity::Own(client) => ask(client, message),
+            Identity::Watching(_, _) => self.watch(site, message),
+            Identity::Link(_) | Identity::Unknown | Identity::Left => Err(MessageFault::Wrong),
         }
     }
 }
 
 // Passes on what was typed.
-fn press(client: &mut Client, keys: &[u8]) -> Result<(), SeatFault>
+fn press(client: &mut WebClient, keys: &[u8]) -> Result<(), MessageFault>
     ensures ok { OnOk result (Passes (0x4B ∷ keys.now) client.old client.new) }
     ensures err { OnErr result (client.new.outgoing ≡ client.old.outgoing) }
     ensures judged { IsJudged (IsTyped keys.now) result }
 {
     if keys.is_empty() || LONGEST < keys.len() {
-        return Err(SeatFault::Wrong);
+        return Err(MessageFault::Wrong);
     }
     Ok(client.press(keys)?)
 }
 
 // Passes on a new size.
-fn resize(client: &mut Client, size: &[u8]) -> Result<(), SeatFault>
+fn resize(client: &mut WebClient, size: &[u8]) -> Result<(), MessageFault>
     ensures ok { OnOk result (Passes (0x52 ∷ size.now) client.old client.new) }
     ensures err { OnErr result (client.new.outgoing ≡ client.old.outgoing) }
     ensures judged { IsJudged (IsSize size.now) result }
 {
     if size.len() != 4 {
-        return Err(SeatFault::Wrong);
+        return Err(MessageFault::Wrong);
     }
     match size_of(size) {
         Some((rows, columns)) => Ok(client.resize(rows, columns)?),
-        None => Err(SeatFault::Wrong),
+        None => Err(MessageFault::Wrong),
     }
 }
 
 /// Passes a message on to the browser's client.
-fn ask(client: &mut Client, message: &[u8]) -> Result<(), SeatFault>
+fn ask(client: &mut WebClient, message: &[u8]) -> Result<(), MessageFault>
     ensures ok { OnOk result (Passes message.now client.old client.new) }
     ensures err { OnErr result (client.new.outgoing ≡ client.old.outgoing) }
     ensures judged { IsJudged (IsAsking message.now) result }
 {
     let Some((kind, payload)) = message.split_first() else {
-        return Err(SeatFault::Wrong);
+        return Err(MessageFault::Wrong);
     };
     match *kind {
         KEYS => press(client, payload),
         RESIZE => resize(client, payload),
         DETACH if payload.is_empty() => Ok(client.detach()?),
-        _ => Err(SeatFault::Wrong),
+        _ => Err(MessageFault::Wrong),
     }
 }

@@ -1,11 +1,11 @@
 use Rattle.std.proofs.Common.{List, ℕ, ◌≤◌, length, take, drop, rules, arith, refl, ◌∙◌, subst}
 use Rattle.std.proofs.lemmas.Result.{err_from_is_err_and}
-use Rattle.web_client.specs.declared.seat.Seat.{Seat}
+use Rattle.web_client.specs.declared.identity.Identity.{Identity}
 use Rattle.web_client.specs.Asking.{IsNoName}
 use Rattle.web_client.specs.Judging.{IsAttach}
 use Rattle.web_client.proofs.Login.{login, read_token, rest_is}
 use Rattle.web_client.proofs.Judging.{judged, digits, name_fits}
-use Rattle.web_client.proofs.seat.attached.Goals as goal
+use Rattle.web_client.proofs.identity.attached.Goals as goal
 
 pub returns-in_ok-client-in-Some-name_of-clause-attaches : goal.returns-in_ok-client-in-Some-name_of-clause-attaches
 returns-in_ok-client-in-Some-name_of-clause-attaches c =
@@ -23,7 +23,7 @@ returns-in_err-client-in-Some-name_of-clause-judged c =
     let p = err_from_is_err_and c.from_residual.result c.from_residual.ensures.1 in
     let name = c.in-Some-name_of.name.now in
     rw (p.1, p.2)
-    (judged Seat (length name ≤ 8124) (IsAttach c.args.payload.now) c.in_err-client-in-Some-name_of.field-0.0
+    (judged Identity (length name ≤ 8124) (IsAttach c.args.payload.now) c.in_err-client-in-Some-name_of.field-0.0
     (name_fits c.args.payload.now name (c.in-Some-name_of.ensures.some ∙ rest_is 68 c.args.payload.now) (omega arith))
     (omega arith, omega arith, digits (take 64 (drop 4 c.args.payload.now)) c.in-Some-read.token c.in-Some-read.ensures)
     c.in_err-client-in-Some-name_of.ensures.fault)

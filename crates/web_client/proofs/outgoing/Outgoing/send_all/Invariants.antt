@@ -1,7 +1,0 @@
-use Rattle.std.proofs.Common.{ℕ, List}
-use Rattle.web_client.specs.Sending.{IsSent}
-use Rattle.web_client.proofs.outgoing.Outgoing.send_all.Given as goal
-
-abbrev pub invariant-writes : goal.invariant-writes
-invariant-writes g l = (put : List ℕ) → IsSent put (g.W.Write.contents l.fn.writer) l.fn.self
-    → IsSent put (g.W.Write.contents l.writer) l.self
