@@ -10,6 +10,8 @@ mod page;
 #[cfg(test)]
 mod peer;
 #[cfg(test)]
+mod ready;
+#[cfg(test)]
 mod served;
 #[cfg(test)]
 mod together;

@@ -62,7 +62,7 @@ impl Paths {
 }
 
 /// Serves until a peer gives `quit`. The server's errors are dropped.
-pub fn serve<R: Host + Threads + Wait, G: Gate + Copy + Sync + Drop, O: Write>(
+pub fn serve<R: Host + Threads + Wait, G: Gate + Copy + Sync + Drop, O: Write + Send>(
     rt: &R,
     handles: Handles<G>,
     words: &[String],

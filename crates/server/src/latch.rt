@@ -2,13 +2,20 @@
 
 use std::sync::{Condvar, Mutex, Wait};
 
+/// Why a loop can't be started.
+#[derive(Clone, Copy, Debug, PartialEq, Eq)]
+pub enum Unready {
+    NoThread,
+    NoMemory,
+}
+
 // What is known of the loops.
 #[derive(Drop)]
 struct Loops {
     // How many aren't ready yet.
     missing: usize,
-    // One can't be started.
-    has_failed: bool,
+    // Why one can't be started.
+    fault: Option<Unready>,
     // Whether they are to serve, once that is known.
     serve: Option<bool>,
 }
@@ -26,7 +33,7 @@ impl Latch {
         Latch {
             loops: Mutex::new(Loops {
                 missing: loops,
-                has_failed: false,
+                fault: None,
                 serve: None,
             }),
             news: Condvar::new(),
@@ -34,8 +41,8 @@ impl Latch {
     }
 
     /// A loop can't be started.
-    pub fn fail(&self, rt: &impl Wait) {
-        self.loops.lock(rt).has_failed = true;
+    pub fn fail(&self, rt: &impl Wait, fault: Unready) {
+        self.loops.lock(rt).fault = Some(fault);
         self.news.notify_all();
     }
 
@@ -53,13 +60,13 @@ impl Latch {
         let loops = self.loops.lock(rt);
         let loops = self
             .news
-            .wait_while(rt, loops, |it| it.missing > 0 && !it.has_failed);
-        !loops.has_failed
+            .wait_while(rt, loops, |it| it.missing > 0 && it.fault.is_none());
+        loops.fault.is_none()
     }
 
-    /// Whether a loop couldn't be started.
-    pub fn has_failed(&self, rt: &impl Wait) -> bool {
-        self.loops.lock(rt).has_failed
+    /// Why a loop couldn't be started.
+    pub fn fault(&self, rt: &impl Wait) -> Option<Unready> {
+        self.loops.lock(rt).fault
     }
 
     /// Tells the loops whether they are to serve.

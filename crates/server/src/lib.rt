@@ -8,6 +8,7 @@ mod loop_handle;
 mod loops;
 mod news_line;
 mod places;
+mod ready;
 mod serving;
 mod turns;
 mod winding;

@@ -1,7 +1,9 @@
 //! A server: its socket, its threads, its files, its log and its end.
 
 use crate::disk_line::DiskLog;
+use crate::latch::Unready;
 use crate::loop_handle::{LoopStart, Shared};
+use crate::ready::Ready;
 use crate::turns::run_loop;
 use server_loop::{End, Gate};
 use server_session::{
@@ -31,8 +33,10 @@ fn cause_of(end: End) -> Option<Cause> {
 
 /// A server, of which each loop runs in a thread of its own.
 #[derive(Drop)]
-pub struct Server<'a, G> {
+pub struct Server<'a, G, O> {
     pub shared: Shared,
+    /// Where it says that it is ready.
+    pub ready: Ready<'a, O>,
     /// Is called around each event that a loop submits.
     pub gate: G,
     pub files: HostRuntime,
@@ -47,7 +51,7 @@ pub struct Server<'a, G> {
     pub journal: Option<Journal<'a>>,
 }
 
-impl<G: Drop> Server<'_, G> {
+impl<G: Drop, O: Write> Server<'_, G, O> {
     // A loop has ended. After the last one nobody can connect, so another server may take the place.
     fn leave(&self, rt: &impl Wait) {
         if self.shared.log.leave(rt) {
@@ -66,9 +70,7 @@ impl<G: Drop> Server<'_, G> {
             let _ = writeln!(errors, "muxd: trail {path}: waits for its disk");
         }
     }
-}
 
-impl<G: Gate + Copy + Sync + Drop> Server<'_, G> {
     // The fault of the trail's file, if there is one.
     fn trail_fault(&self, rt: &impl Wait) -> Option<ServeFault> {
         let journal = self.journal.as_ref()?;
@@ -76,12 +78,9 @@ impl<G: Gate + Copy + Sync + Drop> Server<'_, G> {
         Some(ServeFault::of_trail(self.shared.alloc, journal.path(), fault))
     }
 
-    // How the server ended. `agrees` says whether every answer stands in the trail.
+    // How the server ended, after it served. `agrees` says whether every answer stands in the trail.
     fn outcome(&self, rt: &impl Wait, agrees: bool) -> Result<(), ServeFault> {
         match (self.shared.over.get().copied(), self.trail_fault(rt)) {
-            (Some(End::Fault) | None, _) if self.shared.latch.has_failed(rt) => {
-                Err(ServeFault::NoThread)
-            }
             (Some(End::Fault) | None, _) => Err(ServeFault::Loop),
             (Some(End::Quit), _) if !agrees => Err(ServeFault::Trail),
             (_, Some(fault)) => Err(fault),
@@ -90,36 +89,47 @@ impl<G: Gate + Copy + Sync + Drop> Server<'_, G> {
         }
     }
 
-    /// Serves a new session until it ends.
-    pub fn serve<R: Host + Threads + Wait, O: Write>(
-        &self,
-        rt: &R,
-        start: Start<LoopStart>,
-        output: &mut O,
-    ) -> Result<(), ServeFault> {
-        let kept = keep(rt, start, self, || {
-            writeln!(output, "muxd: ready")?;
-            output.flush()
-        });
-        self.shared.watched.stop(rt);
-        if let (Err(_), Some(journal)) = (&kept, &self.journal) {
-            journal.remove();
-        }
+    // Why a session didn't begin.
+    fn fault(&self, fault: LoopsFault) -> ServeFault {
         let alloc = self.shared.alloc;
-        match kept {
-            Ok(agrees) => self.outcome(rt, agrees),
-            Err(LoopsFault::NoMemory) => Err(ServeFault::NoMemory),
-            Err(LoopsFault::Untold(error)) => Err(ServeFault::Untold(error)),
-            Err(LoopsFault::Setup(fault)) => Err(self.setup.wrong(alloc, fault)),
-            Err(LoopsFault::Refused(number, said)) => Err(self.setup.refused(alloc, number, &said)),
+        match fault {
+            LoopsFault::NoMemory => ServeFault::NoMemory,
+            LoopsFault::Setup(fault) => self.setup.wrong(alloc, fault),
+            LoopsFault::Refused(number, said) => self.setup.refused(alloc, number, &said),
         }
     }
 }
 
-impl<R, G> LoopBody<LoopStart, R> for Server<'_, G>
+impl<G: Gate + Copy + Sync + Drop, O: Write + Send> Server<'_, G, O> {
+    /// Serves a new session until it ends. If it never said that it is ready, the trail's file is removed.
+    pub fn serve<R: Host + Threads + Wait>(
+        &self,
+        rt: &R,
+        start: Start<LoopStart>,
+    ) -> Result<(), ServeFault> {
+        let kept = keep(rt, start, self);
+        self.shared.watched.stop(rt);
+        let said = self.ready.said(rt);
+        if let (None | Some(Err(_)), Some(journal)) = (&said, &self.journal) {
+            journal.remove();
+        }
+        match (kept, said) {
+            (Err(fault), _) => Err(self.fault(fault)),
+            (Ok(_), Some(Err(error))) => Err(ServeFault::Untold(error)),
+            (Ok(_), None) => match self.shared.latch.fault(rt) {
+                Some(Unready::NoThread) => Err(ServeFault::NoThread),
+                Some(Unready::NoMemory) | None => Err(ServeFault::NoMemory),
+            },
+            (Ok(agrees), Some(Ok(()))) => self.outcome(rt, agrees),
+        }
+    }
+}
+
+impl<R, G, O> LoopBody<LoopStart, R> for Server<'_, G, O>
 where
     R: Clock + Wait,
-    G: Gate + Copy + Sync + Drop,
+    G: Gate + Copy + Drop,
+    O: Write,
 {
     fn run<L: Begun>(
         &self,
@@ -133,7 +143,7 @@ where
             Ok(seated) => Some(seated.into_inner()),
             Err(_) => {
                 let _ = self.shared.end(End::Fault);
-                self.shared.latch.fail(rt);
+                self.shared.latch.fail(rt, Unready::NoMemory);
                 None
             }
         };
@@ -147,13 +157,13 @@ where
 
     fn fail(&self, rt: &R) {
         let _ = self.shared.end(End::Fault);
-        self.shared.latch.fail(rt);
+        self.shared.latch.fail(rt, Unready::NoThread);
         self.leave(rt);
     }
 
     fn stand_by(&self, rt: &R) {
-        let is_whole = self.shared.latch.await_all(rt);
-        self.shared.latch.open(rt, is_whole);
+        let serves = self.shared.latch.await_all(rt) && self.ready.say(rt);
+        self.shared.latch.open(rt, serves);
         let mut errors = self.log;
         self.shared.log.write_all(rt, &mut errors);
         self.await_trail(rt);

@@ -4,6 +4,7 @@ use crate::latch::Latch;
 use crate::loop_handle::{LoopHandle, Shared, start_watching};
 use crate::loops::Server;
 use crate::places::places;
+use crate::ready::Ready;
 use acl::UserId;
 use clap::{ArgMatches, Error};
 use mio::net::UnixListener;
@@ -157,7 +158,7 @@ fn begin<R, G, O>(
 where
     R: Host + Threads + Wait,
     G: Gate + Copy + Sync + Drop,
-    O: Write,
+    O: Write + Send,
 {
     let alloc = rt.alloc();
     let files = handles.files;
@@ -175,6 +176,7 @@ where
     let journal = journal(files, alloc, options.trail, users.owner())?;
     let server = Server {
         shared,
+        ready: Ready::new(output),
         gate: handles.gate,
         files,
         place,
@@ -188,7 +190,7 @@ where
         users,
         places,
     };
-    server.serve(rt, start, output)
+    server.serve(rt, start)
 }
 
 fn run<R, G, O, E>(
@@ -201,7 +203,7 @@ fn run<R, G, O, E>(
 where
     R: Host + Threads + Wait,
     G: Gate + Copy + Sync + Drop,
-    O: Write,
+    O: Write + Send,
     E: Write,
 {
     let alloc = rt.alloc();
@@ -240,7 +242,7 @@ where
 pub fn serve<R, O>(rt: &R, runtime: HostRuntime, words: &[String], output: &mut O) -> u8
 where
     R: Host + Threads + Wait,
-    O: Write,
+    O: Write + Send,
 {
     let mut errors = LastLine(runtime.stderr());
     let filled = match fill_closed(&runtime) {
@@ -274,7 +276,7 @@ pub fn serve_through<R, G, O, E>(
 where
     R: Host + Threads + Wait,
     G: Gate + Copy + Sync + Drop,
-    O: Write,
+    O: Write + Send,
     E: Write,
 {
     let options = match options_of(rt.alloc(), words, output, errors) {

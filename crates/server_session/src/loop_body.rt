@@ -17,9 +17,9 @@ use std::alloc::{AllocError, Global};
 use std::marker::Brand;
 use std::sync::ledger::Blank;
 use std::sync::{Mutex, Wait};
+use std::thread;
 use std::thread::Threads;
 use std::time::Clock;
-use std::{io, thread};
 
 /// The most loops that share a session.
 const MOST: usize = 8;
@@ -32,8 +32,6 @@ pub enum LoopsFault {
     Setup(SetupFault),
     /// The setup's line of this number was refused with this text.
     Refused(usize, Vec<u8>),
-    /// The caller couldn't tell that the session begins.
-    Untold(io::Error),
 }
 
 impl From<AllocError> for LoopsFault {
@@ -227,53 +225,38 @@ where
     Ok((RunningSession { shared, left }, seats))
 }
 
-fn keep_as<L, P, K, R, B>(
+fn keep_as<L, P, K, R>(
     rt: &R,
     parts: Parts,
     start: Start<P>,
     loop_body: &K,
-    begun: B,
 ) -> Result<bool, LoopsFault>
 where
     L: Begun + Send + Sync,
     P: Send + Drop,
     K: LoopBody<P, R> + Sync,
     R: Clock + Threads + Wait + Sync,
-    B: FnOnce() -> io::Result<()>,
     requires blank { (parts.blank.name ≡ L.name) × (parts.blank.parts ≡ L.parts)
         × (parts.loops ≡ L.parts) × (0 < parts.loops) × (parts.loops ≤ 8) }
     requires session { (L.edition ≡ Second) × (L.owner ≡ parts.owner) }
-    requires begun { B.IsAlwaysCallable begun }
 {
     let Start { users, places, .. } = start;
     let (running, seats) = begin::<L, P, K, R>(rt, parts, users, loop_body)?;
-    let has_begun = begun();
-    if has_begun.is_ok() {
-        run_all(rt, &running, seats, places, loop_body);
-    }
+    run_all(rt, &running, seats, places, loop_body);
     let RunningSession { shared, left } = running;
     let SharedSession { hub, .. } = shared;
     let (trail, wrong) = hub.close(left.into_inner());
-    has_begun.map_err(LoopsFault::Untold)?;
     loop_body.compare(rt, &trail);
     Ok(wrong.is_none())
 }
 
-/// Keeps a new session: calls `begun`, and runs a loop for each of 1 to 8 places, each in a thread of
-/// its own, until all have ended. The answer is whether every answer that a loop was given stands in the
-/// session's trail.
-pub fn keep<P, K, R, B>(
-    rt: &R,
-    start: Start<P>,
-    loop_body: &K,
-    begun: B,
-) -> Result<bool, LoopsFault>
+/// Keeps a new session: runs a loop for each of 1 to 8 places, each in a thread of its own, until all
+/// have ended. The answer is whether every answer that a loop was given stands in the session's trail.
+pub fn keep<P, K, R>(rt: &R, start: Start<P>, loop_body: &K) -> Result<bool, LoopsFault>
 where
     P: Send + Drop,
     K: LoopBody<P, R> + Sync,
     R: Clock + Threads + Wait + Sync,
-    B: FnOnce() -> io::Result<()>,
-    requires { B.IsAlwaysCallable begun }
 {
     let loops = start.places.len().clamp(1, MOST);
     let parts = Parts {
@@ -282,5 +265,5 @@ where
         owner: start.users.owner(),
         loops,
     };
-    keep_as::<Brand, P, K, R, B>(rt, parts, start, loop_body, begun)
+    keep_as::<Brand, P, K, R>(rt, parts, start, loop_body)
 }

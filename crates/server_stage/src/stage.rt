@@ -276,7 +276,7 @@ pub fn perform(rt: &impl System, loops: usize, acts: &[Act]) -> Result<Seen, Sto
         accounts,
         left: Mutex::new(Left::new(alloc)),
     };
-    match keep(rt, start, &playing, || Ok(())) {
+    match keep(rt, start, &playing) {
         Ok(agrees) => seen_of(playing, agrees),
         Err(LoopsFault::NoMemory) => Err(Stop::Memory),
         Err(_) => Err(Stop::Other("begun")),

@@ -16,10 +16,10 @@ pub record HaveRead (us : List Entry) (file rest : List ℕ) : Type 0 where
   pub users : AreUsers us
   pub lines : (file ≡ text us ++ rest) ⊎ ((rest ≡ []) × (file ++ 0x0A ∷ [] ≡ text us))
 
-nothing_has : (x : List ℕ) → Contains [] x → ⊥
+pub nothing_has : (x : List ℕ) → Contains [] x → ⊥
 nothing_has x w = omega (arith, w.1)
 
-at_head : (x y : List ℕ) (xs : List (List ℕ)) → x ≡ y → Contains (x ∷ xs) y
+pub at_head : (x y : List ℕ) (xs : List (List ℕ)) → x ≡ y → Contains (x ∷ xs) y
 at_head x y xs e = (0, omega arith, e)
 
 own_push : (us : List Entry) (u : Entry) → HaveOwnNames us → (Contains (names us) u.name → ⊥)

@@ -1,6 +1,7 @@
 -- The users that are kept, as entries, and the meaning of faults.
-use Rattle.std.specs.Prelude.{ℕ, List, map, Contains}
-use Rattle.acl.specs.Names.{name_of}
+use Rattle.std.specs.Prelude.{◌≡◌, ℕ, List, map, Some, Contains}
+use Rattle.acl.specs.Names.{name_of, named_by}
+use Rattle.acl.specs.declared.user_id.UserId.{UserId}
 use Rattle.server_users.specs.declared.user.User.{User}
 use Rattle.server_users.specs.declared.fault.UsersFault.{UsersFault}
 use Rattle.server_users.specs.declared.fault.UsersFault.TheVariants.{BadLine, NoMemory}
@@ -10,6 +11,10 @@ use Rattle.server_users.specs.Entries.{Entry, BreaksAt, names}
 
 abbrev pub entry_of : User → Entry
 entry_of u = record { name = name_of u.id; token = u.token }
+
+-- the user whom their own name names
+abbrev pub IsNamed : UserId → Type 0
+IsNamed u = named_by (name_of u) ≡ Some u
 
 abbrev pub entries_of : List User → List Entry
 entries_of us = map entry_of us

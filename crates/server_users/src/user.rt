@@ -3,7 +3,7 @@
 ghost use Rattle.std.specs.Prelude.{◌≡◌, ◌↔◌, IsTrue, IfSome, None};
 ghost use Rattle.acl.specs.Names.{name_of};
 ghost use Rattle.server_users.specs.Entries.{Entry, IsUser, spelled};
-ghost use Rattle.server_users.specs.Stands.{entry_of};
+ghost use Rattle.server_users.specs.Stands.{IsNamed, entry_of};
 
 use acl::UserId;
 use attach_proto::{TOKEN_LEN, Token};
@@ -35,6 +35,7 @@ impl Shown {
 fn user_of(name: &[u8], digits: &[u8]) -> Option<User>
     ensures some { IfSome result (λ u. IsUser (entry_of u)
         × (entry_of u ≡ record { name = name.now; token = digits.now })) }
+    ensures named { IfSome result (λ u. IsNamed u.id) }
     ensures none { result ≡ None → IsUser (record { name = name.now; token = digits.now }) → ⊥ }
 {
     let token = Token::read(digits)?;
@@ -54,6 +55,7 @@ impl User {
     pub(crate) fn of_line(line: &[u8]) -> Option<User>
         ensures some { IfSome result (λ u.
             IsUser (entry_of u) × (spelled (entry_of u) ≡ line.now)) }
+        ensures named { IfSome result (λ u. IsNamed u.id) }
         ensures none { result ≡ None → (u : Entry) → IsUser u → spelled u ≡ line.now → ⊥ }
     {
         if line.len() < TOKEN_LEN {

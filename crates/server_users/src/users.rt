@@ -9,6 +9,7 @@ ghost use Rattle.server_users.specs.Stands.{Breaks, entries_of};
 use crate::fault::UsersFault;
 use crate::user::User;
 use acl::UserId;
+use indexmap::IndexSet;
 use std::alloc::{AllocError, Global};
 use std::marker::Model;
 
@@ -79,6 +80,7 @@ impl Users {
         ensures bad { IfErr result (Breaks file.now) }
     {
         let mut list: Vec<User> = Vec::new(alloc);
+        let mut seen: IndexSet<UserId> = IndexSet::new(alloc);
         let mut rest = file;
         'lines: loop {
             if rest.is_empty() && !list.is_empty() {
@@ -88,7 +90,8 @@ impl Users {
             let Some(user) = User::of_line(line) else {
                 return Err(UsersFault::BadLine(list.len() + 1));
             };
-            if has_name(&list, user.id.as_bytes()) {
+            let is_new = seen.insert(user.id)?;
+            if !is_new {
                 return Err(UsersFault::BadLine(list.len() + 1));
             }
             list.push(user)?;
