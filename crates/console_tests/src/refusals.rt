@@ -5,7 +5,7 @@ use command_lang::{FaultKind, ParseFault};
 use line_fields::push_meaning;
 use program_words::explain;
 use regions::RegionFault;
-use session_model::{Refusal, WindowsFault};
+use session::{Refusal, WindowsFault};
 use std::alloc::Global;
 
 /// The line that was refused.

@@ -3,7 +3,7 @@
 
 use crate::rights::{COMMANDS, GRANTS, GUEST, Grant, TITLES};
 use crate::stage::Stage;
-use session_model::Event;
+use session::Event;
 use std::alloc::AllocError;
 
 /// Commands to leave out, to show that the comparison notices it.

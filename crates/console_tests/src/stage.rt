@@ -3,8 +3,7 @@
 use crate::rights::{GRANTS, GUEST, TITLES, given};
 use crate::table::Table;
 use acl::UserId;
-use session_core::{Notes, Session};
-use session_model::Event;
+use session::{Event, Notes, Session};
 use std::alloc::{AllocError, Global};
 
 /// A session, and the rights after its acts.

@@ -3,7 +3,7 @@
 use crate::rights::{COMMANDS, GUEST, TITLES, given};
 use crate::stage::{Stage, user};
 use acl::UserId;
-use session_model::{Effect, Event};
+use session::{Effect, Event};
 use std::alloc::AllocError;
 
 /// Keys of a user who goes to each console, by its title and by `next`, and types there.

@@ -10,7 +10,7 @@
 #![tactic(auto)]
 
 ghost use Rattle.std.specs.Prelude.{◌≡◌, ◌↔◌, ◌<◌, ◌≤◌, length, IfOk, IfErr, OnErr, IsSome, None, []};
-ghost use Rattle.session_model.specs.Trace.{begun, happening};
+ghost use Rattle.session.specs.Trace.{begun, happening};
 ghost use Rattle.hub_trail.specs.Legal.{IsLegal};
 ghost use Rattle.hub_ledger.specs.Closing.{AreThere, IsFirstWrong, receipts_of};
 ghost use Rattle.hub_ledger.specs.Faults.{foreign, full};
@@ -19,12 +19,15 @@ ghost use Rattle.hub_ledger.specs.declared.ledger.answer.HubFault.TheVariants.{N
 ghost use Rattle.hub_ledger.specs.declared.ledger.answer.HubFault.TheVariants.{TrailFull};
 ghost use Rattle.hub_trail.specs.Filing.{kept_of};
 
-use hub_ledger::Ledger;
+pub use hub_check::{Judge, Replay, all_pass, failed, follow_clients, user_of_client};
 pub use hub_ledger::{
-    Answer, Begun, CheckFault, FULL, Foreign, Full, Handed, HubFault, Kept, Receipt, Receipts,
-    Seat, Sent, Session, Trail, TrailEntry, check_trail, kept_trails_are_legal,
+    Answer, Begun, CheckFault, FULL, Foreign, Full, Handed, HubFault, Kept, Ledger, Receipt,
+    Receipts, Seat, Sent, Session, Trail, TrailEntry, check_entries, check_trail,
+    kept_trails_are_legal,
 };
-use session_model::Event;
+pub use hub_record::{EntryList, KeptReply, NewEntry};
+pub use hub_trail::{Ending, Finished, asks_for_command, from_command};
+use session::Event;
 use std::alloc::Global;
 use std::sync::ledger::Blank;
 use std::sync::{Mutex, Wait};

@@ -8,7 +8,7 @@ use Rattle.acl.specs.declared.user_id.UserId.{UserId}
 use Rattle.acl.specs.History.{History, followed_by}
 use Rattle.command_lang.specs.declared.command.Command.{Command}
 use Rattle.command_lang.specs.Names.{name_of}
-use Rattle.session_model.specs.declared.verdict.Verdict.{Verdict}
+use Rattle.session.specs.verdict.Verdict.{Verdict}
 use Rattle.hub_trail.specs.declared.kept.Kept.{Kept}
 use Rattle.hub_trail.specs.declared.kept.Kept.TheVariants as kept
 use Rattle.hub_trail.specs.Trails.{Ending, Entry}

@@ -11,8 +11,8 @@ use Rattle.acl.specs.History.{History, followed_by, is_known}
 use Rattle.command_lang.specs.declared.command.Command.{Command}
 use Rattle.command_lang.specs.Names.{name_of}
 use Rattle.command_lang.specs.Relation.{Relates}
-use Rattle.session_model.specs.declared.verdict.Verdict.{Verdict}
-use Rattle.session_model.specs.declared.verdict.Verdict.TheVariants.{Right as right}
+use Rattle.session.specs.verdict.Verdict.{Verdict}
+use Rattle.session.specs.verdict.Verdict.TheVariants.{Right as right}
 use Rattle.hub_trail.specs.declared.kept.Kept.{Kept}
 use Rattle.hub_trail.specs.Trails.{Ending, Entry}
 use Rattle.hub_trail.specs.Legal.{IsTrue, AsksFirst, AsksForCommand, CarriesFailed, IsDenied}

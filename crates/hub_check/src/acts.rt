@@ -6,7 +6,7 @@ ghost use Rattle.hub_trail.specs.Legal.{is_let, AreLet};
 use crate::verdicts::{all_pass, is_granted};
 use acl::Act;
 use hub_trail::{Kept, from_command};
-use session_model::Verdict;
+use session::Verdict;
 
 /// Whether the verdicts let the event change anything.
 fn is_let(event: &Kept, verdicts: &[Verdict]) -> bool

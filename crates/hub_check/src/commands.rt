@@ -17,7 +17,7 @@ use acl::UserId;
 use command_lang::{Command, FaultKind, parse};
 use hub_record::TrailEntry;
 use hub_trail::{Kept, has_closed, has_come, has_gone, has_opened};
-use session_model::Verdict;
+use session::Verdict;
 use std::alloc::{AllocError, Global};
 
 /// The command that a line says, if it says one.

@@ -13,7 +13,7 @@ use crate::replay::Replay;
 use acl::{Act, UserId};
 use hub_record::TrailEntry;
 use hub_trail::{Ending, Finished, Kept, all_shut, attaches_one, from_command, made_by, opens_one};
-use session_model::Verdict;
+use session::Verdict;
 
 /// Whether the act is that this client goes, or that its user leaves a window.
 fn detaches(replay: &Replay, client: u32, act: Act) -> bool

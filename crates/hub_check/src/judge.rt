@@ -19,7 +19,7 @@ use acl::{Edition, UserId};
 use hub_record::TrailEntry;
 use hub_replies::{carries_failed, is_denied};
 use hub_trail::Kept;
-use session_model::Verdict;
+use session::Verdict;
 use std::alloc::{AllocError, Global};
 
 /// Judges the entries of a trail, one after another, each by the acts of the entries before it. It

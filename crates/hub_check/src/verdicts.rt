@@ -13,7 +13,7 @@ ghost use Rattle.hub_check.specs.Parts.{AreTrue, AsksFor};
 use crate::replay::Replay;
 use acl::{Bit, CommandName, Object, UserId};
 use hub_trail::asks_for_command;
-use session_model::Verdict;
+use session::Verdict;
 
 /// Whether the verdict lets its user go on.
 fn passes(verdict: Verdict) -> bool

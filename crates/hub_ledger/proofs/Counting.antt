@@ -6,7 +6,7 @@ use Rattle.std.specs.Prelude.{◌↔◌, ◌⊎◌, ◌==◌, nat_lt, slice_get}
 use Rattle.std.specs.List.{AllByRecursion}
 use Rattle.std.proofs.lemmas.Bool.Decides.{nat_tests}
 use Rattle.std.proofs.lemmas.Option.{slice_get_within}
-use Rattle.session_laws.proofs.Lists.{all_weaken}
+use Rattle.session.proofs.Lists.{all_weaken}
 use Rattle.hub_trail.specs.Trails.{Entry}
 use Rattle.hub_record.specs.Receipts.{Receipt}
 use Rattle.hub_ledger.specs.Seats.{AllBelow}

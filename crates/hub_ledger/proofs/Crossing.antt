@@ -7,7 +7,7 @@ use Rattle.std.specs.declared.sync.ledger.Ledger.{Ghosts}
 use Rattle.hub_ledger.specs.declared.begun.Begun.{Ghosts as Beginnings}
 use Rattle.std.proofs.sync.ledger.Book.TheSendSync as book
 use Rattle.std.proofs.alloc.Global.TheSendSync as global
-use Rattle.session_core.proofs.Crossing.{session_send}
+use Rattle.session.proofs.Crossing.{session_send}
 use Rattle.hub_peers.proofs.peers.Peers.TheSendSync as peers
 use Rattle.hub_ledger.proofs.waiting.SeatEffects.TheSendSync as waiting
 use Rattle.hub_ledger.proofs.growing_trail.GrowingTrail.TheSendSync as entries

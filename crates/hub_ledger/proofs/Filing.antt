@@ -4,7 +4,7 @@ use Rattle.std.proofs.Common.{refl, ap, sym, ◌∙◌, subst, arith, length-app
 use Rattle.std.specs.Prelude.{IfOk, IfSome, Result, Ok, Err, is_some, slice_get, if◌then◌else◌}
 use Rattle.std.specs.Result.{result_ok}
 use Rattle.std.proofs.lemmas.List.{append-nil, length-map}
-use Rattle.session_model.specs.Trace.{EventValue, Reply, Entry}
+use Rattle.session.specs.Trace.{EventValue, Reply, Entry}
 use Rattle.hub_trail.specs.declared.kept.Kept.{Kept}
 use Rattle.hub_trail.specs.Trails as trails
 use Rattle.hub_trail.specs.Filing as filing

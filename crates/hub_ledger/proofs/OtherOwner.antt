@@ -13,7 +13,7 @@ use Rattle.acl.specs.History.{History, decides_known, followed_by, is_known, lat
 use Rattle.acl.specs.Same.{same_user}
 use Rattle.acl.proofs.StandsForLemmas.{same_user-refl, same_user-true}
 use Rattle.writelock.specs.Holding.{clients_after, clients_of}
-use Rattle.session_model.specs.declared.verdict.Verdict.{Verdict}
+use Rattle.session.specs.verdict.Verdict.{Verdict}
 use Rattle.hub_trail.specs.declared.kept.Kept.{Kept}
 use Rattle.hub_trail.specs.declared.kept.Kept.TheVariants as kept
 use Rattle.hub_trail.specs.Fitting.{detaches, shuts}

@@ -11,10 +11,10 @@ use Rattle.std.proofs.lemmas.List.{append-nil, map-set, map_push}
 use Rattle.std.proofs.lemmas.List.Elements.{filter-append}
 use Rattle.std.specs.declared.vec.Vec.{Vec}
 use Rattle.std.specs.declared.alloc.Global.{Global}
-use Rattle.session_laws.proofs.Lists.{equal, itself}
-use Rattle.session_model.specs.declared.event.Effect.{Effect}
-use Rattle.session_model.specs.declared.event.Effect.TheVariants.{Input, Deliver, Say, Size, Gone}
-use Rattle.session_model.specs.declared.event.Peer.TheVariants as peer
+use Rattle.session.proofs.Lists.{equal, itself}
+use Rattle.session.specs.event.Effect.{Effect}
+use Rattle.session.specs.event.Effect.TheVariants.{Input, Deliver, Say, Size, Gone}
+use Rattle.session.specs.event.Peer.TheVariants as peer
 use Rattle.hub_peers.specs.Peers.{Owners, AreSeats, seat_of, HasPeer}
 use Rattle.hub_ledger.specs.Routing.{Sent, is_for, sent_by, views}
 use Rattle.hub_ledger.proofs.Places.{slice_get-set, slice_get-set_here, slice_get-set_other}

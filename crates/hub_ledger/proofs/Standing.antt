@@ -1,7 +1,7 @@
 -- What is kept under the lock says that the trail is legal, and has the acts of the tables.
 use Rattle.std.proofs.Common.{◌≡◌, ap, ◌∙◌, subst, sym, []}
-use Rattle.session_model.specs.Trace.{Trace}
-use Rattle.session_model.specs.Run.{tables_of}
+use Rattle.session.specs.Trace.{Trace}
+use Rattle.session.specs.Run.{tables_of}
 use Rattle.hub_trail.specs.Trails as trails
 use Rattle.hub_trail.specs.Judging.{AreJudgeable}
 use Rattle.hub_trail.specs.Legal.{IsLegal, acts_of}

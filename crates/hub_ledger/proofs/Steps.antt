@@ -2,19 +2,19 @@
 use Rattle.std.proofs.Common.{◌≡◌, ℕ, ◌<◌, ◌≤◌, Bool, true, false, List, [], ◌∷◌, ◌++◌, length, refl, ap, sym, ◌∙◌}
 use Rattle.std.proofs.Common.{subst, arith, length-append, Option, Some, None}
 use Rattle.std.specs.List.{AllByRecursion}
-use Rattle.session_laws.proofs.Lists.{all_append, all_weaken}
-use Rattle.session_laws.proofs.FewEffects.{step_few}
-use Rattle.session_laws.proofs.Sounding.{fresh_sound, run_sound}
-use Rattle.session_model.specs.declared.event.Effect.{Effect}
-use Rattle.session_model.specs.declared.event.Effect.TheVariants.{Input, Deliver, Say, Size, Gone}
-use Rattle.session_model.specs.declared.event.Peer.TheVariants as peer
-use Rattle.session_model.specs.Trace.{EventValue, Reply, Entry, Trace, with_step}
-use Rattle.session_model.specs.Sound.{AreSound}
-use Rattle.session_model.specs.Tables.{Tables, fresh}
-use Rattle.session_model.specs.Run.{IsStep, tables_of}
-use Rattle.session_core.specs.declared.session.Session.{Session}
-use Rattle.session_core.specs.Noted.{Noted}
-use Rattle.session_core.specs.Stands.{StandsFor, Takes, IfTaken, wants_memory, entry_of}
+use Rattle.session.proofs.Lists.{all_append, all_weaken}
+use Rattle.session.proofs.FewEffects.{step_few}
+use Rattle.session.proofs.Sounding.{fresh_sound, run_sound}
+use Rattle.session.specs.event.Effect.{Effect}
+use Rattle.session.specs.event.Effect.TheVariants.{Input, Deliver, Say, Size, Gone}
+use Rattle.session.specs.event.Peer.TheVariants as peer
+use Rattle.session.specs.Trace.{EventValue, Reply, Entry, Trace, with_step}
+use Rattle.session.specs.Sound.{AreSound}
+use Rattle.session.specs.Tables.{Tables, fresh}
+use Rattle.session.specs.Run.{IsStep, tables_of}
+use Rattle.session.specs.session.Session.{Session}
+use Rattle.session.specs.Noted.{Noted}
+use Rattle.session.specs.Stands.{StandsFor, Takes, IfTaken, wants_memory, entry_of}
 use Rattle.hub_trail.specs.declared.kept.Kept.{Kept}
 use Rattle.hub_trail.specs.Filing as filing
 use Rattle.hub_trail.specs.Filing.{filed}

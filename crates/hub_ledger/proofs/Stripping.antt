@@ -5,7 +5,7 @@ use Rattle.std.proofs.Common.{add-one, inl, inr}
 use Rattle.std.specs.Prelude.{◌↔◌, ◌⊎◌, ◌==◌, ◌&&◌, slice_get}
 use Rattle.std.proofs.lemmas.List.{append-nil, take_all}
 use Rattle.std.proofs.lemmas.Option.{slice_get_within}
-use Rattle.session_laws.proofs.Lists.{all_append, and_first, and_second, both_true, equal}
+use Rattle.session.proofs.Lists.{all_append, and_first, and_second, both_true, equal}
 use Rattle.hub_ledger.proofs.Places.{slice_get-set_other}
 use Rattle.hub_trail.specs.Trails.{Entry}
 use Rattle.hub_record.specs.Receipts.{Receipt}

@@ -1,7 +1,7 @@
 -- What is kept under the lock says that the trail is legal, and has the acts of the tables.
 use Rattle.std.specs.Prelude.{◌≡◌}
-use Rattle.session_model.specs.Trace.{Trace}
-use Rattle.session_model.specs.Run.{tables_of}
+use Rattle.session.specs.Trace.{Trace}
+use Rattle.session.specs.Run.{tables_of}
 use Rattle.hub_trail.specs.Legal.{IsLegal, acts_of}
 use Rattle.hub_ledger.specs.States.{State, Stood, IsKept}
 

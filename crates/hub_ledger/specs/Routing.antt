@@ -6,9 +6,9 @@ use Rattle.std.specs.List.{AllByRecursion, fold}
 use Rattle.std.specs.Option.{option_map_or}
 use Rattle.std.specs.declared.vec.Vec.{Vec}
 use Rattle.std.specs.declared.alloc.Global.{Global}
-use Rattle.session_model.specs.declared.event.Effect.{Effect}
-use Rattle.session_model.specs.declared.event.Effect.TheVariants.{Input}
-use Rattle.session_model.specs.Trace.{EventValue, Draw, Keys, Output}
+use Rattle.session.specs.event.Effect.{Effect}
+use Rattle.session.specs.event.Effect.TheVariants.{Input}
+use Rattle.session.specs.Trace.{EventValue, Draw, Keys, Output}
 use Rattle.hub_peers.specs.Peers.{Owners, seat_of}
 
 -- an effect, with the client that typed it

@@ -2,8 +2,8 @@
 use Rattle.std.specs.Prelude.{ℕ, ◌+◌, ◌%◌, ◌^◌, List, [], ◌∷◌, ◌++◌, ◌≡◌, Option, Some, None, length}
 use Rattle.std.specs.Prelude.{Bool, false, true, IfSome, slice_get}
 use Rattle.std.specs.List.{list_any, list_all}
-use Rattle.session_model.specs.declared.verdict.Verdict.{Verdict}
-use Rattle.session_model.specs.Trace.{EventValue, Reply}
+use Rattle.session.specs.verdict.Verdict.{Verdict}
+use Rattle.session.specs.Trace.{EventValue, Reply}
 pub use Rattle.hub_ledger.specs.States.{StandsFor}
 use Rattle.hub_trail.specs.declared.kept.Kept.{Kept}
 use Rattle.hub_trail.specs.Trails.{Entry}

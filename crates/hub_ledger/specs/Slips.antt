@@ -1,7 +1,7 @@
 -- What a step files.
 use Rattle.std.specs.Prelude.{List, [], ◌∷◌, ◌++◌, Option, Some, None, option_map}
-use Rattle.session_model.specs.Trace.{Reply}
-use Rattle.session_core.specs.Noted.{Noted}
+use Rattle.session.specs.Trace.{Reply}
+use Rattle.session.specs.Noted.{Noted}
 use Rattle.hub_trail.specs.declared.kept.Kept.{Kept}
 use Rattle.hub_trail.specs.Trails.{Entry, Trail}
 use Rattle.hub_trail.specs.Filing.{ending_of}

@@ -2,12 +2,12 @@
 use Rattle.std.specs.Prelude.{ℕ, Bool, false, List, [], ◌≡◌, length, replicate, Option}
 use Rattle.acl.specs.declared.edition.Edition.{Edition}
 use Rattle.acl.specs.declared.user_id.UserId.{UserId}
-use Rattle.session_model.specs.declared.event.Effect.{Effect}
-use Rattle.session_model.specs.Trace.{EventValue, Reply, Entry, Trace, with_step}
-use Rattle.session_model.specs.Run.{tables_of}
-use Rattle.session_core.specs.declared.session.Session.{Session}
-use Rattle.session_core.specs.Noted.{Noted}
-pub use Rattle.session_core.specs.Stands.{StandsFor, entry_of}
+use Rattle.session.specs.event.Effect.{Effect}
+use Rattle.session.specs.Trace.{EventValue, Reply, Entry, Trace, with_step}
+use Rattle.session.specs.Run.{tables_of}
+use Rattle.session.specs.session.Session.{Session}
+use Rattle.session.specs.Noted.{Noted}
+pub use Rattle.session.specs.Stands.{StandsFor, entry_of}
 use Rattle.hub_trail.specs.Trails.{Trail}
 use Rattle.hub_trail.specs.Filing.{filed, trail_of}
 use Rattle.hub_peers.specs.Peers.{Owners, AreSeats, owners_of, with_peers}

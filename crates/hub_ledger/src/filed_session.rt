@@ -2,8 +2,8 @@
 
 ghost use Rattle.std.specs.Prelude.{◌≡◌, ◌↔◌, ◌<◌, ◌≤◌, length, IfOk, OnOk, OnErr, Err};
 ghost use Rattle.std.specs.Prelude.{IfSome, Some, is_some, slice_get, true};
-ghost use Rattle.session_model.specs.Trace.{begun, happening};
-ghost use Rattle.session_core.specs.Stands.{StandsFor, wants_memory};
+ghost use Rattle.session.specs.Trace.{begun, happening};
+ghost use Rattle.session.specs.Stands.{StandsFor, wants_memory};
 ghost use Rattle.hub_trail.specs.Filing.{kept_of};
 ghost use Rattle.hub_trail.specs.Trails.{Entry};
 ghost use Rattle.hub_ledger.specs.Seats.{AllBelow, AreChecks, IsReceived, Rise, checks_of};
@@ -25,8 +25,7 @@ use hub_check::all_pass;
 use hub_peers::Peers;
 use hub_record::{EntryList, KeptReply, Receipts, TrailEntry};
 use hub_trail::asks_for_command;
-use session_core::{Notes, Session};
-use session_model::{Event, Refusal, Reply, Verdict};
+use session::{Event, Notes, Refusal, Reply, Session, Verdict};
 use std::alloc::{AllocError, Global};
 
 /// A session with its trail, the seats of its peers, and the effects that wait for each seat.

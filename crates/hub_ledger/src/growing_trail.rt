@@ -8,8 +8,7 @@ ghost use Rattle.hub_ledger.specs.States.{trail_in};
 use crate::prepared::Prepared;
 use acl::{Edition, UserId};
 use hub_record::{EntryList, KeptReply, NewEntry};
-use session_core::Notes;
-use session_model::Reply;
+use session::{Notes, Reply};
 use std::alloc::AllocError;
 
 /// The entries of all steps of a session, with its edition and its owner.

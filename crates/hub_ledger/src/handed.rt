@@ -2,7 +2,7 @@
 
 ghost use Rattle.std.specs.Prelude.{◌≡◌};
 
-use session_model::Effect;
+use session::Effect;
 use std::marker::Model;
 
 /// An effect, with the client that typed it. All effects of a step of keys have the client whose keys

@@ -23,4 +23,4 @@ pub use hub_record::{Kept, Receipt, Receipts, TrailEntry};
 pub use laws::kept_trails_are_legal;
 pub use ledger::{Answer, FULL, Foreign, Full, HubFault, Ledger, Trail};
 pub use seat::Seat;
-pub use session_core::Session;
+pub use session::Session;

@@ -1,12 +1,12 @@
 //! What is made before a step, so that what the step files takes no memory.
 
 ghost use Rattle.std.specs.Prelude.{◌≡◌, IfOk};
-ghost use Rattle.session_model.specs.Trace.{happening};
+ghost use Rattle.session.specs.Trace.{happening};
 ghost use Rattle.hub_trail.specs.Filing.{kept_of};
 ghost use Rattle.hub_ledger.specs.Slips.{kept_by};
 
 use hub_record::Kept;
-use session_model::{Event, Refusal};
+use session::{Event, Refusal};
 use std::alloc::{AllocError, Global};
 
 /// What is kept of an event, and a block of memory for a refusal.

@@ -3,14 +3,14 @@
 ghost use Rattle.std.specs.Prelude.{◌≡◌, ◌≤◌, ◌<◌, [], length, map, true, false, IfOk, OnOk, Some};
 ghost use Rattle.std.specs.Prelude.{slice_get, slice_set, replicate};
 ghost use Rattle.std.specs.List.{AllByRecursion};
-ghost use Rattle.session_model.specs.Trace.{happening};
+ghost use Rattle.session.specs.Trace.{happening};
 ghost use Rattle.hub_peers.specs.Peers.{AreSeats, HasPeer, owners_of};
 ghost use Rattle.hub_ledger.specs.Routing.{views, HaveRoom, AreRouted, marked, is_draw, typist_of};
 ghost use Rattle.hub_ledger.specs.Routing.{last_input, later, typed_in};
 
 use crate::handed::{Handed, Sent};
 use hub_peers::Peers;
-use session_model::{Effect, Event};
+use session::{Effect, Event};
 use std::alloc::{AllocError, Global};
 use std::mem;
 

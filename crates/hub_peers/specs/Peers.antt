@@ -3,11 +3,11 @@
 use Rattle.std.specs.Prelude.{ℕ, Bool, ◌<◌, List, [], ◌∷◌, ◌++◌, if◌then◌else◌, length, Option}
 use Rattle.std.specs.Prelude.{slice_get}
 use Rattle.std.specs.List.{AllByRecursion}
-use Rattle.session_model.specs.declared.event.Effect.{Effect}
-use Rattle.session_model.specs.declared.event.Effect.TheVariants.{Input, Deliver, Say, Size}
-use Rattle.session_model.specs.declared.event.Effect.TheVariants.{Gone}
-use Rattle.session_model.specs.declared.event.Peer.TheVariants as peer
-use Rattle.session_model.specs.Trace.{EventValue, Reply}
+use Rattle.session.specs.event.Effect.{Effect}
+use Rattle.session.specs.event.Effect.TheVariants.{Input, Deliver, Say, Size}
+use Rattle.session.specs.event.Effect.TheVariants.{Gone}
+use Rattle.session.specs.event.Peer.TheVariants as peer
+use Rattle.session.specs.Trace.{EventValue, Reply}
 use Rattle.hub_trail.specs.Peers.{attaches, opens}
 use Rattle.hub_peers.specs.declared.peers.Peers.{Peers}
 

@@ -1,11 +1,11 @@
 //! The seats of clients and windows.
 
 ghost use Rattle.std.specs.Prelude.{◌≡◌, ◌<◌, [], OnOk, Some, vec_len, vec_capacity};
-ghost use Rattle.session_model.specs.Trace.{happening};
+ghost use Rattle.session.specs.Trace.{happening};
 ghost use Rattle.hub_trail.specs.Peers.{attaches, opens};
 ghost use Rattle.hub_peers.specs.Peers.{HasPeer, owners_of, seat_of, with_peers};
 
-use session_model::{Effect, Event, Peer, Reply};
+use session::{Effect, Event, Peer, Reply};
 use std::alloc::{AllocError, Global};
 
 /// The seats of clients and of windows, by serial.

@@ -1,7 +1,7 @@
 -- What stored replies stand for.
 use Rattle.std.specs.Prelude.{Result, Ok, Err}
 use Rattle.std.specs.Global.{Box}
-use Rattle.session_model.specs.declared.refusal.Refusal.{Refusal}
+use Rattle.session.specs.refusal.Refusal.{Refusal}
 use Rattle.hub_trail.specs.declared.kept.Finished.{Finished}
 use Rattle.hub_trail.specs.Trails.{Ending}
 

@@ -3,7 +3,7 @@
 ghost use Rattle.std.specs.Prelude.{◌≡◌, true};
 
 use acl::{Act, Bit, Object, UserId};
-use session_model::Verdict;
+use session::Verdict;
 
 /// A value that can be compared with another one of its type. If it is found to be the same, it is.
 pub trait Same: Copy {

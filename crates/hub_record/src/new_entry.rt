@@ -8,7 +8,7 @@ use crate::reply::KeptReply;
 use crate::trail_entry::TrailEntry;
 use acl::Act;
 use hub_trail::Kept;
-use session_model::Verdict;
+use session::Verdict;
 
 /// The parts of an entry that is still to be stored.
 #[derive(Drop)]

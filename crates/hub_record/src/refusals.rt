@@ -1,12 +1,12 @@
 //! Equality of refusals.
 
 ghost use Rattle.std.specs.Prelude.{◌≡◌, ◌↔◌, true};
-ghost use Rattle.session_model.specs.declared.refusal.Refusal.TheVariants as why;
+ghost use Rattle.session.specs.refusal.Refusal.TheVariants as why;
 
 use acl::{AclFault, Leaders};
 use command_lang::ParseFault;
 use regions::RegionFault;
-use session_model::{EntryDenied, LockDenied, Refusal, WindowsFault};
+use session::{EntryDenied, LockDenied, Refusal, WindowsFault};
 
 /// Whether the leaders are equal, in the same order.
 fn are_same(leaders: &Leaders, other: &Leaders) -> bool

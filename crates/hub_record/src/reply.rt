@@ -5,7 +5,7 @@ ghost use Rattle.hub_trail.specs.Filing.{ending_of};
 
 use crate::refusals::is_same;
 use hub_trail::{Ending, Finished};
-use session_model::{Refusal, Reply};
+use session::{Refusal, Reply};
 use std::alloc::{AllocError, Global};
 use std::marker::Model;
 

@@ -8,7 +8,7 @@ use crate::reply::KeptReply;
 use crate::trail_entry::TrailEntry;
 use acl::{Object, UserId};
 use hub_trail::Kept;
-use session_model::Verdict;
+use session::Verdict;
 
 /// The number of codes that are tried for an entry or a receipt.
 pub const WAYS: usize = 4;

@@ -5,7 +5,7 @@ ghost use Rattle.std.specs.Prelude.{◌≡◌, ◌↔◌, IfOk, true};
 use crate::reply::KeptReply;
 use acl::Act;
 use hub_trail::{Ending, Kept};
-use session_model::Verdict;
+use session::Verdict;
 use std::alloc::{AllocError, Global};
 use std::marker::Model;
 use std::mem::size_of;

@@ -7,7 +7,7 @@ ghost use Rattle.hub_trail.specs.Legal.{CarriesFailed, IsDenied};
 
 use acl::Object;
 use hub_trail::{Ending, Kept};
-use session_model::{Denied, Refusal, Verdict};
+use session::{Denied, Refusal, Verdict};
 
 /// Whether the refusal denies a right or a lock.
 fn is_denial(refusal: &Refusal) -> bool

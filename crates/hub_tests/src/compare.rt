@@ -1,6 +1,6 @@
 //! Whether what two sessions made is the same.
 
-use session_model::{Bytes, Effect, Peer, Reason, Reply};
+use session::{Bytes, Effect, Peer, Reason, Reply};
 
 /// What an effect is.
 #[derive(Clone, Copy)]

@@ -2,16 +2,14 @@
 //! its last entry is turned round, the check names that entry.
 
 ghost use Rattle.std.specs.Prelude.{◌≡◌, IfOk};
-ghost use Rattle.session_model.specs.Trace.{begun};
-ghost use Rattle.hub_ledger.specs.Seats.{StandsFor};
+ghost use Rattle.session.specs.Trace.{begun};
+ghost use Rattle.hub.specs.Seats.{StandsFor};
 
 use crate::entries::copy_of;
 use crate::steps::{are_done, line_of};
 use acl::{Bit, Edition, Object, UserId};
-use hub::{Begun, CheckFault, Hub, Session, Trail, check_trail};
-use hub_ledger::check_entries;
-use hub_record::EntryList;
-use session_model::{Event, Refusal, Verdict};
+use hub::{Begun, CheckFault, EntryList, Hub, Session, Trail, check_entries, check_trail};
+use session::{Event, Refusal, Verdict};
 use std::alloc::Global;
 use std::marker::Brand;
 use std::sync::Wait;

@@ -1,7 +1,7 @@
 //! Entries, and a trail of them.
 
-use hub_record::{EntryList, Kept, KeptReply, NewEntry, TrailEntry};
-use session_model::{Done, Event, Refusal, Reply};
+use hub::{EntryList, Kept, KeptReply, NewEntry, TrailEntry};
+use session::{Done, Event, Refusal, Reply};
 use std::alloc::{AllocError, Global};
 
 fn new_entry(alloc: Global, event: Event<'_>) -> Result<NewEntry, AllocError> {

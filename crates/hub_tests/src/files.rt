@@ -4,7 +4,7 @@ use crate::disk::Disk;
 use crate::entries::{entry, keys, trail};
 use acl::{Edition, UserId};
 use server_trail::{Recorder, begin, header_of, is_trail};
-use session_model::Bytes;
+use session::Bytes;
 use std::alloc::Global;
 use std::sync::Wait;
 use std::thread;

@@ -1,13 +1,13 @@
 //! A seat is told what its own steps brought about.
 
 ghost use Rattle.std.specs.Prelude.{◌≡◌};
-ghost use Rattle.session_model.specs.Trace.{begun};
-ghost use Rattle.hub_ledger.specs.Seats.{StandsFor};
+ghost use Rattle.session.specs.Trace.{begun};
+ghost use Rattle.hub.specs.Seats.{StandsFor};
 
 use crate::steps::{are_done, line_of};
 use acl::UserId;
 use hub::{Begun, Hub, Seat, Sent, Session};
-use session_model::{Effect, Event};
+use session::{Effect, Event};
 use std::alloc::Global;
 use std::marker::Brand;
 use std::sync::Wait;

@@ -3,14 +3,14 @@
 //! each answer has the session's reply, and each step but a Draw marks both seats.
 
 ghost use Rattle.std.specs.Prelude.{◌≡◌};
-ghost use Rattle.session_model.specs.Trace.{begun};
-ghost use Rattle.hub_ledger.specs.Seats.{StandsFor};
+ghost use Rattle.session.specs.Trace.{begun};
+ghost use Rattle.hub.specs.Seats.{StandsFor};
 
 use crate::compare::{are_same, is_same_reply, parts_of};
 use crate::turns::{STEPS, Turn, seat_of};
 use acl::UserId;
 use hub::{Begun, Hub, Seat, Sent, Session};
-use session_model::{Effect, Event, Reply};
+use session::{Effect, Event, Reply};
 use std::alloc::Global;
 use std::marker::Brand;
 use std::sync::Wait;

@@ -3,15 +3,14 @@
 //! and the effects of both ledgers are the same.
 
 ghost use Rattle.std.specs.Prelude.{◌≡◌};
-ghost use Rattle.session_model.specs.Trace.{begun};
-ghost use Rattle.hub_ledger.specs.Seats.{StandsFor};
+ghost use Rattle.session.specs.Trace.{begun};
+ghost use Rattle.hub.specs.Seats.{StandsFor};
 
 use crate::compare::{are_same, parts_of};
 use crate::turns::{STEPS, Turn, seat_of};
 use acl::UserId;
-use hub::{Begun, HubFault, Seat, Sent, Session};
-use hub_ledger::Ledger;
-use session_model::Event;
+use hub::{Begun, HubFault, Ledger, Seat, Sent, Session};
+use session::Event;
 use std::alloc::Global;
 use std::marker::Brand;
 use std::sync::ledger::Blank;

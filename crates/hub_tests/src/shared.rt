@@ -1,13 +1,13 @@
 //! Equal entries share one stored form.
 
 ghost use Rattle.std.specs.Prelude.{◌≡◌};
-ghost use Rattle.session_model.specs.Trace.{begun};
-ghost use Rattle.hub_ledger.specs.Seats.{StandsFor};
+ghost use Rattle.session.specs.Trace.{begun};
+ghost use Rattle.hub.specs.Seats.{StandsFor};
 
 use crate::steps::line_of;
 use acl::UserId;
 use hub::{Begun, Hub, Seat, Session};
-use session_model::Event;
+use session::Event;
 use std::alloc::Global;
 use std::marker::Brand;
 use std::sync::Wait;

@@ -2,7 +2,7 @@
 
 use acl::UserId;
 use hub::{Begun, Hub, Seat};
-use session_model::Event;
+use session::Event;
 use std::sync::Wait;
 
 /// A line of a user.

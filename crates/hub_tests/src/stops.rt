@@ -3,9 +3,9 @@
 use crate::disk::Disk;
 use crate::entries::{entry, keys};
 use acl::UserId;
-use hub_record::TrailEntry;
+use hub::TrailEntry;
 use server_trail::{Recorder, StopCause};
-use session_model::Event;
+use session::Event;
 use std::alloc::Global;
 use std::sync::Wait;
 use std::time::Clock;

@@ -1,12 +1,12 @@
 //! Four threads that submit commands by one hub.
 
 ghost use Rattle.std.specs.Prelude.{◌≡◌};
-ghost use Rattle.session_model.specs.Trace.{begun};
-ghost use Rattle.hub_ledger.specs.Seats.{StandsFor};
+ghost use Rattle.session.specs.Trace.{begun};
+ghost use Rattle.hub.specs.Seats.{StandsFor};
 
 use acl::UserId;
 use hub::{Begun, Hub, Seat, Session};
-use session_model::Event;
+use session::Event;
 use std::alloc::Global;
 use std::marker::Brand;
 use std::sync::Wait;

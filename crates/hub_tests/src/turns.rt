@@ -3,7 +3,7 @@
 ghost use Rattle.std.specs.Prelude.{◌≤◌};
 
 use acl::UserId;
-use session_model::Event;
+use session::Event;
 
 /// How many steps a turn has.
 pub(crate) const STEPS: u32 = 23;

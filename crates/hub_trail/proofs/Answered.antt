@@ -17,26 +17,26 @@ use Rattle.command_lang.specs.Names.{name_of}
 use Rattle.command_lang.specs.Relation.{read_line}
 use Rattle.command_lang.proofs.OneReading.{relates-reads}
 use Rattle.keys.specs.Grammar.{line}
-use Rattle.session_model.specs.declared.check.Check.{Check}
-use Rattle.session_model.specs.declared.event.Done.{Done}
-use Rattle.session_model.specs.declared.refusal.Refusal.{Refusal}
-use Rattle.session_model.specs.declared.refusal.Refusal.TheVariants.{UnknownUser, Line}
-use Rattle.session_model.specs.Trace.{Command}
-use Rattle.session_model.specs.Tables.{Tables}
-use Rattle.session_model.specs.Tables.{is_known}
-use Rattle.session_model.specs.Rights.{may_in}
-use Rattle.session_model.specs.Lines.{Caller, line_caller}
-use Rattle.session_model.specs.Checks.{verdicts, first_fault, checks}
-use Rattle.session_model.specs.Deeds.{Deed, Answer}
-use Rattle.session_model.specs.Commands.{does}
-use Rattle.session_model.specs.Keying.{taken}
-use Rattle.session_model.specs.Outcomes.{Outcome, finished, refused, where_passed, left_acts, reply_of, done}
-use Rattle.session_model.specs.Events.{outcome}
-use Rattle.session_model.specs.Answering.{line_ruling, answered, commanded, told}
-use Rattle.session_laws.proofs.Doing.{Either}
-use Rattle.session_laws.proofs.Lists.{all_weaken}
-use Rattle.session_laws.proofs.Quiet.{Of}
-use Rattle.session_laws.proofs.Outcomes as outcomes
+use Rattle.session.specs.check.Check.{Check}
+use Rattle.session.specs.event.Done.{Done}
+use Rattle.session.specs.refusal.Refusal.{Refusal}
+use Rattle.session.specs.refusal.Refusal.TheVariants.{UnknownUser, Line}
+use Rattle.session.specs.Trace.{Command}
+use Rattle.session.specs.Tables.{Tables}
+use Rattle.session.specs.Tables.{is_known}
+use Rattle.session.specs.Rights.{may_in}
+use Rattle.session.specs.Lines.{Caller, line_caller}
+use Rattle.session.specs.Checks.{verdicts, first_fault, checks}
+use Rattle.session.specs.Deeds.{Deed, Answer}
+use Rattle.session.specs.Commands.{does}
+use Rattle.session.specs.Keying.{taken}
+use Rattle.session.specs.Outcomes.{Outcome, finished, refused, where_passed, left_acts, reply_of, done}
+use Rattle.session.specs.Events.{outcome}
+use Rattle.session.specs.Answering.{line_ruling, answered, commanded, told}
+use Rattle.session.proofs.Doing.{Either}
+use Rattle.session.proofs.Lists.{all_weaken}
+use Rattle.session.proofs.Quiet.{Of}
+use Rattle.session.proofs.Outcomes as outcomes
 use Rattle.hub_trail.specs.declared.kept.Kept.{Kept}
 use Rattle.hub_trail.specs.declared.kept.Kept.TheVariants as kept
 use Rattle.hub_trail.specs.Trails.{Entry}

@@ -1,8 +1,8 @@
 -- The laws of steps on which the proofs of this crate stand, put together as one value.
-use Rattle.session_laws.proofs.RowsByKeys.{rows_keyed}
-use Rattle.session_laws.proofs.Promising.{step_keeps}
-use Rattle.session_laws.proofs.RowsByLines.{rows_done, refused_so}
-use Rattle.session_laws.proofs.Gating.{Below}
+use Rattle.session.proofs.RowsByKeys.{rows_keyed}
+use Rattle.session.proofs.Promising.{step_keeps}
+use Rattle.session.proofs.RowsByLines.{rows_done, refused_so}
+use Rattle.session.proofs.Gating.{Below}
 
 pub below : Below
 below = record {

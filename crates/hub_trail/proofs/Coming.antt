@@ -8,28 +8,28 @@ use Rattle.acl.specs.declared.user_id.UserId.{UserId}
 use Rattle.command_lang.specs.declared.command.Command.{Command as Order}
 use Rattle.command_lang.specs.declared.command.Command.TheVariants as command
 use Rattle.command_lang.specs.Relation.{read_line}
-use Rattle.session_model.specs.declared.event.Effect.{Effect}
-use Rattle.session_model.specs.declared.event.Effect.TheVariants.{Input, Deliver, Say, Size, Gone}
-use Rattle.session_model.specs.declared.event.Peer.TheVariants as peer
-use Rattle.session_model.specs.declared.event.Reason.{Reason}
-use Rattle.session_model.specs.declared.event.Reason.TheVariants as reason
-use Rattle.session_model.specs.declared.refusal.Refusal.TheVariants.{NoWindow}
-use Rattle.session_model.specs.Trace.{EventValue, Detach, Keys, Command, Output, Closed, Draw, Entry}
-use Rattle.session_model.specs.Sound.{Rises, AreSound}
-use Rattle.session_model.specs.Tables.{Tables, Window, Client, row_of, client_at, window_at, focused, is_known}
-use Rattle.session_model.specs.Lines.{Caller, caller_of, line_caller}
-use Rattle.session_model.specs.Keying.{command_item, step_items, taken}
-use Rattle.session_model.specs.Answering as answering
-use Rattle.session_model.specs.Outcomes as outcomes
-use Rattle.session_model.specs.Comings as comings
-use Rattle.session_model.specs.Deeds as deeds
-use Rattle.session_model.specs.Given.{Given, commands_of, with_order, order_in, ok_of}
-use Rattle.session_model.specs.Promises.{SomeOf, IsOn, IsOpen, IsClient, IsDoneBy, IsDoneByRight, IsByKeys, IsEffectOf}
-use Rattle.session_model.specs.Run.{IsStep, IsDraw, HasEffects}
-use Rattle.session_laws.proofs.Asking.{keys_given, line_listed, focus_listed}
-use Rattle.session_laws.proofs.Denying.{IsListed}
-use Rattle.session_laws.proofs.Lists.{all_weaken, some_weaken, some_row, row_serial}
-use Rattle.session_laws.proofs.EffectsCaused.{never_delivers, no_other}
+use Rattle.session.specs.event.Effect.{Effect}
+use Rattle.session.specs.event.Effect.TheVariants.{Input, Deliver, Say, Size, Gone}
+use Rattle.session.specs.event.Peer.TheVariants as peer
+use Rattle.session.specs.event.Reason.{Reason}
+use Rattle.session.specs.event.Reason.TheVariants as reason
+use Rattle.session.specs.refusal.Refusal.TheVariants.{NoWindow}
+use Rattle.session.specs.Trace.{EventValue, Detach, Keys, Command, Output, Closed, Draw, Entry}
+use Rattle.session.specs.Sound.{Rises, AreSound}
+use Rattle.session.specs.Tables.{Tables, Window, Client, row_of, client_at, window_at, focused, is_known}
+use Rattle.session.specs.Lines.{Caller, caller_of, line_caller}
+use Rattle.session.specs.Keying.{command_item, step_items, taken}
+use Rattle.session.specs.Answering as answering
+use Rattle.session.specs.Outcomes as outcomes
+use Rattle.session.specs.Comings as comings
+use Rattle.session.specs.Deeds as deeds
+use Rattle.session.specs.Given.{Given, commands_of, with_order, order_in, ok_of}
+use Rattle.session.specs.Promises.{SomeOf, IsOn, IsOpen, IsClient, IsDoneBy, IsDoneByRight, IsByKeys, IsEffectOf}
+use Rattle.session.specs.Run.{IsStep, IsDraw, HasEffects}
+use Rattle.session.proofs.Asking.{keys_given, line_listed, focus_listed}
+use Rattle.session.proofs.Denying.{IsListed}
+use Rattle.session.proofs.Lists.{all_weaken, some_weaken, some_row, row_serial}
+use Rattle.session.proofs.EffectsCaused.{never_delivers, no_other}
 use Rattle.hub_trail.specs.Peers.{HasCome}
 
 -- ---- rows

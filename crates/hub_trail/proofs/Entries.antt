@@ -15,36 +15,36 @@ use Rattle.command_lang.specs.declared.command.Command.{Command as Order}
 use Rattle.command_lang.specs.declared.fault.ParseFault.{ParseFault}
 use Rattle.command_lang.specs.Relation.{read_line}
 use Rattle.keys.specs.Grammar.{Item, typed, bound, line}
-use Rattle.session_model.specs.declared.check.Check.{Check}
-use Rattle.session_model.specs.declared.event.Done.{Done}
-use Rattle.session_model.specs.declared.event.Reason.TheVariants as reason
-use Rattle.session_model.specs.declared.message.StatusMessage.{StatusMessage}
-use Rattle.session_model.specs.declared.message.StatusMessage.TheVariants as message
-use Rattle.session_model.specs.declared.refusal.Refusal.{Refusal}
-use Rattle.session_model.specs.declared.refusal.Refusal.TheVariants.{NoWindow, Line}
-use Rattle.session_model.specs.declared.verdict.Verdict.{Verdict}
-use Rattle.session_model.specs.declared.verdict.Verdict.TheVariants as verdict
-use Rattle.session_model.specs.Trace.{EventValue, Attach, Detach, Keys, Command, Open, Closed}
-use Rattle.session_model.specs.Sound.{ActsAgree}
-use Rattle.session_model.specs.Tables.{Window, Client, Tables, window_at, client_at, with_client, focused_window}
-use Rattle.session_model.specs.Rights.{may_in, holder_in}
-use Rattle.session_model.specs.Texts.{text_of}
-use Rattle.session_model.specs.Lines.{caller_of}
-use Rattle.session_model.specs.Checks.{verdicts, first_fault, checks, typing_checks}
-use Rattle.session_model.specs.Deeds.{Deed, Answer, changing, parts, closes}
-use Rattle.session_model.specs.Commands.{does}
-use Rattle.session_model.specs.Keying.{items_behind, typed_bytes, command_item, taken}
-use Rattle.session_model.specs.Outcomes.{Outcome, finished, left_acts, done}
-use Rattle.session_model.specs.Events.{outcome}
-use Rattle.session_model.specs.Comings.{attaches, opens, attach_checks, open_checks, new_client, new_window}
-use Rattle.session_model.specs.Answering.{told, typing_verdicts, message_of, keyed}
-use Rattle.session_model.specs.Answering.{by_line, ordered, Ordered, reading, types, keys_outcome}
-use Rattle.session_model.specs.Promises.{OnlyRead}
-use Rattle.session_laws.proofs.Doing.{Either}
-use Rattle.session_laws.proofs.Granting.{told_read}
-use Rattle.session_laws.proofs.Lists.{all_append, all_weaken}
-use Rattle.session_laws.proofs.Unread.{SameClients, typing_clients, nobody_left}
-use Rattle.session_laws.proofs.Outcomes as outcomes
+use Rattle.session.specs.check.Check.{Check}
+use Rattle.session.specs.event.Done.{Done}
+use Rattle.session.specs.event.Reason.TheVariants as reason
+use Rattle.session.specs.message.StatusMessage.{StatusMessage}
+use Rattle.session.specs.message.StatusMessage.TheVariants as message
+use Rattle.session.specs.refusal.Refusal.{Refusal}
+use Rattle.session.specs.refusal.Refusal.TheVariants.{NoWindow, Line}
+use Rattle.session.specs.verdict.Verdict.{Verdict}
+use Rattle.session.specs.verdict.Verdict.TheVariants as verdict
+use Rattle.session.specs.Trace.{EventValue, Attach, Detach, Keys, Command, Open, Closed}
+use Rattle.session.specs.Sound.{ActsAgree}
+use Rattle.session.specs.Tables.{Window, Client, Tables, window_at, client_at, with_client, focused_window}
+use Rattle.session.specs.Rights.{may_in, holder_in}
+use Rattle.session.specs.Texts.{text_of}
+use Rattle.session.specs.Lines.{caller_of}
+use Rattle.session.specs.Checks.{verdicts, first_fault, checks, typing_checks}
+use Rattle.session.specs.Deeds.{Deed, Answer, changing, parts, closes}
+use Rattle.session.specs.Commands.{does}
+use Rattle.session.specs.Keying.{items_behind, typed_bytes, command_item, taken}
+use Rattle.session.specs.Outcomes.{Outcome, finished, left_acts, done}
+use Rattle.session.specs.Events.{outcome}
+use Rattle.session.specs.Comings.{attaches, opens, attach_checks, open_checks, new_client, new_window}
+use Rattle.session.specs.Answering.{told, typing_verdicts, message_of, keyed}
+use Rattle.session.specs.Answering.{by_line, ordered, Ordered, reading, types, keys_outcome}
+use Rattle.session.specs.Promises.{OnlyRead}
+use Rattle.session.proofs.Doing.{Either}
+use Rattle.session.proofs.Granting.{told_read}
+use Rattle.session.proofs.Lists.{all_append, all_weaken}
+use Rattle.session.proofs.Unread.{SameClients, typing_clients, nobody_left}
+use Rattle.session.proofs.Outcomes as outcomes
 use Rattle.hub_trail.specs.declared.kept.Kept.{Kept}
 use Rattle.hub_trail.specs.declared.kept.Kept.TheVariants as kept
 use Rattle.hub_trail.specs.Legal.{is_granted, from_command, failed, is_client_of}

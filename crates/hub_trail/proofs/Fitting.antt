@@ -17,39 +17,39 @@ use Rattle.command_lang.specs.declared.command.Command.{Command as Order}
 use Rattle.command_lang.specs.declared.fault.ParseFault.{ParseFault}
 use Rattle.command_lang.specs.Names.{name_of}
 use Rattle.keys.specs.Grammar.{Item, typed, bound, line}
-use Rattle.session_model.specs.declared.event.Effect.{Effect}
-use Rattle.session_model.specs.declared.event.Reason.TheVariants as reason
-use Rattle.session_model.specs.declared.refusal.Refusal.TheVariants.{NoWindow, UnknownUser}
-use Rattle.session_model.specs.declared.verdict.Verdict.{Verdict}
-use Rattle.session_model.specs.declared.verdict.Verdict.TheVariants.{Right as right}
-use Rattle.session_model.specs.Trace.{EventValue, Attach, Detach, Keys, Command, Open, Output, Closed, Draw, Reply}
-use Rattle.session_model.specs.Trace as trace
-use Rattle.session_model.specs.Sound.{AreFit}
-use Rattle.session_model.specs.Tables.{Window, Client, Tables, window_at, client_at, focused, is_known}
-use Rattle.session_model.specs.Rights.{may_in}
-use Rattle.session_model.specs.Lines.{Caller, caller_of, line_caller, read_line}
-use Rattle.session_model.specs.Checks.{verdicts, first_fault, checks}
-use Rattle.session_model.specs.Deeds.{Deed, Answer, parts, closes, entering, without_windows}
-use Rattle.session_model.specs.Commands.{does, ruling}
-use Rattle.session_model.specs.Keying.{step_items, typed_bytes, command_item, taken}
-use Rattle.session_model.specs.Outcomes.{Outcome, finished, refused, left_acts, reply_of, done}
-use Rattle.session_model.specs.Events.{outcome}
-use Rattle.session_model.specs.Comings.{attach_checks, attaches, new_client, open_checks, opens, new_window}
-use Rattle.session_model.specs.Answering.{answered, commanded, line_ruling, keys_outcome, typing_verdicts, ordered}
-use Rattle.session_model.specs.Answering.{reading, types}
-use Rattle.session_model.specs.Given.{Given, commands_of, with_order, order_in, ok_of}
-use Rattle.session_model.specs.Keeps.{KeepsPromise}
-use Rattle.session_model.specs.Promises.{SomeOf}
-use Rattle.session_model.specs.Run.{IsStep}
-use Rattle.session_laws.proofs.Lists.{equal, itself, both_true, row_serial, all_weaken, all_append, all_map, all_passed}
-use Rattle.session_laws.proofs.Lists.{all_of}
-use Rattle.session_laws.proofs.Leaving.{none_left}
-use Rattle.session_laws.proofs.Doing.{Either}
-use Rattle.session_laws.proofs.Outcomes as outcomes
-use Rattle.session_laws.proofs.Steps.{Did, Obeys, with_clients}
-use Rattle.session_laws.proofs.Focusing.{IsMine}
-use Rattle.session_laws.proofs.Gating.{obeys_of}
-use Rattle.session_laws.proofs.Callers.{Own, IsOf, callers, unique, own_read}
+use Rattle.session.specs.event.Effect.{Effect}
+use Rattle.session.specs.event.Reason.TheVariants as reason
+use Rattle.session.specs.refusal.Refusal.TheVariants.{NoWindow, UnknownUser}
+use Rattle.session.specs.verdict.Verdict.{Verdict}
+use Rattle.session.specs.verdict.Verdict.TheVariants.{Right as right}
+use Rattle.session.specs.Trace.{EventValue, Attach, Detach, Keys, Command, Open, Output, Closed, Draw, Reply}
+use Rattle.session.specs.Trace as trace
+use Rattle.session.specs.Sound.{AreFit}
+use Rattle.session.specs.Tables.{Window, Client, Tables, window_at, client_at, focused, is_known}
+use Rattle.session.specs.Rights.{may_in}
+use Rattle.session.specs.Lines.{Caller, caller_of, line_caller, read_line}
+use Rattle.session.specs.Checks.{verdicts, first_fault, checks}
+use Rattle.session.specs.Deeds.{Deed, Answer, parts, closes, entering, without_windows}
+use Rattle.session.specs.Commands.{does, ruling}
+use Rattle.session.specs.Keying.{step_items, typed_bytes, command_item, taken}
+use Rattle.session.specs.Outcomes.{Outcome, finished, refused, left_acts, reply_of, done}
+use Rattle.session.specs.Events.{outcome}
+use Rattle.session.specs.Comings.{attach_checks, attaches, new_client, open_checks, opens, new_window}
+use Rattle.session.specs.Answering.{answered, commanded, line_ruling, keys_outcome, typing_verdicts, ordered}
+use Rattle.session.specs.Answering.{reading, types}
+use Rattle.session.specs.Given.{Given, commands_of, with_order, order_in, ok_of}
+use Rattle.session.specs.Keeps.{KeepsPromise}
+use Rattle.session.specs.Promises.{SomeOf}
+use Rattle.session.specs.Run.{IsStep}
+use Rattle.session.proofs.Lists.{equal, itself, both_true, row_serial, all_weaken, all_append, all_map, all_passed}
+use Rattle.session.proofs.Lists.{all_of}
+use Rattle.session.proofs.Leaving.{none_left}
+use Rattle.session.proofs.Doing.{Either}
+use Rattle.session.proofs.Outcomes as outcomes
+use Rattle.session.proofs.Steps.{Did, Obeys, with_clients}
+use Rattle.session.proofs.Focusing.{IsMine}
+use Rattle.session.proofs.Gating.{obeys_of}
+use Rattle.session.proofs.Callers.{Own, IsOf, callers, unique, own_read}
 use Rattle.hub_trail.specs.declared.kept.Kept.{Kept}
 use Rattle.hub_trail.specs.declared.kept.Kept.TheVariants as kept
 use Rattle.hub_trail.specs.Trails.{Entry}
@@ -59,7 +59,7 @@ use Rattle.hub_trail.proofs.Answered.{entry}
 use Rattle.hub_trail.proofs.Entries.{asks_none}
 use Rattle.hub_trail.proofs.Sights.{attached}
 use Rattle.hub_trail.specs.Fitting.{makes, made_by, enters_once, attaches_one, opens_one, detaches, shuts}
-use Rattle.session_laws.proofs.GuestsLeaving.{LeftBy, left_where, nobody, parted, appended, shut, left_read}
+use Rattle.session.proofs.GuestsLeaving.{LeftBy, left_where, nobody, parted, appended, shut, left_read}
 use Rattle.hub_trail.proofs.Below.{below}
 use Rattle.hub_trail.proofs.Making.{Fine, fine}
 
@@ -120,7 +120,7 @@ item_asks t v c d same (Some (bound order)) = (
 item_asks t v c d same (Some (line [])) = tt
 item_asks t v c d same (Some (line (b ∷ bytes))) = on (read_line (b ∷ bytes)) where
   on : (r : Result Order ParseFault)
-      → AllByRecursion (Asks (Rattle.session_model.specs.Answering.by_line v d r).verdicts)
+      → AllByRecursion (Asks (Rattle.session.specs.Answering.by_line v d r).verdicts)
       (with_order (caller_of t c) (ok_of r))
   on (Err f) = tt
   on (Ok order) = (
@@ -140,7 +140,7 @@ keys_ask : (t : Tables) (c : Client) (bytes : List ℕ)
 keys_ask t c bytes =
     let d : Client = reading (take (taken c.keys bytes) bytes) c in
     let v : Tables =
-    (types (Rattle.session_model.specs.Tables.with_client t d) d (typed_bytes (step_items c bytes))).tables in
+    (types (Rattle.session.specs.Tables.with_client t d) d (typed_bytes (step_items c bytes))).tables in
     let gs : List Given = with_order (caller_of t c) (order_in (command_item (step_items c bytes))) in
     let order : List Verdict = (ordered v d (command_item (step_items c bytes))).verdicts in
     subst (λ vs. AllByRecursion (λ (g : Given). AsksFirst g.caller.user (name_of g.order) vs) gs)

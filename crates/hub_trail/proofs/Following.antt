@@ -27,8 +27,8 @@ use Rattle.acl.specs.Commands.{sets_on, sets, user_acts, name_acts, change_acts,
 use Rattle.acl.specs.Commands.{names_sets, add_acts, scope_acts, mask_acts, group_acts, removal_acts}
 use Rattle.acl.proofs.NameLemmas.{among-with_name, among-with_names}
 use Rattle.acl.proofs.StandsForLemmas.{same_user-refl}
-use Rattle.session_laws.proofs.ActsOfMoves.{followed_append}
-use Rattle.session_laws.proofs.Moving.{is_aside}
+use Rattle.session.proofs.ActsOfMoves.{followed_append}
+use Rattle.session.proofs.Moving.{is_aside}
 use Rattle.hub_trail.proofs.Sights.{any_behind}
 use Rattle.hub_trail.specs.Judging.{can_follow, CanFollow}
 

@@ -5,21 +5,21 @@ use Rattle.std.specs.List.{AllByRecursion}
 use Rattle.acl.specs.declared.user_id.UserId.{UserId}
 use Rattle.acl.specs.declared.act.Act.{Act}
 use Rattle.acl.specs.History.{History}
-use Rattle.session_model.specs.declared.event.Effect.{Effect}
-use Rattle.session_model.specs.declared.refusal.Refusal.TheVariants.{UnknownUser}
-use Rattle.session_model.specs.declared.verdict.Verdict.{Verdict}
-use Rattle.session_model.specs.Trace.{EventValue, Attach, Detach, Keys, Command, Open, Output, Closed, Draw, Reply}
-use Rattle.session_model.specs.Trace as trace
-use Rattle.session_model.specs.Tables.{Tables, Window, is_known}
-use Rattle.session_model.specs.Lines.{line_caller, read_line}
-use Rattle.session_model.specs.Checks.{first_fault, verdicts}
-use Rattle.session_model.specs.Events.{outcome}
-use Rattle.session_model.specs.Outcomes.{Outcome, reply_of, refused}
-use Rattle.session_model.specs.Comings.{attach_checks, attaches, new_client, open_checks, opens, new_window}
-use Rattle.session_model.specs.Answering.{commanded, line_ruling}
-use Rattle.session_model.specs.Run.{IsStep}
-use Rattle.session_laws.proofs.Outcomes as outcomes
-use Rattle.session_laws.proofs.Gating.{first_passed}
+use Rattle.session.specs.event.Effect.{Effect}
+use Rattle.session.specs.refusal.Refusal.TheVariants.{UnknownUser}
+use Rattle.session.specs.verdict.Verdict.{Verdict}
+use Rattle.session.specs.Trace.{EventValue, Attach, Detach, Keys, Command, Open, Output, Closed, Draw, Reply}
+use Rattle.session.specs.Trace as trace
+use Rattle.session.specs.Tables.{Tables, Window, is_known}
+use Rattle.session.specs.Lines.{line_caller, read_line}
+use Rattle.session.specs.Checks.{first_fault, verdicts}
+use Rattle.session.specs.Events.{outcome}
+use Rattle.session.specs.Outcomes.{Outcome, reply_of, refused}
+use Rattle.session.specs.Comings.{attach_checks, attaches, new_client, open_checks, opens, new_window}
+use Rattle.session.specs.Answering.{commanded, line_ruling}
+use Rattle.session.specs.Run.{IsStep}
+use Rattle.session.proofs.Outcomes as outcomes
+use Rattle.session.proofs.Gating.{first_passed}
 use Rattle.hub_trail.specs.Trails.{Entry}
 use Rattle.hub_trail.specs.Filing.{kept_of, entry_of}
 use Rattle.hub_trail.specs.Legal.{IsOfKnown}

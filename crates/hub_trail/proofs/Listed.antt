@@ -16,7 +16,7 @@ use Rattle.acl.specs.declared.entries.NewLeader.{NewLeader}
 use Rattle.acl.specs.History.{among}
 use Rattle.acl.specs.Commands.{change_acts, name_acts, user_acts, sets, sets_on, with_name, add_acts, known_acts}
 use Rattle.acl.specs.Commands.{new_acts, names_sets, name_sets, added, group_acts, mask_acts, scope_acts}
-use Rattle.session_laws.proofs.Lists.{all_append}
+use Rattle.session.proofs.Lists.{all_append}
 
 module _ (P : Act → Type 0) (known : (u : UserId) → P (act.Known u))
     (set : (u : UserId) (bit : Bit) (o : Object) (value : Bool) → P (act.Set u bit o value)) where

@@ -15,31 +15,31 @@ use Rattle.command_lang.specs.declared.command.Command.{Command as Order}
 use Rattle.command_lang.specs.declared.command.Command.TheVariants as command
 use Rattle.command_lang.specs.Names.{name_of}
 use Rattle.regions.specs.Layouts.{Arrangement, kept_alone, split_focused, remove_focused, next_focus}
-use Rattle.session_model.specs.declared.event.Reason.TheVariants.{Detached, Quit}
-use Rattle.session_model.specs.declared.message.StatusMessage.{StatusMessage}
-use Rattle.session_model.specs.declared.refusal.Refusal.{Refusal}
-use Rattle.session_model.specs.declared.refusal.Refusal.TheVariants.{Acl, Windows, NoWindow}
-use Rattle.session_model.specs.windows_fault.WindowsFault.TheVariants.{NoSuchWindow}
-use Rattle.session_model.specs.Tables.{Tables, Window, Client, window_at, client_at, with_client, with_layout, focused}
-use Rattle.session_model.specs.Tables.{known_users}
-use Rattle.session_model.specs.Rights.{group_fault_in}
-use Rattle.session_model.specs.Naming.{names_of, new_leader_of, window_named, window_after, window_before}
-use Rattle.session_model.specs.Lines.{Caller}
-use Rattle.session_model.specs.Outcomes.{left_acts}
-use Rattle.session_model.specs.Deeds.{Deed, Answer, given, removes, parts, closes, is_of, enters, arranges, entering}
-use Rattle.session_model.specs.Deeds.{former_of, showing, shown_in_focus, changing, acting, both, hearing}
-use Rattle.session_model.specs.Deeds.{without_windows}
-use Rattle.session_model.specs.Commands.{does, caller_client, on_client, known_fault, mask_entries, is_taken, way_of}
-use Rattle.session_laws.proofs.Doing.{Either, by_given, by_unless, by_refused, by_clear, by_changes, by_shown}
-use Rattle.session_laws.proofs.Doing.{caller_is, is_plain}
-use Rattle.session_laws.proofs.Leaving.{none_left}
-use Rattle.session_laws.proofs.Unread.{nobody_left}
-use Rattle.session_laws.proofs.Lists.{equal, itself, all_weaken, all_append, all_map, all_of, all_passed}
-use Rattle.session_laws.proofs.Events.{all_left}
-use Rattle.session_laws.proofs.Focusing.{IsMine}
-use Rattle.session_laws.proofs.CommandActs.{IsCaller}
+use Rattle.session.specs.event.Reason.TheVariants.{Detached, Quit}
+use Rattle.session.specs.message.StatusMessage.{StatusMessage}
+use Rattle.session.specs.refusal.Refusal.{Refusal}
+use Rattle.session.specs.refusal.Refusal.TheVariants.{Acl, Windows, NoWindow}
+use Rattle.session.specs.windows_fault.WindowsFault.TheVariants.{NoSuchWindow}
+use Rattle.session.specs.Tables.{Tables, Window, Client, window_at, client_at, with_client, with_layout, focused}
+use Rattle.session.specs.Tables.{known_users}
+use Rattle.session.specs.Rights.{group_fault_in}
+use Rattle.session.specs.Naming.{names_of, new_leader_of, window_named, window_after, window_before}
+use Rattle.session.specs.Lines.{Caller}
+use Rattle.session.specs.Outcomes.{left_acts}
+use Rattle.session.specs.Deeds.{Deed, Answer, given, removes, parts, closes, is_of, enters, arranges, entering}
+use Rattle.session.specs.Deeds.{former_of, showing, shown_in_focus, changing, acting, both, hearing}
+use Rattle.session.specs.Deeds.{without_windows}
+use Rattle.session.specs.Commands.{does, caller_client, on_client, known_fault, mask_entries, is_taken, way_of}
+use Rattle.session.proofs.Doing.{Either, by_given, by_unless, by_refused, by_clear, by_changes, by_shown}
+use Rattle.session.proofs.Doing.{caller_is, is_plain}
+use Rattle.session.proofs.Leaving.{none_left}
+use Rattle.session.proofs.Unread.{nobody_left}
+use Rattle.session.proofs.Lists.{equal, itself, all_weaken, all_append, all_map, all_of, all_passed}
+use Rattle.session.proofs.Events.{all_left}
+use Rattle.session.proofs.Focusing.{IsMine}
+use Rattle.session.proofs.CommandActs.{IsCaller}
 use Rattle.hub_trail.specs.Fitting.{makes, is_client}
-use Rattle.session_laws.proofs.GuestsLeaving.{LeftBy, left_where, parted, turned}
+use Rattle.session.proofs.GuestsLeaving.{LeftBy, left_where, parted, turned}
 use Rattle.hub_trail.proofs.Listed.{change_all, add_all, group_all, mask_all}
 
 module _ (t : Tables) (k : Caller) (by : IsCaller t k) (mine : IsMine t k) where
@@ -162,7 +162,7 @@ module _ (t : Tables) (k : Caller) (by : IsCaller t k) (mine : IsMine t k) where
   shows_fine : (c : Order) (o : Client → Option Window) (r : Refusal) → is_plain r ≡ true
       → ((u : UserId) (w : ℕ) → same_user u k.user ≡ true → Made c (act.Entered u w))
       → ((u : UserId) (w : ℕ) → same_user u k.user ≡ true → Made c (act.Left u w))
-      → Either (Fine c) (on_client t k (λ d. given (o d) r (λ w. Ok (Rattle.session_model.specs.Deeds.selects t d w))))
+      → Either (Fine c) (on_client t k (λ d. given (o d) r (λ w. Ok (Rattle.session.specs.Deeds.selects t d w))))
   shows_fine c o r is enter left = by_shown (Fine c) t k o r is
       (λ d w at there. enters_fine c d (showing d (record { window = Some w.serial; back = 0 })) at enter left)
 
@@ -175,10 +175,10 @@ module _ (t : Tables) (k : Caller) (by : IsCaller t k) (mine : IsMine t k) where
   on_own c f on = by_given (Fine c) k.window NoWindow f refl on
 
   heard : (m : StatusMessage) (cs : List Client)
-      → map Rattle.session_model.specs.Promises.unread
-      (map (hearing m) cs) ≡ map Rattle.session_model.specs.Promises.unread cs
+      → map Rattle.session.specs.Promises.unread
+      (map (hearing m) cs) ≡ map Rattle.session.specs.Promises.unread cs
   heard m [] = refl
-  heard m (c ∷ cs) = ap (λ ds. Rattle.session_model.specs.Promises.unread c ∷ ds) (heard m cs)
+  heard m (c ∷ cs) = ap (λ ds. Rattle.session.specs.Promises.unread c ∷ ds) (heard m cs)
 
   pub fine : (c : Order) → Either (Fine c) (does t k c)
   fine (command.Acladd names) =

@@ -17,16 +17,16 @@ use Rattle.acl.proofs.StandsForLemmas.{same_user-refl}
 use Rattle.command_lang.specs.declared.command.Command.{Command}
 use Rattle.command_lang.specs.declared.command.Command.TheVariants as command
 use Rattle.command_lang.specs.declared.command.Users.TheVariants as users
-use Rattle.session_model.specs.declared.refusal.Refusal.{Refusal}
-use Rattle.session_model.specs.declared.refusal.Refusal.TheVariants.{Acl, Windows}
-use Rattle.session_model.specs.windows_fault.WindowsFault.TheVariants.{NoSuchWindow}
-use Rattle.session_model.specs.Tables.{Tables, Window, Client, known_users}
-use Rattle.session_model.specs.Rights.{add_acts_in, group_fault_in}
-use Rattle.session_model.specs.Naming.{names_of, every_window, every_command, new_leader_of}
-use Rattle.session_model.specs.Lines.{Caller}
-use Rattle.session_model.specs.Deeds.{Deed, Answer, acting, given, unless, removes, is_of}
-use Rattle.session_model.specs.Commands.{does}
-use Rattle.session_laws.proofs.Quiet.{Of}
+use Rattle.session.specs.refusal.Refusal.{Refusal}
+use Rattle.session.specs.refusal.Refusal.TheVariants.{Acl, Windows}
+use Rattle.session.specs.windows_fault.WindowsFault.TheVariants.{NoSuchWindow}
+use Rattle.session.specs.Tables.{Tables, Window, Client, known_users}
+use Rattle.session.specs.Rights.{add_acts_in, group_fault_in}
+use Rattle.session.specs.Naming.{names_of, every_window, every_command, new_leader_of}
+use Rattle.session.specs.Lines.{Caller}
+use Rattle.session.specs.Deeds.{Deed, Answer, acting, given, unless, removes, is_of}
+use Rattle.session.specs.Commands.{does}
+use Rattle.session.proofs.Quiet.{Of}
 use Rattle.hub_trail.specs.Legal.{is_act_of, has_act_of, first_names}
 use Rattle.hub_trail.proofs.Sights.{any_behind, any_before}
 

@@ -10,20 +10,20 @@ use Rattle.acl.specs.declared.act.Object.TheVariants as object
 use Rattle.acl.specs.declared.command_name.CommandName.{CommandName}
 use Rattle.acl.specs.History.{is_open, there}
 use Rattle.command_lang.specs.Names.{all_names, command_named}
-use Rattle.session_model.specs.Naming.{spelled}
+use Rattle.session.specs.Naming.{spelled}
 use Rattle.regions.specs.declared.shown.Shown.{Shown}
 use Rattle.regions.specs.Layouts.{empty}
-use Rattle.session_model.specs.Sound.{IsOpen, ShowsOpen, AreFit}
-use Rattle.session_model.specs.Tables.{Tables, Window, Client, window_at, focused}
-use Rattle.session_model.specs.Naming.{with_number, lowest, window_named, is_wide, wide_objects, item_objects}
-use Rattle.session_model.specs.Naming.{objects_of, every_window, every_command}
-use Rattle.session_model.specs.Promises.{unread}
-use Rattle.session_laws.proofs.ActsOfMoves.{has, has_row}
-use Rattle.session_laws.proofs.Showing.{IsThere, lowest_there, number_there, get_all}
-use Rattle.session_laws.proofs.FitCommands.{has_there, ShowsIn, PageIn, Holds}
-use Rattle.session_laws.proofs.Lists.{all_append, all_map, all_of, all_weaken, members}
-use Rattle.session_laws.proofs.Moving.{serials}
-use Rattle.session_laws.proofs.Unread.{SameClients}
+use Rattle.session.specs.Sound.{IsOpen, ShowsOpen, AreFit}
+use Rattle.session.specs.Tables.{Tables, Window, Client, window_at, focused}
+use Rattle.session.specs.Naming.{with_number, lowest, window_named, is_wide, wide_objects, item_objects}
+use Rattle.session.specs.Naming.{objects_of, every_window, every_command}
+use Rattle.session.specs.Promises.{unread}
+use Rattle.session.proofs.ActsOfMoves.{has, has_row}
+use Rattle.session.proofs.Showing.{IsThere, lowest_there, number_there, get_all}
+use Rattle.session.proofs.FitCommands.{has_there, ShowsIn, PageIn, Holds}
+use Rattle.session.proofs.Lists.{all_append, all_map, all_of, all_weaken, members}
+use Rattle.session.proofs.Moving.{serials}
+use Rattle.session.proofs.Unread.{SameClients}
 
 -- ---- windows that are named
 

@@ -21,26 +21,26 @@ use Rattle.command_lang.specs.declared.command.Command.{Command}
 use Rattle.command_lang.specs.declared.command.Command.TheVariants as command
 use Rattle.command_lang.specs.Names.{name_of}
 use Rattle.regions.specs.Layouts.{Arrangement}
-use Rattle.session_model.specs.declared.check.Check.{Check}
-use Rattle.session_model.specs.declared.check.Check.TheVariants.{Right as right}
-use Rattle.session_model.specs.declared.event.Reason.TheVariants.{Removed, Quit}
-use Rattle.session_model.specs.Tables.{Tables, Window, Client, client_at, with_layout, focused, known_users}
-use Rattle.session_model.specs.Rights.{may_in}
-use Rattle.session_model.specs.Naming.{names_of, new_leader_of}
-use Rattle.session_model.specs.Lines.{Caller}
+use Rattle.session.specs.check.Check.{Check}
+use Rattle.session.specs.check.Check.TheVariants.{Right as right}
+use Rattle.session.specs.event.Reason.TheVariants.{Removed, Quit}
+use Rattle.session.specs.Tables.{Tables, Window, Client, client_at, with_layout, focused, known_users}
+use Rattle.session.specs.Rights.{may_in}
+use Rattle.session.specs.Naming.{names_of, new_leader_of}
+use Rattle.session.specs.Lines.{Caller}
 use Rattle.command_lang.specs.Needs.{typing}
-use Rattle.session_model.specs.Checks.{passes, refusal_of, first_fault, checks, window_checks}
-use Rattle.session_model.specs.Deeds.{Deed, parts, removes, is_of, closes, entering, enters}
-use Rattle.session_model.specs.Commands.{does, caller_client, mask_entries}
-use Rattle.session_laws.proofs.Doing.{Either}
-use Rattle.session_laws.proofs.ActsOfMoves.{has}
-use Rattle.session_laws.proofs.Moving.{serials}
-use Rattle.session_laws.proofs.Showing.{IsThere, ShowsNoOther}
-use Rattle.session_laws.proofs.Shapes as shapes
-use Rattle.session_laws.proofs.Shapes.{Acted, Shape, by_shape}
-use Rattle.session_laws.proofs.FitCommands.{Holds, page_of, has_there}
-use Rattle.session_laws.proofs.Lists.{all_append}
-use Rattle.session_laws.proofs.Unread.{row_at}
+use Rattle.session.specs.Checks.{passes, refusal_of, first_fault, checks, window_checks}
+use Rattle.session.specs.Deeds.{Deed, parts, removes, is_of, closes, entering, enters}
+use Rattle.session.specs.Commands.{does, caller_client, mask_entries}
+use Rattle.session.proofs.Doing.{Either}
+use Rattle.session.proofs.ActsOfMoves.{has}
+use Rattle.session.proofs.Moving.{serials}
+use Rattle.session.proofs.Showing.{IsThere, ShowsNoOther}
+use Rattle.session.proofs.Shapes as shapes
+use Rattle.session.proofs.Shapes.{Acted, Shape, by_shape}
+use Rattle.session.proofs.FitCommands.{Holds, page_of, has_there}
+use Rattle.session.proofs.Lists.{all_append}
+use Rattle.session.proofs.Unread.{row_at}
 use Rattle.hub_trail.specs.Judging.{CanFollow}
 use Rattle.hub_trail.proofs.Following.{is_free, AllFree, free_follow, users_stay, follow_append, change_leads}
 use Rattle.hub_trail.proofs.Following.{add_leads}

@@ -4,16 +4,16 @@ use Rattle.acl.specs.declared.edition.Edition.{Edition}
 use Rattle.acl.specs.declared.user_id.UserId.{UserId}
 use Rattle.acl.specs.Names.{named_by}
 use Rattle.command_lang.specs.declared.command.Command.{Command}
-use Rattle.session_model.specs.declared.message.StatusMessage.{StatusMessage}
-use Rattle.session_model.specs.Tables.{Tables}
-use Rattle.session_model.specs.Lines.{Caller}
-use Rattle.session_model.specs.Deeds.{Deed, removes}
-use Rattle.session_model.specs.Commands.{does}
-use Rattle.session_model.specs.Answering.{told, with_listed}
-use Rattle.session_model.specs.Promises.{OnlyRead}
-use Rattle.session_laws.proofs.Doing.{Either}
-use Rattle.session_laws.proofs.Granting.{told_read, same_tables}
-use Rattle.session_laws.proofs.Shapes as shapes
+use Rattle.session.specs.message.StatusMessage.{StatusMessage}
+use Rattle.session.specs.Tables.{Tables}
+use Rattle.session.specs.Lines.{Caller}
+use Rattle.session.specs.Deeds.{Deed, removes}
+use Rattle.session.specs.Commands.{does}
+use Rattle.session.specs.Answering.{told, with_listed}
+use Rattle.session.specs.Promises.{OnlyRead}
+use Rattle.session.proofs.Doing.{Either}
+use Rattle.session.proofs.Granting.{told_read, same_tables}
+use Rattle.session.proofs.Shapes as shapes
 
 -- the owner, the edition, and the next serials of windows and clients
 abbrev pub Rules : Type 0

@@ -5,17 +5,17 @@ use Rattle.acl.specs.declared.edition.Edition.{Edition}
 use Rattle.acl.specs.declared.user_id.UserId.{UserId}
 use Rattle.acl.specs.History.{History, followed_by, may}
 use Rattle.writelock.specs.Holding.{holder}
-use Rattle.session_model.specs.declared.verdict.Verdict.{Verdict}
-use Rattle.session_model.specs.declared.verdict.Verdict.TheVariants.{Right as right, Lock as lock}
-use Rattle.session_model.specs.declared.event.Effect.{Effect}
-use Rattle.session_model.specs.Trace.{EventValue}
-use Rattle.session_model.specs.Trace as trace
-use Rattle.session_model.specs.Sound.{AreFit}
-use Rattle.session_model.specs.Tables.{Tables, fresh}
-use Rattle.session_model.specs.Events.{outcome}
-use Rattle.session_model.specs.Run.{IsStep, IsRun, IsRunFrom, after, drawn, tables_from, tables_of}
-use Rattle.session_laws.proofs.ActsOfRuns.{after_acts}
-use Rattle.session_laws.proofs.Staying.{run_fit, fresh_fit}
+use Rattle.session.specs.verdict.Verdict.{Verdict}
+use Rattle.session.specs.verdict.Verdict.TheVariants.{Right as right, Lock as lock}
+use Rattle.session.specs.event.Effect.{Effect}
+use Rattle.session.specs.Trace.{EventValue}
+use Rattle.session.specs.Trace as trace
+use Rattle.session.specs.Sound.{AreFit}
+use Rattle.session.specs.Tables.{Tables, fresh}
+use Rattle.session.specs.Events.{outcome}
+use Rattle.session.specs.Run.{IsStep, IsRun, IsRunFrom, after, drawn, tables_from, tables_of}
+use Rattle.session.proofs.ActsOfRuns.{after_acts}
+use Rattle.session.proofs.Staying.{run_fit, fresh_fit}
 use Rattle.hub_trail.specs.declared.kept.Kept.{Kept}
 use Rattle.hub_trail.specs.Trails.{Entry}
 use Rattle.hub_trail.specs.Laws.{AskTheSame}

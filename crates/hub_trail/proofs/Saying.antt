@@ -19,30 +19,30 @@ use Rattle.command_lang.specs.declared.command.Users.TheVariants as users
 use Rattle.command_lang.specs.declared.fault.ParseFault.{ParseFault}
 use Rattle.command_lang.specs.Relation.{read_line}
 use Rattle.command_lang.proofs.OneReading.{reads-relates}
-use Rattle.session_model.specs.declared.event.Effect.{Effect}
-use Rattle.session_model.specs.declared.verdict.Verdict.{Verdict}
-use Rattle.session_model.specs.Trace.{EventValue, Attach, Detach, Keys, Command, Open, Closed, Reply}
-use Rattle.session_model.specs.Trace as trace
-use Rattle.session_model.specs.Tables.{Window, Client, Tables, known_users, focused, with_layout, is_known}
-use Rattle.session_model.specs.Naming.{names_of}
-use Rattle.session_model.specs.Naming.{new_leader_of}
-use Rattle.session_model.specs.Lines.{Caller, line_caller}
-use Rattle.session_model.specs.Deeds.{Deed, Answer, entering, is_of}
-use Rattle.session_model.specs.Deeds as deeds
-use Rattle.session_model.specs.Commands.{does, mask_entries}
-use Rattle.session_model.specs.Given.{Given, with_order, ok_of}
-use Rattle.session_model.specs.declared.refusal.Refusal.TheVariants.{UnknownUser}
-use Rattle.session_model.specs.Answering.{commanded, line_ruling}
-use Rattle.session_model.specs.Events.{outcome}
-use Rattle.session_model.specs.Outcomes.{left_acts, refused}
-use Rattle.session_model.specs.Promises.{SomeOf}
-use Rattle.session_model.specs.Run.{IsStep}
-use Rattle.session_laws.proofs.Lists.{both_true, all_append, all_of}
-use Rattle.session_laws.proofs.Doing.{Either}
-use Rattle.session_laws.proofs.Shapes as shapes
-use Rattle.session_laws.proofs.Events.{all_left}
-use Rattle.session_laws.proofs.Gating.{obeys_of}
-use Rattle.session_laws.proofs.Steps.{Did, Obeys, with_clients}
+use Rattle.session.specs.event.Effect.{Effect}
+use Rattle.session.specs.verdict.Verdict.{Verdict}
+use Rattle.session.specs.Trace.{EventValue, Attach, Detach, Keys, Command, Open, Closed, Reply}
+use Rattle.session.specs.Trace as trace
+use Rattle.session.specs.Tables.{Window, Client, Tables, known_users, focused, with_layout, is_known}
+use Rattle.session.specs.Naming.{names_of}
+use Rattle.session.specs.Naming.{new_leader_of}
+use Rattle.session.specs.Lines.{Caller, line_caller}
+use Rattle.session.specs.Deeds.{Deed, Answer, entering, is_of}
+use Rattle.session.specs.Deeds as deeds
+use Rattle.session.specs.Commands.{does, mask_entries}
+use Rattle.session.specs.Given.{Given, with_order, ok_of}
+use Rattle.session.specs.refusal.Refusal.TheVariants.{UnknownUser}
+use Rattle.session.specs.Answering.{commanded, line_ruling}
+use Rattle.session.specs.Events.{outcome}
+use Rattle.session.specs.Outcomes.{left_acts, refused}
+use Rattle.session.specs.Promises.{SomeOf}
+use Rattle.session.specs.Run.{IsStep}
+use Rattle.session.proofs.Lists.{both_true, all_append, all_of}
+use Rattle.session.proofs.Doing.{Either}
+use Rattle.session.proofs.Shapes as shapes
+use Rattle.session.proofs.Events.{all_left}
+use Rattle.session.proofs.Gating.{obeys_of}
+use Rattle.session.proofs.Steps.{Did, Obeys, with_clients}
 use Rattle.hub_trail.specs.Filing.{kept_of, entry_of}
 use Rattle.hub_trail.specs.Trails.{Entry}
 use Rattle.hub_trail.specs.Legal.{IsSaid}

@@ -7,17 +7,17 @@ use Rattle.acl.specs.declared.user_id.UserId.{UserId}
 use Rattle.acl.specs.declared.bits.Bit.TheVariants.{Write}
 use Rattle.acl.specs.declared.act.Object.TheVariants as object
 use Rattle.command_lang.specs.declared.command.Command.{Command}
-use Rattle.session_model.specs.declared.check.Check.{Check}
-use Rattle.session_model.specs.declared.check.Check.TheVariants.{Right as right, Unlocked as unlocked}
+use Rattle.session.specs.check.Check.{Check}
+use Rattle.session.specs.check.Check.TheVariants.{Right as right, Unlocked as unlocked}
 use Rattle.command_lang.specs.declared.needs.Needs.{Needs}
-use Rattle.session_model.specs.declared.verdict.Verdict.{Verdict}
-use Rattle.session_model.specs.Tables.{Tables, Window, Client, focused, focused_window}
-use Rattle.session_model.specs.Lines.{Caller}
+use Rattle.session.specs.verdict.Verdict.{Verdict}
+use Rattle.session.specs.Tables.{Tables, Window, Client, focused, focused_window}
+use Rattle.session.specs.Lines.{Caller}
 use Rattle.command_lang.specs.Needs.{needs}
-use Rattle.session_model.specs.Checks.{passes, verdict, verdicts, checks, typing_checks, where_needed, window_checks}
-use Rattle.session_model.specs.Answering.{typing_verdicts}
-use Rattle.session_laws.proofs.Showing.{IsThere, at_there}
-use Rattle.session_laws.proofs.Lists.{all_append}
+use Rattle.session.specs.Checks.{passes, verdict, verdicts, checks, typing_checks, where_needed, window_checks}
+use Rattle.session.specs.Answering.{typing_verdicts}
+use Rattle.session.proofs.Showing.{IsThere, at_there}
+use Rattle.session.proofs.Lists.{all_append}
 use Rattle.hub_trail.specs.Judging.{is_on_there}
 use Rattle.hub_trail.proofs.Naming.{OpenIs, there_open}
 

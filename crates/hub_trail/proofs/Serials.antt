@@ -2,19 +2,19 @@
 -- opens.
 use Rattle.std.proofs.Common.{◌≡◌, ◌∙◌, List, [], Option, Some, None, Ok, refl, ap, subst, sym, take}
 use Rattle.command_lang.specs.declared.command.Command.{Command as Order}
-use Rattle.session_model.specs.declared.event.Effect.{Effect}
-use Rattle.session_model.specs.declared.refusal.Refusal.{Refusal}
-use Rattle.session_model.specs.Trace.{EventValue, Attach, Open, Draw, Reply, Entry}
-use Rattle.session_model.specs.Tables.{Tables, Client, client_at, with_client}
-use Rattle.session_model.specs.Lines.{Caller, line_caller}
-use Rattle.session_model.specs.Deeds.{Deed}
-use Rattle.session_model.specs.Commands.{does}
-use Rattle.session_model.specs.Keying.{taken}
-use Rattle.session_model.specs.Outcomes.{Outcome, refused, done}
-use Rattle.session_model.specs.Events.{outcome}
-use Rattle.session_model.specs.Run.{IsStep, drawn, drawn_on}
-use Rattle.session_laws.proofs.Doing.{Either}
-use Rattle.session_laws.proofs.Outcomes as outcomes
+use Rattle.session.specs.event.Effect.{Effect}
+use Rattle.session.specs.refusal.Refusal.{Refusal}
+use Rattle.session.specs.Trace.{EventValue, Attach, Open, Draw, Reply, Entry}
+use Rattle.session.specs.Tables.{Tables, Client, client_at, with_client}
+use Rattle.session.specs.Lines.{Caller, line_caller}
+use Rattle.session.specs.Deeds.{Deed}
+use Rattle.session.specs.Commands.{does}
+use Rattle.session.specs.Keying.{taken}
+use Rattle.session.specs.Outcomes.{Outcome, refused, done}
+use Rattle.session.specs.Events.{outcome}
+use Rattle.session.specs.Run.{IsStep, drawn, drawn_on}
+use Rattle.session.proofs.Doing.{Either}
+use Rattle.session.proofs.Outcomes as outcomes
 use Rattle.hub_trail.specs.Peers.{MakesNext, one_more, GivesSerials}
 use Rattle.hub_trail.specs.Peers as peers
 use Rattle.hub_trail.proofs.Rules.{Rules, rules, Still, stills}

@@ -11,11 +11,11 @@ use Rattle.acl.specs.declared.act.Act.{Act}
 use Rattle.acl.specs.declared.act.Act.TheVariants as act
 use Rattle.acl.specs.Same.{same_user}
 use Rattle.acl.proofs.StandsForLemmas.{same_user-refl}
-use Rattle.session_model.specs.Sound.{ActsAgree}
-use Rattle.session_model.specs.Tables.{Tables, Client, Window, row_of, with_row, client_at, focused, is_window}
-use Rattle.session_model.specs.Tables.{is_in_focus}
-use Rattle.session_model.specs.Outcomes.{left_acts_of, left_acts}
-use Rattle.session_laws.proofs.Lists.{row_serial}
+use Rattle.session.specs.Sound.{ActsAgree}
+use Rattle.session.specs.Tables.{Tables, Client, Window, row_of, with_row, client_at, focused, is_window}
+use Rattle.session.specs.Tables.{is_in_focus}
+use Rattle.session.specs.Outcomes.{left_acts_of, left_acts}
+use Rattle.session.proofs.Lists.{row_serial}
 use Rattle.hub_trail.specs.Legal.{is_client_of, is_parted, is_closed}
 
 -- ---- a list with more elements

@@ -17,36 +17,36 @@ use Rattle.command_lang.specs.declared.command.Command.{Command as Order}
 use Rattle.command_lang.specs.declared.fault.ParseFault.{ParseFault}
 use Rattle.command_lang.specs.Relation.{read_line}
 use Rattle.keys.specs.Grammar.{Item, typed, bound, line}
-use Rattle.session_model.specs.declared.check.Check.{Check}
-use Rattle.session_model.specs.declared.event.Reason.TheVariants as reason
-use Rattle.session_model.specs.declared.message.StatusMessage.{StatusMessage}
-use Rattle.session_model.specs.declared.refusal.Refusal.{Refusal}
-use Rattle.session_model.specs.declared.verdict.Verdict.{Verdict}
-use Rattle.session_model.specs.Trace.{EventValue, Reply}
-use Rattle.session_model.specs.Trace as trace
-use Rattle.session_model.specs.Sound.{Rises, AreFit, client_serials}
-use Rattle.session_model.specs.Tables.{Tables, Window, Client, fresh, client_at, with_client, focused, is_in_focus}
-use Rattle.session_model.specs.Naming.{lowest, free_number}
-use Rattle.session_model.specs.Lines.{caller_of, line_caller}
-use Rattle.session_model.specs.Checks.{passes, checks, first_fault, verdicts}
-use Rattle.session_model.specs.Deeds.{Deed, Answer, changing, parts, closes}
-use Rattle.session_model.specs.Commands.{does}
-use Rattle.session_model.specs.Keying.{items_behind, typed_bytes, command_item, taken}
-use Rattle.session_model.specs.Outcomes.{Outcome, finished, refused, done, reply_of, left_acts_of, left_acts}
-use Rattle.session_model.specs.Events.{outcome}
-use Rattle.session_model.specs.Comings.{attaches, new_client, open_checks, opens, new_window, has_place, outputs}
-use Rattle.session_model.specs.Answering.{typing_verdicts, keyed, with_listed, message_of, by_line, ordered, Ordered}
-use Rattle.session_model.specs.Answering.{reading, types, unsaid, keys_outcome}
-use Rattle.session_model.specs.Run.{IsStep, IsRun, IsRunFrom, tables_from}
-use Rattle.session_laws.proofs.ActsOfMoves.{has, has_row}
-use Rattle.session_laws.proofs.Doing.{Either}
-use Rattle.session_laws.proofs.Showing.{at_there, number_there, lowest_there}
-use Rattle.session_laws.proofs.FitCommands.{Holds}
-use Rattle.session_laws.proofs.Lists.{all_append, and_first}
-use Rattle.session_laws.proofs.Moving.{serials}
-use Rattle.session_laws.proofs.Staying.{run_fit, fresh_fit}
-use Rattle.session_laws.proofs.Unread.{typing_clients}
-use Rattle.session_laws.proofs.Outcomes as outcomes
+use Rattle.session.specs.check.Check.{Check}
+use Rattle.session.specs.event.Reason.TheVariants as reason
+use Rattle.session.specs.message.StatusMessage.{StatusMessage}
+use Rattle.session.specs.refusal.Refusal.{Refusal}
+use Rattle.session.specs.verdict.Verdict.{Verdict}
+use Rattle.session.specs.Trace.{EventValue, Reply}
+use Rattle.session.specs.Trace as trace
+use Rattle.session.specs.Sound.{Rises, AreFit, client_serials}
+use Rattle.session.specs.Tables.{Tables, Window, Client, fresh, client_at, with_client, focused, is_in_focus}
+use Rattle.session.specs.Naming.{lowest, free_number}
+use Rattle.session.specs.Lines.{caller_of, line_caller}
+use Rattle.session.specs.Checks.{passes, checks, first_fault, verdicts}
+use Rattle.session.specs.Deeds.{Deed, Answer, changing, parts, closes}
+use Rattle.session.specs.Commands.{does}
+use Rattle.session.specs.Keying.{items_behind, typed_bytes, command_item, taken}
+use Rattle.session.specs.Outcomes.{Outcome, finished, refused, done, reply_of, left_acts_of, left_acts}
+use Rattle.session.specs.Events.{outcome}
+use Rattle.session.specs.Comings.{attaches, new_client, open_checks, opens, new_window, has_place, outputs}
+use Rattle.session.specs.Answering.{typing_verdicts, keyed, with_listed, message_of, by_line, ordered, Ordered}
+use Rattle.session.specs.Answering.{reading, types, unsaid, keys_outcome}
+use Rattle.session.specs.Run.{IsStep, IsRun, IsRunFrom, tables_from}
+use Rattle.session.proofs.ActsOfMoves.{has, has_row}
+use Rattle.session.proofs.Doing.{Either}
+use Rattle.session.proofs.Showing.{at_there, number_there, lowest_there}
+use Rattle.session.proofs.FitCommands.{Holds}
+use Rattle.session.proofs.Lists.{all_append, and_first}
+use Rattle.session.proofs.Moving.{serials}
+use Rattle.session.proofs.Staying.{run_fit, fresh_fit}
+use Rattle.session.proofs.Unread.{typing_clients}
+use Rattle.session.proofs.Outcomes as outcomes
 use Rattle.hub_trail.specs.declared.kept.Kept.{Kept}
 use Rattle.hub_trail.specs.Trails.{Entry}
 use Rattle.hub_trail.specs.Legal.{acts_after}

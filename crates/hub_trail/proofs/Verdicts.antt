@@ -13,21 +13,21 @@ use Rattle.acl.specs.Same.{same_user, same_bit, index_of_command}
 use Rattle.acl.proofs.StandsForLemmas.{same_user-refl}
 use Rattle.writelock.specs.LockTable.{stops_nobody_but}
 use Rattle.command_lang.specs.declared.command.Command.{Command}
-use Rattle.session_model.specs.declared.check.Check.{Check}
-use Rattle.session_model.specs.declared.check.Check.TheVariants.{Right as right, Unlocked as unlocked, Must as must}
+use Rattle.session.specs.check.Check.{Check}
+use Rattle.session.specs.check.Check.TheVariants.{Right as right, Unlocked as unlocked, Must as must}
 use Rattle.command_lang.specs.declared.needs.Needs.{Needs}
-use Rattle.session_model.specs.declared.refusal.Refusal.{Refusal}
-use Rattle.session_model.specs.declared.refusal.Refusal.TheVariants.{EntryDenied, LockDenied, NoWindow}
-use Rattle.session_model.specs.declared.verdict.Verdict.{Verdict}
-use Rattle.session_model.specs.declared.verdict.Verdict.TheVariants as verdict
-use Rattle.session_model.specs.Tables.{Tables, Window}
-use Rattle.session_model.specs.Rights.{may_in, holder_in}
-use Rattle.session_model.specs.Denials.{entry_denial, lock_denial, denied_on}
-use Rattle.session_model.specs.Lines.{Caller}
+use Rattle.session.specs.refusal.Refusal.{Refusal}
+use Rattle.session.specs.refusal.Refusal.TheVariants.{EntryDenied, LockDenied, NoWindow}
+use Rattle.session.specs.verdict.Verdict.{Verdict}
+use Rattle.session.specs.verdict.Verdict.TheVariants as verdict
+use Rattle.session.specs.Tables.{Tables, Window}
+use Rattle.session.specs.Rights.{may_in, holder_in}
+use Rattle.session.specs.Denials.{entry_denial, lock_denial, denied_on}
+use Rattle.session.specs.Lines.{Caller}
 use Rattle.command_lang.specs.Needs.{needs}
-use Rattle.session_model.specs.Checks.{verdicts, first_fault, checks, typing_checks, where_needed, window_checks}
-use Rattle.session_laws.proofs.Doing.{is_plain}
-use Rattle.session_laws.proofs.Lists.{all_append}
+use Rattle.session.specs.Checks.{verdicts, first_fault, checks, typing_checks, where_needed, window_checks}
+use Rattle.session.proofs.Doing.{is_plain}
+use Rattle.session.proofs.Lists.{all_append}
 use Rattle.hub_trail.specs.declared.kept.Kept.{Kept}
 use Rattle.hub_trail.specs.declared.kept.Kept.TheVariants as kept
 use Rattle.hub_trail.specs.Trails.{Ending}

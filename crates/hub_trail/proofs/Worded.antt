@@ -24,12 +24,12 @@ use Rattle.acl.proofs.StandsForLemmas.{same_user-refl}
 use Rattle.command_lang.specs.declared.command.Command.TheVariants as command
 use Rattle.command_lang.specs.declared.command.Users.TheVariants as users
 use Rattle.command_lang.specs.Names.{command_named, all_names}
-use Rattle.session_model.specs.Trace.{Command}
-use Rattle.session_model.specs.Tables.{Window, Tables}
-use Rattle.session_model.specs.Naming.{is_wide, wide_objects, item_objects, objects_of, every_window}
-use Rattle.session_model.specs.Naming.{every_command, window_named}
-use Rattle.session_laws.proofs.Lists.{itself, both_true, all_weaken, all_append, all_map, all_of, all_passed}
-use Rattle.session_laws.proofs.GuestsLeaving.{or_early, or_late}
+use Rattle.session.specs.Trace.{Command}
+use Rattle.session.specs.Tables.{Window, Tables}
+use Rattle.session.specs.Naming.{is_wide, wide_objects, item_objects, objects_of, every_window}
+use Rattle.session.specs.Naming.{every_command, window_named}
+use Rattle.session.proofs.Lists.{itself, both_true, all_weaken, all_append, all_map, all_of, all_passed}
+use Rattle.session.proofs.GuestsLeaving.{or_early, or_late}
 use Rattle.hub_trail.specs.Saying.{same_value, changes, item_says, items_say}
 
 -- whether an item names the object, if that is a command

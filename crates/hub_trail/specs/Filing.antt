@@ -1,10 +1,10 @@
 -- What a trail keeps of a run: each Attach, Detach, Keys, Command, Open and Closed writes an entry.
 -- If memory was refused, there was no step.
 use Rattle.std.specs.Prelude.{Bool, true, false, List, [], ◌∷◌, ◌++◌, Option, Some, None, Ok, Err}
-use Rattle.session_model.specs.declared.event.Done.{Done}
-use Rattle.session_model.specs.Trace.{EventValue, Attach, Detach, Keys, Command, Open, Closed}
-use Rattle.session_model.specs.Trace.{Reply, Trace}
-use Rattle.session_model.specs.Trace as trace
+use Rattle.session.specs.event.Done.{Done}
+use Rattle.session.specs.Trace.{EventValue, Attach, Detach, Keys, Command, Open, Closed}
+use Rattle.session.specs.Trace.{Reply, Trace}
+use Rattle.session.specs.Trace as trace
 use Rattle.hub_trail.specs.declared.kept.Kept.{Kept}
 use Rattle.hub_trail.specs.declared.kept.Kept.TheVariants as kept
 use Rattle.hub_trail.specs.declared.kept.Finished.{Finished}

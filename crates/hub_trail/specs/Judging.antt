@@ -16,8 +16,8 @@ use Rattle.acl.specs.Commands.{new_name_fault, known_name_fault, group_fault}
 use Rattle.acl.specs.History.{History, followed_by, is_known, is_open, open_count, there, may}
 use Rattle.acl.specs.History.{users_of, among, leaders_of}
 use Rattle.writelock.specs.Holding.{is_off, clients_of}
-use Rattle.session_model.specs.declared.verdict.Verdict.{Verdict}
-use Rattle.session_model.specs.declared.verdict.Verdict.TheVariants.{Right as right, Lock as lock}
+use Rattle.session.specs.verdict.Verdict.{Verdict}
+use Rattle.session.specs.verdict.Verdict.TheVariants.{Right as right, Lock as lock}
 use Rattle.hub_trail.specs.Trails.{Entry}
 use Rattle.hub_trail.specs.Legal.{IsLegalEntry}
 

@@ -3,13 +3,13 @@ use Rattle.std.specs.Prelude.{◌≡◌, ◌↔◌, List, [], ◌++◌}
 use Rattle.acl.specs.declared.edition.Edition.{Edition}
 use Rattle.acl.specs.declared.user_id.UserId.{UserId}
 use Rattle.acl.specs.History.{History, followed_by}
-use Rattle.session_model.specs.declared.verdict.Verdict.{Verdict}
-use Rattle.session_model.specs.declared.verdict.Verdict.TheVariants.{Right as right, Lock as lock}
-use Rattle.session_model.specs.Sound.{AreFit}
-use Rattle.session_model.specs.Tables.{Tables}
-use Rattle.session_model.specs.Trace.{Trace}
-use Rattle.session_model.specs.Trace as trace
-use Rattle.session_model.specs.Run.{IsStep, IsRun, tables_of}
+use Rattle.session.specs.verdict.Verdict.{Verdict}
+use Rattle.session.specs.verdict.Verdict.TheVariants.{Right as right, Lock as lock}
+use Rattle.session.specs.Sound.{AreFit}
+use Rattle.session.specs.Tables.{Tables}
+use Rattle.session.specs.Trace.{Trace}
+use Rattle.session.specs.Trace as trace
+use Rattle.session.specs.Run.{IsStep, IsRun, tables_of}
 use Rattle.hub_trail.specs.Trails.{Entry}
 use Rattle.hub_trail.specs.Legal.{IsTrue, AreLegal, IsLegal, acts_after, acts_of}
 use Rattle.hub_trail.specs.Filing.{filed, entries_of, trail_of}

@@ -22,12 +22,12 @@ use Rattle.command_lang.specs.declared.command.Command.TheVariants as command
 use Rattle.command_lang.specs.declared.command.Users.TheVariants as users
 use Rattle.command_lang.specs.Names.{name_of}
 use Rattle.command_lang.specs.Relation.{Relates}
-use Rattle.session_model.specs.declared.refusal.Denied.{Denied}
-use Rattle.session_model.specs.declared.refusal.Denied.TheVariants as denied
-use Rattle.session_model.specs.declared.refusal.Refusal.{Refusal}
-use Rattle.session_model.specs.declared.refusal.Refusal.TheVariants.{EntryDenied, LockDenied}
-use Rattle.session_model.specs.declared.verdict.Verdict.{Verdict}
-use Rattle.session_model.specs.declared.verdict.Verdict.TheVariants.{Right as right, Lock as lock}
+use Rattle.session.specs.refusal.Denied.{Denied}
+use Rattle.session.specs.refusal.Denied.TheVariants as denied
+use Rattle.session.specs.refusal.Refusal.{Refusal}
+use Rattle.session.specs.refusal.Refusal.TheVariants.{EntryDenied, LockDenied}
+use Rattle.session.specs.verdict.Verdict.{Verdict}
+use Rattle.session.specs.verdict.Verdict.TheVariants.{Right as right, Lock as lock}
 use Rattle.hub_trail.specs.declared.kept.Kept.{Kept}
 use Rattle.hub_trail.specs.declared.kept.Kept.TheVariants as kept
 use Rattle.hub_trail.specs.declared.kept.Finished.{Finished}

@@ -2,14 +2,14 @@
 -- came before.
 use Rattle.std.specs.Prelude.{◌≡◌, ◌<◌, ℕ, ◌+◌, Bool, false, if◌then◌else◌, is_ok, Ok}
 use Rattle.std.specs.List.{AllByRecursion}
-use Rattle.session_model.specs.declared.event.Effect.{Effect}
-use Rattle.session_model.specs.declared.event.Effect.TheVariants.{Input, Deliver, Say, Size}
-use Rattle.session_model.specs.declared.event.Effect.TheVariants.{Gone}
-use Rattle.session_model.specs.declared.event.Peer.TheVariants as peer
-use Rattle.session_model.specs.Trace.{EventValue, Attach, Open, Reply, Entry}
-use Rattle.session_model.specs.Sound.{AreSound}
-use Rattle.session_model.specs.Tables.{Tables}
-use Rattle.session_model.specs.Run.{IsStep, after}
+use Rattle.session.specs.event.Effect.{Effect}
+use Rattle.session.specs.event.Effect.TheVariants.{Input, Deliver, Say, Size}
+use Rattle.session.specs.event.Effect.TheVariants.{Gone}
+use Rattle.session.specs.event.Peer.TheVariants as peer
+use Rattle.session.specs.Trace.{EventValue, Attach, Open, Reply, Entry}
+use Rattle.session.specs.Sound.{AreSound}
+use Rattle.session.specs.Tables.{Tables}
+use Rattle.session.specs.Run.{IsStep, after}
 
 -- ---- serials
 

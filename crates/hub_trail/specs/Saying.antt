@@ -22,7 +22,7 @@ use Rattle.command_lang.specs.declared.command.Command.TheVariants as command
 use Rattle.command_lang.specs.declared.command.Users.{Users}
 use Rattle.command_lang.specs.declared.command.Users.TheVariants as users
 use Rattle.command_lang.specs.Names.{command_named}
-use Rattle.session_model.specs.Naming.{is_wide, new_leader_of}
+use Rattle.session.specs.Naming.{is_wide, new_leader_of}
 
 -- ---- words
 

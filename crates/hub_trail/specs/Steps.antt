@@ -1,8 +1,8 @@
 -- What holds of each step on tables that are fit.
-use Rattle.session_model.specs.Sound.{AreFit}
-use Rattle.session_model.specs.Tables.{Tables}
-use Rattle.session_model.specs.Trace as trace
-use Rattle.session_model.specs.Run.{IsStep}
+use Rattle.session.specs.Sound.{AreFit}
+use Rattle.session.specs.Tables.{Tables}
+use Rattle.session.specs.Trace as trace
+use Rattle.session.specs.Run.{IsStep}
 use Rattle.hub_trail.specs.Filing.{filed}
 use Rattle.hub_trail.specs.Judging.{AreJudgeable}
 

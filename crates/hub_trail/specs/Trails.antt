@@ -3,8 +3,8 @@ use Rattle.std.specs.Prelude.{List, Result}
 use Rattle.acl.specs.declared.act.Act.{Act}
 use Rattle.acl.specs.declared.edition.Edition.{Edition}
 use Rattle.acl.specs.declared.user_id.UserId.{UserId}
-use Rattle.session_model.specs.declared.refusal.Refusal.{Refusal}
-use Rattle.session_model.specs.declared.verdict.Verdict.{Verdict}
+use Rattle.session.specs.refusal.Refusal.{Refusal}
+use Rattle.session.specs.verdict.Verdict.{Verdict}
 use Rattle.hub_trail.specs.declared.kept.Kept.{Kept}
 use Rattle.hub_trail.specs.declared.kept.Finished.{Finished}
 

@@ -4,7 +4,7 @@ ghost use Rattle.std.specs.Prelude.{◌≡◌};
 ghost use Rattle.hub_trail.specs.Legal.{asks_for_command, from_command};
 
 use acl::{Bit, Object};
-use session_model::Verdict;
+use session::Verdict;
 
 /// Whether the verdict asks for x on a command.
 pub fn asks_for_command(verdict: Verdict) -> bool

@@ -1,13 +1,13 @@
 //! What a trail keeps of an event and of its reply.
 
 ghost use Rattle.std.specs.Prelude.{◌≡◌, ◌↔◌, IfOk, false, is_ok, is_some, true};
-ghost use Rattle.session_model.specs.Trace.{happening};
+ghost use Rattle.session.specs.Trace.{happening};
 ghost use Rattle.hub_trail.specs.Filing.{copies, ending_of, finished_by, kept_of};
 ghost use Rattle.hub_trail.specs.declared.kept.Kept.TheVariants as kept;
 
 use crate::same::{is_command, is_open};
 use acl::UserId;
-use session_model::{Bytes, Done, Event, Refusal, Reply};
+use session::{Bytes, Done, Event, Refusal, Reply};
 use std::alloc::{AllocError, Global};
 
 /// An event, as a trail keeps it: Keys without their bytes, and a Command with its line.

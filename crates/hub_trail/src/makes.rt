@@ -7,7 +7,7 @@ ghost use Rattle.hub_trail.specs.Fitting.{is_one_of, turns_page, sends_away, ent
 ghost use Rattle.hub_trail.specs.Fitting.{makes, made_by};
 
 use acl::{Act, Bit, CommandName, Object, UserId};
-use session_model::Verdict;
+use session::Verdict;
 
 /// Whether both are the same command.
 pub fn is_same(command: CommandName, other: CommandName) -> bool

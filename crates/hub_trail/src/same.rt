@@ -5,7 +5,7 @@ ghost use Rattle.hub_trail.specs.declared.kept.Kept.TheVariants as kept;
 
 use crate::kept::Kept;
 use acl::UserId;
-use session_model::Bytes;
+use session::Bytes;
 
 /// Whether the event is this Command.
 pub fn is_command(event: &Kept, user: UserId, window: Option<u8>, line: &Bytes) -> bool

@@ -4,7 +4,7 @@
 use crate::words::{TrailArgs, WindowWord};
 use acl::{Edition, UserId};
 use line_fields::push_day;
-use session_model::Bytes;
+use session::Bytes;
 use std::alloc::{AllocError, Global};
 use std::io::{self, BufRead, Write};
 use trail_files::{Fault, Finish, LEGAL, finish_at, finish_of, heading_of, tell_finish};

@@ -1,7 +1,7 @@
 //! A session whose steps are written down.
 
 use acl::{Edition, UserId};
-use hub_record::{Kept, KeptReply, TrailEntry};
+use hub::{Kept, KeptReply, TrailEntry};
 use session::{Bytes, Event, Notes, Refusal, Reply, Session};
 use std::alloc::{AllocError, Global};
 use trail_lines::{Cause, Ended, Header, print_end, print_header, print_line};

@@ -3,7 +3,7 @@ use Rattle.std.specs.Prelude.{◌==◌, ◌&&◌, ℕ, length, Option, Some, Non
 use Rattle.attach_proto.specs.Spelling.{spelling}
 use Rattle.attach_proto.specs.declared.message.Message.TheVariants as message
 use Rattle.attach_proto.specs.declared.why.Why.{Why}
-use Rattle.session_model.specs.Trace.{EventValue, Detach, Closed}
+use Rattle.session.specs.Trace.{EventValue, Detach, Closed}
 use Rattle.server_connections.specs.Peers.{is_stranger, is_open, listens}
 use Rattle.server_sending.specs.Written.{ended}
 use Rattle.server_connections.specs.declared.news.Guest.{Guest}

@@ -8,14 +8,14 @@ ghost use Rattle.server_connections.specs.Peers.{listens};
 ghost use Rattle.server_connections.specs.Life.{dismissed, given_up, gone_guest, left, parting};
 ghost use Rattle.server_connections.specs.Life.{wanted_draw, without_guest};
 ghost use Rattle.server_inbox.specs.Asking.{Stands, is_empty};
-ghost use Rattle.session_model.specs.Trace.{happening};
+ghost use Rattle.session.specs.Trace.{happening};
 
 use crate::news::Guest;
 use attach_proto::{Reader, Side, Why};
 use server_inbox::{Inbox, Typeahead};
 use server_sending::{Turn, gone_frame};
 use server_users::Shown;
-use session_model::Event;
+use session::Event;
 use std::alloc::{AllocError, Global};
 use std::time::Duration;
 

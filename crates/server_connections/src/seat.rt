@@ -3,7 +3,7 @@
 use acl::UserId;
 use attach_proto::Why;
 use server_users::{Outcome, Users};
-use session_model::{Effect, Event, Reply};
+use session::{Effect, Event, Reply};
 use std::sync::Wait;
 use std::time::{Clock, Duration};
 

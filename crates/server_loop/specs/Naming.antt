@@ -1,7 +1,7 @@
 -- Which events name a user.
 use Rattle.std.specs.Prelude.{◌≡◌}
 use Rattle.acl.specs.declared.user_id.UserId.{UserId}
-use Rattle.session_model.specs.Trace.{EventValue, Attach, Command, Open}
+use Rattle.session.specs.Trace.{EventValue, Attach, Command, Open}
 
 -- an event that names a user names this one
 abbrev pub IsOf : UserId → EventValue → Type 0

@@ -2,7 +2,7 @@
 
 ghost use Rattle.std.specs.Prelude.{◌≡◌, IfSome, None, Contains, unwrap_or};
 ghost use Rattle.acl.specs.Names.{name_of};
-ghost use Rattle.session_model.specs.Trace.{happening};
+ghost use Rattle.session.specs.Trace.{happening};
 ghost use Rattle.server_loop.specs.Naming.{IsOf, NamesNobody};
 
 use crate::gate::Gate;
@@ -14,7 +14,7 @@ use server_connections::{
     Asked, End, Guest, GuestKind, Name, News, Role, SeatAnswer, SeatFault, Sending, SessionSeat,
 };
 use server_users::{Shown, Users, authenticate};
-use session_model::{Done, Event, Refusal};
+use session::{Done, Event, Refusal};
 use std::alloc::{AllocError, Global};
 use std::io::{Read, Write};
 use std::sync::Wait;

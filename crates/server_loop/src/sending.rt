@@ -6,7 +6,7 @@ use attach_proto::{Message, Why};
 use server_connections::{
     End, Role, SeatFault, Sending, SessionSeat, Stage, each_awake, put, why_of,
 };
-use session_model::{Effect, Event, Reason};
+use session::{Effect, Event, Reason};
 use std::io::{Read, Write};
 use std::sync::Wait;
 
@@ -75,10 +75,10 @@ impl<S: Read + Write + Drop, G: Gate + Drop, J: SessionSeat + Drop> Loop<S, G, J
                         columns: *columns,
                     }),
                 ),
-                Effect::Gone(session_model::Peer::Window(window), reason) => {
+                Effect::Gone(session::Peer::Window(window), reason) => {
                     self.let_go(Role::Window(*window), *reason)
                 }
-                Effect::Gone(session_model::Peer::Client(client), reason) => {
+                Effect::Gone(session::Peer::Client(client), reason) => {
                     self.let_go(Role::Client(*client), *reason)
                 }
             }

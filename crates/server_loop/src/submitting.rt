@@ -1,14 +1,14 @@
 //! Events that a loop submits to the session which the loops share.
 
 ghost use Rattle.std.specs.Prelude.{◌≡◌, ◌+◌, ◌%◌, ◌^◌, IfOk, OnErr};
-ghost use Rattle.session_model.specs.Trace.{happening};
+ghost use Rattle.session.specs.Trace.{happening};
 ghost use Rattle.server_loop.specs.Naming.{IsOf, NamesNobody};
 
 use crate::gate::Gate;
 use crate::own::Loop;
 use server_connections::{News, SeatAnswer, SeatFault, SessionSeat};
 use server_users::{Outcome, Shown, UNIT, price};
-use session_model::Event;
+use session::Event;
 use std::sync::Wait;
 
 /// Which steps a loop submitted.

@@ -5,7 +5,7 @@ use crate::own::Loop;
 use crate::turn::Progress;
 use server_connections::{SeatAnswer, SeatFault, Sending, SessionSeat, Typeahead};
 use server_users::Outcome;
-use session_model::Event;
+use session::Event;
 use std::io::{Read, Write};
 use std::sync::Wait;
 

@@ -1,8 +1,8 @@
 -- The causes that a peer is told.
 use Rattle.attach_proto.specs.declared.why.Why.{Why}
 use Rattle.attach_proto.specs.declared.why.Why.TheVariants as why
-use Rattle.session_model.specs.declared.event.Reason.{Reason}
-use Rattle.session_model.specs.declared.event.Reason.TheVariants as reason
+use Rattle.session.specs.event.Reason.{Reason}
+use Rattle.session.specs.event.Reason.TheVariants as reason
 
 -- the cause by the session's reason
 abbrev pub told_of : Reason → Why

@@ -9,7 +9,7 @@ ghost use Rattle.server_sending.specs.Causes.{told_of};
 
 use crate::turn::Turn;
 use attach_proto::{Kind, LONGEST, Message, Text, Why, WriteFault, head_of, write_message};
-use session_model::Reason;
+use session::Reason;
 use std::alloc::{AllocError, Global};
 
 /// The frame GONE, which takes no memory.

@@ -1,9 +1,9 @@
 -- A submit makes one step for its seat, and hands it nothing.
 use Rattle.std.proofs.Common.{◌≡◌, ◌+◌, ◌%◌, ◌^◌, ℕ, Option, Some, None, ap}
-use Rattle.session_model.specs.Trace.{EventValue}
-use Rattle.hub_trail.specs.declared.kept.Kept.{Kept}
-use Rattle.hub_trail.specs.Filing.{kept_of}
-use Rattle.hub_ledger.specs.Seats.{Answers, HasReceipt, Sitting, Told}
+use Rattle.session.specs.Trace.{EventValue}
+use Rattle.hub.specs.kept.Kept.{Kept}
+use Rattle.hub.specs.Filing.{kept_of}
+use Rattle.hub.specs.Seats.{Answers, HasReceipt, Sitting, Told}
 
 received : (o : Option Kept) (told : Told) (old new : Sitting) → HasReceipt o told old new
     → (new.steps ≡ (old.steps + 1) % 2 ^ 64) × (new.handed ≡ old.handed)

@@ -1,7 +1,7 @@
 -- What came of a step for the user who tried it.
 use Rattle.std.specs.Prelude.{Bool, true, false, Option, Some, None, Ok, Err}
-use Rattle.session_model.specs.Trace.{Reply}
-use Rattle.session_model.specs.declared.refusal.Refusal.TheVariants.{NoMemory}
+use Rattle.session.specs.Trace.{Reply}
+use Rattle.session.specs.refusal.Refusal.TheVariants.{NoMemory}
 use Rattle.server_users.specs.declared.allowance.Outcome.{Outcome}
 use Rattle.server_users.specs.declared.allowance.Outcome.TheVariants as outcome
 

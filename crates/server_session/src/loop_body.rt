@@ -2,8 +2,8 @@
 
 ghost use Rattle.std.specs.Prelude.{◌≡◌, ◌<◌, ◌≤◌, IfOk};
 ghost use Rattle.acl.specs.declared.edition.Edition.TheVariants.{Second};
-ghost use Rattle.session_model.specs.Trace.{begun as run_begun};
-ghost use Rattle.hub_ledger.specs.Seats.{StandsFor};
+ghost use Rattle.session.specs.Trace.{begun as run_begun};
+ghost use Rattle.hub.specs.Seats.{StandsFor};
 
 use crate::setting_up::set_up;
 use crate::shared_session::SharedSession;
@@ -12,7 +12,7 @@ use hub::{Begun, Hub, Seat, Session, Trail};
 use program_words::SetupFault;
 use server_trail::Recorder;
 use server_users::Users;
-use session_model::Refusal;
+use session::Refusal;
 use std::alloc::{AllocError, Global};
 use std::marker::Brand;
 use std::sync::ledger::Blank;

@@ -9,7 +9,7 @@ use acl::UserId;
 use hub::{Begun, HubFault, Seat};
 use server_connections::{End, GuestKind, SeatAnswer, SeatFault, SessionSeat};
 use server_users::{Outcome, Users};
-use session_model::{Effect, Event, Refusal, Reply};
+use session::{Effect, Event, Refusal, Reply};
 use std::sync::Wait;
 use std::time::{Clock, Duration};
 

@@ -5,7 +5,7 @@ use crate::shared_session::SharedSession;
 use acl::UserId;
 use hub::{Begun, Seat};
 use program_words::{SetupLine, read_setup, speech_in};
-use session_model::Event;
+use session::Event;
 use std::alloc::Global;
 use std::sync::Wait;
 

@@ -1,13 +1,13 @@
 //! What the loops share.
 
 ghost use Rattle.std.specs.Prelude.{◌≡◌, ◌+◌, ◌%◌, ◌^◌, IfOk, OnErr};
-ghost use Rattle.session_model.specs.Trace.{happening};
-ghost use Rattle.hub_ledger.specs.Seats.{Answers};
+ghost use Rattle.session.specs.Trace.{happening};
+ghost use Rattle.hub.specs.Seats.{Answers};
 
 use hub::{Answer, Begun, Hub, HubFault, Seat};
 use server_trail::Recorder;
 use server_users::Users;
-use session_model::Event;
+use session::Event;
 use std::sync::Wait;
 
 /// The session that the loops share, who may connect, and what writes its trail to a file.

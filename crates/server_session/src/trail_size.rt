@@ -1,9 +1,8 @@
 //! How large a session's trail is.
 
 use acl::Act;
-use hub::FULL;
-use hub_record::{Kept, TrailEntry};
-use session_model::Verdict;
+use hub::{FULL, Kept, TrailEntry};
+use session::Verdict;
 use std::mem::size_of;
 use std::sync::atomic::{AtomicU64, Ordering};
 

@@ -6,7 +6,7 @@ use crate::latch::{Calls, Latch};
 use crate::outside::Outside;
 use crate::stop::Stop;
 use crate::streams::{Habit, Near};
-use hub_record::{Kept, TrailEntry};
+use hub::{Kept, TrailEntry};
 use server_loop::{Gate, Loop, SessionSeat};
 use server_session::{
     Accounts, Begun, Limits, LoopBody, LoopsFault, Seat, Seated, SharedSession, Start, Trail, keep,

@@ -4,7 +4,7 @@ use Rattle.std.specs.Prelude.{Some, None}
 use Rattle.std.specs.Io.KnownBytes.{Appends}
 use Rattle.acl.specs.declared.edition.Edition.TheVariants as edition
 use Rattle.acl.specs.declared.user_id.UserId.{UserId}
-use Rattle.hub_trail.specs.Trails.{Entry}
+use Rattle.hub.specs.Trails.{Entry}
 use Rattle.trail_lines.specs.Entries.{line_of}
 use Rattle.trail_lines.specs.declared.ending.Cause.{Cause}
 use Rattle.trail_lines.specs.declared.ending.Ended.{Ended}

@@ -6,7 +6,7 @@ ghost use Rattle.trail_lines.specs.Heading.{header_text};
 ghost use Rattle.server_trail.specs.Files.{Begins};
 
 use acl::{Edition, UserId};
-use session_model::Bytes;
+use session::Bytes;
 use std::alloc::{AllocError, Global};
 use std::fs::File;
 use std::io::{self, Write};

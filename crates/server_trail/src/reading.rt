@@ -5,7 +5,7 @@ ghost use Rattle.trail_lines.specs.Entries.{line_of};
 ghost use Rattle.trail_lines.specs.Heading.{header_text};
 ghost use Rattle.server_trail.specs.Files.{Reads, Cuts, ReadsLines, IsTrailOf, IsLastOf};
 
-use hub_record::{EntryList, TrailEntry};
+use hub::{EntryList, TrailEntry};
 use line_fields::u64_at;
 use std::alloc::{AllocError, Global};
 use std::io::{self, BufRead};

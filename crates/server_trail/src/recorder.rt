@@ -7,7 +7,7 @@ ghost use Rattle.trail_lines.specs.Entries.{line_of};
 use crate::file::time;
 use crate::merge::Merge;
 use crate::stop::StopCause;
-use hub_record::TrailEntry;
+use hub::TrailEntry;
 use std::alloc::{AllocError, Global};
 use std::sync::atomic::{AtomicU64, Ordering};
 use std::sync::{Condvar, Mutex, OnceLock, Wait};

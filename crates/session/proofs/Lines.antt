@@ -4,7 +4,7 @@ use Rattle.std.proofs.Common.{suc, get_or}
 use Rattle.std.specs.Prelude.{◌==◌, if◌then◌else◌, nat_lt, ◌-◌}
 use Rattle.std.proofs.lemmas.Bool.Decides.{nat_tests}
 use Rattle.std.specs.Io.BufRead.{take_through, drop_through, first_piece, strip_last}
-use Rattle.session.specs.Lines.{with_byte, lines_of}
+use Rattle.session.specs.ScriptLines.{with_byte, lines_of}
 
 -- the bytes before the first line feed
 abbrev piece : List ℕ → List ℕ

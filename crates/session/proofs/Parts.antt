@@ -19,7 +19,7 @@ use Rattle.session_core.specs.Headline.{without_keys, effects_of, replies_of}
 use Rattle.session.specs.Printed.{effect_line, reply_line}
 use Rattle.session.specs.declared.fault.Fault.{Fault}
 use Rattle.session.specs.declared.fault.Fault.TheVariants.{NotUnderstood, Io, NoMemory}
-use Rattle.session.specs.Lines.{lines_of}
+use Rattle.session.specs.ScriptLines.{lines_of}
 use Rattle.session_model.specs.Tables.{Tables}
 use Rattle.session_model.specs.Run.{tables_of}
 use Rattle.session.specs.Played.{printed, views, views_if, IfNotUnderstood, IsBad, OfScript, PlaysAll, PlaysUntil, Runs}

@@ -7,7 +7,7 @@ use Rattle.std.specs.Io.KnownBytes.{Appends, Keeps}
 use Rattle.session_model.specs.Trace.{EventValue, Entry, Trace, with_step}
 use Rattle.session_core.specs.Stands.{StandsFor}
 use Rattle.session_core.specs.Headline.{with_steps, AllSteps, Keeps as KeepsPromise}
-use Rattle.session.proofs.Steps.{with_steps-append, serves_before, serves_on}
+use Rattle.session.proofs.Serving.{with_steps-append, serves_before, serves_on}
 use Rattle.session_core.specs.declared.session.Session.{Session}
 use Rattle.session.specs.Script.{event_of}
 use Rattle.session.specs.Played.{filled, Plays, IsBad, step_lines, printed, Runs, Played}

@@ -14,7 +14,7 @@ use Rattle.session_core.specs.Stands.{StandsFor}
 use Rattle.session_core.specs.declared.session.Session.{Session}
 use Rattle.session.specs.declared.fault.Fault.{Fault}
 use Rattle.session.specs.declared.fault.Fault.TheVariants.{NotUnderstood}
-use Rattle.session.specs.Lines.{lines_of}
+use Rattle.session.specs.ScriptLines.{lines_of}
 
 -- ---- what is read
 

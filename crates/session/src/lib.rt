@@ -17,7 +17,7 @@ pub use script::{read_event, reads_printed};
 pub use session_core::{NewSession, Notes, Session};
 pub use session_model::{
     Bytes, Denied, Done, Effect, EntryDenied, Event, LockDenied, Peer, Ran, Reason, Refusal, Reply,
-    Verdict, WindowsFault,
+    Verdict, WindowsFault, push_decimal,
 };
 pub use setup::{SetupUnread, setup_of};
 pub use setup_file::{Beginning, spoken};

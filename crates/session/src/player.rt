@@ -10,7 +10,7 @@ ghost use Rattle.session_model.specs.Trace.{Trace, happening};
 ghost use Rattle.session_model.specs.Run.{tables_of};
 ghost use Rattle.session.specs.Printed.{effect_line, reply_line};
 ghost use Rattle.session_core.specs.Stands.{StandsFor};
-ghost use Rattle.session.specs.Lines.{lines_of};
+ghost use Rattle.session.specs.ScriptLines.{lines_of};
 ghost use Rattle.session.specs.Played.{PlaysAll, PlaysUntil, Played, Runs, IsBad, OfScript};
 ghost use Rattle.session.specs.Played.{IfNotUnderstood, views};
 

@@ -11,8 +11,8 @@ use Rattle.acl.specs.declared.edition.Edition.{Edition}
 use Rattle.acl.specs.declared.user_id.UserId.{UserId}
 use Rattle.acl.specs.History.{History, among, is_known, leaders_of, mask, may, users_of}
 use Rattle.acl.specs.Same.{same_bit}
-use Rattle.hub_check.specs.declared.replay.Replay.{Replay}
-use Rattle.hub_check.specs.Following.{StandsAfter}
+use Rattle.hub.specs.replay.Replay.{Replay}
+use Rattle.hub.specs.Following.{StandsAfter}
 use Rattle.trail_confined.specs.declared.premises.Premise.{Premise}
 use Rattle.trail_confined.specs.declared.premises.Premise.TheVariants as premise
 use Rattle.trail_rights.specs.declared.settler.RightsSetting.TheVariants as setting

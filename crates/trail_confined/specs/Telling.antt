@@ -15,7 +15,7 @@ use Rattle.acl.specs.History.{History}
 use Rattle.acl.specs.Names.{name_of}
 use Rattle.acl.specs.Same.{same_user}
 use Rattle.command_lang.specs.Names.{name_text}
-use Rattle.session_model.specs.Texts.{letter}
+use Rattle.session.specs.Texts.{letter}
 use Rattle.trail_rights.specs.declared.decider.Decider.{Decider}
 use Rattle.trail_rights.specs.declared.mark.Mark.{Mark}
 use Rattle.trail_rights.specs.declared.settler.RightsSetting.{RightsSetting}

@@ -5,7 +5,7 @@ ghost use Rattle.std.specs.List.{AllByRecursion, list_all, list_any};
 ghost use Rattle.acl.specs.declared.edition.Edition.{Edition};
 ghost use Rattle.acl.specs.declared.user_id.UserId.{UserId};
 ghost use Rattle.acl.specs.History.{History};
-ghost use Rattle.hub_check.specs.Following.{StandsAfter};
+ghost use Rattle.hub.specs.Following.{StandsAfter};
 ghost use Rattle.trail_confined.specs.Confining.{concerns, failing_of, holds, is_asked, premises_of};
 ghost use Rattle.trail_rights.specs.Marks.{Marked, acts_in};
 ghost use Rattle.trail_rights.specs.Settling.{HasSettled};
@@ -13,7 +13,7 @@ ghost use Rattle.trail_rights.specs.Seeing.{HasSeen};
 
 use crate::premises::{Premise, may_open, premises_of};
 use acl::{Bit, Object, UserId};
-use hub_check::Replay;
+use hub::Replay;
 use std::alloc::{AllocError, Global};
 use trail_rights::{RightsSetting, Settler, Sight, may, settler_in};
 

@@ -5,7 +5,7 @@ ghost use Rattle.std.specs.List.{flat_map, list_any};
 ghost use Rattle.acl.specs.declared.edition.Edition.{Edition};
 ghost use Rattle.acl.specs.declared.user_id.UserId.{UserId};
 ghost use Rattle.acl.specs.History.{History};
-ghost use Rattle.hub_check.specs.Following.{StandsAfter};
+ghost use Rattle.hub.specs.Following.{StandsAfter};
 ghost use Rattle.trail_confined.specs.Confining.{circle};
 ghost use Rattle.trail_confined.specs.Telling.{act_giver_text, any_gives, bit_text, bits_text};
 ghost use Rattle.trail_confined.specs.Telling.{causes_text, concerned_text, confined_text};
@@ -20,7 +20,7 @@ use crate::premises::{Premise, push_circle};
 use crate::why::{push_found, push_is_owner};
 use acl::{Act, Bit, CommandName, Object, UserId};
 use command_lang::name_text;
-use hub_check::Replay;
+use hub::Replay;
 use std::alloc::{AllocError, Global};
 use trail_rights::{Decider, Mark, RightsSetting, Settler, Sight, found_in, letter, settler_in};
 

@@ -5,13 +5,13 @@ ghost use Rattle.std.specs.List.{flat_map};
 ghost use Rattle.acl.specs.declared.edition.Edition.{Edition};
 ghost use Rattle.acl.specs.declared.user_id.UserId.{UserId};
 ghost use Rattle.acl.specs.History.{History};
-ghost use Rattle.hub_check.specs.Following.{StandsAfter};
+ghost use Rattle.hub.specs.Following.{StandsAfter};
 ghost use Rattle.trail_confined.specs.Confining.{circles_of, concerns, masks_by, masks_of};
 ghost use Rattle.trail_confined.specs.Confining.{circle, may_open, openers_of, powers_of, premises_of};
 ghost use Rattle.trail_confined.specs.Confining.{standing_of};
 
 use acl::{Bit, CommandName, Object, UserId};
-use hub_check::Replay;
+use hub::Replay;
 use std::alloc::{AllocError, Global};
 use trail_rights::{may, users_of};
 

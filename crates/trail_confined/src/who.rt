@@ -2,7 +2,7 @@
 
 use acl::{Bit, CommandName, Object, UserId};
 use command_lang::name_text;
-use hub_check::Replay;
+use hub::Replay;
 use std::alloc::Global;
 use std::io::{self, Write};
 use trail_rights::{Settler, Sight, Watch, holder, may, push_mask_lines, text_of, users_of};

@@ -5,7 +5,7 @@ ghost use Rattle.std.specs.List.{flat_map};
 ghost use Rattle.acl.specs.declared.edition.Edition.{Edition};
 ghost use Rattle.acl.specs.declared.user_id.UserId.{UserId};
 ghost use Rattle.acl.specs.History.{History};
-ghost use Rattle.hub_check.specs.Following.{StandsAfter};
+ghost use Rattle.hub.specs.Following.{StandsAfter};
 ghost use Rattle.trail_confined.specs.Reasons.{answer_of, answer_text, cause_text, decider_text};
 ghost use Rattle.trail_confined.specs.Reasons.{found_text, giver_text, is_listed, is_owner_text, is_there};
 ghost use Rattle.trail_confined.specs.Reasons.{mark_text, owner_text, reasons_text, yes_text};
@@ -13,10 +13,10 @@ ghost use Rattle.trail_rights.specs.Windows.{windows_of};
 
 use acl::{Act, Bit, CommandName, Object, UserId};
 use command_lang::name_text;
-use hub_check::Replay;
+use hub::Replay;
 use line_fields::acts::push_act;
 use line_fields::push_when;
-use session_model::push_decimal;
+use session::push_decimal;
 use std::alloc::AllocError;
 use trail_rights::{Decider, Mark, Sight, may};
 

@@ -8,14 +8,14 @@ use Rattle.std.proofs.lemmas.Bool.Decides.{nat_tests}
 use Rattle.acl.specs.declared.user_id.UserId.{UserId}
 use Rattle.acl.specs.Names.{name_of}
 use Rattle.command_lang.specs.Names.{name_text}
-use Rattle.session_model.specs.declared.refusal.Denied.{Denied}
-use Rattle.session_model.specs.declared.refusal.Denied.TheVariants as denied
-use Rattle.session_model.specs.declared.refusal.Refusal.{Refusal}
-use Rattle.session_model.specs.declared.refusal.Refusal.TheVariants as refusal
-use Rattle.session_model.specs.Texts.{behind}
-use Rattle.hub_trail.specs.declared.kept.Kept.{Kept}
-use Rattle.hub_trail.specs.declared.kept.Kept.TheVariants as kept
-use Rattle.hub_trail.specs.Trails.{Ending}
+use Rattle.session.specs.refusal.Denied.{Denied}
+use Rattle.session.specs.refusal.Denied.TheVariants as denied
+use Rattle.session.specs.refusal.Refusal.{Refusal}
+use Rattle.session.specs.refusal.Refusal.TheVariants as refusal
+use Rattle.session.specs.Texts.{behind}
+use Rattle.hub.specs.kept.Kept.{Kept}
+use Rattle.hub.specs.kept.Kept.TheVariants as kept
+use Rattle.hub.specs.Trails.{Ending}
 use Rattle.line_fields.specs.Cutting.{is_byte}
 use Rattle.line_fields.specs.Events.{Field, User, Number, Serial, Window, Bytes, Text, Title, Value}
 use Rattle.line_fields.specs.Events.{row_of, word_of, Parts}

@@ -11,7 +11,7 @@ use Rattle.std.proofs.lemmas.List.{map_push}
 use Rattle.std.proofs.lemmas.List.Concat.{flat_map-append}
 use Rattle.acl.specs.declared.user_id.UserId.{UserId}
 use Rattle.acl.specs.Names.{name_of}
-use Rattle.session_model.specs.Texts.{behind}
+use Rattle.session.specs.Texts.{behind}
 use Rattle.trail_lines.specs.Events.{title_of}
 
 pub behind_push : (separator : List ℕ) (items : List (List ℕ)) (item : List ℕ)

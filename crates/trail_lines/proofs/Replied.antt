@@ -22,14 +22,14 @@ use Rattle.command_lang.specs.Names.{name_text}
 use Rattle.regions.specs.declared.fault.RegionFault.{RegionFault}
 use Rattle.regions.specs.declared.fault.RegionFault.TheVariants as region
 use Rattle.regions.specs.Faults as regions
-use Rattle.session_model.specs.declared.refusal.Denied.{Denied}
-use Rattle.session_model.specs.declared.refusal.Denied.TheVariants as denied
-use Rattle.session_model.specs.declared.refusal.Refusal.{Refusal}
-use Rattle.session_model.specs.declared.refusal.Refusal.TheVariants as refusal
-use Rattle.session_model.specs.windows_fault.WindowsFault.{WindowsFault}
-use Rattle.session_model.specs.windows_fault.WindowsFault.TheVariants as windows
-use Rattle.session_model.specs.Texts.{behind, separated, windows_number}
-use Rattle.hub_trail.specs.Trails.{Ending}
+use Rattle.session.specs.refusal.Denied.{Denied}
+use Rattle.session.specs.refusal.Denied.TheVariants as denied
+use Rattle.session.specs.refusal.Refusal.{Refusal}
+use Rattle.session.specs.refusal.Refusal.TheVariants as refusal
+use Rattle.session.specs.windows_fault.WindowsFault.{WindowsFault}
+use Rattle.session.specs.windows_fault.WindowsFault.TheVariants as windows
+use Rattle.session.specs.Texts.{behind, separated, windows_number}
+use Rattle.hub.specs.Trails.{Ending}
 use Rattle.line_fields.specs.Cutting.{◌>>=◌, cut, words}
 use Rattle.line_fields.specs.Numbers.{number_below}
 use Rattle.line_fields.proofs.Words.{IsFree, first_field, one_word, first_word}

@@ -8,10 +8,10 @@ use Rattle.std.proofs.lemmas.Bool.Decides.{nat_tests}
 use Rattle.std.proofs.lemmas.Option.{same_Some}
 use Rattle.std.proofs.lemmas.Slice.Eq.{bytes_eq-Decides}
 use Rattle.acl.specs.declared.act.Act.{Act}
-use Rattle.session_model.specs.declared.verdict.Verdict.{Verdict}
-use Rattle.hub_trail.specs.declared.kept.Kept.{Kept}
-use Rattle.hub_trail.specs.declared.kept.Kept.TheVariants as kept
-use Rattle.hub_trail.specs.Trails.{Entry}
+use Rattle.session.specs.verdict.Verdict.{Verdict}
+use Rattle.hub.specs.kept.Kept.{Kept}
+use Rattle.hub.specs.kept.Kept.TheVariants as kept
+use Rattle.hub.specs.Trails.{Entry}
 use Rattle.line_fields.specs.Acts.{act_text, verdict_text}
 use Rattle.line_fields.specs.Cutting.{◌>>=◌, words}
 use Rattle.line_fields.specs.Events.{Field, User, Number, Serial, Window, Bytes, Text, Title, Value}

@@ -4,10 +4,10 @@ use Rattle.std.specs.Prelude.{codes, decimal}
 use Rattle.std.specs.List.{AllByRecursion, flat_map}
 use Rattle.acl.specs.declared.act.Act.{Act}
 use Rattle.acl.specs.Names.{name_of}
-use Rattle.session_model.specs.declared.verdict.Verdict.{Verdict}
-use Rattle.hub_trail.specs.declared.kept.Kept.{Kept}
-use Rattle.hub_trail.specs.declared.kept.Kept.TheVariants as kept
-use Rattle.hub_trail.specs.Trails.{Entry}
+use Rattle.session.specs.verdict.Verdict.{Verdict}
+use Rattle.hub.specs.kept.Kept.{Kept}
+use Rattle.hub.specs.kept.Kept.TheVariants as kept
+use Rattle.hub.specs.Trails.{Entry}
 use Rattle.line_fields.specs.Acts.{act_text, verdict_text}
 use Rattle.line_fields.specs.Events.{Field, User, Number, Serial, Window, Bytes, Text, Title, Value}
 use Rattle.line_fields.specs.Events.{row_of, word_of, Parts}

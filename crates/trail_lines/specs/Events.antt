@@ -3,11 +3,11 @@ use Rattle.std.specs.Prelude.{ℕ, ◌^◌, Bool, true, false, if◌then◌else�
 use Rattle.std.specs.Prelude.{None, codes, decimal}
 use Rattle.std.specs.Str.{bytes_eq, is_utf8}
 use Rattle.acl.specs.Names.{name_of}
-use Rattle.session_model.specs.Trace.{EventValue}
-use Rattle.session_model.specs.Trace as event
-use Rattle.hub_trail.specs.Filing.{kept_of}
-use Rattle.hub_trail.specs.declared.kept.Kept.{Kept}
-use Rattle.hub_trail.specs.declared.kept.Kept.TheVariants as kept
+use Rattle.session.specs.Trace.{EventValue}
+use Rattle.session.specs.Trace as event
+use Rattle.hub.specs.Filing.{kept_of}
+use Rattle.hub.specs.kept.Kept.{Kept}
+use Rattle.hub.specs.kept.Kept.TheVariants as kept
 use Rattle.line_fields.specs.Cutting.{◌>>=◌, cut}
 use Rattle.line_fields.specs.Events.{Field, User, Number, Serial, Window, Bytes, Text, Title, Value}
 use Rattle.line_fields.specs.Events.{row_of, word_of, Parts, of_parts, kind_in}

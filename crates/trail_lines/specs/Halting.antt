@@ -4,7 +4,7 @@ use Rattle.std.specs.Prelude.{length, codes, nat_eq}
 use Rattle.std.specs.List.{starts_with}
 use Rattle.acl.specs.declared.edition.Edition.{Edition}
 use Rattle.acl.specs.declared.user_id.UserId.{UserId}
-use Rattle.hub_trail.specs.Trails.{Entry}
+use Rattle.hub.specs.Trails.{Entry}
 use Rattle.trail_lines.specs.Entries.{Said, read_line}
 use Rattle.trail_lines.specs.declared.audit.Audit.{Audit}
 use Rattle.trail_lines.specs.declared.halt.Halt.{Halt}

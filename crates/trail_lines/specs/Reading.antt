@@ -3,13 +3,13 @@ use Rattle.std.specs.Prelude.{ℕ, ◌≡◌, ◌≢◌, List, [], ◌∷◌, �
 use Rattle.std.specs.Prelude.{Result, Ok, Err, map}
 use Rattle.acl.specs.declared.edition.Edition.{Edition}
 use Rattle.acl.specs.declared.user_id.UserId.{UserId}
-use Rattle.session_model.specs.Trace.{Trace}
-use Rattle.session_model.specs.Run.{IsRun}
-use Rattle.hub_trail.specs.Filing.{entries_of}
-use Rattle.hub_trail.specs.Trails.{Entry}
-use Rattle.hub_trail.specs.Legal.{AreLegal}
-use Rattle.hub_trail.specs.Judging.{IsBadAt}
-use Rattle.hub_check.specs.Judges.{HasJudged}
+use Rattle.session.specs.Trace.{Trace}
+use Rattle.session.specs.Run.{IsRun}
+use Rattle.hub.specs.Filing.{entries_of}
+use Rattle.hub.specs.Trails.{Entry}
+use Rattle.hub.specs.Legal.{AreLegal}
+use Rattle.hub.specs.Judging.{IsBadAt}
+use Rattle.hub.specs.Judges.{HasJudged}
 use Rattle.trail_lines.specs.declared.entries.EntryLine.{EntryLine}
 use Rattle.trail_lines.specs.Entries.{Said, read_line, said}
 use Rattle.trail_lines.specs.declared.audit.Audit.{Audit}

@@ -5,12 +5,12 @@ use Rattle.std.specs.List.{AllByRecursion}
 use Rattle.std.specs.Str.{is_utf8}
 use Rattle.acl.specs.declared.user_id.UserId.{UserId}
 use Rattle.acl.specs.History.{among}
-use Rattle.session_model.specs.declared.refusal.Denied.{Denied}
-use Rattle.session_model.specs.declared.refusal.Denied.TheVariants as denied
-use Rattle.session_model.specs.declared.refusal.Refusal.{Refusal}
-use Rattle.session_model.specs.declared.refusal.Refusal.TheVariants as refusal
-use Rattle.hub_trail.specs.declared.kept.Kept.{Kept}
-use Rattle.hub_trail.specs.Trails.{Ending, Entry}
+use Rattle.session.specs.refusal.Denied.{Denied}
+use Rattle.session.specs.refusal.Denied.TheVariants as denied
+use Rattle.session.specs.refusal.Refusal.{Refusal}
+use Rattle.session.specs.refusal.Refusal.TheVariants as refusal
+use Rattle.hub.specs.kept.Kept.{Kept}
+use Rattle.hub.specs.Trails.{Ending, Entry}
 use Rattle.line_fields.specs.Events.{Field, User, Number, Serial, Window, Bytes, Text, Title, Value}
 use Rattle.line_fields.specs.Events.{row_of, Parts, of_parts}
 use Rattle.line_fields.specs.Rows.{fields_in, Each}

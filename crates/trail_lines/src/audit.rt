@@ -3,9 +3,9 @@
 ghost use Rattle.std.specs.Prelude.{◌≡◌, List, [], IfOk};
 ghost use Rattle.acl.specs.declared.edition.Edition.{Edition};
 ghost use Rattle.acl.specs.declared.user_id.UserId.{UserId};
-ghost use Rattle.hub_trail.specs.Trails.{Entry};
-ghost use Rattle.hub_trail.specs.Legal.{acts_after};
-ghost use Rattle.hub_check.specs.Following.{StandsAfter};
+ghost use Rattle.hub.specs.Trails.{Entry};
+ghost use Rattle.hub.specs.Legal.{acts_after};
+ghost use Rattle.hub.specs.Following.{StandsAfter};
 ghost use Rattle.trail_lines.specs.Reading.{HasRead, Tells};
 ghost use Rattle.trail_lines.specs.Times.{no_times, time_after};
 
@@ -14,7 +14,7 @@ use crate::fault::Wrong;
 use crate::times::Times;
 use crate::unread::UnreadLine;
 use acl::{Edition, UserId};
-use hub_check::{Judge, Replay};
+use hub::{Judge, Replay};
 use std::alloc::{AllocError, Global};
 
 /// Reads and judges entries, line by line. It keeps tables of rights, locks and clients, and no entry.

@@ -6,7 +6,7 @@ ghost use Rattle.trail_lines.specs.Heading.{cause_text, cause_in, end_text, end_
 
 use crate::unread::UnreadLine;
 use line_fields::{cut, u64_at};
-use session_model::push_decimal;
+use session::push_decimal;
 use std::alloc::{AllocError, Global};
 
 /// Why a trail ends.

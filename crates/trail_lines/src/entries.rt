@@ -12,12 +12,11 @@ use crate::events::{event_at, push_count, push_event};
 use crate::replies::{push_reply, read_reply};
 use crate::unread::UnreadLine;
 use acl::Act;
-use hub_record::{KeptReply, TrailEntry};
-use hub_trail::Ending;
+use hub::{Ending, KeptReply, TrailEntry};
 use line_fields::acts::{push_act, read_act};
 use line_fields::verdicts::{push_verdict, read_verdict};
 use line_fields::{next_word, u64_at};
-use session_model::{Done, Refusal, Reply, Verdict};
+use session::{Done, Refusal, Reply, Verdict};
 use std::alloc::{AllocError, Global};
 
 /// An entry, its place in the trail and its time, in milliseconds since 1970.

@@ -10,10 +10,10 @@ ghost use Rattle.trail_lines.specs.Unreadable.{Gives};
 
 use crate::unread::UnreadLine;
 use acl::UserId;
-use hub_trail::Kept;
+use hub::Kept;
 use line_fields::parts::{push_name, user_at};
 use line_fields::{EventKind, cut, push_escaped, read_u8, u16_at, u32_at, unescape};
-use session_model::{Bytes, push_decimal};
+use session::{Bytes, push_decimal};
 use std::alloc::{AllocError, Global};
 use std::str;
 

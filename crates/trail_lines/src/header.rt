@@ -8,7 +8,7 @@ use crate::unread::UnreadLine;
 use acl::{Edition, UserId};
 use line_fields::parts::user_at;
 use line_fields::{cut, read_u64};
-use session_model::{Bytes, push_decimal};
+use session::{Bytes, push_decimal};
 use std::alloc::{AllocError, Global};
 
 /// What the first line says. Nothing proves it: the owner is whom the writer of the file named.

@@ -1,9 +1,9 @@
 //! The word of a reply.
 
 ghost use Rattle.std.specs.Prelude.{◌≡◌, ◌++◌, [], OnOk, codes, decimal, map, option_map};
-ghost use Rattle.session_model.specs.declared.refusal.Refusal.TheVariants as refusal;
+ghost use Rattle.session.specs.refusal.Refusal.TheVariants as refusal;
 ghost use Rattle.acl.specs.Names.{name_of};
-ghost use Rattle.session_model.specs.Texts.{behind};
+ghost use Rattle.session.specs.Texts.{behind};
 ghost use Rattle.line_fields.specs.Cutting.{words};
 ghost use Rattle.line_fields.specs.Parts.{colon, comma, field};
 ghost use Rattle.trail_lines.specs.Replies.{leaders_text, with_leader, leaders_of, leaders_in, denied_then};
@@ -14,11 +14,11 @@ ghost use Rattle.trail_lines.specs.Replies.{reply_text, finished_in, reply_in};
 
 use acl::{AclFault, Edition, Leaders, Object, UserId};
 use command_lang::{FaultKind, ParseFault};
-use hub_trail::{Ending, Finished};
+use hub::{Ending, Finished};
 use line_fields::parts::{mark, push_command, push_name, read_bit, read_object, user_at};
 use line_fields::{cut, next_word, read_u8, read_u64, u8_at, u32_at, u64_at};
 use regions::RegionFault;
-use session_model::{Denied, EntryDenied, LockDenied, Refusal, WindowsFault, push_decimal};
+use session::{Denied, EntryDenied, LockDenied, Refusal, WindowsFault, push_decimal};
 use std::alloc::AllocError;
 
 /// Appends a number and a colon.

@@ -3,12 +3,12 @@ use Rattle.std.specs.Prelude.{ℕ, if◌then◌else◌, List, [], ◌∷◌, ◌
 use Rattle.std.specs.List.{flat_map}
 use Rattle.acl.specs.Names.{name_of}
 use Rattle.acl.specs.declared.user_id.UserId.{UserId}
-use Rattle.session_model.specs.declared.refusal.Refusal.{Refusal}
-use Rattle.session_model.specs.declared.refusal.Refusal.TheVariants as refusal
-use Rattle.session_model.specs.declared.refusal.EntryDenied.{EntryDenied as EntryDenial}
-use Rattle.session_model.specs.declared.verdict.Verdict.{Verdict}
-use Rattle.session_model.specs.declared.verdict.Verdict.TheVariants.{Right as right, Lock as lock}
-use Rattle.session_model.specs.Texts.{missing_text, leader_text, text_of}
+use Rattle.session.specs.refusal.Refusal.{Refusal}
+use Rattle.session.specs.refusal.Refusal.TheVariants as refusal
+use Rattle.session.specs.refusal.EntryDenied.{EntryDenied as EntryDenial}
+use Rattle.session.specs.verdict.Verdict.{Verdict}
+use Rattle.session.specs.verdict.Verdict.TheVariants.{Right as right, Lock as lock}
+use Rattle.session.specs.Texts.{missing_text, leader_text, text_of}
 use Rattle.line_fields.specs.Meaning.{meaning_text}
 
 -- `entry bob -w; leader ann -w`

@@ -4,9 +4,9 @@ use Rattle.acl.specs.declared.act.Object.TheVariants as object
 use Rattle.acl.specs.declared.bits.Bit.TheVariants.{Execute}
 use Rattle.acl.specs.declared.command_name.CommandName.TheVariants.{Title}
 use Rattle.command_lang.specs.Names.{name_text}
-use Rattle.session_model.specs.declared.verdict.Verdict.{Verdict}
-use Rattle.session_model.specs.declared.verdict.Verdict.TheVariants.{Right as right, Lock as lock}
-use Rattle.hub_trail.specs.Legal.{asks_for_command}
+use Rattle.session.specs.verdict.Verdict.{Verdict}
+use Rattle.session.specs.verdict.Verdict.TheVariants.{Right as right, Lock as lock}
+use Rattle.hub.specs.Legal.{asks_for_command}
 
 -- those before the first that asks for x on a command
 abbrev pub before_command : List Verdict → List Verdict

@@ -8,11 +8,11 @@ use Rattle.acl.specs.declared.act.Act.TheVariants.{Set, Opened, Closed, Entered,
 use Rattle.acl.specs.declared.act.Object.TheVariants as object
 use Rattle.acl.specs.declared.user_id.UserId.{UserId}
 use Rattle.acl.specs.Same.{same_user}
-use Rattle.session_model.specs.declared.verdict.Verdict.{Verdict}
-use Rattle.hub_check.specs.Clients.{user_in}
-use Rattle.hub_trail.specs.declared.kept.Kept.{Kept}
-use Rattle.hub_trail.specs.declared.kept.Kept.TheVariants as kept
-use Rattle.hub_trail.specs.Trails.{Entry}
+use Rattle.session.specs.verdict.Verdict.{Verdict}
+use Rattle.hub.specs.Clients.{user_in}
+use Rattle.hub.specs.kept.Kept.{Kept}
+use Rattle.hub.specs.kept.Kept.TheVariants as kept
+use Rattle.hub.specs.Trails.{Entry}
 use Rattle.trail_lines.specs.Entries.{Said}
 use Rattle.trail_log.specs.declared.choice.Choice.{Choice}
 use Rattle.trail_log.specs.declared.choice.Wanted.{Wanted}

@@ -3,12 +3,12 @@ use Rattle.std.specs.Prelude.{ℕ, ◌+◌, ◌-◌, ◌&&◌, Bool, nat_lt, if�
 use Rattle.std.specs.Prelude.{Option, Some, None, option_map, Ok, Err, codes}
 use Rattle.std.specs.Str.{bytes_eq}
 use Rattle.client_words.specs.Visible.{visible}
-use Rattle.session_model.specs.declared.verdict.Verdict.{Verdict}
-use Rattle.hub_check.specs.Clients.{user_in}
-use Rattle.hub_trail.specs.declared.kept.Kept.{Kept}
-use Rattle.hub_trail.specs.declared.kept.Kept.TheVariants as kept
-use Rattle.hub_trail.specs.Legal.{failed, from_command}
-use Rattle.hub_trail.specs.Trails.{Ending}
+use Rattle.session.specs.verdict.Verdict.{Verdict}
+use Rattle.hub.specs.Clients.{user_in}
+use Rattle.hub.specs.kept.Kept.{Kept}
+use Rattle.hub.specs.kept.Kept.TheVariants as kept
+use Rattle.hub.specs.Legal.{failed, from_command}
+use Rattle.hub.specs.Trails.{Ending}
 use Rattle.trail_lines.specs.Entries.{Said}
 use Rattle.trail_log.specs.declared.choice.Choice.{Choice}
 use Rattle.trail_log.specs.declared.log_line.LogLine.{LogLine}

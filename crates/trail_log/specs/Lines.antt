@@ -3,12 +3,12 @@ use Rattle.std.specs.Prelude.{ℕ, ◌==◌, if◌then◌else◌, List, [], ◌�
 use Rattle.std.specs.Prelude.{Option, Some, None, Ok, Err, codes, decimal, find, not}
 use Rattle.acl.specs.Names.{name_of}
 use Rattle.acl.specs.declared.user_id.UserId.{UserId}
-use Rattle.session_model.specs.declared.verdict.Verdict.{Verdict}
-use Rattle.hub_check.specs.Clients.{user_in}
-use Rattle.hub_trail.specs.declared.kept.Kept.{Kept}
-use Rattle.hub_trail.specs.declared.kept.Kept.TheVariants as kept
-use Rattle.hub_trail.specs.Legal.{failed, from_command}
-use Rattle.hub_trail.specs.Trails.{Ending}
+use Rattle.session.specs.verdict.Verdict.{Verdict}
+use Rattle.hub.specs.Clients.{user_in}
+use Rattle.hub.specs.kept.Kept.{Kept}
+use Rattle.hub.specs.kept.Kept.TheVariants as kept
+use Rattle.hub.specs.Legal.{failed, from_command}
+use Rattle.hub.specs.Trails.{Ending}
 use Rattle.trail_lines.specs.declared.ending.Ended.{Ended}
 use Rattle.trail_lines.specs.Heading as heading
 use Rattle.line_fields.specs.Dates.{clock_text}

@@ -2,7 +2,7 @@
 use Rattle.std.specs.Prelude.{ℕ, ◌≡◌, List, [], ◌∷◌, ◌++◌, length, map, Option, Result, Ok, Err, Some}
 use Rattle.acl.specs.declared.edition.Edition.{Edition}
 use Rattle.acl.specs.declared.user_id.UserId.{UserId}
-use Rattle.hub_trail.specs.Trails.{Entry}
+use Rattle.hub.specs.Trails.{Entry}
 use Rattle.trail_lines.specs.Entries.{Said, read_line}
 use Rattle.trail_lines.specs.declared.fault.Wrong.{Wrong}
 use Rattle.trail_lines.specs.Reading.{HasRead, IsWrong}

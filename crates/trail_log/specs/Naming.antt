@@ -10,11 +10,11 @@ use Rattle.command_lang.specs.declared.command.Command.{Command}
 use Rattle.command_lang.specs.declared.command.Command.TheVariants as command
 use Rattle.command_lang.specs.declared.fault.ParseFault.{ParseFault}
 use Rattle.command_lang.specs.Relation.{read_line}
-use Rattle.session_model.specs.declared.verdict.Verdict.{Verdict}
-use Rattle.hub_trail.specs.declared.kept.Kept.{Kept}
-use Rattle.hub_trail.specs.declared.kept.Kept.TheVariants as kept
-use Rattle.hub_trail.specs.Legal.{from_command, passes}
-use Rattle.hub_trail.specs.Trails.{Ending}
+use Rattle.session.specs.verdict.Verdict.{Verdict}
+use Rattle.hub.specs.kept.Kept.{Kept}
+use Rattle.hub.specs.kept.Kept.TheVariants as kept
+use Rattle.hub.specs.Legal.{from_command, passes}
+use Rattle.hub.specs.Trails.{Ending}
 use Rattle.trail_lines.specs.Entries.{Said}
 use Rattle.trail_log.specs.declared.names.Change.{Change}
 use Rattle.trail_log.specs.declared.titles.Titled.{Titled}

@@ -2,13 +2,13 @@
 
 ghost use Rattle.std.specs.Prelude.{◌≡◌, ◌++◌, OnOk, codes};
 ghost use Rattle.std.specs.List.{flat_map};
-ghost use Rattle.session_model.specs.Texts.{leader_text, letter, missing_text};
+ghost use Rattle.session.specs.Texts.{leader_text, letter, missing_text};
 ghost use Rattle.trail_log.specs.Causes.{cause_text, check_cause, entry_cause, lock_cause, refused_verb};
 ghost use Rattle.line_fields.specs.Meaning.{meaning_text};
 
 use acl::{Bit, Leaders, UserId};
 use line_fields::push_meaning;
-use session_model::{EntryDenied, Refusal, Verdict};
+use session::{EntryDenied, Refusal, Verdict};
 use std::alloc::AllocError;
 
 /// The letter of a bit.

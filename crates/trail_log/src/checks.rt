@@ -6,8 +6,8 @@ ghost use Rattle.trail_log.specs.Checks.{window_of};
 
 use acl::{CommandName, Object};
 use command_lang::name_text;
-use hub_trail::asks_for_command;
-use session_model::Verdict;
+use hub::asks_for_command;
+use session::Verdict;
 
 /// The checks before the first that asks for x on a command.
 pub fn before_command(verdicts: &[Verdict]) -> &[Verdict]

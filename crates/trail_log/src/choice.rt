@@ -9,8 +9,8 @@ use crate::checks::window_of;
 use crate::names::Names;
 use crate::titles::{Titled, title_in};
 use acl::{Act, Object, UserId};
-use hub_record::{Kept, TrailEntry};
-use session_model::{Bytes, Verdict};
+use hub::{Kept, TrailEntry};
+use session::{Bytes, Verdict};
 use trail_lines::EntryLine;
 
 /// A window by its serial, or windows by their title.

@@ -1,7 +1,7 @@
 //! What a log tells of an event: who, and what.
 
 ghost use Rattle.std.specs.Prelude.{◌≡◌, ◌++◌, [], OnOk, codes, decimal};
-ghost use Rattle.hub_check.specs.Clients.{user_in};
+ghost use Rattle.hub.specs.Clients.{user_in};
 ghost use Rattle.trail_log.specs.Causes.{cause_text};
 ghost use Rattle.trail_log.specs.Lines.{attach_text, client_text, closed_text, command_line, deed_text, detach_text};
 ghost use Rattle.trail_log.specs.Lines.{ended_text, open_text};
@@ -12,9 +12,8 @@ use crate::names::Names;
 use crate::pressed::push_keys;
 use crate::titles::{Titled, push_on, push_titled, push_window};
 use acl::UserId;
-use hub_record::Kept;
-use hub_trail::Ending;
-use session_model::{Refusal, Verdict, push_decimal};
+use hub::{Ending, Kept};
+use session::{Refusal, Verdict, push_decimal};
 use std::alloc::AllocError;
 
 /// Appends the user of a client, or the client's serial if it isn't attached.

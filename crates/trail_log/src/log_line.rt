@@ -11,11 +11,9 @@ use crate::lines::push_text;
 use crate::names::Names;
 use crate::pressed::{push_count, push_typed_rest, typed_verb};
 use client_words::put_visible;
-use hub_check::failed;
-use hub_record::Kept;
-use hub_trail::{Ending, from_command};
+use hub::{Ending, Kept, failed, from_command};
 use line_fields::push_clock;
-use session_model::{Bytes, Verdict};
+use session::{Bytes, Verdict};
 use std::alloc::{AllocError, Global};
 use trail_lines::EntryLine;
 

@@ -1,7 +1,7 @@
 //! What a log calls clients and windows.
 
 ghost use Rattle.std.specs.Prelude.{◌≡◌, IfOk, OnOk, Some};
-ghost use Rattle.hub_check.specs.Clients.{user_in};
+ghost use Rattle.hub.specs.Clients.{user_in};
 ghost use Rattle.trail_lines.specs.Entries.{said};
 ghost use Rattle.trail_log.specs.Naming.{change_by, follow, follow_all, line_by, names_with, nobody, retitled};
 ghost use Rattle.trail_log.specs.Naming.{some_title, title_said, typed_change, with_change};
@@ -10,10 +10,8 @@ use crate::checks::{asks_title, window_in};
 use crate::titles::{Titled, follow_titles, forget, set_title};
 use acl::{Act, UserId};
 use command_lang::{Command, FaultKind, ParseFault, parse};
-use hub_check::{all_pass, follow_clients, user_of_client};
-use hub_record::Kept;
-use hub_trail::{Ending, from_command};
-use session_model::{Bytes, Verdict};
+use hub::{Ending, Kept, all_pass, follow_clients, from_command, user_of_client};
+use session::{Bytes, Verdict};
 use std::alloc::{AllocError, Global};
 use std::marker::Model;
 use trail_lines::EntryLine;

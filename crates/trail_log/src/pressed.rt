@@ -7,9 +7,8 @@ ghost use Rattle.trail_log.specs.Lines.{typed_rest, typed_text, typed_verb};
 use crate::causes::{push_cause, push_check};
 use crate::checks::{before_command, command_text, window_in};
 use crate::titles::{Titled, push_into, push_on};
-use hub_check::failed;
-use hub_trail::{Ending, from_command};
-use session_model::{Verdict, push_decimal};
+use hub::{Ending, failed, from_command};
+use session::{Verdict, push_decimal};
 use std::alloc::AllocError;
 
 /// Appends how many bytes.

@@ -5,7 +5,7 @@ ghost use Rattle.trail_log.specs.Lines.{into_text, on_text, window_text};
 ghost use Rattle.trail_log.specs.Naming.{title_in, titled, titles_after, without};
 
 use acl::Act;
-use session_model::{Bytes, push_decimal};
+use session::{Bytes, push_decimal};
 use std::alloc::AllocError;
 
 /// A window of this serial with its title.

@@ -6,7 +6,7 @@ use Rattle.acl.specs.declared.act.Act.{Act}
 use Rattle.acl.specs.declared.user_id.UserId.{UserId}
 use Rattle.acl.specs.History.{followed_by}
 use Rattle.writelock.specs.Holding.{clients_of}
-use Rattle.hub_trail.specs.Legal.{acts_after}
+use Rattle.hub.specs.Legal.{acts_after}
 use Rattle.trail_lines.specs.Entries.{Said}
 use Rattle.trail_rights.specs.declared.mark.Mark.{Mark}
 use Rattle.trail_rights.specs.declared.decider.Decider.{Decider}

@@ -5,10 +5,10 @@ use Rattle.acl.specs.declared.act.Act.{Act}
 use Rattle.acl.specs.declared.user_id.UserId.{UserId}
 use Rattle.acl.specs.History.{History}
 use Rattle.writelock.specs.Holding.{clients_of}
-use Rattle.hub_check.specs.Clients.{user_in}
-use Rattle.hub_trail.specs.declared.kept.Kept.{Kept}
-use Rattle.hub_trail.specs.declared.kept.Kept.TheVariants as kept
-use Rattle.hub_trail.specs.Trails.{Entry}
+use Rattle.hub.specs.Clients.{user_in}
+use Rattle.hub.specs.kept.Kept.{Kept}
+use Rattle.hub.specs.kept.Kept.TheVariants as kept
+use Rattle.hub.specs.Trails.{Entry}
 use Rattle.trail_lines.specs.Entries.{Said}
 use Rattle.trail_rights.specs.declared.mark.Mark.{Mark}
 

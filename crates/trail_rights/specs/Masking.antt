@@ -8,7 +8,7 @@ use Rattle.acl.specs.declared.act.PresetKind.TheVariants as kind
 use Rattle.acl.specs.declared.bits.Bit.{Bit}
 use Rattle.acl.specs.declared.bits.Bit.TheVariants.{Read, Write, Execute}
 use Rattle.acl.specs.declared.user_id.UserId.{UserId}
-use Rattle.session_model.specs.Texts.{letter}
+use Rattle.session.specs.Texts.{letter}
 use Rattle.trail_rights.specs.declared.settler.RightsSetting.{RightsSetting}
 use Rattle.trail_rights.specs.declared.settler.RightsSetting.TheVariants as setting
 use Rattle.trail_rights.specs.declared.settler.Settler.{Settler}

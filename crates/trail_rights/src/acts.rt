@@ -7,7 +7,7 @@ ghost use Rattle.trail_rights.specs.Keeping.{HasKept, Keeps};
 
 use crate::mark::{Mark, mark_among};
 use acl::{Act, UserId};
-use hub_check::follow_clients;
+use hub::follow_clients;
 use std::alloc::{AllocError, Global};
 use trail_lines::EntryLine;
 

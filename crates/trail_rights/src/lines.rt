@@ -3,7 +3,7 @@
 use crate::json::{write_end, write_entry};
 use crate::shown_texts::behind_words;
 use crate::texts::write_when;
-use hub_record::Kept;
+use hub::Kept;
 use line_fields::{push_escaped, push_means};
 use std::alloc::{AllocError, Global};
 use std::io::{self, BufRead, Write};

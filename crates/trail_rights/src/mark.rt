@@ -5,8 +5,7 @@ ghost use Rattle.trail_lines.specs.Entries.{said};
 ghost use Rattle.trail_rights.specs.Marks.{giver_among, mark_among};
 
 use acl::UserId;
-use hub_check::user_of_client;
-use hub_record::Kept;
+use hub::{Kept, user_of_client};
 use trail_lines::EntryLine;
 
 /// The place of an entry, its time in milliseconds since 1970, and the user who gave its event: nobody

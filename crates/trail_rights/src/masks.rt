@@ -2,7 +2,7 @@
 
 ghost use Rattle.std.specs.Prelude.{◌≡◌, ◌++◌, OnOk};
 ghost use Rattle.std.specs.List.{flat_map};
-ghost use Rattle.session_model.specs.Texts.{letter};
+ghost use Rattle.session.specs.Texts.{letter};
 ghost use Rattle.trail_rights.specs.Masking.{given_text, mask_letter, mask_text, masks_text};
 ghost use Rattle.trail_rights.specs.Masking.{newcomer_text, other_text, preset_letter, preset_text, setting_text};
 

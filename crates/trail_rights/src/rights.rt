@@ -5,11 +5,11 @@ ghost use Rattle.acl.specs.declared.edition.Edition.{Edition};
 ghost use Rattle.acl.specs.declared.user_id.UserId.{UserId};
 ghost use Rattle.acl.specs.History.{History, may, there, users_of};
 ghost use Rattle.writelock.specs.Holding.{holder};
-ghost use Rattle.hub_check.specs.Following.{StandsAfter};
+ghost use Rattle.hub.specs.Following.{StandsAfter};
 
 use acl::{Bit, Object, UserId};
-use hub_check::Replay;
-use session_model::Verdict;
+use hub::Replay;
+use session::Verdict;
 use std::alloc::{AllocError, Global};
 
 /// Whether the user has the bit on an object that is there.

@@ -19,7 +19,7 @@ use Rattle.acl.specs.History.{decision, has, is_known, is_open, latest, leaders_
 use Rattle.acl.specs.History.{may, open_count}
 use Rattle.acl.specs.History.{preset_of, there, users_after, users_of}
 use Rattle.acl.specs.Same.{same_object, same_user}
-use Rattle.hub_trail.specs.Judging.{can_follow}
+use Rattle.hub.specs.Judging.{can_follow}
 use Rattle.trail_setup.specs.Alone.{alone, is_of_entries}
 
 -- ---- what the newest act decides

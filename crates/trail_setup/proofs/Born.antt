@@ -9,7 +9,7 @@ use Rattle.acl.specs.declared.bits.Bit.{Bit}
 use Rattle.acl.specs.declared.user_id.UserId.{UserId}
 use Rattle.acl.specs.History.{History, decided, has, is_known, mask}
 use Rattle.acl.specs.Same.{same_user}
-use Rattle.hub_check.proofs.Folding.{all_holds}
+use Rattle.hub.proofs.Folding.{all_holds}
 use Rattle.trail_setup.specs.Closing.{closed, BornClosed}
 
 right_of : (a b : Bool) → (a && b) ≡ true → b ≡ true

@@ -6,8 +6,8 @@ use Rattle.acl.specs.declared.act.Act.TheVariants as act
 use Rattle.acl.specs.declared.edition.Edition.{Edition}
 use Rattle.acl.specs.declared.user_id.UserId.{UserId}
 use Rattle.acl.specs.History.{History}
-use Rattle.hub_check.specs.Following.{StandsAfter}
-use Rattle.hub_trail.specs.Judging.{can_follow}
+use Rattle.hub.specs.Following.{StandsAfter}
+use Rattle.hub.specs.Judging.{can_follow}
 use Rattle.trail_setup.specs.declared.entries.Entries.{Entries}
 
 -- whether entries follow from the act

@@ -4,7 +4,7 @@ use crate::entries::Entries;
 use crate::lines::{Form, Given, Lines, push_bits};
 use acl::{Bit, CommandName, Object, UserId};
 use command_lang::name_text;
-use hub_check::Replay;
+use hub::Replay;
 use std::alloc::{AllocError, Global};
 
 /// All combinations of bits but none.

@@ -8,7 +8,7 @@ ghost use Rattle.acl.specs.Same.{same_user};
 ghost use Rattle.trail_setup.specs.Alone.{is_of_entries, FollowsAlone, HasEntries};
 
 use acl::{Act, Bit, Edition, Object, UserId};
-use hub_check::Replay;
+use hub::Replay;
 use std::alloc::{AllocError, Global};
 use trail_rights::may;
 

@@ -2,8 +2,8 @@
 
 use acl::{Act, Bit, CommandName, Object, UserId};
 use command_lang::{Command, FaultKind, parse};
-use hub_record::{Kept, TrailEntry};
-use session_model::{Refusal, Verdict};
+use hub::{Kept, TrailEntry};
+use session::{Refusal, Verdict};
 use std::alloc::{AllocError, Global};
 
 /// What an entry says of the mode.

@@ -4,7 +4,7 @@ use crate::entries::Entries;
 use crate::lines::Given;
 use crate::mode::{ModeSeen, asks_for, mode_seen};
 use acl::{Act, Bit, CommandName, Edition, LockMode, PresetKind, UserId};
-use hub_record::TrailEntry;
+use hub::TrailEntry;
 use std::alloc::{AllocError, Global};
 
 /// A mask that was set: the opener, the user, and what it leaves to them.

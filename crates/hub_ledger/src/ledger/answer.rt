@@ -2,11 +2,11 @@
 
 ghost use Rattle.std.specs.Prelude.{◌≡◌};
 ghost use Rattle.std.specs.Option.{option_copied};
-ghost use Rattle.session_model.specs.Trace.{happening};
+ghost use Rattle.session.specs.Trace.{happening};
 ghost use Rattle.hub_ledger.specs.declared.ledger.answer.HubFault.TheVariants.{NoMemory as OfMemory};
 
 use hub_record::TrailEntry;
-use session_model::{Event, Reply};
+use session::{Event, Reply};
 use std::alloc::{AllocError, AllocFailed};
 use std::marker::Model;
 use thiserror::Error;
@@ -94,7 +94,7 @@ impl Drop for Answer<'_> {
 
 impl<'a> Model for Answer<'a> {
     ghost use Rattle.hub_ledger.specs.Seats.{Told};
-    ghost use Rattle.session_model.specs.Trace.{happening};
+    ghost use Rattle.session.specs.Trace.{happening};
 
     ghost Value = { Told };
 

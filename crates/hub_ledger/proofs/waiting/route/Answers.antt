@@ -8,8 +8,8 @@ use Rattle.std.specs.declared.alloc.Global.{Global}
 use Rattle.std.specs.Vec.Iter.{into_iter_items}
 use Rattle.std.proofs.lemmas.List.{length-map}
 use Rattle.std.proofs.lemmas.Option.{slice_get-get_or}
-use Rattle.session_laws.proofs.Lists.{all_weaken}
-use Rattle.session_model.specs.declared.event.Effect.{Effect}
+use Rattle.session.proofs.Lists.{all_weaken}
+use Rattle.session.specs.event.Effect.{Effect}
 use Rattle.hub_peers.specs.Peers.{HasPeer, owners_of, seat_of}
 use Rattle.hub_ledger.specs.Routing.{Sent, views}
 use Rattle.hub_ledger.proofs.Queues.{Waits, seat_there, seat_within, more_waits, room_left, append_turned}

@@ -1,7 +1,7 @@
 use denote.Param.Send.{param_send, arg_send, recorded_send, struct_send, shr_send, mut_send}
 use Rattle.acl.proofs.user_id.UserId.TheSendSync as user
 use Rattle.hub.proofs.Crossing.{hub_sync}
-use Rattle.hub_ledger.proofs.seat.Seat.TheSendSync as seat
+use Rattle.hub.proofs.seat.Seat.TheSendSync as seat
 use Rattle.hub_tests.proofs.totals.four.Goals as goal
 
 pub join-is_first-requires-send-F : goal.join-is_first-requires-send-F

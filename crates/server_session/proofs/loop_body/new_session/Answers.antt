@@ -3,8 +3,8 @@ use Rattle.std.specs.Prelude.{IfOk}
 use Rattle.acl.specs.declared.edition.Edition.{Edition}
 use Rattle.acl.specs.declared.edition.Edition.TheVariants.{Second}
 use Rattle.acl.specs.declared.user_id.UserId.{UserId}
-use Rattle.session_model.specs.Trace.{begun}
-use Rattle.hub_ledger.specs.Seats.{StandsFor}
+use Rattle.session.specs.Trace.{begun}
+use Rattle.hub.specs.Seats.{StandsFor}
 use Rattle.server_session.proofs.loop_body.new_session.Goals as goal
 
 pub returns : goal.returns

@@ -3,7 +3,7 @@ use Rattle.std.specs.Prelude.{filter}
 use Rattle.std.specs.List.{AllByRecursion, list_all}
 use Rattle.acl.specs.declared.edition.Edition.{Edition}
 use Rattle.acl.specs.declared.user_id.UserId.{UserId}
-use Rattle.hub_check.specs.Following.{StandsAfter}
+use Rattle.hub.specs.Following.{StandsAfter}
 use Rattle.trail_confined.specs.Confining.{holds, is_asked}
 use Rattle.trail_rights.specs.Marks.{Marked, acts_in}
 use Rattle.trail_rights.specs.Settling.{HasSettled}

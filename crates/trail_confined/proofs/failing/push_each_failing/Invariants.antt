@@ -2,7 +2,7 @@ use Rattle.std.proofs.Common.{◌≡◌, ◌++◌, take}
 use Rattle.std.specs.List.{flat_map}
 use Rattle.acl.specs.declared.edition.Edition.{Edition}
 use Rattle.acl.specs.History.{History}
-use Rattle.hub_check.specs.Following.{StandsAfter}
+use Rattle.hub.specs.Following.{StandsAfter}
 use Rattle.trail_confined.specs.Telling.{failing_text}
 use Rattle.trail_confined.proofs.failing.push_each_failing.Given as goal
 

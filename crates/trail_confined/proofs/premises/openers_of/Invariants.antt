@@ -3,7 +3,7 @@ use Rattle.std.specs.Prelude.{filter}
 use Rattle.acl.specs.declared.edition.Edition.{Edition}
 use Rattle.acl.specs.declared.user_id.UserId.{UserId}
 use Rattle.acl.specs.History.{History}
-use Rattle.hub_check.specs.Following.{StandsAfter}
+use Rattle.hub.specs.Following.{StandsAfter}
 use Rattle.trail_confined.specs.Confining.{may_open}
 use Rattle.trail_confined.proofs.premises.openers_of.Given as goal
 

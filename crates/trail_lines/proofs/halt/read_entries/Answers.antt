@@ -2,7 +2,7 @@ use Rattle.std.proofs.Common.{◌≡◌, ◌+◌, ◌++◌, ◌∷◌, [], ℕ, 
 use Rattle.std.specs.Prelude.{IfSome}
 use Rattle.acl.specs.declared.edition.Edition.{Edition}
 use Rattle.acl.specs.declared.user_id.UserId.{UserId}
-use Rattle.hub_trail.specs.Trails.{Entry}
+use Rattle.hub.specs.Trails.{Entry}
 use Rattle.trail_lines.specs.Entries.{read_line, said}
 use Rattle.trail_lines.specs.declared.audit.Audit.{Audit}
 use Rattle.trail_lines.specs.declared.halt.Halt.{Halt}

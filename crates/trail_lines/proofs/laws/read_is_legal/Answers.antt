@@ -1,8 +1,8 @@
 use Rattle.std.proofs.Common.{[]}
-use Rattle.hub_trail.specs.Filing.{entries_of}
-use Rattle.hub_trail.proofs.Runs.{legal_run}
-use Rattle.hub_trail.proofs.Steps.{judged_run}
-use Rattle.hub_check.proofs.Judged.{good_legal, good_not_bad, legal_good}
+use Rattle.hub.specs.Filing.{entries_of}
+use Rattle.hub.proofs.Runs.{legal_run}
+use Rattle.hub.proofs.Steps.{judged_run}
+use Rattle.hub.proofs.Judged.{good_legal, good_not_bad, legal_good}
 use Rattle.trail_lines.proofs.laws.read_is_legal.Goals as goal
 
 pub returns-clause-legal : goal.returns-clause-legal

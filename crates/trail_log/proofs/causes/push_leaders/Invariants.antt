@@ -1,6 +1,6 @@
 use Rattle.std.proofs.Common.{◌≡◌, ◌++◌, take}
 use Rattle.std.specs.List.{flat_map}
-use Rattle.session_model.specs.Texts.{leader_text}
+use Rattle.session.specs.Texts.{leader_text}
 use Rattle.trail_log.proofs.causes.push_leaders.Given as goal
 
 abbrev pub invariant-loop-leader : goal.invariant-loop-leader

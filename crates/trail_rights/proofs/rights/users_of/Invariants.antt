@@ -2,7 +2,7 @@ use Rattle.std.proofs.Common.{◌≡◌, take}
 use Rattle.acl.specs.declared.edition.Edition.{Edition}
 use Rattle.acl.specs.declared.user_id.UserId.{UserId}
 use Rattle.acl.specs.History.{History, users_of}
-use Rattle.hub_check.specs.Following.{StandsAfter}
+use Rattle.hub.specs.Following.{StandsAfter}
 use Rattle.trail_rights.proofs.rights.users_of.Given as goal
 
 -- those so far

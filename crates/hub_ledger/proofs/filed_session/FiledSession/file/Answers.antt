@@ -1,5 +1,5 @@
 use Rattle.std.proofs.Common.{◌≡◌, ◌∙◌, ◌∷◌, ◌++◌, [], Some, ap, subst, sym}
-use Rattle.session_model.specs.Trace.{happening}
+use Rattle.session.specs.Trace.{happening}
 use Rattle.hub_trail.specs.Trails.{Ending}
 use Rattle.hub_trail.specs.Filing.{kept_of}
 use Rattle.hub_record.specs.Receipts.{Receipt}

@@ -1,5 +1,5 @@
 use Rattle.std.proofs.Common.{List, length, ap, subst, sym}
-use Rattle.session_model.specs.Trace.{begun}
+use Rattle.session.specs.Trace.{begun}
 use Rattle.hub_trail.specs.Trails.{Entry, Trail}
 use Rattle.hub_peers.specs.Peers.{AreSeats, Owners}
 use Rattle.hub_ledger.specs.Routing.{views}

@@ -3,8 +3,8 @@ use Rattle.std.specs.declared.vec.Vec.{Vec}
 use Rattle.std.specs.declared.alloc.Global.{Global}
 use Rattle.std.specs.List.{AllByRecursion}
 use Rattle.std.proofs.lemmas.List.{length-map}
-use Rattle.session_model.specs.Trace.{happening}
-use Rattle.session_core.specs.Stands.{entry_of, wants_memory}
+use Rattle.session.specs.Trace.{happening}
+use Rattle.session.specs.Stands.{entry_of, wants_memory}
 use Rattle.hub_trail.specs.Filing.{kept_of}
 use Rattle.hub_peers.specs.Peers.{HasPeer, Owners, owners_of, with_peers}
 use Rattle.hub_ledger.specs.Routing.{Sent, views, marked, typed_in, typist_of, AreRouted}

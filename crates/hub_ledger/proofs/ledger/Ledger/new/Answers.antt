@@ -5,8 +5,8 @@ use Rattle.std.specs.declared.alloc.Global.{Global}
 use Rattle.acl.specs.declared.edition.Edition.{Edition}
 use Rattle.acl.specs.declared.user_id.UserId.{UserId}
 use Rattle.hub_ledger.specs.Routing.{Sent}
-use Rattle.session_model.specs.Trace.{begun}
-use Rattle.session_core.specs.declared.session.Session.{Session}
+use Rattle.session.specs.Trace.{begun}
+use Rattle.session.specs.session.Session.{Session}
 use Rattle.hub_ledger.specs.States.{State, StandsFor, begun_with}
 use Rattle.hub_ledger.proofs.ledger.Ledger.new.Goals as goal
 

@@ -4,7 +4,7 @@ use Rattle.std.proofs.lemmas.List.{length-map}
 use Rattle.std.specs.declared.vec.Vec.{Vec}
 use Rattle.std.specs.declared.alloc.Global.{Global}
 use Rattle.hub_ledger.specs.Routing.{Sent}
-use Rattle.session_model.specs.Trace.{happening}
+use Rattle.session.specs.Trace.{happening}
 use Rattle.hub_trail.specs.Filing.{kept_of}
 use Rattle.hub_ledger.specs.States.{State, state_of}
 use Rattle.hub_ledger.proofs.Filing.{begins_stay, no_more, seats_stay}

@@ -1,5 +1,5 @@
 use Rattle.std.proofs.Common.{[], subst}
-use Rattle.hub_check.specs.Following.{StandsAfter}
+use Rattle.hub.specs.Following.{StandsAfter}
 use Rattle.trail_rights.specs.Marks.{entries_in}
 use Rattle.trail_rights.proofs.Seen.{acts_are}
 use Rattle.trail_rights.proofs.watch.Watch.replay.Goals as goal

@@ -1,6 +1,6 @@
 use denote.Param.Send.{sendable}
 use Rattle.std.proofs.Crossing.{crosses}
-use Rattle.hub_ledger.proofs.seat.Seat.TheSendSync as seat
+use Rattle.hub.proofs.seat.Seat.TheSendSync as seat
 use Rattle.server_session.proofs.Crossing.{running_sync}
 use Rattle.server_session.proofs.loop_body.fn.run_all.scope.Goals as goal
 
