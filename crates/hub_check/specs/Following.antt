@@ -1,5 +1,5 @@
 -- What a replay stands for, and what it stands for after one act more.
-use Rattle.std.specs.Prelude.{Bool, true, false, ◌≡◌, ◌↔◌, List, ◌∷◌, ◌++◌, Option, Some, Ok, IfOk}
+use Rattle.std.specs.Prelude.{Bool, true, ◌≡◌, ◌↔◌, List, ◌∷◌, ◌++◌, Option, Some, Ok, IfOk}
 use Rattle.std.specs.Prelude.{Result, is_none}
 use Rattle.std.specs.List.{AllByRecursion}
 use Rattle.std.specs.declared.alloc.AllocError.{AllocError}

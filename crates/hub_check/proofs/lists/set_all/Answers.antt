@@ -1,11 +1,10 @@
-use Rattle.std.proofs.Common.{true, sym, subst, ◌∙◌}
-use Rattle.std.specs.Prelude.{◌≡◌, Bool, length, nat_lt}
+use Rattle.std.proofs.Common.{sym, subst, ◌∙◌}
+use Rattle.std.specs.Prelude.{Bool}
 use Rattle.std.proofs.lemmas.Result.{IfOk-weaker}
 use Rattle.acl.specs.declared.faults.AclFault.TheVariants.{OwnerKept, TooManyUsers, UnknownUser}
 use Rattle.acl.specs.History.{among, users_of}
 use Rattle.acl.specs.Same.{same_user}
 use Rattle.acl.specs.Table.{StandsFor}
-use Rattle.hub_check.specs.Following.{SetsAll}
 use Rattle.hub_check.proofs.Redoing.{on_ok, listed, sets_done}
 use Rattle.hub_check.proofs.Running.{all_there, on_all}
 use Rattle.hub_check.proofs.lists.set_all.Goals as goal
