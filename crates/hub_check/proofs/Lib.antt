@@ -5,3 +5,4 @@ pub mod Folding
 pub mod Judged
 pub mod Taken
 pub mod Unfreed
+pub mod Running

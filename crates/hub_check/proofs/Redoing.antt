@@ -1,5 +1,5 @@
 -- What a list command of one name, bit and object gives.
-use Rattle.std.proofs.Common.{◌≡◌, ◌∙◌, ◌∷◌, ◌++◌, [], Bool, true, false, not, ◌&&◌, ◌||◌, Option, Some, None, Ok, refl}
+use Rattle.std.proofs.Common.{◌≡◌, ◌∙◌, ◌∷◌, ◌++◌, [], List, Bool, true, false, not, ◌&&◌, ◌||◌, Option, Some, None, Ok, refl}
 use Rattle.std.proofs.Common.{ap, sym, subst, is_none, if◌then◌else◌}
 use Rattle.std.specs.Prelude.{Result, OnOk}
 use Rattle.std.specs.Option.{option_or}
@@ -10,12 +10,14 @@ use Rattle.acl.specs.declared.act.Act.{Act}
 use Rattle.acl.specs.declared.act.Act.TheVariants.{Known, Set}
 use Rattle.acl.specs.declared.act.Object.{Object}
 use Rattle.acl.specs.declared.bits.Bit.{Bit}
+use Rattle.acl.specs.declared.bits.BitChange.{BitChange}
 use Rattle.acl.specs.declared.edition.Edition.{Edition}
 use Rattle.acl.specs.declared.faults.AclFault.{AclFault}
 use Rattle.acl.specs.declared.user_id.UserId.{UserId}
-use Rattle.acl.specs.Commands.{Answers, change_acts, chosen_leader, user_acts}
+use Rattle.acl.specs.Commands.{Answers, change_acts, chosen_leader, sets, user_acts}
 use Rattle.acl.specs.History.{History, among, followed_by, users_of}
 use Rattle.hub_trail.specs.Judging.{can_follow, leader_in}
+use Rattle.hub_replies.proofs.Reading.{append_none}
 use Rattle.hub_check.specs.declared.replay.Replay.{Replay}
 use Rattle.hub_check.specs.Following.{Follows, Redoes, StandsAfter, Tells}
 
@@ -77,6 +79,13 @@ pub set_done : (owner : UserId) (h : History) (u : UserId) (bit : Bit) (object :
     bit object value ∷ h
 set_done owner h u bit object value e = ap
     (λ b. followed_by h (user_acts b u (record { bit = bit; value = value } ∷ []) (object ∷ []) ++ [])) e
+
+pub sets_done : (owner : UserId) (h : History) (u : UserId) (changes : List BitChange) (objects : List Object)
+    → among (users_of owner h) u ≡ true
+    → followed_by h (change_acts (users_of owner h) (Some u ∷ []) changes objects) ≡ followed_by h (sets u changes objects)
+sets_done owner h u changes objects e =
+    ap (λ b. followed_by h (user_acts b u changes objects ++ [])) e
+    ∙ ap (followed_by h) (append_none (sets u changes objects))
 
 pub chosen : (leader : Option UserId) → chosen_leader (leader_in leader) ≡ leader
 chosen None = refl

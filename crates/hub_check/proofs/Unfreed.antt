@@ -17,7 +17,11 @@ use Rattle.writelock.specs.declared.locks.Locks.{Locks}
 use Rattle.writelock.specs.Holding.{ends, holder, kept, mode_of}
 use Rattle.writelock.specs.LockTable.{LocksStandFor}
 use Rattle.writelock.proofs.HolderLemmas.{able-kept}
-use Rattle.hub_check.specs.Following.{leaves_locks}
+
+-- whether setting a bit leaves each lock as it is: w is taken on no window whose lock is held
+abbrev pub leaves_locks : Edition → UserId → History → Bit → Object → Bool → Bool
+leaves_locks edition owner h Write (Window w) false = is_none (holder edition owner h w)
+leaves_locks edition owner h bit object value = true
 
 -- ---- tests
 

@@ -1,21 +1,21 @@
 -- What a replay stands for, and what it stands for after one act more.
-use Rattle.std.specs.Prelude.{Bool, true, false, ◌≡◌, ◌↔◌, List, ◌∷◌, Option, Some, Ok, IfOk}
+use Rattle.std.specs.Prelude.{Bool, true, ◌≡◌, ◌↔◌, List, ◌∷◌, ◌++◌, Option, Some, Ok, IfOk}
 use Rattle.std.specs.Prelude.{Result, is_none}
+use Rattle.std.specs.List.{AllByRecursion}
 use Rattle.std.specs.declared.alloc.AllocError.{AllocError}
 use Rattle.acl.specs.declared.act.Act.{Act}
 use Rattle.acl.specs.declared.act.Object.{Object}
-use Rattle.acl.specs.declared.act.Object.TheVariants.{Window}
-use Rattle.acl.specs.declared.bits.Bit.{Bit}
-use Rattle.acl.specs.declared.bits.Bit.TheVariants.{Write}
+use Rattle.acl.specs.declared.bits.BitChange.{BitChange}
 use Rattle.acl.specs.declared.edition.Edition.{Edition}
 use Rattle.acl.specs.declared.faults.AclFault.{AclFault}
 use Rattle.acl.specs.declared.user_id.UserId.{UserId}
-use Rattle.acl.specs.Commands.{Answers, known_name_fault}
+use Rattle.acl.specs.Commands.{Answers, known_name_fault, sets}
 use Rattle.acl.specs.History.{History, followed_by, open_count, users_of}
 use Rattle.acl.specs.Table.{StandsFor}
-use Rattle.writelock.specs.Holding.{clients_of, holder}
+use Rattle.writelock.specs.Holding.{clients_of}
 use Rattle.writelock.specs.LockTable.{LocksStandFor}
 use Rattle.hub_trail.specs.Judging.{can_follow, CanFollow}
+use Rattle.hub_replies.specs.Runs.{IsUnlocked}
 use Rattle.hub_check.specs.declared.replay.Replay.{Replay}
 use Rattle.hub_check.specs.Clients.{Differ}
 
@@ -61,7 +61,18 @@ Tells done result =
 abbrev pub is_nameable : UserId → History → UserId → Bool
 is_nameable owner h u = is_none (known_name_fault owner (users_of owner h) (Some u))
 
--- whether setting a bit leaves each lock as it is: w is taken on no window whose lock is held
-abbrev pub leaves_locks : Edition → UserId → History → Bit → Object → Bool → Bool
-leaves_locks edition owner h Write (Window w) false = is_none (holder edition owner h w)
-leaves_locks edition owner h bit object value = true
+-- a user's bits are set on objects, if the user may be named and nobody holds a lock of the objects: the
+-- acts can follow, and the replay stands after them
+abbrev pub SetsAll : Replay → Replay → UserId → List BitChange → List Object → Type 0
+SetsAll old new u changes objects =
+    (edition : Edition) (owner : UserId) (h : History) → StandsAfter old edition owner h
+    → is_nameable owner h u ≡ true → AllByRecursion (IsUnlocked old.locks) objects
+    → CanFollow edition owner h (sets u changes objects)
+    × StandsAfter new edition owner (followed_by h (sets u changes objects))
+
+-- of acts, those before the rest can follow, and the replay stands after them
+abbrev pub FollowsFront : Replay → Replay → List Act → List Act → Type 0
+FollowsFront old new acts rest =
+    (edition : Edition) (owner : UserId) (h : History) → StandsAfter old edition owner h
+    → (front : List Act) × (acts ≡ front ++ rest) × CanFollow edition owner h front
+    × StandsAfter new edition owner (followed_by h front)

@@ -3,7 +3,6 @@
 #![tactic(auto)]
 
 mod acts;
-mod check;
 mod clients;
 mod commands;
 mod fault;
@@ -17,7 +16,6 @@ mod replay;
 mod says;
 mod verdicts;
 
-pub use check::check_entries;
 pub use clients::{follow_clients, user_of_client};
 pub use fault::CheckFault;
 pub use judge::Judge;

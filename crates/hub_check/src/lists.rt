@@ -1,18 +1,20 @@
 //! Acts of list commands. Each act is done again by the list command that does this act alone.
 
-ghost use Rattle.std.specs.Prelude.{◌≡◌};
+ghost use Rattle.std.specs.Prelude.{◌≡◌, ◌<◌, true, IfNone, IfOk, IfSome, length};
 ghost use Rattle.acl.specs.declared.act.Act.TheVariants.{Known, Gone, Set, Grouped, Masked, Preset};
 ghost use Rattle.acl.specs.declared.edition.Edition.{Edition};
 ghost use Rattle.acl.specs.declared.user_id.UserId.{UserId};
 ghost use Rattle.acl.specs.History.{History};
-ghost use Rattle.hub_check.specs.Following.{Redoes, Tells, StandsAfter, is_nameable, leaves_locks};
+ghost use Rattle.hub_check.specs.Following.{Redoes, Tells, StandsAfter, is_nameable};
+ghost use Rattle.hub_check.specs.Following.{FollowsFront, SetsAll};
 ghost use Rattle.hub_trail.specs.Judging.{leader_in};
 
 use crate::replay::Replay;
 use acl::{
-    AclFault, Bit, BitChange, LeaderChange, MaskChange, MaskEntry, MaskScope, NewLeader, Object,
-    PresetKind, RightsChange, UserId,
+    AclFault, Act, Bit, BitChange, LeaderChange, MaskChange, MaskEntry, MaskScope, NewLeader,
+    Object, PresetKind, RightsChange, UserId,
 };
+use hub_replies::Run;
 use std::alloc::AllocError;
 
 /// Whether a list command was done; an error if memory was refused.
@@ -71,20 +73,7 @@ pub fn forget(replay: &mut Replay, user: UserId) -> Result<bool, AllocError>
     )
 }
 
-/// Whether setting a bit leaves each lock as it is: it gives the bit, or it takes another one than w on
-/// a window whose lock somebody holds.
-fn leaves_locks(replay: &Replay, bit: Bit, object: Object, value: bool) -> bool
-    ensures { (edition : Edition) (owner : UserId) (h : History) →
-        StandsAfter replay.now edition owner h →
-        result ≡ leaves_locks edition owner h bit object value }
-{
-    match (bit, object, value) {
-        (Bit::Write, Object::Window(window), false) => replay.locks.holder(window).is_none(),
-        _ => true,
-    }
-}
-
-/// A user's bit on an object is set. The locks look at it only if it could free one.
+/// A user's bit on an object is set.
 pub fn set(
     replay: &mut Replay,
     user: UserId,
@@ -101,19 +90,71 @@ pub fn set(
         return Ok(false);
     }
     replay.scratch.clear();
+    redone(
+        replay.acl.change(
+            RightsChange {
+                names: &[Some(user)],
+                changes: &[BitChange { bit, value }],
+                objects: &[object],
+            },
+            &mut replay.scratch,
+            0,
+            &mut replay.locks,
+        ),
+    )
+}
+
+/// A user's bits on objects are set by one list command. The locks aren't told.
+fn set_all(
+    replay: &mut Replay,
+    user: UserId,
+    changes: &[BitChange],
+    objects: &[Object],
+) -> Result<bool, AllocError>
+    ensures { IfOk result (λ done. done ≡ true
+        → SetsAll replay.old replay.new user changes.now objects.now) }
+{
+    replay.scratch.clear();
     let change = RightsChange {
         names: &[Some(user)],
-        changes: &[BitChange { bit, value }],
-        objects: &[object],
+        changes,
+        objects,
     };
-    if leaves_locks(replay, bit, object, value) {
-        return redone(replay.acl.change(change, &mut replay.scratch, 0, &mut ()));
+    redone(replay.acl.change(change, &mut replay.scratch, 0, &mut ()))
+}
+
+/// Does at once the acts at the front that set bits of one user, as far as nobody holds the lock of an object,
+/// and returns the acts after them; `None` if the first act isn't one of them.
+pub fn follow_run<'a>(
+    replay: &mut Replay,
+    run: &mut Run,
+    acts: &'a [Act],
+) -> Result<Option<&'a [Act]>, AllocError>
+    ensures some { IfOk result (λ r. IfSome r
+        (λ rest. FollowsFront replay.old replay.new acts.now rest.now)) }
+    ensures none { IfOk result (λ r. IfNone r (replay.new ≡ replay.old)) }
+    ensures shorter { IfOk result (λ r. IfSome r (λ rest. length rest.now < length acts.now)) }
+{
+    let [Act::Set { user, .. }, ..] = acts else {
+        return Ok(None);
+    };
+    if !is_nameable(replay, *user) {
+        return Ok(None);
     }
-    redone(
-        replay
-            .acl
-            .change(change, &mut replay.scratch, 0, &mut replay.locks),
-    )
+    let rest = run.read(&replay.locks, *user, acts)?;
+    if rest.len() >= acts.len() {
+        return Ok(None);
+    }
+    // A user who may be named is refused only for want of memory.
+    if !set_all(
+        replay,
+        *user,
+        run.changes.as_slice(),
+        run.objects.as_slice(),
+    )? {
+        return Err(AllocError);
+    }
+    Ok(Some(rest))
 }
 
 /// The leader that an act gives a user, as the list command takes it.

@@ -10,9 +10,10 @@ ghost use Rattle.hub_trail.specs.Judging.{is_on_there};
 ghost use Rattle.hub_check.specs.Following.{Redoes, RedoesAll, StandsAfter};
 
 use crate::clients::is_client_of;
-use crate::lists::{forget, group, know, mask, preset, set};
+use crate::lists::{follow_run, forget, group, know, mask, preset, set};
 use crate::moves::{attach, close, enter, leave, open, part, set_default, set_mode};
 use acl::{Acl, Act, Bit, Edition, Leaders, Object, UserId};
+use hub_replies::Run;
 use session::Verdict;
 use std::alloc::{AllocError, Global};
 use writelock::Locks;
@@ -168,9 +169,17 @@ impl Replay {
     pub fn follow_all(&mut self, acts: &[Act]) -> Result<bool, AllocError>
         ensures { RedoesAll self.old self.new result acts.now }
     {
-        for act in acts {
-            if !self.follow(*act)? {
-                return Ok(false);
+        let mut run = Run::new(*self.scratch.allocator());
+        let mut rest = acts;
+        'acts: while let Some((act, behind)) = rest.split_first() {
+            match follow_run(self, &mut run, rest)? {
+                Some(after) => rest = after,
+                None => {
+                    if !self.follow(*act)? {
+                        return Ok(false);
+                    }
+                    rest = behind;
+                }
             }
         }
         Ok(true)

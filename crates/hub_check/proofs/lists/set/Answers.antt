@@ -15,7 +15,6 @@ use Rattle.writelock.specs.LockTable.{LocksStandFor}
 use Rattle.hub_check.specs.Following.{StandsAfter, is_nameable}
 use Rattle.hub_check.proofs.Standing.{stands_on}
 use Rattle.hub_check.proofs.Redoing.{redo, on_ok, changeable, listed, set_done, both}
-use Rattle.hub_check.proofs.Unfreed.{locks_left}
 use Rattle.hub_check.proofs.lists.set.Goals as goal
 
 pub returns-then-not-is_nameable : goal.returns-then-not-is_nameable
@@ -32,8 +31,8 @@ returns-then-not-is_there c = λ edition owner h s. (
   λ is. absurd (false≢true is),
 )
 
-pub returns-then-leaves_locks : goal.returns-then-leaves_locks
-returns-then-leaves_locks c =
+pub returns : goal.returns
+returns c =
     let u : UserId = c.args.user in
     let can : (edition : Edition) (owner : UserId) (h : History) → StandsAfter c.args.replay.now edition owner h
     → is_nameable owner h u ≡ true =
@@ -58,40 +57,6 @@ returns-then-leaves_locks c =
     (All-nil (λ (object : Object). there h object ≡ true)) in
     let done = on_ok c.change.result c.change.ensures.done is edition owner h s.rights all in
     let given = set_done owner h u c.args.bit c.args.object c.args.value known in
-    let free = sym
-    (c.leaves_locks.ensures edition owner h
-    (record { rights = s.rights; locks = s.locks; clients = s.clients; differ = s.differ; count = s.count }))
-    ∙ c.if-leaves_locks.true in
     stands_on c.args.replay.now _ edition owner h (Set u c.args.bit c.args.object c.args.value) refl refl refl refl s
     (subst (λ g. StandsFor c.change.new.self edition owner g) given done.stands)
-    (locks_left edition owner h u c.args.bit c.args.object c.args.value free c.args.replay.now.locks s.locks))
-
-pub returns : goal.returns
-returns c =
-    let u : UserId = c.args.user in
-    let can : (edition : Edition) (owner : UserId) (h : History) → StandsAfter c.args.replay.now edition owner h
-    → is_nameable owner h u ≡ true =
-    λ edition owner h s. sym (c.is_nameable.ensures edition owner h s) ∙ c.if-not-is_nameable.false in
-    let here : (edition : Edition) (owner : UserId) (h : History) → StandsAfter c.args.replay.now edition owner h
-    → there h c.args.object ≡ true =
-    λ edition owner h s. sym (c.is_there.ensures edition owner h s) ∙ c.if-not-is_there.false in
-    redo c.args.replay.now _ c.change-2.result c.redone-2.result (Set u c.args.bit c.args.object c.args.value)
-    c.redone-2.ensures
-    (λ edition owner h s. (
-      change_fault owner (users_of owner h) (Some u ∷ []),
-      c.change-2.ensures.answer edition owner h s.rights,
-      changeable OwnerKept UnknownUser OwnerKept TooManyUsers (same_user owner u) (among (users_of owner h) u)
-          (nat_lt (length (users_of owner h)) 64) (can edition owner h s)
-          ∙ sym (both (is_nameable owner h u) (there h c.args.object) (can edition owner h s) (here edition owner h s)),
-    ))
-    (λ is edition owner h s.
-    let known = listed OwnerKept UnknownUser OwnerKept TooManyUsers (same_user owner u) (among (users_of owner h) u)
-    (can edition owner h s) in
-    let all : All (λ object. there h object ≡ true) (c.args.object ∷ []) =
-    All-cons (λ object. there h object ≡ true) c.args.object [] (here edition owner h s)
-    (All-nil (λ (object : Object). there h object ≡ true)) in
-    let done = on_ok c.change-2.result c.change-2.ensures.done is edition owner h s.rights all in
-    let given = set_done owner h u c.args.bit c.args.object c.args.value known in
-    stands_on c.args.replay.now _ edition owner h (Set u c.args.bit c.args.object c.args.value) refl refl refl refl s
-    (subst (λ g. StandsFor c.change-2.new.self edition owner g) given done.stands)
-    (subst (λ g. LocksStandFor c.change-2.new.follower edition owner g) given (done.follower s.locks)))
+    (subst (λ g. LocksStandFor c.change.new.follower edition owner g) given (done.follower s.locks)))

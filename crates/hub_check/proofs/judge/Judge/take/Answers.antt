@@ -1,4 +1,4 @@
-use Rattle.std.proofs.Common.{◌≡◌, ◌∙◌, [], Bool, true, List, sym, subst}
+use Rattle.std.proofs.Common.{◌≡◌, ◌∙◌, [], Bool, List, sym, subst}
 use Rattle.std.proofs.lemmas.Bool.{false≢true}
 use Rattle.std.proofs.lemmas.Result.{IfOk-weaker}
 use Rattle.acl.specs.declared.act.Act.{Act}

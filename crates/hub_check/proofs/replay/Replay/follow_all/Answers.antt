@@ -1,47 +1,66 @@
-use Rattle.std.proofs.Common.{◌∙◌, ◌∷◌, [], refl, ap, sym, subst, slice_index_or, arith}
+use Rattle.std.proofs.Common.{◌≡◌, ◌∙◌, ◌∷◌, refl, ap, sym, subst}
+use Rattle.std.specs.Prelude.{IfNone, IfSome}
 use Rattle.std.proofs.lemmas.Bool.{false≢true}
-use Rattle.acl.specs.declared.act.Act.TheVariants.{Known}
 use Rattle.acl.specs.History.{followed_by}
-use Rattle.acl.proofs.InPlace.{drop-next, drop-past}
 use Rattle.hub_trail.specs.Judging.{CanFollow}
-use Rattle.hub_check.specs.Following.{StandsAfter}
+use Rattle.hub_trail.proofs.Following.{follow_append}
+use Rattle.hub_check.specs.declared.replay.Replay.{Replay}
+use Rattle.hub_check.specs.Following.{FollowsFront, StandsAfter}
+use Rattle.hub_check.proofs.Running.{follow_rest, followed_both, none_left}
 use Rattle.hub_check.proofs.replay.Replay.follow_all.Goals as goal
-
-pub loop-act-init : goal.loop-act-init
-loop-act-init c = λ edition owner h s. (h, s, (λ x. x, λ x. x), refl)
-
-pub loop-act-preserved : goal.loop-act-preserved
-loop-act-preserved c = λ edition owner h s.
-    let i = c.loop-act.invariant edition owner h s in
-    let a = slice_index_or c.args.acts.now c.loop-act.act-index (Known (record { name = [] })) in
-    let next = drop-next c.args.acts.now c.loop-act.act-index (Known (record { name = [] })) (omega arith) in
-    let done = c.in_ok-follow.ensures edition owner i.0 i.1 in (
-      a ∷ i.0,
-      done.1 c.if-not-branch.false,
-      (
-        λ all. (subst (CanFollow edition owner i.0) (sym next) (i.2.0 all)).1,
-        λ rest. i.2.1 (subst (CanFollow edition owner i.0) next (sym done.0 ∙ c.if-not-branch.false, rest)),
-      ),
-      ap (followed_by i.0) next ∙ i.3,
-    )
 
 pub returns-then-not-branch : goal.returns-then-not-branch
 returns-then-not-branch c = λ edition owner h s.
-    let i = c.loop-act.invariant edition owner h s in
-    let next = drop-next c.args.acts.now c.loop-act.act-index (Known (record { name = [] })) (omega arith) in
-    let done = c.in_ok-follow.ensures edition owner i.0 i.1 in (
+    let i = c.acts.invariant edition owner h s in
+    let next = c.in-Some.ensures.cases.0 in
+    let same = subst (λ r. IfNone r (c.follow_run.new.replay ≡ c.acts.self)) c.in-None.is c.in_ok-after.ensures.none in
+    let stands = subst (λ (r : Replay). StandsAfter r edition owner i.0) (sym same) i.1 in
+    let done = c.in_ok-follow-in-None.ensures edition owner i.0 stands in (
       (
         λ is. absurd (false≢true is),
-        λ all. sym c.if-not-branch.true
-            ∙ (done.0 ∙ (subst (CanFollow edition owner i.0) (sym next) (i.2.0 all)).0),
+        λ all. sym c.if-not-branch.true ∙ (done.0 ∙ (subst (CanFollow edition owner i.0) next (i.2.0 all)).0),
       ),
       λ is. absurd (false≢true is),
     )
 
 pub returns : goal.returns
 returns c = λ edition owner h s.
-    let i = c.loop-act.invariant edition owner h s in
-    let none = drop-past c.loop-act.act-index c.args.acts.now c.loop-act-test.false in (
+    let i = c.acts.invariant edition owner h s in
+    let none = none_left c.acts.rest.now c.in_default.ensures.cases in (
       (λ is. i.2.1 (subst (CanFollow edition owner i.0) (sym none) tt), λ all. refl),
-      λ is. subst (StandsAfter c.loop-act.self edition owner) (ap (followed_by i.0) (sym none) ∙ i.3) i.1,
+      λ is. subst (StandsAfter c.acts.self edition owner) (ap (followed_by i.0) (sym none) ∙ i.3) i.1,
+    )
+
+pub acts-preserved-in-Some-2 : goal.acts-preserved-in-Some-2
+acts-preserved-in-Some-2 c = λ edition owner h s.
+    let i = c.acts.invariant edition owner h s in
+    let front = subst
+    (λ r. IfSome r (λ rest. FollowsFront c.acts.self c.follow_run.new.replay c.acts.rest.now rest.now)) c.in-Some-2.is
+    c.in_ok-after.ensures.some in
+    let f = front edition owner i.0 i.1 in
+    let after = c.in-Some-2.after.now in (
+      followed_by i.0 f.0,
+      f.3,
+      (
+        λ all. follow_rest edition owner i.0 f.0 after (subst (CanFollow edition owner i.0) f.1 (i.2.0 all)),
+        λ rest. i.2.1
+            (subst (CanFollow edition owner i.0) (sym f.1) (follow_append edition owner i.0 f.0 after f.2 rest)),
+      ),
+      sym (followed_both i.0 f.0 after) ∙ (ap (followed_by i.0) (sym f.1) ∙ i.3),
+    )
+
+pub acts-preserved : goal.acts-preserved
+acts-preserved c = λ edition owner h s.
+    let i = c.acts.invariant edition owner h s in
+    let next = c.in-Some.ensures.cases.0 in
+    let same = subst (λ r. IfNone r (c.follow_run.new.replay ≡ c.acts.self)) c.in-None.is c.in_ok-after.ensures.none in
+    let stands = subst (λ (r : Replay). StandsAfter r edition owner i.0) (sym same) i.1 in
+    let done = c.in_ok-follow-in-None.ensures edition owner i.0 stands in (
+      c.in-Some.act.now ∷ i.0,
+      done.1 c.if-not-branch.false,
+      (
+        λ all. (subst (CanFollow edition owner i.0) next (i.2.0 all)).1,
+        λ rest. i.2.1 (subst (CanFollow edition owner i.0) (sym next) (sym done.0 ∙ c.if-not-branch.false, rest)),
+      ),
+      ap (followed_by i.0) (sym next) ∙ i.3,
     )

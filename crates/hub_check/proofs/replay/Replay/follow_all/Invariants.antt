@@ -1,4 +1,4 @@
-use Rattle.std.proofs.Common.{◌≡◌, drop}
+use Rattle.std.proofs.Common.{◌≡◌, length}
 use Rattle.std.specs.Prelude.{◌↔◌}
 use Rattle.acl.specs.declared.edition.Edition.{Edition}
 use Rattle.acl.specs.declared.user_id.UserId.{UserId}
@@ -8,9 +8,12 @@ use Rattle.hub_check.specs.Following.{StandsAfter}
 use Rattle.hub_check.proofs.replay.Replay.follow_all.Given as goal
 
 -- the acts so far, and what is left to follow
-abbrev pub invariant-loop-act : goal.invariant-loop-act
-invariant-loop-act l =
+abbrev pub invariant-acts : goal.invariant-acts
+invariant-acts l =
     (edition : Edition) (owner : UserId) (h : History) → StandsAfter l.fn.self edition owner h
     → (past : History) × StandsAfter l.self edition owner past
-    × (CanFollow edition owner h l.acts ↔ CanFollow edition owner past (drop l.act-index l.acts))
-    × (followed_by past (drop l.act-index l.acts) ≡ followed_by h l.acts)
+    × (CanFollow edition owner h l.fn.acts ↔ CanFollow edition owner past l.rest)
+    × (followed_by past l.rest ≡ followed_by h l.fn.acts)
+
+abbrev pub decreases-acts : goal.decreases-acts
+decreases-acts l = length l.rest
