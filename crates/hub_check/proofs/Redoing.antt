@@ -17,7 +17,7 @@ use Rattle.acl.specs.declared.user_id.UserId.{UserId}
 use Rattle.acl.specs.Commands.{Answers, change_acts, chosen_leader, sets, user_acts}
 use Rattle.acl.specs.History.{History, among, followed_by, users_of}
 use Rattle.hub_trail.specs.Judging.{can_follow, leader_in}
-use Rattle.hub_replies.proofs.Reading.{append_none}
+use Rattle.hub_runs.proofs.Reading.{append_none}
 use Rattle.hub_check.specs.declared.replay.Replay.{Replay}
 use Rattle.hub_check.specs.Following.{Follows, Redoes, StandsAfter, Tells}
 

@@ -19,7 +19,7 @@ use Rattle.writelock.specs.Holding.{clients_of}
 use Rattle.writelock.specs.LockTable.{LocksStandFor}
 use Rattle.hub_trail.specs.Judging.{CanFollow}
 use Rattle.hub_trail.proofs.Following.{follow_append}
-use Rattle.hub_replies.specs.Runs.{IsUnlocked, is_unheld}
+use Rattle.hub_runs.specs.Runs.{IsUnlocked, is_unheld}
 use Rattle.hub_check.specs.Following.{is_nameable}
 use Rattle.hub_check.proofs.Redoing.{both}
 use Rattle.hub_check.proofs.Unfreed.{leaves_locks, locks_left}

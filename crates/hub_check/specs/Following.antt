@@ -15,7 +15,7 @@ use Rattle.acl.specs.Table.{StandsFor}
 use Rattle.writelock.specs.Holding.{clients_of}
 use Rattle.writelock.specs.LockTable.{LocksStandFor}
 use Rattle.hub_trail.specs.Judging.{can_follow, CanFollow}
-use Rattle.hub_replies.specs.Runs.{IsUnlocked}
+use Rattle.hub_runs.specs.Runs.{IsUnlocked}
 use Rattle.hub_check.specs.declared.replay.Replay.{Replay}
 use Rattle.hub_check.specs.Clients.{Differ}
 

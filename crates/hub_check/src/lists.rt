@@ -14,7 +14,7 @@ use acl::{
     AclFault, Act, Bit, BitChange, LeaderChange, MaskChange, MaskEntry, MaskScope, NewLeader,
     Object, PresetKind, RightsChange, UserId,
 };
-use hub_replies::Run;
+use hub_runs::Run;
 use std::alloc::AllocError;
 
 /// Whether a list command was done; an error if memory was refused.

@@ -13,7 +13,7 @@ use crate::clients::is_client_of;
 use crate::lists::{follow_run, forget, group, know, mask, preset, set};
 use crate::moves::{attach, close, enter, leave, open, part, set_default, set_mode};
 use acl::{Acl, Act, Bit, Edition, Leaders, Object, UserId};
-use hub_replies::Run;
+use hub_runs::Run;
 use session::Verdict;
 use std::alloc::{AllocError, Global};
 use writelock::Locks;

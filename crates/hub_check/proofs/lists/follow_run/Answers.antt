@@ -1,7 +1,7 @@
 use Rattle.std.proofs.Common.{◌∙◌, ◌++◌, ap, sym, subst}
 use Rattle.std.specs.List.{AllByRecursion}
 use Rattle.acl.specs.Commands.{sets}
-use Rattle.hub_replies.specs.Runs.{IsUnlocked}
+use Rattle.hub_runs.specs.Runs.{IsUnlocked}
 use Rattle.hub_check.proofs.lists.follow_run.Goals as goal
 
 pub returns-clause-some : goal.returns-clause-some

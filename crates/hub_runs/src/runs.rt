@@ -4,7 +4,7 @@ ghost use Rattle.std.specs.Prelude.{◌≡◌, ◌++◌, ◌<◌, true, IfOk, If
 ghost use Rattle.std.specs.List.{AllByRecursion};
 ghost use Rattle.acl.specs.Commands.{sets, sets_on};
 ghost use Rattle.acl.specs.declared.act.Act.TheVariants.{Set};
-ghost use Rattle.hub_replies.specs.Runs.{IsUnlocked};
+ghost use Rattle.hub_runs.specs.Runs.{IsUnlocked};
 
 use acl::{Act, Bit, BitChange, Object, UserId};
 use std::alloc::{AllocError, Global};

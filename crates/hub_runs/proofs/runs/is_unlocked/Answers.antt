@@ -1,9 +1,9 @@
 use Rattle.std.proofs.Common.{◌≡◌, ◌∙◌, true, is_none, is_some, not, ap, sym, subst}
 use Rattle.acl.specs.History.{is_open, there}
 use Rattle.writelock.specs.Holding.{holder, mode_of}
-use Rattle.hub_replies.specs.Runs.{is_unheld}
-use Rattle.hub_replies.proofs.Reading.{some_if}
-use Rattle.hub_replies.proofs.runs.is_unlocked.Goals as goal
+use Rattle.hub_runs.specs.Runs.{is_unheld}
+use Rattle.hub_runs.proofs.Reading.{some_if}
+use Rattle.hub_runs.proofs.runs.is_unlocked.Goals as goal
 
 pub returns-then-is_some : goal.returns-then-is_some
 returns-then-is_some c = λ free edition owner h s.

@@ -4,7 +4,7 @@ use Rattle.acl.specs.declared.act.Act.TheVariants.{Known, Set}
 use Rattle.acl.specs.declared.bits.Bit.TheVariants.{Read}
 use Rattle.acl.specs.declared.bits.BitChange.{BitChange}
 use Rattle.acl.specs.Commands.{sets_on}
-use Rattle.hub_replies.proofs.runs.are_sets.Goals as goal
+use Rattle.hub_runs.proofs.runs.are_sets.Goals as goal
 
 pub places-preserved : goal.places-preserved
 places-preserved c =
