@@ -289,7 +289,8 @@ impl Visitor {
         ensures identity { self.new.identity ≡ self.old.identity }
     {
         self.wire.say(reason)?;
-        self.wire.tell_gone(Why::Fault)
+        self.wire.tell_gone(Why::Fault)?;
+        Ok(())
     }
 
     /// Tells the page that the bridge is there, and asks whether it is.
@@ -300,11 +301,13 @@ impl Visitor {
         ensures same { self.new ≡ record self.old { wire = self.new.wire } }
         ensures bounded { OnOk result (IsBounded self.new) }
     {
-        if self.is_open() {
-            self.wire.send_text("{\"here\":1}")?;
-            self.wire.ask()?;
+        if !self.is_open() {
+            return self.check_bounds();
         }
-        self.check_bounds()
+        self.wire.send_text("{\"here\":1}")?;
+        self.wire.ask()?;
+        self.check_bounds()?;
+        Ok(())
     }
 
     /// Another page is shown from now on, of which nothing was sent.
