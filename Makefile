@@ -75,7 +75,7 @@ outside:
 PYTHON = $(sort $(wildcard bench/*.py tests/outside/*.py) \
     $(shell grep -s -l -m 1 '^.!.*python3' tools/* examples/* tests/outside/*))
 lint:
-	shellcheck -x -s sh $(SCRIPTS) contrib/MuxShare/options.sh contrib/lib/mux.sh $(shell grep -l -m 1 '^.!/bin/sh' examples/* tests/outside/*)
+	shellcheck -x -s sh $(SCRIPTS) contrib/lib/mux.sh $(shell grep -l -m 1 '^.!/bin/sh' examples/* tests/outside/*)
 	shellcheck -s bash contrib/completions/mux.bash
 	@for file in $(PYTHON); do \
 	    python3 -c 'import sys; compile(open(sys.argv[1]).read(), sys.argv[1], "exec")' $$file || exit 1; \
@@ -83,7 +83,7 @@ lint:
 	@for file in $(shell grep -s -l -m 1 '^.!/usr/bin/perl' contrib/*); do perl -c $$file || exit 1; done
 	tic -c contrib/mux.ti
 	cat contrib/mux.ti contrib/vt220.ti | tic -c /dev/stdin
-	cd man && mandoc -T lint *.1 *.5 *.8
+	@for page in man/*.[158]; do man/whole $$page | mandoc -T lint -W warning || exit 1; done
 	tests/outside/empty_edits
 	tools/edits --look
 	tools/lint

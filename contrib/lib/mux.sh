@@ -22,11 +22,13 @@ fault() {
 }
 
 # read_options VALUED PLAIN WORD..: reads options up to the first word that is none, or after --.  Each sets a variable
-# of its name: --keep 9 and --keep=9 set keep, --nested sets nested to yes.  Sets used to the number of words.
+# of its name: --keep 9 and --keep=9 set keep, --nested sets nested to yes.  Values of an option in $joined are joined by
+# commas, and a word that has the pattern $others ends the options.  Sets used to the number of words.
 read_options() {
     valued=" $1 " plain=" $2 " used=0
     shift 2
     while :; do
+        # shellcheck disable=SC2254
         case ${1-} in
         -h | --help)
             usage
@@ -42,23 +44,25 @@ read_options() {
             return
             ;;
         --?*) option=${1#--} ;;
+        ${others:---}) return ;;
         -?*) fault "invalid argument: $1 (see $program --help)" 2 ;;
         *) return ;;
         esac
-        name=${option%%=*}
-        case $name in *[!a-z]*) fault "invalid argument: $1 (see $program --help)" 2 ;; esac
+        called=${option%%=*}
+        case $called in *[!a-z]*) fault "invalid argument: $1 (see $program --help)" 2 ;; esac
         case $valued,$plain,$option in
-        *" $name "*,*,*=*) value=${option#*=} ;;
-        *" $name "*,*,*)
-            [ $# -ge 2 ] || fault "--$name needs a value (see $program --help)" 2
+        *" $called "*,*,*=*) value=${option#*=} ;;
+        *" $called "*,*,*)
+            [ $# -ge 2 ] || fault "--$called needs a value (see $program --help)" 2
             value=$2 used=$((used + 1))
             shift
             ;;
-        *,*" $name "*,*=*) fault "--$name takes no value (see $program --help)" 2 ;;
-        *,*" $name "*,*) value=yes ;;
+        *,*" $called "*,*=*) fault "--$called takes no value (see $program --help)" 2 ;;
+        *,*" $called "*,*) value=yes ;;
         *) fault "invalid argument: $1 (see $program --help)" 2 ;;
         esac
-        eval "$name=\$value"
+        [ "$called" != "${joined-}" ] || eval "value=\$$called\${$called:+,}\$value"
+        eval "$called=\$value"
         used=$((used + 1))
         shift
     done
@@ -138,3 +142,14 @@ trails_of() {
     [ -n "$trails" ] || return 1
     printf '%s\n' "$trails"
 }
+# Waits until a key is pressed, or for two seconds, so that people can read what stands there before a page comes.  The
+# key isn't read here: it is the first one of what comes.
+wait_for_reader() (
+    settings=$(stty -g) || exit 0
+    trap 'stty "$settings"' EXIT
+    trap 'exit 129' HUP
+    trap 'exit 130' INT
+    trap 'exit 143' TERM
+    stty -icanon -echo
+    perl -e 'vec(my $in, 0, 1) = 1; select($in, undef, undef, 2)' 2>/dev/null || sleep 2
+)
