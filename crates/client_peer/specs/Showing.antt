@@ -1,5 +1,5 @@
 -- What a client passes on to its terminal: functions that draws use, and nothing else.
-use Rattle.std.specs.Prelude.{◌≡◌, ℕ, List, ◌++◌}
+use Rattle.std.specs.Prelude.{◌≡◌, ℕ, List, [], ◌∷◌, ◌++◌, ◌⊎◌}
 use Rattle.client_words.specs.declared.words.Way.TheVariants.{Attach}
 use Rattle.draw_check.specs.Functions.{BeginDraws}
 use Rattle.draw_check.specs.Places.{place_after}
@@ -39,3 +39,13 @@ pub record PassesOn (old new : Peer) : Type 0 where
 -- the same before a fault, after which the peer ends
 abbrev pub StopsAt : Peer → Peer → Type 0
 StopsAt old new = IfClient old (Passed old new)
+
+-- CAN ends what may have been begun on the terminal, and the check has read nothing since
+pub record CutsOff (old new : Peer) : Type 0 where
+  pub way : new.way ≡ old.way
+  pub draws : new.draws ≡ place_after []
+  pub added : new.bytes.items ≡ old.bytes.items ++ 0x18 ∷ []
+
+-- the check begins anew only after CAN; else it goes on where it was
+abbrev pub BeginsAnew : Peer → Peer → Type 0
+BeginsAnew old new = CutsOff old new ⊎ Keeps old new

@@ -2,6 +2,7 @@
 
 ghost use Rattle.std.specs.Prelude.{◌≡◌, []};
 ghost use Rattle.draw_check.specs.Places.{place_after};
+ghost use Rattle.client_peer.specs.Showing.{BeginsAnew};
 
 use crate::looking::Times;
 use crate::notice::Notice;
@@ -30,6 +31,8 @@ pub struct Peer {
     pub bytes: Vec<u8>,
     /// Checks what the server sends for a client's terminal.
     pub draws: DrawCheck,
+    /// This connection's server drew something, so the terminal may be within a function.
+    pub has_drawn: bool,
     /// The last draw goes on in the next frame.
     pub is_cut: bool,
     /// The terminal shows the client's help, so draws are dropped.
@@ -91,6 +94,7 @@ impl Peer {
             wait: words.wait,
             bytes: Vec::new(alloc),
             draws: DrawCheck::new(),
+            has_drawn: false,
             is_cut: false,
             is_covered: false,
             is_helping: false,
@@ -117,9 +121,12 @@ impl Peer {
         }
     }
 
-    /// Begins another connection.
-    pub fn begin(&mut self) {
-        self.draws = DrawCheck::new();
+    /// Begins another connection. What the last one's server drew may end within a function: CAN ends
+    /// it, and the check begins anew. If memory for that is refused, the check goes on.
+    pub fn begin(&mut self)
+        ensures { BeginsAnew self.old self.new }
+    {
+        self.cut_off();
         self.is_cut = false;
         self.is_covered = false;
         self.is_helping = false;
@@ -132,6 +139,16 @@ impl Peer {
         self.is_welcome = false;
         self.said = None;
         self.end = None;
+    }
+
+    // Puts down CAN if something was drawn.
+    fn cut_off(&mut self)
+        ensures { BeginsAnew self.old self.new }
+    {
+        if self.has_drawn && self.bytes.push(0x18).is_ok() {
+            self.draws = DrawCheck::new();
+            self.has_drawn = false;
+        }
     }
 
     /// Notes how the connection ended. Only the first call counts.

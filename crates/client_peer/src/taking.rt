@@ -57,11 +57,12 @@ impl Peer {
         self.put_draw(bytes)
     }
 
-    // Notes whether a draw goes on in the next frame.
+    // Notes that there is a draw, and whether it goes on in the next frame.
     fn note_cut(&mut self, is_cut: bool)
         ensures { Keeps self.old self.new }
     {
         self.is_cut = is_cut;
+        self.has_drawn = true;
     }
 
     // Leaves out a draw, or the first part of one.
@@ -209,8 +210,9 @@ impl Peer {
     }
 
     /// Sorts the bytes of a read; no bytes mean the stream's end. Returns how the peer ended, if it
-    /// did. All that a client passes on to its terminal, together, consists of the functions that draws
-    /// use. What a server sends beyond that is a fault, and of that frame nothing is passed on.
+    /// did. All that a client passes on from one connection to its terminal, together, consists of the
+    /// functions that draws use. What a server sends beyond that is a fault, and of that frame nothing
+    /// is passed on. CAN comes before what the next connection draws (`begin`).
     pub fn take_read(
         &mut self,
         alloc: Global,

@@ -163,16 +163,17 @@ static TALKS: [Talk; 13] = [
         written: b"",
         kept_back: b"",
     },
-    // A client comes back when its server has gone.
+    // A client comes back when its server has gone. The next one doesn't end a function that the first
+    // one began.
     Talk {
         peer: Peer::Again,
         typed: b"",
         first: b"y\0\x01\0",
         awaited: b"A\0G",
-        last: b"d\0\x04backg\0\x01\x04",
+        last: b"d\0\x051000hg\0\x01\x04",
         status: 0,
-        written: b"back",
-        kept_back: b"g\0",
+        written: b"\x181000h",
+        kept_back: b"?1000h",
     },
     // So does a window.
     Talk {
@@ -243,6 +244,9 @@ fn serve<R: Stage>(rt: &R, listener: &UnixListener, talk: Talk) -> io::Result<bo
         let mut came = Vec::new(rt.alloc());
         awaits(&mut stream, &mut came, talk.awaited)?;
         stream.write_all(talk.first)?;
+        if matches!(talk.peer, Peer::Again) {
+            stream.write_all(b"d\0\x03\x1b[?")?;
+        }
     }
     let (mut stream, _) = listener.accept()?;
     let mut came = Vec::new(rt.alloc());
