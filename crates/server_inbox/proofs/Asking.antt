@@ -42,7 +42,8 @@ popped all rest m unseen broken r taken stream h is = record {
 lost : (r : Reading) (g : ProtoFault) (rest : List ℕ) → r.fault ≡ Some g → EndsIn r rest → g ≡ NoMemory → ⊥
 lost r g rest is ends e =
     let fault : HasFault r.side rest g = subst
-    (λ (x : Option ProtoFault). MatchOption x (Waits r.side rest × (rest ≡ r.rest)) (HasFault r.side rest)) is ends in
+    (λ (x : Option ProtoFault). MatchOption x (Waits r.side rest × (rest ≡ r.rest)) (HasFault r.side rest))
+    is ends in
     subst (λ (f : ProtoFault). HasFault r.side rest f) e fault
 
 unread : (o : Option ProtoFault) (old new : Reading) (before after : List Message) (rest : List ℕ)

@@ -1,16 +1,25 @@
 -- How what is to be done for a connection stands to the bytes that were read from it.
-use Rattle.std.specs.Prelude.{◌≡◌, ◌==◌, ◌&&◌, ℕ, Bool, true, false, List, [], ◌++◌, drop, reverse, None}
-use Rattle.std.specs.Prelude.{is_none, vec_len}
+use Rattle.std.specs.Prelude.{◌≡◌, ◌==◌, ◌&&◌, ℕ, Bool, true, false, List, [], ◌++◌, drop, reverse, take, None}
+use Rattle.std.specs.Prelude.{◌+◌, ◌-◌, ◌^◌, is_none, length, min, vec_len}
 use Rattle.attach_proto.specs.Streams.{HasRead, Reading}
 use Rattle.attach_proto.specs.declared.message.Message.{Message}
 use Rattle.attach_proto.specs.declared.message.Message.TheVariants as message
 use Rattle.server_typing.specs.Typed.{is_idle}
+use Rattle.server_inbox.specs.declared.asked.Asked.{Asked}
 use Rattle.server_inbox.specs.declared.inbox.Inbox.{Inbox}
 
 -- the printed bytes of a message that aren't done yet
 abbrev pub rest_of : Message → ℕ → List ℕ
 rest_of (message.Output bytes) done = drop done bytes
 rest_of other done = []
+
+-- those of them that one step does
+abbrev pub piece_of : Message → ℕ → List ℕ
+piece_of m done = take 8192 (rest_of m done)
+
+-- that step was made
+abbrev pub advanced : Asked → Asked
+advanced asked = record asked { done = min (asked.done + length (piece_of asked.message asked.done)) (2 ^ 64 - 1) }
 
 -- all that was read was taken out
 abbrev pub is_taken : Inbox → Bool
@@ -48,3 +57,14 @@ pub record Stands (inbox : Inbox) (reader : Reading) (taken : List Message) (str
 -- nothing was lost for want of memory: if it is broken, bytes came that are no frame
 abbrev pub IsWhole : Inbox → Reading → Type 0
 IsWhole inbox reader = inbox.is_broken ≡ true → reader.fault ≡ None → ⊥
+
+-- these bytes were read when nothing was left to be done, and no memory was lost
+abbrev pub TakesIn : Inbox → Reading → List ℕ → Inbox → Reading → Type 0
+TakesIn old reader bytes new left = (taken : List Message) (stream : List ℕ) → old.messages.items ≡ []
+    → old.is_broken ≡ false → Stands old reader taken stream → IsWhole new left
+    → Stands new left taken (stream ++ bytes)
+
+-- these were taken out, and no memory was lost
+abbrev pub Gives : Inbox → Reading → List Message → Inbox → Reading → Type 0
+Gives old reader messages new left = (taken : List Message) (stream : List ℕ) → Stands old reader taken stream
+    → IsWhole new left → Stands new left (taken ++ messages) stream

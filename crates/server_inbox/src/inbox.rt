@@ -1,10 +1,12 @@
 //! Messages that were read and aren't done yet.
 
 ghost use Rattle.std.specs.Prelude.{◌≡◌, ◌&&◌, ◌++◌, ◌∷◌, ◌<◌, ℕ, List, [], Some, None, false, true};
-ghost use Rattle.std.specs.Prelude.{IfSome, OnOk, drop, is_some, length, not};
+ghost use Rattle.std.specs.Prelude.{IfOk, IfSome, Ok, OnOk, drop, is_some, length, not};
 ghost use Rattle.attach_proto.specs.declared.message.Message.{Message as Told};
-ghost use Rattle.server_inbox.specs.Asking.{IsThrough, IsWhole, Lies, Stands, is_empty, is_taken};
-ghost use Rattle.server_typing.specs.Typed.{may_read};
+ghost use Rattle.server_inbox.specs.Asking.{Gives, IsThrough, IsWhole, Lies, TakesIn, is_empty, is_taken};
+ghost use Rattle.server_inbox.specs.declared.inbox.Inbox.{Inbox as Held};
+ghost use Rattle.server_inbox.specs.Joining.{IsGathered, JoinsNext, NextStays};
+ghost use Rattle.server_typing.specs.Typed.{expired, may_read};
 
 use crate::asked::Asked;
 use attach_proto::{Message, Reader};
@@ -121,6 +123,8 @@ impl Inbox {
         ensures lies { (taken : List Told) (stream : List ℕ) → Lies self.old reader.old taken stream
             → IsWhole self.new reader.new → Lies self.new reader.new taken stream }
         ensures through { IsThrough self.new }
+        ensures stays { self.old.is_broken ≡ true
+            → (self.new.is_broken ≡ true) × (reader.new ≡ reader.old) }
         ensures same { self.new ≡ record self.old {
           messages = self.new.messages;
           rest = self.new.rest;
@@ -142,10 +146,7 @@ impl Inbox {
 
     /// Adds all messages that these bytes complete.
     pub fn take_all(&mut self, reader: &mut Reader, bytes: &[u8])
-        ensures stands { (taken : List Told) (stream : List ℕ) → self.old.messages.items ≡ []
-            → self.old.is_broken ≡ false → Stands self.old reader.old taken stream
-            → IsWhole self.new reader.new
-            → Stands self.new reader.new taken (stream ++ bytes.now) }
+        ensures stands { TakesIn self.old reader.old bytes.now self.new reader.new }
         ensures same { self.new ≡ record self.old {
           messages = self.new.messages;
           is_broken = self.new.is_broken;
@@ -158,10 +159,7 @@ impl Inbox {
     /// Adds the first few messages that these bytes complete. The others are added once these are
     /// taken out.
     pub fn take(&mut self, reader: &mut Reader, bytes: &[u8])
-        ensures stands { (taken : List Told) (stream : List ℕ) → self.old.messages.items ≡ []
-            → self.old.is_broken ≡ false → Stands self.old reader.old taken stream
-            → IsWhole self.new reader.new
-            → Stands self.new reader.new taken (stream ++ bytes.now) }
+        ensures stands { TakesIn self.old reader.old bytes.now self.new reader.new }
         ensures same { self.new ≡ record self.old {
           messages = self.new.messages;
           rest = self.new.rest;
@@ -201,9 +199,12 @@ impl Inbox {
         self.is_broken && self.is_empty()
     }
 
-    // Takes in the keys or the size of the next message, unless these keys stay where they are.
-    // Returns whether it did.
-    fn gather_one(&mut self, now: u64) -> Result<bool, AllocError> {
+    // Joins the keys or the size of the next message to those that wait, unless these keys stay where
+    // they are. Returns whether it did.
+    fn gather_one(&mut self, now: u64) -> Result<bool, AllocError>
+        ensures joins { result ≡ Ok true → JoinsNext now self.old self.new }
+        ensures stays { result ≡ Ok false → (self.new ≡ self.old) × NextStays now self.new }
+    {
         match self.messages.last() {
             Some(Message::Keys(keys)) if self.typed.takes(now, keys.as_slice().len()) => {
                 self.typed.put(now, keys.as_slice())?;
@@ -215,17 +216,29 @@ impl Inbox {
         Ok(true)
     }
 
-    /// Takes in a client's keys and sizes that come next, at this time in milliseconds. Then drops keys
-    /// that wait too long. Returns whether no more are there.
-    pub fn gather(&mut self, reader: &mut Reader, now: u64) -> Result<bool, AllocError> {
-        let mut is_through = false;
-        for _ in 0..GATHERED {
-            if !self.gather_one(now)? {
-                is_through = true;
-                break;
+    // Joins the keys and sizes that come next to those that wait. Returns whether no more are there.
+    fn gather_some(&mut self, reader: &mut Reader, now: u64) -> Result<bool, AllocError>
+        ensures { IfOk result (IsGathered now self.old reader.old self.new reader.new) }
+    {
+        'gathering: for _ in 0..GATHERED {
+            let is_joined = self.gather_one(now)?;
+            if !is_joined {
+                return Ok(true);
             }
             self.refill(reader);
         }
+        Ok(false)
+    }
+
+    /// Takes in a client's keys and sizes that come next, at this time in milliseconds. Then drops keys
+    /// that wait too long. Returns whether no more are there.
+    pub fn gather(&mut self, reader: &mut Reader, now: u64) -> Result<bool, AllocError>
+        // What is taken in are the next messages of the stream, in order, each once.
+        ensures { IfOk result (λ is_through. (mid : Held)
+            × IsGathered now self.old reader.old mid reader.new is_through
+            × (self.new ≡ record mid { typed = expired now mid.typed })) }
+    {
+        let is_through = self.gather_some(reader, now)?;
         self.typed.expire(now);
         Ok(is_through)
     }
@@ -239,9 +252,7 @@ impl Inbox {
         ensures none { self.old.begun ≡ None → result ≡ None → (self.old.messages.items ≡ [])
             × (self.new.messages.items ≡ []) × (reader.new ≡ reader.old) }
         ensures next { self.old.begun ≡ None → IfSome result (λ asked. (asked.done ≡ 0)
-            × ((taken : List Told) (stream : List ℕ) → Stands self.old reader.old taken stream
-            → IsWhole self.new reader.new
-            → Stands self.new reader.new (taken ++ asked.message ∷ []) stream)) }
+            × Gives self.old reader.old (asked.message ∷ []) self.new reader.new) }
         ensures same { self.new ≡ record self.old {
           messages = self.new.messages;
           begun = None;

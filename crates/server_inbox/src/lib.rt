@@ -4,6 +4,6 @@
 mod asked;
 mod inbox;
 
-pub use asked::Asked;
+pub use asked::{Asked, PIECE};
 pub use inbox::Inbox;
 pub use server_typing::{Size, Sizing, Typeahead};

@@ -23,6 +23,7 @@ pieces-preserved c = record {
   }) (sym (ap (λ (s : Inbox). s.rest) c.look.ensures.same));
   same_rest = ap (λ (s : Inbox). s.rest) c.look.ensures.same ∙ c.pieces.invariant.same_rest;
   further = let on = c.look.ensures.on (grind (arith, common_steps)) in omega (arith, on, c.pieces.invariant.further);
+  stays = λ e. absurd (false≢true (sym c.if-self.false ∙ (c.pieces.invariant.stays e).0));
 }
 
 pub returns-then-self-len-2-clause-lies : goal.returns-then-self-len-2-clause-lies

@@ -1,13 +1,14 @@
-use Rattle.std.proofs.Common.{◌≡◌, ◌≤◌, ℕ, List}
+use Rattle.std.proofs.Common.{◌≡◌, ◌≤◌, ℕ, List, true}
 use Rattle.attach_proto.specs.declared.message.Message.{Message}
 use Rattle.server_inbox.specs.Asking.{IsWhole, Lies}
 use Rattle.server_inbox.proofs.inbox.Inbox.refill.Given as goal
 
-pub record Refilled (lies same rest on : Type 0) : Type 0 where
+pub record Refilled (lies same rest on broken : Type 0) : Type 0 where
   pub lay : lies
   pub as_before : same
   pub same_rest : rest
   pub further : on
+  pub stays : broken
 
 abbrev pub invariant-pieces : goal.invariant-pieces
 invariant-pieces l = Refilled
@@ -21,3 +22,4 @@ invariant-pieces l = Refilled
     })
     (l.self.rest ≡ l.initial.self.rest)
     (l.counter ≤ l.self.seen)
+    (l.initial.self.is_broken ≡ true → (l.self.is_broken ≡ true) × (l.reader ≡ l.initial.reader))
