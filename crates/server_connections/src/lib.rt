@@ -15,7 +15,7 @@ pub use connections::Connections;
 pub use news::{Guest, Name, News};
 pub use peer::{Awaits, Peer, Role, Stage};
 pub use seat::{End, GuestKind, SeatAnswer, SeatFault, SessionSeat};
-pub use server_inbox::{Asked, Size, Sizing, Typeahead};
+pub use server_inbox::{Asked, PIECE, Size, Sizing, Typeahead};
 pub use server_sending::{Sending, Turn, put, why_of};
 pub use stream::Arrival;
 pub use walk::{HasConnections, each_awake};

@@ -7,7 +7,7 @@ ghost use Rattle.server_loop.specs.Naming.{IsOf, NamesNobody};
 
 use crate::gate::Gate;
 use crate::own::Loop;
-use crate::turn::{PIECE, Progress};
+use crate::turn::Progress;
 use attach_proto::{Message, Text, Token, Why};
 use command_lang::{Command, FaultKind, parse};
 use server_connections::{
@@ -64,13 +64,11 @@ impl<S: Read + Write + Drop, G: Gate + Drop, J: SessionSeat + Drop> Loop<S, G, J
 
     // A step takes a piece of a window's output.
     fn output(&mut self, rt: &impl Wait, key: usize, window: u32, asked: &mut Asked) -> Progress {
-        let rest = asked.rest();
-        let bytes = rest.get(..PIECE).unwrap_or(rest);
+        let bytes = asked.piece();
         let taken = bytes.len();
         self.change(rt, key, Event::Output { window, bytes });
         self.reading.output_left = self.reading.output_left.saturating_sub(taken);
-        asked.done = asked.done.saturating_add(taken);
-        if asked.rest().is_empty() {
+        if asked.note_done(taken) {
             Progress::Done
         } else {
             Progress::Part

@@ -3,7 +3,7 @@
 use crate::gate::Gate;
 use crate::own::Loop;
 use crate::submitting::Submitted;
-use server_connections::{Arrival, End, Role, SessionSeat, each_awake};
+use server_connections::{Arrival, End, PIECE, Role, SessionSeat, each_awake};
 use std::io::{Read, Write};
 use std::sync::Wait;
 
@@ -13,9 +13,6 @@ const READS: usize = 16;
 // At most this many messages of a connection, or steps of one, are done before the others have their
 // turn.
 const STEPS: usize = 8;
-
-/// At most this many bytes of a window's output are done by one step.
-pub(crate) const PIECE: usize = 8_192;
 
 /// At most this many bytes of windows' output are done in a turn, but the last step may go beyond.
 pub(crate) const OUTPUT: usize = 4 * PIECE;
