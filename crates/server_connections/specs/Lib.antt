@@ -1,3 +1,4 @@
+pub mod Ending
 pub mod Lending
 pub mod Life
 pub mod Marked

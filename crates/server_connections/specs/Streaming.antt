@@ -25,3 +25,14 @@ module _ {S : Type 0} where
   -- nothing waits, and it isn't to go
   abbrev pub IsIdle : Peer S → Type 0
   IsIdle peer = (peer.turn.unsent ≡ []) × (is_last peer.stage ≡ false)
+
+  -- nobody else's: what it asked, who its user is and why it goes stays as it is
+  abbrev pub IsSameGuest : Peer S → Peer S → Type 0
+  IsSameGuest old new = new ≡ record old {
+    stream = new.stream;
+    turn = new.turn;
+    is_full = new.is_full;
+    stage = new.stage;
+    role = new.role;
+    leaves = new.leaves;
+  }

@@ -1,13 +1,14 @@
 //! The connections of one loop, by their keys.
 
-ghost use Rattle.std.specs.Prelude.{◌≡◌, ◌≢◌, ◌↔◌, ◌+◌, ◌<◌, ◌≤◌, ℕ, [], None, false, true, length};
+ghost use Rattle.std.specs.Prelude.{◌≡◌, ◌≢◌, ◌↔◌, ◌+◌, ◌<◌, ◌≤◌, ℕ, [], None, false, true, length, min};
 ghost use Rattle.std.specs.Prelude.{IfSome, IsSomeAnd, IsTrue, IfErr, OnOk, OnErr, if◌then◌else◌};
 ghost use Rattle.std.specs.Prelude.{option_copied};
 ghost use Rattle.std.specs.Option.{option_copied_mut};
 ghost use Rattle.slab.specs.Slab.{Updates, get, slab_len};
+ghost use Rattle.server_sending.specs.Frames.{Sends, SendsFront};
 ghost use Rattle.server_connections.specs.Marked.{IsMarked, IsNext, NoneFrom, without_mark};
 ghost use Rattle.server_connections.specs.Peers.{AwaitsAt, IsAt, IsFirstFrom, IsNewcomer, goes, rests};
-ghost use Rattle.server_connections.specs.Putting.{PutsFor};
+ghost use Rattle.server_connections.specs.Putting.{IsPutAt, PutsFor};
 ghost use Rattle.server_connections.specs.Telling.{told_at, told_if_any};
 
 use crate::marks::Marks;
@@ -59,6 +60,10 @@ impl<S: Drop> Connections<S> {
         ensures admitted { OnOk result (IsSomeAnd (get self.new.peers self.old.peers.vacant_key)
             (IsNewcomer stream self.old.number is_extra)) }
         ensures awake { OnOk result (IsMarked self.new.awake self.old.peers.vacant_key) }
+        ensures number { OnOk result (self.new.number
+            ≡ min (self.old.number + 1) 18446744073709551615) }
+        ensures fails { OnErr result (get self.new.peers self.old.peers.vacant_key
+            ≡ get self.old.peers self.old.peers.vacant_key) }
         ensures others { (key : ℕ) → key ≢ self.old.peers.vacant_key
             → (get self.new.peers key ≡ get self.old.peers key)
             × (IsMarked self.new.awake key ↔ IsMarked self.old.awake key) }
@@ -158,8 +163,9 @@ impl<S: Drop> Connections<S> {
     /// Puts something after what waits for the connection that is this to the session, and into no
     /// other. The answer is the key of a connection into which it couldn't be put.
     pub fn put_for(&mut self, role: Role, sending: Sending<'_>) -> Result<(), usize>
-        ensures put { OnOk result (PutsFor self.old role sending.entry self.new) }
-        ensures fault { IfErr result (IsFirstFrom self.old.peers role self.old.next) }
+        ensures put { OnOk result (PutsFor self.old role (Sends sending.entry) self.new) }
+        // Of bytes the first ones may have been put.
+        ensures fault { IfErr result (IsPutAt self.old role (SendsFront sending.entry) self.new) }
     {
         let alloc = self.alloc;
         let Some(key) = self.key_of(role) else {

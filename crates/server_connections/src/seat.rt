@@ -1,5 +1,8 @@
 //! The seat that a loop has in the session which the loops share.
 
+ghost use Rattle.std.specs.Prelude.{◌≡◌};
+ghost use Rattle.server_connections.specs.Ending.{why_of_end, why_of_fault};
+
 use acl::UserId;
 use attach_proto::Why;
 use server_users::{Outcome, Users};
@@ -48,7 +51,9 @@ pub enum End {
 
 impl End {
     /// The cause that the peers are told.
-    pub fn why(self) -> Why {
+    pub fn why(self) -> Why
+        ensures { result ≡ why_of_end self }
+    {
         match self {
             End::Quit => Why::Quit,
             End::TrailFull => Why::TrailFull,
@@ -67,7 +72,9 @@ pub enum SeatFault {
 
 impl SeatFault {
     /// The cause that the peer is told whose event it was.
-    pub fn why(self) -> Why {
+    pub fn why(self) -> Why
+        ensures { result ≡ why_of_fault self }
+    {
         match self {
             SeatFault::NoMemory => Why::Fault,
             SeatFault::Over(end) => end.why(),

@@ -4,8 +4,8 @@ ghost use Rattle.std.specs.Prelude.{◌≡◌, ◌≤◌, ◌++◌, ◌∷◌, �
 ghost use Rattle.std.specs.Io.KnownBytes.{Consumes};
 ghost use Rattle.attach_proto.specs.declared.message.Message.{Message};
 ghost use Rattle.server_connections.specs.Peers.{is_open};
-ghost use Rattle.server_connections.specs.Streaming.{IsIdle, IsWrittenTo, rest_of};
-ghost use Rattle.server_inbox.specs.Asking.{IsWhole, Stands};
+ghost use Rattle.server_connections.specs.Streaming.{IsIdle, IsSameGuest, IsWrittenTo, rest_of};
+ghost use Rattle.server_inbox.specs.Asking.{Gives, IsWhole, Stands, TakesIn};
 
 use crate::peer::{Peer, Role, Stage};
 use server_inbox::Asked;
@@ -28,11 +28,8 @@ impl<S: Read + Write + Drop> Peer<S> {
     // Adds the messages that these bytes complete; after them more may be there to read. A window's
     // output comes in long frames, so all of its messages are made at once.
     fn feed(&mut self, bytes: &[u8], has_more: bool)
-        ensures stands { (taken : List Message) (stream : List ℕ)
-            → self.old.inbox.messages.items ≡ [] → self.old.inbox.is_broken ≡ false
-            → Stands self.old.inbox self.old.reader taken stream
-            → IsWhole self.new.inbox self.new.reader
-            → Stands self.new.inbox self.new.reader taken (stream ++ bytes.now) }
+        ensures stands { TakesIn self.old.inbox self.old.reader bytes.now
+            self.new.inbox self.new.reader }
         ensures same { self.new ≡ record self.old {
           inbox = self.new.inbox;
           reader = self.new.reader;
@@ -53,12 +50,12 @@ impl<S: Read + Write + Drop> Peer<S> {
         ensures again { is_open self.old.stage ≡ true → IfSome self.old.inbox.begun (λ asked.
             (result ≡ Some asked) × (self.new.reader ≡ self.old.reader)
             × (self.new.inbox ≡ record self.old.inbox { begun = None })) }
+        ensures none { is_open self.old.stage ≡ true → self.old.inbox.begun ≡ None → result ≡ None
+            → self.old.inbox.messages.items ≡ [] }
         ensures next { is_open self.old.stage ≡ true → self.old.inbox.begun ≡ None
             → IfSome result (λ asked. (asked.done ≡ 0)
-            × ((taken : List Message) (stream : List ℕ)
-            → Stands self.old.inbox self.old.reader taken stream
-            → IsWhole self.new.inbox self.new.reader
-            → Stands self.new.inbox self.new.reader (taken ++ asked.message ∷ []) stream)) }
+            × Gives self.old.inbox self.old.reader (asked.message ∷ [])
+            self.new.inbox self.new.reader) }
         ensures same { self.new ≡ record self.old {
           inbox = self.new.inbox;
           reader = self.new.reader;
@@ -100,6 +97,12 @@ impl<S: Read + Write + Drop> Peer<S> {
             → Stands self.old.inbox self.old.reader taken stream
             → IsWhole self.new.inbox self.new.reader
             → Stands self.new.inbox self.new.reader taken (stream ++ piece)) }
+        ensures same { self.new ≡ record self.old {
+          stream = self.new.stream;
+          reader = self.new.reader;
+          inbox = self.new.inbox;
+          has_more = self.new.has_more;
+        } }
     {
         if !self.stage.is_open() || !self.has_more() || !self.inbox.may_read(now) {
             return Arrival::Nothing;
@@ -129,6 +132,7 @@ impl<S: Read + Write + Drop> Peer<S> {
         ensures written { (put : List ℕ) → IsWrittenTo S.contents put self.old
             → IsWrittenTo S.contents put self.new }
         ensures idle { IsIdle self.old → (result ≡ false) × (self.new ≡ self.old) }
+        ensures same { IsSameGuest self.old self.new }
     {
         let Some(stream) = &mut self.stream else {
             return false;
@@ -165,6 +169,7 @@ impl<S: Read + Write + Drop> Peer<S> {
             → IsWrittenTo S.contents put self.new }
         // If nothing waits, and it isn't to go, nothing is done.
         ensures idle { IsIdle self.old → self.new ≡ self.old }
+        ensures same { IsSameGuest self.old self.new }
     {
         if self.is_full && self.stage != Stage::Cut {
             return;

@@ -1,5 +1,6 @@
 use Rattle.std.proofs.Common.{◌≡◌, ◌∙◌, ◌+◌, sym, ap, inr}
-use Rattle.slab.specs.Slab.{Slab, get, with_value}
+use Rattle.slab.specs.Slab.{Slab, get}
+use Rattle.server_connections.specs.Lending.{touched}
 use Rattle.server_connections.specs.declared.connections.Connections.{Connections}
 use Rattle.server_connections.specs.declared.peer.Peer.{Peer}
 use Rattle.server_connections.proofs.connections.Connections.put_for.Goals as goal
@@ -9,14 +10,32 @@ returns-in-Ok-clause-put g c =
     let next : c.key_of.new.self ≡ record c.args.self.now { next = c.in-Some.key + 1 } = c.in-Some.ensures.next in
     let peers : c.key_of.new.self.peers ≡ c.args.self.now.peers = ap
     (λ (s : Connections g.row.S.Denot). s.peers) next in
-    inr (record {
-      key = c.in-Some.key;
+    inr (
+      c.in-Some.key,
+      record {
+        first = c.in-Some.ensures.some;
+        peer = c.in-Some-touch.peer.now;
+        was = ap (λ (s : Slab (Peer g.row.S.Denot)). get s c.in-Some.key) (sym peers) ∙ sym c.in-Some-touch.ensures.value;
+        turn = c.put.new.turn;
+        put = c.in-Ok.ensures.ok;
+        new_is = ap
+            (λ (s : Connections g.row.S.Denot).
+            touched s c.in-Some.key (record c.in-Some-touch.peer.now { turn = c.put.new.turn })) next;
+      },
+    )
+
+pub returns-in-Err-clause-fault : goal.returns-in-Err-clause-fault
+returns-in-Err-clause-fault g c =
+    let next : c.key_of.new.self ≡ record c.args.self.now { next = c.in-Some.key + 1 } = c.in-Some.ensures.next in
+    let peers : c.key_of.new.self.peers ≡ c.args.self.now.peers = ap
+    (λ (s : Connections g.row.S.Denot). s.peers) next in
+    record {
       first = c.in-Some.ensures.some;
       peer = c.in-Some-touch.peer.now;
       was = ap (λ (s : Slab (Peer g.row.S.Denot)). get s c.in-Some.key) (sym peers) ∙ sym c.in-Some-touch.ensures.value;
       turn = c.put.new.turn;
-      put = c.in-Ok.ensures.ok;
+      put = c.in-Err.ensures.err;
       new_is = ap
-          (λ (s : Slab (Peer g.row.S.Denot)).
-          with_value s c.in-Some.key (record c.in-Some-touch.peer.now { turn = c.put.new.turn })) peers;
-    })
+          (λ (s : Connections g.row.S.Denot).
+          touched s c.in-Some.key (record c.in-Some-touch.peer.now { turn = c.put.new.turn })) next;
+    }

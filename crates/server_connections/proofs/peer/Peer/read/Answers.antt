@@ -6,57 +6,46 @@ use Rattle.server_connections.specs.declared.peer.Peer.{Peer}
 use Rattle.server_connections.proofs.Standing.{none_read, quiet, typed_anew, unbroken}
 use Rattle.server_connections.proofs.peer.Peer.read.Goals as goal
 
-pub returns-then-not-is_open : goal.returns-then-not-is_open
-returns-then-not-is_open g c = record {
-  bytes = ([], none_read _, λ taken stream h whole. quiet _ _ taken stream h);
-}
+pub returns-then-not-is_open-clause-bytes : goal.returns-then-not-is_open-clause-bytes
+returns-then-not-is_open-clause-bytes g c = ([], none_read _, λ taken stream h whole. quiet _ _ taken stream h)
 
-pub returns-then-count-eq0 : goal.returns-then-count-eq0
-returns-then-count-eq0 g c =
+pub returns-then-count-eq0-clause-bytes : goal.returns-then-count-eq0-clause-bytes
+returns-then-count-eq0-clause-bytes g c =
     let zero : c.read_from-count.result.0 ≡ 0 = search rules in
-    let old = c.args.self.now in
-    record {
-      bytes = (
-        [],
-        rw (ap (λ (p : Peer g.row.S.Denot). p.stream) c.note_none.ensures, c.in-Some.is)
-            (subst (λ (xs : List ℕ). Consumes (g.S.Read.remaining c.in-Some.stream)
-            (g.S.Read.remaining c.read_from-count.new.stream) xs)
-            (ap (λ (n : ℕ). take n c.read_from-count.new.buffer) zero) c.read_from-count.ensures.bytes),
-        λ taken stream h whole. subst (λ (p : Peer g.row.S.Denot). Stands p.inbox p.reader taken (stream ++ []))
-            (sym c.note_none.ensures)
-            (typed_anew old.inbox c.note_none.new.self.inbox.typed old.reader taken (stream ++ [])
-            (quiet old.inbox old.reader taken stream h)),
-      );
-    }
+    let old = c.args.self.now in (
+      [],
+      rw (ap (λ (p : Peer g.row.S.Denot). p.stream) c.note_none.ensures, c.in-Some.is)
+          (subst (λ (xs : List ℕ). Consumes (g.S.Read.remaining c.in-Some.stream)
+          (g.S.Read.remaining c.read_from-count.new.stream) xs)
+          (ap (λ (n : ℕ). take n c.read_from-count.new.buffer) zero) c.read_from-count.ensures.bytes),
+      λ taken stream h whole. subst (λ (p : Peer g.row.S.Denot). Stands p.inbox p.reader taken (stream ++ []))
+          (sym c.note_none.ensures)
+          (typed_anew old.inbox c.note_none.new.self.inbox.typed old.reader taken (stream ++ [])
+          (quiet old.inbox old.reader taken stream h)),
+    )
 
-pub returns-then-is_much : goal.returns-then-is_much
-returns-then-is_much g c =
+pub returns-then-is_much-clause-bytes : goal.returns-then-is_much-clause-bytes
+returns-then-is_much-clause-bytes g c =
     let may : c.may_read.result ≡ true = search rules in
     let more : c.has_more.result ≡ true = search rules in
-    let old = c.args.self.now in
-    record {
-      bytes = (
-        take c.read_from-count.result.0 c.read_from-count.new.buffer,
-        rw (ap (λ (p : Peer g.row.S.Denot). p.stream) c.feed.ensures.same, c.in-Some.is)
-            c.read_from-count.ensures.bytes,
-        λ taken stream h whole. c.feed.ensures.stands taken stream (c.may_read.ensures.none may)
-            (unbroken old.has_more old.inbox.is_broken (sym c.has_more.ensures ∙ more))
-            (typed_anew old.inbox c.note_read.new.self old.reader taken stream h) whole,
-      );
-    }
+    let old = c.args.self.now in (
+      take c.read_from-count.result.0 c.read_from-count.new.buffer,
+      rw (ap (λ (p : Peer g.row.S.Denot). p.stream) c.feed.ensures.same, c.in-Some.is)
+          c.read_from-count.ensures.bytes,
+      λ taken stream h whole. c.feed.ensures.stands taken stream (c.may_read.ensures.none may)
+          (unbroken old.has_more old.inbox.is_broken (sym c.has_more.ensures ∙ more))
+          (typed_anew old.inbox c.note_read.new.self old.reader taken stream h) whole,
+    )
 
-pub returns-else-is_much : goal.returns-else-is_much
-returns-else-is_much g c =
+pub returns-else-is_much-clause-bytes : goal.returns-else-is_much-clause-bytes
+returns-else-is_much-clause-bytes g c =
     let may : c.may_read.result ≡ true = search rules in
     let more : c.has_more.result ≡ true = search rules in
-    let old = c.args.self.now in
-    record {
-      bytes = (
-        take c.read_from-count.result.0 c.read_from-count.new.buffer,
-        rw (ap (λ (p : Peer g.row.S.Denot). p.stream) c.feed.ensures.same, c.in-Some.is)
-            c.read_from-count.ensures.bytes,
-        λ taken stream h whole. c.feed.ensures.stands taken stream (c.may_read.ensures.none may)
-            (unbroken old.has_more old.inbox.is_broken (sym c.has_more.ensures ∙ more))
-            (typed_anew old.inbox c.note_read.new.self old.reader taken stream h) whole,
-      );
-    }
+    let old = c.args.self.now in (
+      take c.read_from-count.result.0 c.read_from-count.new.buffer,
+      rw (ap (λ (p : Peer g.row.S.Denot). p.stream) c.feed.ensures.same, c.in-Some.is)
+          c.read_from-count.ensures.bytes,
+      λ taken stream h whole. c.feed.ensures.stands taken stream (c.may_read.ensures.none may)
+          (unbroken old.has_more old.inbox.is_broken (sym c.has_more.ensures ∙ more))
+          (typed_anew old.inbox c.note_read.new.self old.reader taken stream h) whole,
+    )

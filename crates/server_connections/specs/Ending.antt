@@ -1,0 +1,16 @@
+-- The causes that peers are told when the server ends, or an event has no answer.
+use Rattle.attach_proto.specs.declared.why.Why.{Why}
+use Rattle.attach_proto.specs.declared.why.Why.TheVariants as why
+use Rattle.server_connections.specs.declared.seat.End.{End}
+use Rattle.server_connections.specs.declared.seat.End.TheVariants as end
+use Rattle.server_connections.specs.declared.seat.SeatFault.{SeatFault}
+use Rattle.server_connections.specs.declared.seat.SeatFault.TheVariants as fault
+
+abbrev pub why_of_end : End → Why
+why_of_end end.Quit = why.Quit
+why_of_end end.TrailFull = why.TrailFull
+why_of_end end.Fault = why.Fault
+
+abbrev pub why_of_fault : SeatFault → Why
+why_of_fault fault.NoMemory = why.Fault
+why_of_fault (fault.Over end) = why_of_end end
