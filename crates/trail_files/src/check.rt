@@ -1,5 +1,11 @@
 //! How a trail's file ends.
 
+ghost use Rattle.std.specs.Prelude.{◌≡◌, [], IfOk, None};
+ghost use Rattle.acl.specs.declared.edition.Edition.{Edition};
+ghost use Rattle.acl.specs.declared.user_id.UserId.{UserId};
+ghost use Rattle.trail_lines.specs.Reading.{HasRead};
+ghost use Rattle.trail_files.specs.Finishing.{is_bad, EndsAt, Finishes, IfEndOf, IsChecked};
+
 use std::alloc::{AllocError, Global};
 use std::io::{self, BufRead};
 use trail_lines::{
@@ -25,7 +31,9 @@ pub enum Finish {
 
 impl Finish {
     /// Whether something is wrong in the file.
-    pub fn is_bad(self) -> bool {
+    pub fn is_bad(self) -> bool
+        ensures { result ≡ is_bad self }
+    {
         match self {
             Finish::Ended { .. } | Finish::Open | Finish::Torn => false,
             Finish::Miscounted { .. } | Finish::Continued { .. } | Finish::Stopped { .. } => true,
@@ -34,7 +42,9 @@ impl Finish {
 }
 
 /// What a line says that begins as a last line does, if it is the last line of this many entries.
-fn end_in(alloc: Global, count: u64, line: &[u8]) -> Result<Option<Ended>, AllocError> {
+fn end_in(alloc: Global, count: u64, line: &[u8]) -> Result<Option<Ended>, AllocError>
+    ensures { IfOk result (λ ended. IfEndOf ended count line.now) }
+{
     match read_end(alloc, line) {
         Ok(ended) if ended.entries == count => Ok(Some(ended)),
         Ok(_) | Err(UnreadLine::Malformed) => Ok(None),
@@ -43,12 +53,9 @@ fn end_in(alloc: Global, count: u64, line: &[u8]) -> Result<Option<Ended>, Alloc
 }
 
 /// How a file ends at a line that begins as a last line does, if nothing comes after it.
-pub fn finish_at(
-    alloc: Global,
-    count: u64,
-    number: u64,
-    line: &[u8],
-) -> Result<Finish, AllocError> {
+pub fn finish_at(alloc: Global, count: u64, number: u64, line: &[u8]) -> Result<Finish, AllocError>
+    ensures { IfOk result (λ finish. EndsAt finish count number line.now None) }
+{
     match end_in(alloc, count, line)? {
         Some(ended) => Ok(Finish::Ended { ended }),
         None => Ok(Finish::Miscounted { line: number }),
@@ -56,19 +63,21 @@ pub fn finish_at(
 }
 
 /// How a file ends at a line that begins as a last line does.
+#[tactic(auto, using(crate::proofs::Coming::whole_came))]
 fn finish_in<R: BufRead>(
     alloc: Global,
     count: u64,
     number: u64,
     reader: &mut R,
     line: &mut Vec<u8>,
-) -> io::Result<Finish> {
-    let finish = finish_at(alloc, count, number, line.as_slice())?;
-    if finish.is_bad() {
-        return Ok(finish);
-    }
+) -> io::Result<Finish>
+    ensures { IfOk result (λ finish. EndsAt finish count number line.old.items (R.remaining reader.old)) }
+{
+    let Some(ended) = end_in(alloc, count, line.as_slice())? else {
+        return Ok(Finish::Miscounted { line: number });
+    };
     match next_line(reader, line)? {
-        NextLine::Nothing => Ok(finish),
+        NextLine::Nothing => Ok(Finish::Ended { ended }),
         NextLine::Whole | NextLine::Torn => Ok(Finish::Continued { line: number }),
     }
 }
@@ -81,7 +90,9 @@ pub fn finish_of<R: BufRead>(
     halt: Halt,
     reader: &mut R,
     line: &mut Vec<u8>,
-) -> io::Result<Finish> {
+) -> io::Result<Finish>
+    ensures { IfOk result (λ finish. Finishes finish halt count line.old.items (R.remaining reader.old)) }
+{
     match halt {
         Halt::Nothing => Ok(Finish::Open),
         Halt::Torn => Ok(Finish::Torn),
@@ -95,7 +106,10 @@ pub fn check_lines<R: BufRead>(
     alloc: Global,
     audit: &mut Audit,
     reader: &mut R,
-) -> io::Result<Finish> {
+) -> io::Result<Finish>
+    ensures { (edition : Edition) (owner : UserId) → HasRead audit.old edition owner [] →
+        IfOk result (λ finish. IsChecked finish audit.old.times audit.new edition owner (R.remaining reader.old)) }
+{
     let mut line = Vec::new(alloc);
     let halt = read_entries(audit, reader, &mut line)?;
     finish_of(alloc, audit.count(), halt, reader, &mut line)

@@ -1,5 +1,8 @@
 //! What the program prints of a file that it has read, and the status to exit with.
 
+ghost use Rattle.std.specs.Prelude.{◌≡◌, Some, IfOk};
+ghost use Rattle.trail_files.specs.Finishing.{status_of};
+
 use crate::check::Finish;
 use crate::heading::Heading;
 use acl::UserId;
@@ -39,13 +42,9 @@ fn tell_wrong<W: Write>(
     place: u64,
     owner: UserId,
     output: &mut W,
-) -> io::Result<u8> {
-    if wrong == Wrong::NoMemory {
-        return Err(io::Error::from(AllocError));
-    }
+) -> io::Result<()> {
     write!(output, "bad: line {line}, entry {place}: {wrong}")?;
-    tell_illegal(wrong, owner, output)?;
-    Ok(ILLEGAL)
+    tell_illegal(wrong, owner, output)
 }
 
 /// Writes that a file is whole.
@@ -77,6 +76,43 @@ fn tell_continued<W: Write>(line: u64, output: &mut W) -> io::Result<()> {
     )
 }
 
+/// The status that says how a file ends; None if memory was refused.
+fn status_of(finish: Finish) -> Option<u8>
+    ensures { result ≡ status_of finish }
+{
+    match finish {
+        Finish::Ended { .. } => Some(LEGAL),
+        Finish::Open => Some(UNENDED),
+        Finish::Torn => Some(UNENDED),
+        Finish::Miscounted { .. } => Some(ILLEGAL),
+        Finish::Continued { .. } => Some(ILLEGAL),
+        Finish::Stopped { wrong, .. } => match wrong {
+            Wrong::NoEntry => Some(ILLEGAL),
+            Wrong::OtherPlace => Some(ILLEGAL),
+            Wrong::Illegal => Some(ILLEGAL),
+            Wrong::NoMemory => None,
+        },
+    }
+}
+
+/// Writes how a file ends.
+fn tell<W: Write>(
+    alloc: Global,
+    finish: Finish,
+    count: u64,
+    owner: UserId,
+    output: &mut W,
+) -> io::Result<()> {
+    match finish {
+        Finish::Stopped { line, wrong } => tell_wrong(line, wrong, count, owner, output),
+        Finish::Ended { ended } => tell_ended(alloc, ended, count, output),
+        Finish::Miscounted { line } => tell_miscounted(line, count, output),
+        Finish::Continued { line } => tell_continued(line, output),
+        Finish::Torn => tell_unended(count, "torn: its last line isn't whole", output),
+        Finish::Open => tell_unended(count, "not ended: it has no last line", output),
+    }
+}
+
 /// Writes how a file ends, and gives the status to exit with.
 pub fn tell_finish<W: Write>(
     alloc: Global,
@@ -84,22 +120,13 @@ pub fn tell_finish<W: Write>(
     count: u64,
     owner: UserId,
     output: &mut W,
-) -> io::Result<u8> {
-    let (status, told) = match finish {
-        Finish::Stopped { line, wrong } => return tell_wrong(line, wrong, count, owner, output),
-        Finish::Ended { ended } => (LEGAL, tell_ended(alloc, ended, count, output)),
-        Finish::Miscounted { line } => (ILLEGAL, tell_miscounted(line, count, output)),
-        Finish::Continued { line } => (ILLEGAL, tell_continued(line, output)),
-        Finish::Torn => (
-            UNENDED,
-            tell_unended(count, "torn: its last line isn't whole", output),
-        ),
-        Finish::Open => (
-            UNENDED,
-            tell_unended(count, "not ended: it has no last line", output),
-        ),
+) -> io::Result<u8>
+    ensures { IfOk result (λ status. status_of finish ≡ Some status) }
+{
+    let Some(status) = status_of(finish) else {
+        return Err(io::Error::from(AllocError));
     };
-    told?;
+    tell(alloc, finish, count, owner, output)?;
     Ok(status)
 }
 
