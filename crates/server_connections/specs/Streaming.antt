@@ -1,6 +1,9 @@
 -- How a connection stands to the bytes that its stream gave, and to those that its stream holds.
 use Rattle.std.specs.Prelude.{◌≡◌, ℕ, Bool, true, false, List, [], Option, Some, None, MatchOption}
+use Rattle.server_inbox.specs.Joining.{IsGathered}
+use Rattle.server_inbox.specs.declared.inbox.Inbox.{Inbox}
 use Rattle.server_sending.specs.Written.{IsWritten}
+use Rattle.server_typing.specs.Typed.{expired}
 use Rattle.server_connections.specs.declared.peer.Peer.{Peer}
 use Rattle.server_connections.specs.declared.peer.Stage.{Stage}
 use Rattle.server_connections.specs.declared.peer.Stage.TheVariants as stage
@@ -36,3 +39,9 @@ module _ {S : Type 0} where
     role = new.role;
     leaves = new.leaves;
   }
+
+  -- keys and sizes that come next were taken in, and then keys dropped that waited too long
+  abbrev pub Gathers : ℕ → Peer S → Bool → Peer S → Type 0
+  Gathers now old is_through new = (mid : Inbox)
+      × IsGathered now old.inbox old.reader mid new.reader is_through
+      × (new ≡ record old { inbox = record mid { typed = expired now mid.typed }; reader = new.reader })

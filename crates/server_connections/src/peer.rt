@@ -7,10 +7,9 @@ ghost use Rattle.server_connections.specs.Peers.{is_closed, is_done, is_due, is_
 ghost use Rattle.server_connections.specs.Peers.{listens};
 ghost use Rattle.server_connections.specs.Life.{dismissed, given_up, gone_guest, left, parting};
 ghost use Rattle.server_connections.specs.Life.{wanted_draw, without_guest};
+ghost use Rattle.server_connections.specs.Streaming.{Gathers};
 ghost use Rattle.server_inbox.specs.Asking.{Stands, is_empty};
-ghost use Rattle.server_inbox.specs.Joining.{IsGathered};
-ghost use Rattle.server_inbox.specs.declared.inbox.Inbox.{Inbox as Held};
-ghost use Rattle.server_typing.specs.Typed.{expired, untyped};
+ghost use Rattle.server_typing.specs.Typed.{untyped};
 ghost use Rattle.session.specs.Trace.{happening};
 
 use crate::news::Guest;
@@ -242,12 +241,7 @@ impl<S: Drop> Peer<S> {
     /// Takes in keys and sizes that come next, at this time in milliseconds. Returns whether no more are
     /// there.
     pub fn gather(&mut self, now: u64) -> Result<bool, AllocError>
-        ensures { IfOk result (λ is_through. (mid : Held)
-            × IsGathered now self.old.inbox self.old.reader mid self.new.reader is_through
-            × (self.new ≡ record self.old {
-              inbox = record mid { typed = expired now mid.typed };
-              reader = self.new.reader;
-            })) }
+        ensures { IfOk result (λ is_through. Gathers now self.old is_through self.new) }
     {
         self.inbox.gather(&mut self.reader, now)
     }
