@@ -6,9 +6,13 @@ use crate::shared::{Seat, Shared};
 use attach_proto::{LONGEST, Why};
 use client_words::{Fault, Part};
 use std::alloc::Global;
-use std::io::{ErrorKind, Read};
+use std::io::{ErrorKind, Read, Write};
 use std::os::unix::net::UnixStream;
 use std::sync::{Arc, Wait};
+use std::time::Duration;
+
+// How long nothing is read before it is looked whether the server has hung up, in milliseconds.
+const LOOK: u64 = 250;
 
 // Connects, and lends the connection to the other threads.
 fn connect<R: PeerHost + Wait>(
@@ -41,14 +45,27 @@ fn take<R: Wait>(
     Ok(end)
 }
 
-// Waits while too much waits for standard output.
-fn wait_for_room<R: Wait>(rt: &R, shared: &Shared) {
-    let seat = shared.seat.lock(rt);
-    let _ = shared.work.wait_while(
-        rt,
-        seat,
-        |seat| seat.peer.is_behind() && seat.peer.end.is_none(),
-    );
+// Waits while too much waits for standard output. Returns whether the server has hung up, which a write of no
+// bytes tells: then the rest is read, so that the cause is known although nobody takes the output.
+fn wait_for_room<R: PeerHost + Wait>(rt: &R, shared: &Shared, stream: &UnixStream) -> bool {
+    let mut stream = stream;
+    for _ in rt.forever() {
+        let seat = shared.seat.lock(rt);
+        let (seat, waited) = shared.work.wait_timeout_while(
+            rt,
+            seat,
+            Duration::from_millis(LOOK),
+            |seat| seat.peer.is_behind() && seat.peer.end.is_none(),
+        );
+        drop(seat);
+        if !waited.timed_out() {
+            return false;
+        }
+        if stream.write(b"").is_err() {
+            return true;
+        }
+    }
+    false
 }
 
 // Reads until the connection ends. Returns how it did.
@@ -56,8 +73,9 @@ fn read_all<R: PeerHost + Wait>(rt: &R, shared: &Shared, door: &Door) -> Result<
     let stream = connect(rt, shared, door)?;
     let mut stream: &UnixStream = &stream;
     let mut buffer = vec![in shared.alloc; 0; LONGEST]?;
+    let mut has_hung_up = false;
     for _ in rt.forever() {
-        wait_for_room(rt, shared);
+        has_hung_up = has_hung_up || wait_for_room(rt, shared, stream);
         let end = match stream.read(buffer.as_mut_slice()) {
             Ok(count) => take(rt, shared, &buffer[..count])?,
             Err(error) if error.kind() == ErrorKind::Interrupted => None,

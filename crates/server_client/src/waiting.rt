@@ -22,6 +22,9 @@ const SHORTLY: u64 = 10;
 
 const PAUSE: u64 = 50;
 
+// How many tries a client lets pass while windows come back: one that comes before them shows none.
+const HELD: u32 = 60;
+
 // Milliseconds since the peer began. A clock that can't be read stands still.
 fn now<R: PeerHost>(rt: &R, began: Option<Instant>) -> u64 {
     let Some(began) = began else {
@@ -61,9 +64,10 @@ fn session<R: Files<File = File> + AllocGlobal>(rt: &R, words: &Words<'_>) -> Ve
     }
 }
 
-// Whether the server's end was a planned one, after which it starts again.
-fn is_planned<R: Files<File = File> + AllocGlobal>(rt: &R, words: &Words<'_>) -> bool {
-    match format!(in rt.alloc(); "{}.again", words.socket) {
+// Whether there is a file beside the socket: .again after a planned end of a server that starts again,
+// .pending while windows of the session before come back.
+fn is_beside<R: Files<File = File> + AllocGlobal>(rt: &R, words: &Words<'_>, name: &str) -> bool {
+    match format!(in rt.alloc(); "{}{}", words.socket, name) {
         Ok(path) => fs::metadata(rt, path.as_str()).is_ok(),
         Err(_) => false,
     }
@@ -93,8 +97,14 @@ fn come_back<R: PeerHost + Threads + Wait + Files<File = File> + AllocGlobal>(
     shared: &Arc<Shared, Global>,
     words: &Words<'_>,
     before: &[u8],
+    held: &mut u32,
 ) -> Result<(), Fault> {
     thread::sleep(rt, Duration::from_millis(PAUSE));
+    if words.way.is_attach() && *held < HELD && is_beside(rt, words, ".pending") {
+        *held = held.wrapping_add(1);
+        return Ok(());
+    }
+    *held = 0;
     shared.begin(rt);
     let named = session(rt, words);
     if !before.is_empty() && !named.is_empty() && before != named.as_slice() {
@@ -112,9 +122,9 @@ fn ask<R: PeerHost + Threads + Wait + Files<File = File> + AllocGlobal>(
     shared: &Arc<Shared, Global>,
     words: &Words<'_>,
     before: &[u8],
-    time: u64,
+    (time, held): (u64, &mut u32),
 ) {
-    let (is_planned, has_place) = (is_planned(rt, words), has_place(rt, words));
+    let (is_planned, has_place) = (is_beside(rt, words, ".again"), has_place(rt, words));
     let mut seat = shared.seat.lock(rt);
     let comes_back = seat.peer.comes_back(time, is_planned, has_place);
     drop(seat);
@@ -122,7 +132,7 @@ fn ask<R: PeerHost + Threads + Wait + Files<File = File> + AllocGlobal>(
         return;
     }
     shared.work.notify_all();
-    if let Err(fault) = come_back(rt, shared, words, before) {
+    if let Err(fault) = come_back(rt, shared, words, before, held) {
         shared.seat.lock(rt).peer.end_by(Err(fault));
     }
 }
@@ -136,7 +146,7 @@ pub fn wait<R: PeerHost + Threads + Wait + Files<File = File> + AllocGlobal, I: 
 ) -> PeerEnding {
     let began = Instant::now(rt).ok();
     let mut sources = sources;
-    let mut named = Vec::new(shared.alloc);
+    let (mut named, mut held) = (Vec::new(shared.alloc), 0);
     for _ in rt.forever() {
         match look(rt, shared, began) {
             Step::Wait | Step::WaitShortly => {}
@@ -147,7 +157,9 @@ pub fn wait<R: PeerHost + Threads + Wait + Files<File = File> + AllocGlobal, I: 
                     shared.seat.lock(rt).peer.end_by(Err(Fault::NoMemory));
                 }
             }
-            Step::Ask => ask(rt, shared, words, &named, now(rt, began)),
+            Step::Ask => {
+                ask(rt, shared, words, &named, (now(rt, began), &mut held));
+            }
             Step::End => break,
         }
     }
