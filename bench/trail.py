@@ -2,7 +2,7 @@
 
 python3 bench/trail.py [--trail PROGRAM] [--mb N] [--mix all|changes|keys] [--file FILE]. It writes a legal trail of this
 size into a temporary folder, or into FILE, which stays: 60 users on 39 windows, whose rights the owner changes by
-commands that name all of them, and between two such commands 390 entries of one user each: keys, some of them denied,
+commands that name all of them, and between two such commands 250 entries of one user each: keys, some of them denied,
 commands, changes of one right, and clients that come and go. So 1 GB are nearly as many entries as a trail may have.
 `changes` has the first kind alone, and `keys` the second. Prints MB/s and the most memory of each run, after a `cat`
 that fills the page cache.
@@ -20,7 +20,7 @@ TOP = os.path.dirname(os.path.dirname(os.path.realpath(__file__)))
 USERS = ["u%02d" % number for number in range(60)]
 WINDOWS = range(39)
 LOCKED = 3
-ENTRIES, BETWEEN = 4_194_304, 390
+ENTRIES, BETWEEN = 4_194_304, 250
 
 
 class Trail:
@@ -49,6 +49,7 @@ class Trail:
         self.command("multiuser on", [])
         self.command(f"aclchg {','.join(USERS)} +x windows",
                      [act for user in USERS for act in (f"known:{user}", f"set:{user}:+x:windows")])
+        self.command(f"aclchg {','.join(USERS)} -x aclchg", [f"set:{user}:-x:aclchg" for user in USERS])
         self.put(f"command own {LOCKED} .writelock\\20on ok:0:0:0 ?own:+x:writelock ?own:+x:{LOCKED} ?own:+w:{LOCKED} "
                  f"?own:lock:{LOCKED}:- !mode:own:{LOCKED}:on")
         self.change("+rw", WINDOWS)
@@ -82,7 +83,7 @@ class Trail:
         elif kind < 0.8:
             self.command("windows", [], user)
         elif kind < 0.85:
-            self.put(f"command {user} - .kill no:entry:{user}:x:kill:-:- ?{user}:-x:kill")
+            self.put(f"command {user} - .aclchg\\20u00\\20-w\\200 no:entry:{user}:x:aclchg:-:- ?{user}:-x:aclchg")
         elif kind < 0.95:
             sign = self.chance.choice("+-")
             self.command(f"aclchg {user} {sign}w {window}", [f"set:{user}:{sign}w:{window}"])
