@@ -13,13 +13,13 @@ demo:
 	@cd crates/muxsim && $(RT) try -- --show own < ../../examples/$(SCRIPT).mux
 	@echo "make demo: nothing was proved; make build proves muxsim, make test everything" >&2
 
-# Two users and a shell in a window, over a server that is tried unproved: one to two minutes.  KEEP=1: it stays.
+# Two users and a shell in a window, over a server that is tried unproved: two to three minutes.  KEEP=1: it stays.
 try-server:
 	@RT='$(RT)' KEEP='$(KEEP)' examples/try-server
 
-# Two users and a shell in a window, with the programs that make build made.
+# The same with the muxd that make build made.
 shell:
-	@examples/shell.sh
+	@MUXD='$(BIN)/muxd' KEEP='$(KEEP)' examples/try-server
 
 # Proves the programs and all that they stand on, several crates at a time, and puts the programs into bin/.  What was
 # interrupted goes on where it was.  make build JOBS=2: two jobs at a time.

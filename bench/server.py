@@ -244,32 +244,6 @@ def at_rest(words, clients, idle):
         return server.memory(), (server.seconds() - before) * 1000
 
 
-def command_once(server):
-    asking = Peer(server.path, command(b"displays"))
-    asking.until(GONE)
-    asking.close()
-
-
-def attach_once(server):
-    Peer(server.path, attach()).leave()
-
-
-def type_once(server):
-    server.clients[0].send(frame(KEYS, b"x"))
-    server.window.until(INPUT)
-
-
-def bytes_kept(words, once, steps=5000):
-    """By how many bytes a step the server's memory grows, after as many steps before."""
-    with Server(words, 1) as server:
-        for _ in range(steps):
-            once(server)
-        before = server.memory()
-        for _ in range(steps):
-            once(server)
-        return (server.memory() - before) * MB / steps
-
-
 def row(name, value, unit, asked=""):
     print(f"{name:52}{value:>10} {unit:4}{asked}", flush=True)
 
@@ -324,9 +298,6 @@ def main():
         memory, used = at_rest(words, clients, words.idle)
         row(f"memory, {clients} clients, 2,000 kept lines", f"{memory:.1f}", "MB", asked)
         row(f"  processor time of {words.idle:g} idle seconds", f"{used:.2f}", "ms")
-    for name, once, asked in (("a command that lists", command_once, 250), ("an attach and its detach", attach_once, 700),
-                              ("a key", type_once, 240)):
-        row(f"memory kept for {name}", f"{bytes_kept(words, once):.0f}", "B", f"asked: at most {asked}")
 
 
 if __name__ == "__main__":

@@ -142,7 +142,7 @@ sub page {
     my $token = $keeper->{session}->token($guest->{name});
     my ($port) = $address =~ /:(\d+)/;
     return "$name can open this link in a browser on this host:\n\n$address#$guest->{name}=$token\n\n"
-        . "From another host the same after:   ssh -N -L $port:127.0.0.1:$port HOST\n" . may($guest)
+        . "On another host it works after:   ssh -N -L $port:127.0.0.1:$port HOST\n" . may($guest)
         . ($guest->{types} ? "mux-share --take takes it back.\n" : '');
 }
 

@@ -18,6 +18,8 @@ use constant { COME => 5, LOOK => 0.2, PENDING => 12 };
 # How many seconds the owner's terminal may take to come back when muxd was killed.  Until then no guest is let in, and
 # after that none can type.
 use constant BACK => 10;
+# How many seconds after the owner's terminal came it is told something: its own command fit clears what was said before.
+use constant FITTED => 1;
 
 # PLACE is the folder, LOCK its lock, READY what gets the line 'ready' once it serves, CALLER the process of mux-share,
 # SCRIPTS the folder of mux-shell, NAME the session's, TITLE the shell's, KEEP the number of its kept lines.
@@ -150,7 +152,7 @@ sub turn {
     my ($self, $left) = @_;
     return $self->{ending} = 1 if defined $left && ($left <= 0 || !kill 0, $self->{caller});
     my $wait = $self->{guests}->keep_time;
-    $wait = LOOK if (defined $left || $self->{look_at}) && LOOK < $wait;
+    $wait = LOOK if (defined $left || $self->{look_at} || $self->{greet_at}) && LOOK < $wait;
     my $ready = '';
     my @news = $self->{session}->news_pipes;
     vec($ready, fileno $_, 1) = 1 for @$self{qw(door came here)}, @news;
@@ -159,6 +161,7 @@ sub turn {
         $self->{look_at} = 0;
         $self->look_again;
     }
+    $self->greet if $self->{greet_at} && now() > $self->{greet_at};
     return if $count <= 0;
     $self->reap if vec($ready, fileno $self->{came}, 1);
     $self->hear if grep { vec($ready, fileno $_, 1) } @news;
@@ -187,17 +190,25 @@ sub hear {
         $self->{look_at} = 0 if $came && $name eq $session->owner;
         if ($name ne $session->owner) { $self->{guests}->announce($came, $name) }
         elsif (!$came) { $self->look_away unless $session->clients_of($name) }
-        elsif ($session->clients_of($name) == 1) { $self->greet }
+        elsif ($session->clients_of($name) == 1) { $self->meet }
     }
 }
 
-# Tells the owner, who is attached for the first time or came back, what they have to know.
+# The owner is attached for the first time, or came back.
+sub meet {
+    my ($self) = @_;
+    $self->{greeting} = $self->{was_attached}++ ? $self->{is_away} ? 'back here' : '' : first_line($self);
+    $self->{greet_at} = now() + FITTED;
+    $self->{is_away} = 0;
+}
+
+# Tells the owner what they have to know.
 sub greet {
     my ($self) = @_;
-    my $line = $self->{was_attached}++ ? $self->{is_away} ? 'back here' : '' : first_line($self);
-    $line = 'no guest can type since you were away: mux-share --give NAME' if $self->{guests}->was_taken;
+    $self->{greet_at} = 0;
+    my $line = $self->{greeting};
+    $line = 'back here: no guest can type until mux-share --give NAME' if $self->{guests}->was_taken;
     $self->{session}->tell($line) if $line ne '';
-    $self->{is_away} = 0;
 }
 
 # Looks whether the owner's last terminal is gone.  If it never was attached, the start was interrupted.
@@ -225,6 +236,7 @@ sub look_again {
 # The owner is away.  Then no guest may type, since nobody watches.
 sub look_away {
     my ($self) = @_;
+    $self->{greet_at} = 0;
     my $could_type = $self->{guests}->take_unwatched;
     $self->cut_off if $self->{guests}->is_pending;
     return if $self->{is_away} || !grep { $self->{session}->clients_of($_->{name}) } $self->{guests}->all;

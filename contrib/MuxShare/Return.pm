@@ -269,7 +269,7 @@ sub save {
     my @lines = ('trail ' . field($self->{trail}), 'base ' . field($self->{base}));
     for my $it (@{ $self->{unsure} }) {
         my $bits = join ',', map { "$_:" . $old->bits($_, $it->{serial}) } $old->others;
-        push @lines, join ' ', 'window', map({ field($it->{$_}) } FIELDS), field($bits);
+        push @lines, join ' ', 'window', map({ field($it->{$_}) } FIELDS), field($bits), field($it->{hidden});
     }
     for my $opener (@{ $old->{known} }) {
         push @lines, map { "mask $opener $_ $self->{closed}{$opener}{$_} " . $old->mask($opener, $_) }
@@ -277,6 +277,17 @@ sub save {
     }
     write_file($self->{pending}, join '', map { "$_\n" } @lines) or say("can't write $self->{pending}: $!");
     return;
+}
+
+# Writes which windows must not tell their old page: each user with a number that the window had when it was opened.
+# Their programs read it.
+sub write_hidden {
+    my ($path, $old) = @_;
+    my @lines;
+    for my $it ($old ? values %{ $old->{windows} } : ()) {
+        push @lines, map { $_ eq '' ? () : "$it->{opener} $_\n" } split /,/, $it->{hidden};
+    }
+    return write_file($path, join '', sort @lines) && chmod 0644, $path;
 }
 
 # Adds to what a trail leaves what the session before it was still bringing back.  SKIPPED are trails that don't count.
@@ -305,7 +316,10 @@ sub take_pending {
     for my $it (@waiting) {
         my $now = $is_of_this ? $it->{now} : undef;
         next if defined $now && !$old->{windows}{$now} && $now < $old->{opened};
-        $it->{serial} = defined $now && $old->{windows}{$now} ? $now : $next--;
+        my $back = defined $now ? $old->{windows}{$now} : undef;
+        $it->{serial} = $back ? $now : $next--;
+        # It may have come back to a server that ended before its program heard so.
+        $it->{hidden} .= ",$back->{born}" if $back && "$it->{hidden}$back->{hidden}" ne '';
         delete $it->{now};
         $old->{windows}{ $it->{serial} } = $it;
         $old->{bits}{$_}{ $it->{serial} } = $it->{bits}{$_} // 0 for $old->others;
@@ -324,7 +338,10 @@ sub window_of {
     my ($fields) = @_;
     my %it;
     @it{ +FIELDS } = @$fields;
-    $it{bits} = { map { split /:/ } split /,/, $fields->[11] // '' };
+    my $count = () = FIELDS;
+    my ($bits, $hidden) = @$fields[$count, $count + 1];
+    $it{bits} = { map { split /:/ } split /,/, $bits // '' };
+    $it{hidden} = $hidden // '';
     $it{holder} //= '';
     return \%it;
 }

@@ -37,6 +37,7 @@ sub orphan {
 }
 
 sub owner { return $_[0]{owner} }
+sub title { return $_[0]{title} }
 
 # Whether muxd takes connections.
 sub is_served { my ($self) = @_; return -S $self->{socket} && defined connected($self->{socket}) }

@@ -99,7 +99,7 @@ sub take {
     my $has_acts = index($line, ' !') >= 0;
     # Most entries are typed keys.
     my $is_typed = $line =~ /^\d+ \d+ keys /;
-    return if !$has_acts && $is_typed && $line !~ /:\+x:(?:title|number|multiuser)\b/;
+    return if !$has_acts && $is_typed && $line !~ /:\+x:(?:title|number|multiuser|clear|reset|encoding)\b/;
     my (undef, undef, @words) = split / /, $line;
     my @event = splice @words, 0, $words_of{ $words[0] };
     my @reply = split /:/, shift @words;
@@ -153,6 +153,8 @@ sub see_command {
         # A line that was typed in a prompt isn't in the trail.
         @$window{ $given, "unsaid_$given" } = ($words[1] // $window->{$given}, $is_typed);
     }
+    # What somebody cleared must not come back with the page: by the number that its program knows.
+    $window->{hidden} = $window->{born} if $given =~ /^(?:clear|reset|encoding)$/;
     return;
 }
 
@@ -196,7 +198,7 @@ my %does = (
         $self->{opened} = $serial + 1;
         $self->{windows}{$serial} = {
             serial => $serial, opener => $user, opened_as => $title, title => $title, number => $number,
-            born => $number, rows => $event->[2], cols => $event->[3], keep => $event->[4], mode => $self->{default},
+            born => $number, hidden => '', rows => $event->[2], cols => $event->[3], keep => $event->[4], mode => $self->{default},
             holder => $self->{default} eq 'on' ? $user : '',
         };
         $self->{bits}{$_}{$serial} = $_ eq $user ? 7 : $self->mask($user, $_) for $self->others;

@@ -25,7 +25,8 @@ fault() {
 # of its name: --keep 9 and --keep=9 set keep, --nested sets nested to yes.  Values of an option in $joined are joined by
 # commas, and a word that has the pattern $others ends the options.  Sets used to the number of words.
 read_options() {
-    valued=" $1 " plain=" $2 " used=0
+    # (no option has such a name)
+    with_value=" $1 " without_value=" $2 " used=0
     shift 2
     while :; do
         # shellcheck disable=SC2254
@@ -50,7 +51,7 @@ read_options() {
         esac
         called=${option%%=*}
         case $called in *[!a-z]*) fault "invalid argument: $1 (see $program --help)" 2 ;; esac
-        case $valued,$plain,$option in
+        case $with_value,$without_value,$option in
         *" $called "*,*,*=*) value=${option#*=} ;;
         *" $called "*,*,*)
             [ $# -ge 2 ] || fault "--$called needs a value (see $program --help)" 2
@@ -94,6 +95,31 @@ check_title() (
 )
 check_seconds() {
     case $1 in '' | *[!0-9]* | ??????*) fault "invalid --for: $1 (whole seconds)" 2 ;; esac
+}
+# read_time TIME: sets seconds to a time such as 30m.
+read_time() {
+    case $1 in
+    *h) seconds=${1%h} unit=3600 ;;
+    *m) seconds=${1%m} unit=60 ;;
+    *) seconds=${1%s} unit=1 ;;
+    esac
+    case $seconds in
+    '' | 0* | *[!0-9]* | ??????*) fault "invalid time: $1 (write 90s, 30m or 2h)" 2 ;;
+    esac
+    seconds=$((seconds * unit))
+}
+# check_window OPTION W: ends with a fault, unless W names a window in a list of aclchg, where some words mean more.
+check_window() {
+    case $2 in
+    *,*) fault "invalid $1: $2 (a comma would name several windows: give the number)" 2 ;;
+    *[!#?]*) ;;
+    *) fault "invalid $1: $2 (# and ? stand for all windows and commands: give the number)" 2 ;;
+    esac
+    ! is_command "$2" || fault "invalid $1: $2 (a command has this name: give the number)" 2
+}
+# quoted WORD: prints a word of a line in quotes, whatever characters it has.
+quoted() {
+    printf "'%s'" "$(printf '%s' "$1" | sed "s/'/'\\\\''/g")"
 }
 is_command() {
     case $safe$unsafe in *" $1 "*) return 0 ;; esac

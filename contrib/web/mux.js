@@ -384,7 +384,8 @@
     else if (key) typed(named(key, false));
     else if (code) typed(String.fromCharCode(code));
     else if (text) typed(text);
-    keys.focus();
+    // (Return on Leave comes twice)
+    if (event.detail || event.target.id !== "leave") keys.focus();
   });
   // Leaving takes two taps.
   let leaving = 0;
@@ -575,8 +576,8 @@
   visualViewport.addEventListener("resize", lay);
   document.body.classList.toggle("watching", watching);
   say("");
-  // A link has a secret behind its #, or a name and a token, which no server sees.  It leaves the address bar and the
-  // history.
+  // A link has a secret behind its #, or a name and a token, which no server sees.  It leaves the address bar;
+  // a browser's history may keep it.
   const link = /^#(?:([a-z][a-z0-9_]{0,19})[:=])?([0-9a-f]{64})$/.exec(location.hash);
   if (link) history.replaceState(null, "", location.pathname);
   const old = kept("mux"), [last, raised] = kept("mux turn") || [null, []];
@@ -591,6 +592,7 @@
   } else if (old) join(old.name, old.token);
   else {
     login.hidden = false;
+    if (location.hash.length > 1) say("This link isn't whole: ask for it again.", true);
     it("file").focus();
   }
 })();

@@ -4,6 +4,7 @@ A message of a page is a frame of muxd(8) without its length.  The bridge answer
 that changed, and an object has a `welcome`, a `say` or a `gone`.  Nothing here judges.
 """
 import base64
+import contextlib
 import hashlib
 import json
 import socket
@@ -152,7 +153,9 @@ class WebSocket:
             if operation == CLOSE:
                 raise Closed(int.from_bytes(data[:2], "big") if data else None, data[2:].decode())
             if operation == PING and answers:
-                self.send(data, PONG)
+                # (a bridge that has closed takes no answer)
+                with contextlib.suppress(ConnectionError):
+                    self.send(data, PONG)
             if operation in (TEXT, BINARY):
                 return operation, data
 

@@ -3,6 +3,7 @@
 
 Terminals are pseudo-terminals.  Needs bash, and tput for the part about TERM.
 """
+import contextlib
 import os
 import shutil
 import signal
@@ -16,27 +17,64 @@ import time
 from pathlib import Path
 
 sys.dont_write_bytecode = True
+import peer
 import play
 from peer import TOKEN, frame, two
-from play import WORDS, Server, check, left_out, plain, script
+from play import WORDS, Server, check, left_out, once, plain, script
 
 LEAVE = b"\x1c"
 WELCOME, GONE = b"y\0\1\0", b"g\0\1\0"
 
 
-class Fake:
+class Place:
+    """A folder with a socket's path and a token."""
+
+    def __init__(self):
+        self.folder = tempfile.TemporaryDirectory()
+        self.path, self.token = f"{self.folder.name}/socket", f"{self.folder.name}/token"
+        peer.write_private(self.token, TOKEN + b"\n")
+        self.data = b""
+
+    def listen(self, backlog=5):
+        it = socket.socket(socket.AF_UNIX)
+        it.bind(self.path)
+        it.listen(backlog)
+        return it
+
+    def keep(self, it):
+        """Keeps all that comes, until the client or the play ends."""
+        with contextlib.suppress(OSError):
+            while piece := it.recv(65536):
+                self.data += piece
+
+    def who(self):
+        return ["--socket", self.path, "--user", "own", "--token", self.token]
+
+    def words(self, *more, way="attach"):
+        return [way, *self.who(), "--rows", "24", "--cols", "80", *more]
+
+    def frames(self):
+        """The frames after the first one: their kinds and payloads."""
+        data, found = self.data, []
+        while it := peer.cut(data):
+            kind, payload, data = it
+            found.append((kind, payload))
+        return found[1:]
+
+    def payload(self, kind):
+        return b"".join(it for at, it in self.frames() if at == kind)
+
+    def typed(self):
+        return self.payload(b"K")
+
+
+class Fake(Place):
     """A server that does what it is told: it accepts or not, sends this, and keeps what comes."""
 
     def __init__(self, answer=b"", accepts=True):
-        self.folder = tempfile.TemporaryDirectory()
-        self.path = f"{self.folder.name}/socket"
-        self.token = f"{self.folder.name}/token"
-        Path(self.token).write_bytes(TOKEN + b"\n")
-        os.chmod(self.token, 0o600)
-        self.listener = socket.socket(socket.AF_UNIX)
-        self.listener.bind(self.path)
-        self.listener.listen(0 if not accepts else 5)
-        self.kept, self.data, self.is_over = [], b"", threading.Event()
+        super().__init__()
+        self.listener = self.listen(5 if accepts else 0)
+        self.kept, self.is_over = [], threading.Event()
         if accepts:
             threading.Thread(target=self.serve, args=(answer,), daemon=True).start()
         else:
@@ -50,13 +88,9 @@ class Fake:
     def serve(self, answer):
         it, _ = self.listener.accept()
         self.kept.append(it)
-        try:
+        with contextlib.suppress(OSError):
             it.sendall(answer)
-            while piece := it.recv(65536):
-                self.data += piece
-        except OSError:
-            # the client ended, or the play did
-            pass
+        self.keep(it)
         self.is_over.set()
 
     def __enter__(self):
@@ -67,21 +101,48 @@ class Fake:
             it.close()
         self.folder.cleanup()
 
-    def frames(self):
-        """The frames after the first one: their kinds and payloads."""
-        data, found = self.data, []
-        while len(data) >= 3:
-            length = int.from_bytes(data[1:3], "big")
-            found.append((data[:1], data[3 : 3 + length]))
-            data = data[3 + length :]
-        return found[1:]
 
-    def typed(self):
-        return b"".join(payload for kind, payload in self.frames() if kind == b"K")
+class Client:
+    """mux with pipes, beside a server that does what it is told."""
 
-    def words(self, *more):
-        who = ["--socket", self.path, "--user", "own", "--token", self.token]
-        return ["attach", *who, "--rows", "24", "--cols", "80", *more]
+    def __init__(self, words, **more):
+        self.it = subprocess.Popen([WORDS.mux, *words], stdin=subprocess.PIPE, stdout=subprocess.PIPE,
+                                   stderr=subprocess.PIPE, **more)
+        self.out = b""
+        threading.Thread(target=self.read, daemon=True).start()
+
+    def read(self):
+        while piece := os.read(self.it.stdout.fileno(), 65536):
+            self.out += piece
+
+    def type(self, data, pause=0.1):
+        self.it.stdin.write(data)
+        self.it.stdin.flush()
+        time.sleep(pause)
+
+    def __enter__(self):
+        return self
+
+    def __exit__(self, kind, *_):
+        if kind:
+            print(f"        mux: {self.it.poll()}", flush=True)
+        self.it.kill()
+        self.it.wait()
+        for pipe in (self.it.stdin, self.it.stderr):
+            pipe.close()
+
+    def shows(self, text, seconds=5):
+        return once(lambda: text in self.out, seconds, 0.01)
+
+    def status(self, seconds=5):
+        """The status, or None if it goes on."""
+        with contextlib.suppress(subprocess.TimeoutExpired):
+            return self.it.wait(seconds)
+
+    def said(self):
+        """What it said on standard error, once it has ended."""
+        self.it.kill()
+        return self.it.stderr.read()
 
 
 class Terminal(play.Terminal):
@@ -120,27 +181,16 @@ def attach_words(server, *more):
     return [script("mux-attach"), "--socket", server.path, "--user", "own", "--token", token_of(server), *more]
 
 
-def typed_in(fake, pieces, pause=0.02, **more):
-    """Types pieces at a client: its status and how long it took from the last one on."""
-    it = subprocess.Popen([WORDS.mux, *fake.words("--leave", "28", "--why")], stdin=subprocess.PIPE,
-                          stdout=subprocess.DEVNULL, stderr=subprocess.PIPE)
-    # (it is there by then)
-    time.sleep(0.3)
-    for piece in pieces:
-        it.stdin.write(piece)
-        it.stdin.flush()
-        time.sleep(pause)
-    start = time.monotonic()
-    try:
-        status = it.wait(3)
-    except subprocess.TimeoutExpired:
-        it.kill()
-        status = None
-    took = time.monotonic() - start
-    it.stdin.close()
-    said = it.stderr.read()
-    it.stderr.close()
-    return status, took, said
+def typed_in(fake, pieces, pause=0.02):
+    """Types pieces at a client: its status, how long it took from the last one on, and what it said."""
+    with Client(fake.words("--leave", "28", "--why")) as it:
+        # (it is there by then)
+        time.sleep(0.3)
+        for piece in pieces:
+            it.type(piece, pause)
+        start = time.monotonic()
+        status = it.status(3)
+        return status, time.monotonic() - start, it.said()
 
 
 def exact_input():
@@ -159,24 +209,17 @@ def exact_input():
         fake.is_over.wait(2)
         check("byte by byte", (status, fake.typed()) == (0, b"ab\x1ccd\x1c\x1ce"), f"{status} {fake.typed()}")
         check("a lone byte at the end leaves within half a second", took < 0.5, f"{took:.2f} s")
-    with Fake(WELCOME) as fake:
-        data = subprocess.Popen([WORDS.mux, *fake.words()], stdin=subprocess.PIPE, stdout=subprocess.DEVNULL)
-        data.stdin.write(text)
-        data.stdin.flush()
-        time.sleep(0.7)
-        check("without the option every byte is a key", data.poll() is None and fake.typed() == text, str(fake.typed()))
-        data.kill()
-        data.wait()
-        data.stdin.close()
+    with Fake(WELCOME) as fake, Client(fake.words()) as it:
+        it.type(text, 0.7)
+        check("without the option every byte is a key", it.status(0) is None and fake.typed() == text,
+              str(fake.typed()))
 
 
 def hanging_servers():
     """The byte leaves within half a second, whatever the server does."""
-    for name, fake, before in (
-        ("a server that doesn't let it in", Fake(), b""),
-        ("a server that doesn't answer", Fake(WELCOME), b"typed"),
-        ("a full backlog", Fake(accepts=False), b""),
-    ):
+    for name, fake, before in (("a server that doesn't let it in", Fake(), b""), ("a server that doesn't answer",
+                                                                                  Fake(WELCOME), b"typed"),
+                               ("a full backlog", Fake(accepts=False), b""),):
         with fake:
             status, took, said = typed_in(fake, [before + LEAVE] if before else [LEAVE])
             check(f"{name}: it leaves in time", status == 0 and took < 0.5, f"status {status}, {took:.2f} s")
@@ -184,21 +227,15 @@ def hanging_servers():
     with Server() as server:
         fake = Fake()
         fake.path, fake.token = server.path, token_of(server)
-        it = subprocess.Popen([WORDS.mux, *fake.words("--leave", "28", "--why")], stdin=subprocess.PIPE,
-                              stdout=subprocess.DEVNULL, stderr=subprocess.PIPE)
-        time.sleep(0.5)
-        stop(server)
-        it.stdin.write(b"x" * 3_000_000)
-        it.stdin.flush()
-        start = time.monotonic()
-        it.stdin.write(LEAVE)
-        it.stdin.flush()
-        status = it.wait(5)
-        took = time.monotonic() - start
-        check("a server that is stopped, with 3 MB before the byte", status == 0 and took < 1,
-              f"{status}, {took:.2f} s")
-        it.stdin.close()
-        it.stderr.close()
+        with Client(fake.words("--leave", "28", "--why")) as it:
+            time.sleep(0.5)
+            stop(server)
+            it.type(b"x" * 3_000_000, 0)
+            start = time.monotonic()
+            it.type(LEAVE, 0)
+            status, took = it.status(), time.monotonic() - start
+            check("a server that is stopped, with 3 MB before the byte", status == 0 and took < 1,
+                  f"{status}, {took:.2f} s")
         server.program.send_signal(signal.SIGCONT)
         fake.__exit__()
 
@@ -254,11 +291,9 @@ def stopped_server():
 def nothing_cleared():
     """An attach that fails leaves the page as it was; one that doesn't clears it."""
     with Server() as server:
-        for name, words in (
-            ("no server", [script("mux-attach"), "--socket", "/nope", "--token", token_of(server)]),
-            ("a wrong token", attach_words(server)[:-1] + [token_of(server, "wrong", b"2" * 64)]),
-            ("no token", attach_words(server)[:-1] + ["/nope"]),
-        ):
+        for name, words in (("no server", [script("mux-attach"), "--socket", "/nope", "--token", token_of(server)]),
+                            ("a wrong token", attach_words(server)[:-1] + [token_of(server, "wrong", b"2" * 64)]),
+                            ("no token", attach_words(server)[:-1] + ["/nope"]),):
             with Terminal(["sh", "-c", 'echo precious; "$@"; echo status $?', "", *words]) as it:
                 it.ends_within(5)
                 check(f"{name}: nothing is cleared", b"\x1b" not in it.out and b"status 1" in it.out, str(it.out))
@@ -340,22 +375,22 @@ def nested():
 def commands():
     """What mux command prints, and how long it waits."""
     with Fake() as fake:
-        status, out, err, took = run(["command", *fake.words()[1:7], "--wait", "1", "windows"])
+        status, out, err, took = run(["command", *fake.who(), "--wait", "1", "windows"])
         check("a server that doesn't answer: a command ends in time", (status, out) == (1, b"") and 0.9 < took < 1.6,
               f"{status} {out} {took:.2f} s")
         check("and says how long it waited, and where", fake.path.encode() in err and b"within 1 s" in err, str(err))
     with Fake(accepts=False) as fake:
-        status, _, err, took = run(["command", *fake.words()[1:7], "--wait", "1", "windows"])
+        status, _, err, took = run(["command", *fake.who(), "--wait", "1", "windows"])
         check("a full backlog: the same", status == 1 and took < 1.6 and b"within 1 s" in err, f"{status} {took:.2f} s")
         status, _, err, took = run(["ping", "--socket", fake.path, "--wait", "1"])
         check("ping: the same", status == 1 and took < 1.6 and b"within 1 s" in err, f"{status} {took:.2f} s")
     text = "\x1b]0;owned\x07\x1b[31mred\n\x7f \x85 é \\".encode()
     with Fake(b"s" + two(len(text)) + text + b"s\0\3two" + b"g\0\1\0") as fake:
-        status, out, err, _ = run(["command", *fake.words()[1:7], "windows"])
+        status, out, err, _ = run(["command", *fake.who(), "windows"])
         check("control characters are visible, and a text is a line", (status, err) == (0, b"") and
               out == "\\x1b]0;owned\\x07\\x1b[31mred\\x0a\\x7f \\x85 é \\\ntwo\n".encode(), str((status, out, err)))
     with Fake(b"s" + two(len(text)) + text + b"g\0\1\6") as fake:
-        status, out, err, _ = run(["command", *fake.words()[1:7], "windows"])
+        status, out, err, _ = run(["command", *fake.who(), "windows"])
         check("also of a refusal, on both", status == 1 and b"\x1b" not in out + err and out.count(b"\n") == 1 and
               err.startswith(b"mux: \\x1b]0;"), str((out, err)))
     with Server() as server:
@@ -418,11 +453,8 @@ def terms():
             environment.pop(gone, None)
         found = os.stat(server.path)
         mark = f"{os.uname().nodename}:{found.st_dev}:{found.st_ino}"
-        for words, said in (
-            ([], f"vt220 8 -1 8color {mark}"),
-            (["--term", "vt220"], f"vt220 -1 -1  {mark}"),
-            (["--term", "mux-8color"], f"mux-8color 8  8color {mark}"),
-        ):
+        for words, said in (([], f"vt220 8 -1 8color {mark}"), (["--term", "vt220"], f"vt220 -1 -1  {mark}"),
+                            (["--term", "mux-8color"], f"mux-8color 8  8color {mark}"),):
             subprocess.run([link, *common, *words, "sh", "-c", say, "", f"{room}/said"], env=environment, timeout=20)
             got = Path(room, "said").read_text()
             check(f"mux-shell {' '.join(words)}, called through a link", got == f"{said} ", got)
@@ -515,7 +547,7 @@ def draws_only():
     is_refused = (status, out) == (1, b"") and b"doesn't speak this protocol" in said
     check("nor what is for windows", is_refused, f"{out} {said}")
     with Fake(frame(b"d", b"\x1b]0;t\x07") + GONE) as fake:
-        words = ["command", *fake.words()[1:7], "windows"]
+        words = ["command", *fake.who(), "windows"]
         status, out, said, _ = run(words, 10)
         check("a command prints no draw", (status, out) == (1, b""), f"{status} {out} {said}")
 
@@ -543,15 +575,16 @@ def terminal_reset():
 
 
 def no_folder():
-    """Without a place for their files the scripts say so and what to do, under their own name."""
+    """Without a place for its files mux-attach says so and what to do; mux-watch needs none."""
     with Server() as server:
-        for name in ("mux-attach", "mux-watch"):
-            words = [script(name), "--socket", server.path, "--user", "own", "--token", token_of(server)]
-            with Terminal(words, TMPDIR="/nope") as it:
-                status = it.ends_within(5)
-                wanted = f"{name}: can't make a folder for its files in /nope: No such file or directory: set TMPDIR"
-                is_said = wanted.encode() in it.out
-                check(f"{name} without a TMPDIR that is there", status == 1 and is_said, f"{status} {it.out}")
+        words = attach_words(server)
+        with Terminal(words, TMPDIR="/nope") as it:
+            status = it.ends_within(5)
+            wanted = "mux-attach: can't make a folder for its files in /nope: No such file or directory: set TMPDIR"
+            check("mux-attach without a TMPDIR that is there", status == 1 and wanted.encode() in it.out,
+                  f"{status} {it.out}")
+        with Terminal([script("mux-watch"), *words[1:]], TMPDIR="/nope") as it:
+            check("mux-watch without it", it.is_drawn(), str(it.out))
 
 
 # Characters that turn the direction of text, or end a line or a paragraph (Unicode, UAX #9 and UAX #14).
@@ -565,7 +598,7 @@ def turned_text():
             text = f"a{chr(number)}b \u00e9\u200b\u202f\u2065 \u0628".encode()
             wanted = text.replace(chr(number).encode(), b"\\u{%x}" % number)
             with Fake(WELCOME + frame(b"s", text) + frame(b"g", bytes([code]))) as fake:
-                _, out, said, _ = run(["command", *fake.words()[1:7], f"wall {chr(number)}"], 10)
+                _, out, said, _ = run(["command", *fake.who(), f"wall {chr(number)}"], 10)
             both = out + said
             if wanted + b"\n" not in out or chr(number).encode() in both:
                 check(f"U+{number:04X} of a command that is {name}", False, f"{out} {said}")

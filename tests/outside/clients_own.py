@@ -15,69 +15,24 @@ from pathlib import Path
 
 sys.dont_write_bytecode = True
 import play
-from clients import LEAVE, WELCOME, Fake, Terminal, attach_words, token_of
-from peer import TOKEN, frame, pieces, two
+from clients import LEAVE, WELCOME, Client, Fake, Place, Terminal, attach_words, token_of
+from peer import frame, pieces, two
 from play import WORDS, Server, check, once, read, script
 
 QUIT, REMOVED = frame(b"g", b"\x04"), frame(b"g", b"\x01")
 DROPPED = b"keys were dropped: they waited for a second"
 
 
-class Client:
-    """mux with pipes, beside a server that does what it is told."""
-
-    def __init__(self, words, **more):
-        self.it = subprocess.Popen([WORDS.mux, *words], stdin=subprocess.PIPE, stdout=subprocess.PIPE,
-                                   stderr=subprocess.PIPE, **more)
-        self.out = b""
-        threading.Thread(target=self.read, daemon=True).start()
-
-    def read(self):
-        while piece := os.read(self.it.stdout.fileno(), 65536):
-            self.out += piece
-
-    def type(self, data, pause=0.1):
-        self.it.stdin.write(data)
-        self.it.stdin.flush()
-        time.sleep(pause)
-
-    def __enter__(self):
-        return self
-
-    def __exit__(self, kind, *_):
-        if kind:
-            print(f"        mux: {self.it.poll()}", flush=True)
-        self.it.kill()
-        self.it.wait()
-        for pipe in (self.it.stdin, self.it.stderr):
-            pipe.close()
-
-    def shows(self, text, seconds=5):
-        return once(lambda: text in self.out, seconds, 0.01)
-
-    def status(self, seconds=5):
-        try:
-            return self.it.wait(seconds)
-        except subprocess.TimeoutExpired:
-            return None
-
-
-class Servers:
+class Servers(Place):
     """Servers at one socket, one after another; each lets its peer in and keeps what it sends."""
 
     def __init__(self):
-        self.folder = tempfile.TemporaryDirectory()
-        self.path = f"{self.folder.name}/socket"
-        self.token = f"{self.folder.name}/token"
-        Path(self.token).write_bytes(TOKEN + b"\n")
-        os.chmod(self.token, 0o600)
-        self.listener, self.peer, self.data = None, None, b""
+        super().__init__()
+        self.listener = self.peer = None
         self.open()
 
     def open(self):
-        self.listener = socket.socket(socket.AF_UNIX)
-        self.listener.bind(self.path)
-        self.listener.listen(5)
+        self.listener = self.listen()
         self.listener.settimeout(10)
 
     def begin(self, answer=WELCOME):
@@ -90,14 +45,7 @@ class Servers:
         self.peer, _ = self.listener.accept()
         self.data = b""
         self.peer.sendall(answer)
-        threading.Thread(target=self.read, args=(self.peer,), daemon=True).start()
-
-    def read(self, peer):
-        try:
-            while piece := peer.recv(65536):
-                self.data += piece
-        except OSError:
-            pass
+        threading.Thread(target=self.keep, args=(self.peer,), daemon=True).start()
 
     def end(self, last=b""):
         self.listener.close()
@@ -111,18 +59,8 @@ class Servers:
         self.peer.close()
         os.unlink(self.path)
 
-    def frames(self):
-        return Fake.frames(self)
-
-    def payload(self, kind):
-        return b"".join(it for at, it in self.frames() if at == kind)
-
     def has(self, kind, data, seconds=5):
         return once(lambda: data in self.payload(kind), seconds, 0.01)
-
-    def words(self, way, *more):
-        who = ["--socket", self.path, "--user", "own", "--token", self.token]
-        return [way, *who, "--rows", "24", "--cols", "80", *more]
 
     def __enter__(self):
         return self
@@ -169,10 +107,9 @@ def said_later():
 def slow_program():
     """A window whose program reads nothing stays, stops reading the server, and loses nothing."""
     with Servers() as at:
-        words = at.words("window", "--title", "sh")
+        words = at.words("--title", "sh", way="window")
         ends = os.pipe()
-        it = subprocess.Popen([WORDS.mux, *words], stdin=subprocess.PIPE, stdout=ends[1],
-                              stderr=subprocess.PIPE)
+        it = subprocess.Popen([WORDS.mux, *words], stdin=subprocess.PIPE, stdout=ends[1], stderr=subprocess.PIPE)
         os.close(ends[1])
         at.begin()
         data = b"".join(b"%07d\n" % number for number in range(524288))
@@ -303,7 +240,7 @@ def fitted_window():
         common = ["--socket", server.path, "--user", "own", "--token", token_of(server)]
         shell = subprocess.Popen([script("mux-shell"), *common, "--title", "sh", "--rows", "10", "--cols", "40", "sh"],
                                  env={**os.environ, "MUX": WORDS.mux, "HOME": room})
-        time.sleep(1)
+        check("the shell is a window", once(lambda: b"0 sh" in server.give(b"windows"), 20))
         with Terminal(attach_words(server, "--fit")) as it:
             assert it.has(b"0 sh", 20), f"it isn't attached: {it.out}"
             it.read(1)
@@ -321,7 +258,7 @@ def fitted_window():
 
 def attached_again():
     """A client whose server goes says so, drops keys, comes back, and ends by C-c, by its time, or at a final end."""
-    with Servers() as at, Client(at.words("attach", "--again", "5")) as it:
+    with Servers() as at, Client(at.words("--again", "5")) as it:
         at.begin(WELCOME + frame(b"d", b"\x1bcone"))
         check("attached", it.shows(b"one"))
         for count in range(3):
@@ -342,7 +279,7 @@ def attached_again():
                                      ("removed", REMOVED, False, 1), ("single-user", frame(b"g", b"\2"), False, 1),
                                      ("a fault", frame(b"g", b"\6"), False, 1),
                                      ("detached", frame(b"g", b"\0"), False, 0)):
-        with Servers() as at, Client(at.words("attach", "--again", "2")) as it:
+        with Servers() as at, Client(at.words("--again", "2")) as it:
             at.begin()
             time.sleep(0.2)
             if mark:
@@ -352,7 +289,7 @@ def attached_again():
             check(f"{name}: {'it waits' if status is None else f'status {status}'}", got == status, str(got))
             if status is None:
                 check(f"{name}: until the time is over", it.status(4) in ({0} if mark else {1}), "")
-    with Servers() as at, Client(at.words("attach", "--again", "60")) as it:
+    with Servers() as at, Client(at.words("--again", "60")) as it:
         at.begin()
         time.sleep(0.2)
         at.end()
@@ -364,23 +301,23 @@ def attached_again():
         time.sleep(0.3)
         at.begin(frame(b"s", b"unknown user or wrong token") + frame(b"g", b"\6"))
         check("a user who is gone isn't", it.status() == 1)
-        check("and it says why", b"unknown user or wrong token" in it.it.stderr.read())
+        check("and it says why", b"unknown user or wrong token" in it.said())
     for key, words in ((b"\x03", ()), (LEAVE, ("--leave", "28"))):
-        with Servers() as at, Client(at.words("attach", "--again", "60", *words)) as it:
+        with Servers() as at, Client(at.words("--again", "60", *words)) as it:
             at.begin()
             time.sleep(0.2)
             at.end()
             time.sleep(0.3)
             it.type(key)
             check(f"{key} ends the wait", it.status(1) is not None)
-    with Servers() as at, Client(at.words("attach", "--again", "60")) as it:
+    with Servers() as at, Client(at.words("--again", "60")) as it:
         Path(at.path + ".session").write_text("one")
         at.begin()
         time.sleep(0.3)
         at.end()
         Path(at.path + ".session").write_text("two")
-        check("another session isn't joined", it.status(2) == 1 and b"another session" in it.it.stderr.read())
-    with Servers() as at, Client(at.words("attach")) as it:
+        check("another session isn't joined", it.status(2) == 1 and b"another session" in it.said())
+    with Servers() as at, Client(at.words()) as it:
         at.begin()
         time.sleep(0.2)
         at.end()
@@ -392,7 +329,7 @@ def stays():
     with Servers() as at:
         sizes = f"{at.folder.name}/sizes"
         Path(sizes).touch()
-        with Client(at.words("window", "--title", "sh", "--stay", "30", "--sizes", sizes)) as it:
+        with Client(at.words("--title", "sh", "--stay", "30", "--sizes", sizes, way="window")) as it:
             at.begin(WELCOME + frame(b"z", two(30) + two(100)))
             it.type(b"before", 0.3)
             at.end()
@@ -418,12 +355,12 @@ def stays():
             at.end(frame(b"g", b"\3"))
             check("a window that is killed ends", it.status() == 0)
     for name, last, status in (("removed", REMOVED, 1), ("quit", QUIT, 0), ("too far behind", frame(b"g", b"\5"), 1)):
-        with Servers() as at, Client(at.words("window", "--title", "sh", "--stay", "5")) as it:
+        with Servers() as at, Client(at.words("--title", "sh", "--stay", "5", way="window")) as it:
             at.begin()
             time.sleep(0.2)
             at.end(last)
             check(f"{name}: it ends with {status}", it.status(1) == status)
-    with Servers() as at, Client(at.words("window", "--title", "sh", "--stay", "1")) as it:
+    with Servers() as at, Client(at.words("--title", "sh", "--stay", "1", way="window")) as it:
         at.begin()
         time.sleep(0.2)
         at.end()
@@ -438,7 +375,7 @@ def survives():
         common = ["--socket", path, "--user", "own", "--token", token]
         words = [script("mux-shell"), *common, "--title", "sh", "--stay", "20", "env", "PS1=in> ", "sh"]
         shell = subprocess.Popen(words, env={**os.environ, "MUX": WORDS.mux, "HOME": room})
-        time.sleep(1)
+        check("the shell is a window", once(lambda: b"0 sh" in server.give(b"windows"), 20))
         with Terminal([script("mux-attach"), *common, "--again", "20"]) as it:
             assert it.has(b"0 sh", 20), f"it isn't attached: {it.out}"
             it.type(b"kept=$((6 * 7))\r")

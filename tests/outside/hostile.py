@@ -14,7 +14,7 @@ sys.dont_write_bytecode = True
 import play
 from peer import (DETACH, DONE, DRAW, KEYS, NO_WINDOW, OUTPUT, RESIZE, SAY, attach, command, cut, frame, pieces, two,
                   window)
-from play import WORDS, Server, all_of, check, has_come, once, welcome
+from play import WORDS, Server, all_of, check, drain, once, welcome
 
 GUEST, STRANGER = (b"eve", b"1" * 64), (b"zoe", b"2" * 64)
 MB = 1_000_000
@@ -114,8 +114,7 @@ def key_times(client, shell, count=200):
         while not shell.recv(4096).endswith(b"o"):
             pass
         took.append((time.monotonic() - begin) * 1000)
-        while has_come(client, 0):
-            client.recv(1 << 16)
+        drain(client, 0)
         time.sleep(0.005)
     return sorted(took)[count // 2], max(took)
 
@@ -221,8 +220,7 @@ def works_on():
         client.sendall(frame(KEYS, b"x") * 3000)
         while typed < 3000 and time.monotonic() - begin < 20:
             typed += shell.recv(1 << 16).count(b"x")
-            while has_come(client, 0):
-                client.recv(1 << 16)
+            drain(client, 0)
         check("3,000 keys that are granted take no time", time.monotonic() - begin < 3,
               f"{typed} in {time.monotonic() - begin:.1f} s")
 
@@ -353,8 +351,7 @@ def pasted():
     arrives in order."""
     data = b"".join(b"%06d\r" % number for number in range(3_000_000 // 7))
     with Server() as server:
-        shell = server.connect(window())
-        assert welcome(shell)
+        shell = server.admit(window())
         client, other = server.connect(attach()), server.connect(attach())
         assert welcome(client) and welcome(other)
         heard, told = Listener(client), Listener(other)
@@ -371,8 +368,7 @@ def pasted():
         other.sendall(frame(KEYS, b"!!") + frame(KEYS, b"\x01d"))
         time.sleep(0.5)
         check("keys of somebody else wait, too, and so do commands behind them", not told.gone())
-        third = server.connect(attach())
-        assert welcome(third)
+        third = server.admit(attach())
         left = Listener(third)
         third.sendall(frame(KEYS, b"!"))
         time.sleep(0.2)
@@ -386,9 +382,9 @@ def pasted():
         check("and so does the command that waited", once(told.gone, 5))
 
 
-def left_behind(name, take, marks):
-    """What two users typed ahead into a window that doesn't read, of which the guest loses the right: what is typed
-    once it reads."""
+def left_behind(name, take, marks, leaves=False):
+    """What two users typed ahead into a window that doesn't read, of which the guest loses the right, perhaps after they
+    left: what is typed once it reads."""
     with Server() as server:
         admit(server)
         shell = server.connect(window())
@@ -396,10 +392,14 @@ def left_behind(name, take, marks):
         client, mine = server.connect(attach(*GUEST)), server.connect(attach())
         assert welcome(client) and welcome(mine)
         heard = Listener(client), Listener(mine)
-        client.sendall(pieces(KEYS, b"x" * 380_000) + frame(KEYS, b"evil\r"))
+        # (what follows on more than 256 KiB would wait, the DETACH too)
+        client.sendall(pieces(KEYS, b"x" * (240_000 if leaves else 380_000)) + frame(KEYS, b"evil\r"))
         time.sleep(1)
         mine.sendall(frame(KEYS, b"mine"))
         time.sleep(1)
+        if leaves:
+            client.sendall(frame(DETACH))
+            check(f"{name}: the guest leaves", once(heard[0].gone, 5))
         check(f"{name}: it is taken", server.give(take).endswith(DONE))
         time.sleep(0.5)
         shell = Listener(shell)
@@ -419,12 +419,11 @@ def taken_back():
     """What waits for a window isn't typed once its typist lost the right; but what somebody typed who left is."""
     left_behind("-w", b"aclchg eve -w 0", True)
     left_behind("acldel", b"acldel eve", False)
+    left_behind("-w after they left", b"aclchg eve -w 0", False, leaves=True)
     with Server() as server:
-        shell = server.connect(window())
-        assert welcome(shell)
-        client = server.connect(attach())
-        assert welcome(client)
-        client.sendall(pieces(KEYS, b"x" * 380_000) + frame(KEYS, b"last\r"))
+        shell = server.admit(window())
+        client = server.admit(attach())
+        client.sendall(pieces(KEYS, b"x" * 240_000) + frame(KEYS, b"last\r"))
         time.sleep(1)
         client.sendall(frame(DETACH))
         time.sleep(1)

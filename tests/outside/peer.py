@@ -115,6 +115,17 @@ def admitted(path, first, seconds=60):
     return peer
 
 
+def knock(path, seconds):
+    """Floods a socket with strangers for so long: connections with a wrong token, and with no first message."""
+    until = time.monotonic() + seconds
+    while time.monotonic() < until:
+        strangers = [Peer(path, first) for first in (attach(b"eve", b"1" * 64), b"\0") * 10]
+        for it in strangers:
+            while it.next()[0]:
+                pass
+            it.close()
+
+
 def write_private(path, data):
     """Writes a file that only its owner may read."""
     with open(path, "wb", opener=lambda name, flags: os.open(name, flags, 0o600)) as out:

@@ -13,11 +13,13 @@ import pty
 import pwd
 import re
 import select
+import shutil
 import signal
 import socket
 import struct
 import subprocess
 import sys
+import tempfile
 import termios
 import time
 from pathlib import Path
@@ -53,6 +55,17 @@ def check(what, holds, detail=""):
     return bool(holds)
 
 
+def ended(what, done, status=0, *texts):
+    """Checks how a program ended, and texts that it printed."""
+    return check(what, done.returncode == status and all(it in said(done) for it in texts),
+                 f"status {done.returncode}: {said(done)}")
+
+
+def answers(what, done, status=0, text=""):
+    """Checks how a program ended, and all that it printed."""
+    return check(what, (done.returncode, said(done)) == (status, text), f"status {done.returncode}: {said(done)}")
+
+
 def figure(what, value, most, unit):
     """A figure and its bound, which is judged if the programs are optimised."""
     if WORDS.unproved:
@@ -73,15 +86,18 @@ def skip(why):
     sys.exit(2)
 
 
-def for_root(part):
-    """A part that is left out without root."""
-    @functools.wraps(part)
-    def played():
-        if os.getuid():
-            left_out(part.__name__, "it needs root")
-        else:
-            part()
-    return played
+def only(is_there, why):
+    """Makes a part that is left out unless something is there."""
+    def of(part):
+        @functools.wraps(part)
+        def played():
+            part() if is_there() else left_out(part.__name__, why)
+        return played
+    return of
+
+
+for_root = only(lambda: not os.getuid(), "it needs root")
+by_strace = only(lambda: shutil.which("strace"), "strace isn't here")
 
 
 def once(holds, seconds=15, pause=0.05):
@@ -239,8 +255,7 @@ class Terminal:
         self.resize(rows, cols)
         self.before, self.out = termios.tcgetattr(self.fd), b""
         self.program = subprocess.Popen(words, stdin=slave, stdout=slave, stderr=slave, env=environment,
-                                        start_new_session=True,
-                                        preexec_fn=lambda: fcntl.ioctl(0, termios.TIOCSCTTY, 0))
+                                        start_new_session=True, preexec_fn=lambda: fcntl.ioctl(0, termios.TIOCSCTTY, 0))
         self.pid = self.program.pid
         os.close(slave)
 
@@ -366,6 +381,110 @@ def end_account(name):
 # Servers.
 
 
+class Room:
+    """A folder with users and their tokens, in which servers, windows and scripts run.  The owner is own, the first."""
+
+    def __init__(self, *users, setup=""):
+        self.folder, self.setup = tempfile.mkdtemp(prefix="mux-play."), setup
+        self.servers, self.windows, self.trails, self.server = [], [], 0, None
+        for at, name in enumerate(users):
+            write(self.path(name + ".token"), self.digits(at) + "\n", 0o600)
+        self.users(*users)
+
+    def __enter__(self):
+        return self
+
+    def __exit__(self, *_):
+        for process in self.windows + self.servers:
+            if process.poll() is None:
+                process.kill()
+            process.wait()
+        shutil.rmtree(self.folder, ignore_errors=True)
+
+    def path(self, name):
+        """A file of the room."""
+        return os.path.join(self.folder, name)
+
+    @staticmethod
+    def digits(at):
+        """A token."""
+        return f"{at:x}" * 64
+
+    def users(self, *names):
+        """Writes the users' file."""
+        write(self.path("users"), "".join(f"{name} {self.digits(at)}\n" for at, name in enumerate(names)), 0o600)
+
+    def as_user(self, user="own"):
+        """The options of a user."""
+        return ["--socket", self.path("socket"), "--user", user, "--token", self.path(user + ".token")]
+
+    def env(self, user="own", **more):
+        """What scripts find in their environment."""
+        return dict(os.environ, MUX=program("mux"), MUXD=program("muxd"), MUX_SOCKET=self.path("socket"), MUX_USER=user,
+                    MUX_TOKEN=self.path(user + ".token"), TMPDIR=self.folder, **more)
+
+    def trail(self):
+        """The file of the server's trail."""
+        return self.path(f"trail.{self.trails}")
+
+    def serve(self, *words):
+        """Starts a server."""
+        self.trails += 1
+        if self.setup:
+            write(self.path("setup"), self.setup)
+            words = ("--setup", self.path("setup"), *words)
+        with open(self.path("log"), "a") as log:
+            self.server = subprocess.Popen(
+                [program("muxd"), "--socket", self.path("socket"), "--users", self.path("users"), "--trail",
+                 self.trail(), *map(str, words)], stdout=subprocess.PIPE, stderr=log)
+        self.servers.append(self.server)
+        assert self.server.stdout.readline() == b"muxd: ready\n", f"no server: {read(self.path('log'))}"
+
+    def kill(self):
+        """Ends the server by force, and its windows with it."""
+        self.server.kill()
+        self.server.wait()
+        for window in self.windows:
+            window.wait()
+
+    def give(self, line, user="own", *words):
+        """What a command from outside is answered; words are more options."""
+        return said(run(program("mux"), "command", *self.as_user(user), *words, line))
+
+    def titles(self):
+        """The items of the command windows."""
+        return [it for it in self.give("windows").split("  ") if it]
+
+    def window(self, user, title, text=b""):
+        """A window whose program prints a text; what is typed there goes to the file typed.TITLE."""
+        before = len(self.titles())
+        with open(self.path("typed." + title), "ab") as typed:
+            window = subprocess.Popen([program("mux"), "window", *self.as_user(user), "--rows", "10", "--cols", "40",
+                                       "--title", title], stdin=subprocess.PIPE, stdout=typed,
+                                      stderr=subprocess.DEVNULL)
+        window.stdin.write(text)
+        window.stdin.flush()
+        once(lambda: len(self.titles()) > before)
+        self.windows.append(window)
+        return window
+
+    def attach(self, user):
+        """A client, which draws into the file page."""
+        with open(self.path("page"), "wb") as page:
+            return subprocess.Popen([program("mux"), "attach", *self.as_user(user), "--rows", "12", "--cols", "60"],
+                                    stdin=subprocess.PIPE, stdout=page)
+
+    def start(self, name, *words, **more):
+        """A script that runs."""
+        return subprocess.Popen([script(name), *words], text=True, **{
+            "env": self.env(), "stdin": subprocess.DEVNULL, "stdout": subprocess.PIPE, "stderr": subprocess.STDOUT,
+            **more})
+
+    def script(self, name, *words, **more):
+        """A script that ended."""
+        return run(script(name), *words, **{"env": self.env(), **more})
+
+
 class Server(peer.Server):
     """A server with an owner, whose log is perhaps read, and connections to it as they are."""
 
@@ -404,6 +523,14 @@ def all_of(it):
 
 def has_come(it, seconds):
     return bool(select.select([it], [], [], seconds)[0])
+
+
+def drain(it, seconds=0):
+    """Takes what comes, until nothing does for so long."""
+    data = b""
+    while has_come(it, seconds) and (piece := it.recv(1 << 16)):
+        data += piece
+    return data
 
 
 def welcome(it):

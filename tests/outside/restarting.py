@@ -24,50 +24,59 @@ def programs():
 
 
 class Trail:
-    """Users' own bits on windows, and windows by serial, after the entries up to each place."""
+    """What a trail's file says: who is known, users' own bits on windows, commands, masks, presets, and windows by serial
+    with their openers and titles."""
 
     def __init__(self, path):
         data = read(path)
         self.path, self.lines = path, data[: data.rfind("\n") + 1].splitlines()
-        self.known, self.bits, self.windows, self.masks, self.preset = [], {}, {}, {}, set("rwx")
+        self.known, self.bits, self.commands, self.windows, self.masks = [], {}, {}, {}, {}
+        self.presets = {"?": set("rwx"), "??": set("rwx")}
 
     def places(self):
         """Goes through the entries; after each one what it left can be looked at."""
         for line in self.lines[1:]:
-            for word in line.split(" "):
-                if word.startswith("!"):
-                    self.act(*word[1:].split(":"), line=line)
-            yield line
+            if line[:1].isdigit():
+                for word in line.split(" "):
+                    if word.startswith("!"):
+                        self.act(*word[1:].split(":"), line=line)
+                yield line
 
     def end(self):
         for _ in self.places():
             pass
         return self
 
-    def change(self, bits, what):
-        (bits.add if what[0] == "+" else bits.discard)(what[1])
+    def change(self, its, sign, it):
+        (its.add if sign[0] == "+" else its.discard)(it)
 
     def act(self, act, *rest, line):
         if act == "known":
             self.known.append(rest[0])
-            self.bits.update({(rest[0], serial): set(self.preset) for serial in self.windows})
+            self.bits.update({(rest[0], serial): set(self.presets["?"]) for serial in self.windows})
+            self.commands[rest[0]] = set(COMMANDS) if "x" in self.presets["??"] else set()
         elif act == "gone":
             self.known.remove(rest[0])
+            self.commands.pop(rest[0], None)
             self.bits = {key: bits for key, bits in self.bits.items() if key[0] != rest[0]}
             self.masks = {key: bits for key, bits in self.masks.items() if rest[0] not in key}
         elif act == "set" and rest[2].isdigit():
-            self.change(self.bits.setdefault((rest[0], int(rest[2])), set()), rest[1])
+            self.change(self.bits.setdefault((rest[0], int(rest[2])), set()), *rest[1])
+        elif act == "set" and rest[1][1] == "x":
+            self.change(self.commands.setdefault(rest[0], set()), rest[1], rest[2])
         elif act == "masked":
-            self.change(self.masks.setdefault((rest[0], rest[1]), set("rwx")), rest[2])
-        elif act == "preset" and rest[0] == "?":
-            self.change(self.preset, rest[1])
+            self.change(self.masks.setdefault((rest[0], rest[1]), set("rwx")), *rest[2])
+        elif act == "preset":
+            self.change(self.presets[rest[0]], *rest[1])
         elif act == "opened":
             user, serial = rest[0], int(rest[1])
             self.windows[serial] = (user, line.split(" ")[7])
             for other in self.known:
                 self.bits[other, serial] = set("rwx") if other == user else set(self.masks.get((user, other), "rwx"))
         elif act == "closed":
-            del self.windows[int(rest[0])]
+            serial = int(rest[0])
+            del self.windows[serial]
+            self.bits = {key: bits for key, bits in self.bits.items() if key[1] != serial}
 
     def by_window(self):
         """Each window's opener and title as it was opened, with the bits of others."""

@@ -16,7 +16,7 @@ sys.dont_write_bytecode = True
 import play
 from peer import (DONE, DRAW, KEYS, OUTPUT, OWNER, REFUSED, SAY, TOKEN, WELCOME, Flood, attach, draws_within, frame,
                   pieces, window)
-from play import WORDS, Server, all_of, check, has_come, left_out, welcome
+from play import WORDS, Server, all_of, check, drain, has_come, left_out, welcome
 
 
 def dead_window():
@@ -25,8 +25,7 @@ def dead_window():
     with Server(loops=1) as server:
         shell = server.admit(window())
         client = server.admit(attach())
-        while has_come(client, 1):
-            client.recv(65536)
+        drain(client, 1)
         ended = select.poll()
         ended.register(shell, select.POLLHUP)
         for _ in range(400):
@@ -36,12 +35,9 @@ def dead_window():
                 break
             if ended.poll(20):
                 break
-            while has_come(client, 0):
-                client.recv(65536)
+            drain(client, 0)
         check("a window that doesn't read is given up", bool(ended.poll(0)))
-        drawn = b""
-        while has_come(client, 0.5):
-            drawn += client.recv(65536)
+        drawn = drain(client, 0.5)
         check("its client is drawn at once", DRAW in drawn)
 
 
@@ -52,13 +48,10 @@ def ends_behind_frames():
         for letter in (b"a", b"b", b"c", b"d"):
             client = server.admit(attach())
             # What is sent to a closed connection is a fault of it: the first draw is to be over.
-            while has_come(client, 0.5):
-                client.recv(65536)
+            drain(client, 0.5)
             client.sendall(frame(KEYS, letter))
             client.close()
-        typed = b""
-        while has_come(shell, 1):
-            typed += shell.recv(65536)
+        typed = drain(shell, 1)
         check("keys before an end arrive", sorted(typed[3::4]) == sorted(b"abcd"), str(typed))
         check("and their clients are gone", server.give(b"displays") == frame(WELCOME, b"\0") + frame(SAY) + DONE, "")
 
@@ -111,8 +104,7 @@ def few_descriptors():
             except BlockingIOError:
                 time.sleep(0.01)
             crowd.append(it)
-        check("beside 2,000 strangers and 64 descriptors a command is done",
-              server.give(b"windows").endswith(DONE))
+        check("beside 2,000 strangers and 64 descriptors a command is done", server.give(b"windows").endswith(DONE))
         for it in crowd:
             it.close()
         clients, refused = [], b""
@@ -255,8 +247,7 @@ def calls_a_key(server, client, shell, count=100):
             pass
         shell.sendall(frame(OUTPUT, b"k"))
         has_come(client, 5)
-        while has_come(client, 0.003):
-            client.recv(1 << 16)
+        drain(client, 0.003)
 
     with tempfile.NamedTemporaryFile() as out:
         words = ["strace", "-f", "-c", "-o", out.name, "-p", str(server.program.pid)]
@@ -279,16 +270,14 @@ def stopped_clients():
         shell = server.admit(window())
         client = server.admit(attach())
         few = calls_a_key(server, client, shell)
-        deaf = [server.connect(attach()) for _ in range(60)]
-        assert all(welcome(it) for it in deaf)
+        deaf = [server.admit(attach()) for _ in range(60)]
         # Each is sent draws until its socket is full.
         for number in range(400):
             page = b"".join(b"\x1b[%d;1H" % row + (b"\x1b[3%dm%d" % (row % 8, (number + row) % 10)) * 80
                             for row in range(1, 23))
             shell.sendall(pieces(OUTPUT, page))
             has_come(client, 5)
-            while has_come(client, 0.002):
-                client.recv(1 << 16)
+            drain(client, 0.002)
         many = calls_a_key(server, client, shell)
         if few is None:
             left_out("what stopped clients cost", "there is no strace")
@@ -298,9 +287,7 @@ def stopped_clients():
         late = deaf[7]
         time.sleep(0.2)
         shell.sendall(frame(OUTPUT, b"\x1b[2J\x1b[Hthe last line"))
-        drawn = b""
-        while has_come(late, 1):
-            drawn += late.recv(1 << 20)
+        drawn = drain(late, 1)
         check("and one that reads again is drawn", b"the last line" in drawn, f"{len(drawn)} bytes")
 
 
@@ -312,11 +299,9 @@ def idle_loops():
             shell = server.admit(window())
             client = server.admit(attach())
             took[loops] = calls_a_key(server, client, shell)
-            others = [server.connect(attach()) for _ in range(loops - 2)]
-            assert all(welcome(it) for it in others)
+            others = [server.admit(attach()) for _ in range(loops - 2)]
             for it in (client, *others):
-                while has_come(it, 0.3):
-                    it.recv(1 << 16)
+                drain(it, 0.3)
             shell.sendall(frame(OUTPUT, b"hello"))
             check(f"{loops} loops: a client of each is drawn", all(has_come(it, 1) for it in (client, *others)))
     if took[2] is None:
@@ -361,8 +346,7 @@ def drawn_in_a_flood():
                     # Each client shows window 0, the first one to flood.
                     poured = [Flood(server.path) for _ in range(floods)]
                     quiet = server.admit(window())
-                    clients = [server.connect(attach()) for _ in range(max(crowd, loops))]
-                    assert all(welcome(it) for it in clients)
+                    clients = [server.admit(attach()) for _ in range(max(crowd, loops))]
                     draws_within(clients, 0.5)
                     found = draws_within(clients, 2)
                     fewest, longest = min(it[0] for it in found), max(it[1] for it in found)

@@ -14,6 +14,7 @@ Needs Debian's tmux and script (or socat).  Where root plays it, `sudo -iu lab` 
 shell as the login nobody.  TEACHING's lesson is played with the accounts that it names, which are made and removed
 again, if root plays it, sudo is installed, and no such account is there.
 """
+import contextlib
 import grp
 import os
 import pwd
@@ -29,7 +30,7 @@ import time
 sys.dont_write_bytecode = True
 import bridge
 from play import (CONTRIB, PROGRAMS, TOP, Pane, Tmux, add_account, check, end_account, kill, main, once, processes,
-                  program)
+                  program, run)
 
 SPAN = re.compile(r"`((?:C-a: |(?:mux|muxd|muxsim|vtcat|new-token|mux-[a-z-]+|muxd-wait|own|make|sudo|loginctl"
                   r"|systemctl|tic) |rm -r )[^`]*)`")
@@ -97,8 +98,7 @@ class Text:
             prose = re.sub(r"^    .*$", "", text, flags=re.MULTILINE)
             spans = SPAN.findall(re.sub(r"\s+", " ", prose))
             # Names of a program's ways and words, and patterns of words, are no command lines.
-            self.spans = [span for span in spans
-                          if not re.search(r"\[|\.\.|\\|^mux(d|sim|-trail)? (--)?[a-z]+$", span)]
+            self.spans = [span for span in spans if not re.search(r"\[|\.\.|\\|^mux(d|sim|-trail)? (--)?[a-z]+$", span)]
 
     def take(self, line):
         """The next command line of a block, or one of the prose; what the text prints below it."""
@@ -110,10 +110,11 @@ class Text:
         here = self.lines[0][0] if self.lines else "nothing more"
         raise Fault("%s: has no `%s` here; its next line is `%s`" % (self.name, line, here))
 
-    def leave(self, line, why):
-        """Passes over a line that isn't played."""
-        self.take(line)
-        print("%s: left out: %s (%s)" % (self.name, line, why))
+    def leave(self, why, *lines):
+        """Passes over lines that aren't played."""
+        for line in lines:
+            self.take(line)
+            print("%s: left out: %s (%s)" % (self.name, line, why))
 
     def end(self):
         """Every line was played or left out."""
@@ -179,12 +180,23 @@ class Terminals:
 
     def run(self, name, line, printed=()):
         """Types a command line, waits until it has ended, and looks for what it is to print."""
-        before = self.prompts(name)
-        self.type(name, line)
-        self.keys(name, "Enter")
-        self.wait(name, "end of `%s`" % line, lambda: self.prompts(name) > before)
+        with self.ending(name, line):
+            self.type(name, line)
+            self.keys(name, "Enter")
         for text in printed:
             self.shows(name, re.escape(text.strip()), 5)
+
+    @contextlib.contextmanager
+    def ending(self, name, what):
+        """What a terminal's shell runs ends here."""
+        before = self.prompts(name)
+        yield
+        self.wait(name, "end of `%s`" % what, lambda: self.prompts(name) > before)
+
+    def ends(self, name, what, *keys):
+        """What a terminal's shell runs ends by keys."""
+        with self.ending(name, what):
+            self.keys(name, *keys)
 
     def end(self):
         """Ends the panes, and all that was started in them, which has the folder in its environment."""
@@ -303,18 +315,15 @@ def surprises(on):
 def first_session(play):
     """docs/FIRST-SESSION.md: two terminals of 8 lines by 44 columns."""
     on = play.on
-    for line in ("mux-share --give cole", "mux-share --take", "mux-share --with eve --for 30m", "mux-share --list",
-                 "mux-share --drop cole", "mux-share --end", "mux-join dana@host"):
-        play.text.leave(line, "tests/outside/share plays it, with three accounts")
-    play.text.leave("mux-share --web fay", "tests/outside/web plays it")
+    play.text.leave("tests/outside/share plays it, with three accounts", "mux-share --give cole", "mux-share --take",
+                    "mux-share --with eve --for 30m", "mux-share --list", "mux-share --drop cole", "mux-share --end",
+                    "mux-join dana@host")
+    play.text.leave("tests/outside/web plays it", "mux-share --web fay")
     on.open("ann", 8, 44)
     on.open("bob", 8, 44)
-    for line in ("mkdir -m 700 ~/first && cd ~/first",
-                 "new-token --users users ann; new-token --users users bob",
-                 "export MUX_SOCKET=~/first/socket",
-                 "setsid -f muxd --socket ~/first/socket --users users > log 2>&1",
-                 "muxd-wait",
-                 "setsid -f mux-shell --user ann --token ann.token sh",
+    for line in ("mkdir -m 700 ~/first && cd ~/first", "new-token --users users ann; new-token --users users bob",
+                 "export MUX_SOCKET=~/first/socket", "setsid -f muxd --socket ~/first/socket --users users > log 2>&1",
+                 "muxd-wait", "setsid -f mux-shell --user ann --token ann.token sh",
                  "muxd-wait --user ann --token ann.token --window sh"):
         play.run("ann", line)
     play.attach("ann", "mux-attach --user ann --token ann.token", r"^0 sh")
@@ -324,28 +333,23 @@ def first_session(play):
     play.run("bob", "cd ~/first; export MUX_SOCKET=~/first/socket")
     play.attach("bob", "mux-attach --user bob --token bob.token", r"^0 sh")
     on.shows("bob", r"^\$")
-    on.type("bob", "echo hello ann")
-    on.keys("bob", "Enter")
+    on.type("bob", "echo hello ann\n")
     on.shows("ann", "^hello ann")
-    on.type("ann", "echo hello bob")
-    on.keys("ann", "Enter")
+    on.type("ann", "echo hello bob\n")
     play.picture("ann", "bob")
     on.keys("ann", "C-a")
     on.type("ann", ":aclchg bob -w 0")
     play.picture("ann", "bob")
     on.keys("ann", "Enter")
     time.sleep(0.5)
-    on.type("bob", "rm notes")
-    on.keys("bob", "Enter")
+    on.type("bob", "rm notes\n")
     play.picture("ann", "bob")
     play.prompt("ann", "aclchg bob +w 0")
     play.prompt("ann", "writelock on")
-    on.type("bob", "ls")
-    on.keys("bob", "Enter")
+    on.type("bob", "ls\n")
     play.picture("ann", "bob")
     play.prompt("ann", "writelock off")
-    on.type("bob", "echo thanks")
-    on.keys("bob", "Enter")
+    on.type("bob", "echo thanks\n")
     play.picture("ann", "bob")
     on.keys("ann", "C-a", "*")
     on.keys("bob", "C-a", "w")
@@ -353,57 +357,47 @@ def first_session(play):
     play.prompt("ann", "aclchg bob -r 0")
     play.picture("ann", "bob")
     surprises(on)
-    before = on.prompts("bob")
-    play.prompt("ann", "quit")
-    on.wait("bob", "end of mux-attach", lambda: on.prompts("bob") > before)
+    with on.ending("bob", "mux-attach"):
+        play.prompt("ann", "quit")
     on.run("bob", "echo status $?", ["status 0"])
     play.text.take("rm -r ~/first")
     on.run("ann", "rm -r ~/first; ls ~ | wc -l", ["0"])
-    play.text.leave("mux-shell --title lesson sudo -iu lab", "it is played with docs/TEACHING.md")
+    play.text.leave("it is played with docs/TEACHING.md", "mux-shell --title lesson sudo -iu lab")
+    play.text.leave("it plays itself", "make shell")
 
 
 def readme(play):
     """README.md: a first session with the defaults."""
     on = play.on
     text = play.text
-    for line in ("mux-share --give cole", "mux-share --take", "mux-join dana@host"):
-        text.leave(line, "tests/outside/share plays it, with three accounts")
-    for line in ("make try-server", "make build", "make install PREFIX=$HOME/.local", "make uninstall", "make dist",
-                 "make test", "make RT=/path/to/rt"):
-        text.leave(line, "it builds; tests/outside/package plays what it gives")
+    text.leave("tests/outside/share plays it, with three accounts", "mux-share --give cole", "mux-share --take",
+               "mux-join dana@host")
+    text.leave("it builds; tests/outside/package plays what it gives", "make try-server", "make build",
+               "make install PREFIX=$HOME/.local", "make uninstall", "make dist", "make test", "make RT=/path/to/rt")
     on.open("ann")
-    for line in ("new-token ann",
-                 "mkdir -p -m 700 $XDG_RUNTIME_DIR/mux",
+    for line in ("new-token ann", "mkdir -p -m 700 $XDG_RUNTIME_DIR/mux",
                  "setsid -f muxd --socket $XDG_RUNTIME_DIR/mux/socket --users ~/.config/mux/users"
-                 " >> $XDG_RUNTIME_DIR/mux/log 2>&1",
-                 "muxd-wait",
-                 "setsid -f mux-shell --user ann --title shell",
+                 " >> $XDG_RUNTIME_DIR/mux/log 2>&1", "muxd-wait", "setsid -f mux-shell --user ann --title shell",
                  "muxd-wait --user ann --window shell"):
         play.run("ann", line)
     play.attach("ann", "mux-attach --user ann", "^0 shell")
-    before = on.prompts("ann")
-    on.keys("ann", "C-a", "d")
-    on.wait("ann", "end of mux-attach", lambda: on.prompts("ann") > before)
+    on.ends("ann", "mux-attach", "C-a", "d")
     play.attach("ann", "mux-attach --user ann", "^0 shell", taken="mux-attach --user ann")
-    on.type("ann", "echo $((6 * 7))")
-    on.keys("ann", "Enter")
+    on.type("ann", "echo $((6 * 7))\n")
     on.shows("ann", "^42")
-    before = on.prompts("ann")
-    on.keys("ann", "C-a")
-    on.type("ann", ":quit")
-    on.keys("ann", "Enter")
-    on.wait("ann", "end of mux-attach", lambda: on.prompts("ann") > before)
+    with on.ending("ann", "mux-attach"):
+        on.keys("ann", "C-a")
+        on.type("ann", ":quit\n")
     # The terminal that started them is gone, and the session isn't.
-    text.leave("mux-shell --title lesson sudo -iu lab", "it is played with docs/TEACHING.md")
-    text.leave("make demo SCRIPT=classroom", "make examples compares what it prints")
+    text.leave("it is played with docs/TEACHING.md", "mux-shell --title lesson sudo -iu lab")
+    text.leave("make examples compares what it prints", "make demo SCRIPT=classroom")
 
 
 def teaching(play):
     """docs/TEACHING.md: a lesson in two terminals, with a shell of another login."""
-    for line in ("make demo SCRIPT=class", "make examples"):
-        play.text.leave(line, "make examples compares what it prints")
-    play.text.leave("sudo -iu lab", "it is played below")
-    play.text.leave("mux-share --with ann,bob,eve", "tests/outside/share plays it, with three accounts")
+    play.text.leave("make examples compares what it prints", "make demo SCRIPT=class", "make examples")
+    play.text.leave("tests/outside/package plays it", "make install")
+    play.text.leave("tests/outside/share plays it, with three accounts", "mux-share --with ann,bob,eve")
     with Accounts(play) as accounts:
         lesson(play, accounts)
 
@@ -454,7 +448,7 @@ class Accounts:
         if self.real:
             self.play.run("root", line)
         else:
-            self.play.text.leave("# " + line, why)
+            self.play.text.leave(why, "# " + line)
 
 
 def lesson(play, accounts):
@@ -462,16 +456,16 @@ def lesson(play, accounts):
     on = play.on
     text = play.text
     on.open("root")
-    for line in ("useradd -m -s /bin/bash lab",
-                 "echo 'tess ALL = (lab) NOPASSWD: ALL' > /etc/sudoers.d/mux-lab",
+    for line in ("useradd -m -s /bin/bash lab", "echo 'tess ALL = (lab) NOPASSWD: ALL' > /etc/sudoers.d/mux-lab",
                  "install -d -m 2750 -o tess -g class /srv/class"):
         accounts.root(line, "it changes the system; a folder and a stand-in for sudo are taken")
+    text.leave("make lint compiles it", "# tic -x /usr/local/share/mux/mux.ti")
     if not accounts.real:
         os.mkdir(os.path.join(on.far, "class"), 0o2750)
     accounts.open("tess", "tess")
     play.run("tess", "mux-user --users ~/class/users add own tess ann bob eve")
     accounts.root("mux-user --users ~tess/class/users give ann bob eve", "it needs other logins")
-    text.leave("mux-user replace", "tests/outside/consoles plays it")
+    text.leave("tests/outside/consoles plays it", "mux-user replace")
     # The setup is written as the text has it.
     setup = re.search(r"^    multiuser on\n(?:    .*\n)*", text.whole, re.M)[0].replace("    ", "")
     on.run("tess", "printf '%%s' '%s' > ~/class/setup; clear" % setup)
@@ -495,41 +489,40 @@ def lesson(play, accounts):
     accounts.open("ann", "ann")
     accounts.open("bob", "bob")
     if not accounts.real:
-        on.run("ann", "mkdir -p ~/.config/mux; cp -p ~/class/ann.token ~/.config/mux/; clear")
-    line = "mux-attach --socket /srv/class/socket"
-    play.attach("ann", line, "^0 lesson", taken=line)
-    text.take("mux-attach --socket /srv/class/socket --user ann --token FILE")
-    where = "~/.config/mux" if accounts.real else "~/class"
-    on.run("bob", "cp -p %s/bob.token ~/mine; clear" % where)
-    on.type("bob", play.real("mux-attach --socket /srv/class/socket --user bob --token ~/mine\n"))
-    on.shows("bob", "^0 lesson")
+        on.run("ann", "mkdir -p ~/.config/mux; cp -p ~/class/[ab]*.token ~/.config/mux/; clear")
+    for pupil in ("ann", "bob"):
+        on.type(pupil, play.real("mux-attach --socket /srv/class/socket\n"))
+        on.shows(pupil, "^0 lesson")
     turns(play, accounts)
     again(play, block[-2:])
+    # A shell for each of them.
+    play.run("tess", text.lines[0][0][2:])
+    on.keys("ann", "C-a", "n")
+    on.shows("ann", "^1 ann")
+    on.type("ann", "echo mine\n")
+    on.shows("ann", r"^(\$ )?mine")
     # A pupil who comes late: the server that runs reads the new token.
-    for line in ("mux-user --users users add fay", "mux-command 'aclchg fay -wx #?'",
-                 "mux-command 'aclumask fay-wx'", "mux-command 'aclchg fay -wx #'",
-                 "mux-command 'aclchg fay +x detach,next,prev,scrollview'"):
+    for line in ("mux-user --users users add fay", "mux-command 'aclchg fay -wx #?'", "mux-command 'aclumask fay-wx'",
+                 "mux-command 'aclchg fay -wx #'", "mux-command 'aclchg fay +x detach,next,prev,scrollview,wall'"):
         play.run("tess", line)
     on.run("tess", "clear; mux-command --user fay --token ~/class/fay.token windows",
            ["denied: x on windows: entry fay -x"])
     browsers(play, accounts)
     text.take("mux-command acldel bob")
-    before = on.prompts("bob")
-    on.run("tess", "mux-command acldel bob")
-    on.wait("bob", "end of mux-attach", lambda: on.prompts("bob") > before)
-    before = on.prompts("ann")
+    with on.ending("bob", "mux-attach"):
+        on.run("tess", "mux-command acldel bob")
     text.take("mux-command quit")
-    on.run("tess", "mux-command quit")
-    on.wait("ann", "end of mux-attach", lambda: on.prompts("ann") > before)
+    with on.ending("ann", "mux-attach"):
+        on.run("tess", "mux-command quit")
 
 
 def browsers(play, accounts):
     """TEACHING's class in browsers: ann's page has the lesson, and she can't type there."""
     text = play.text
-    text.leave("# usermod -aG class www-data && systemctl restart nginx", "it needs nginx; tests/outside/web plays it")
+    text.leave("it needs nginx; tests/outside/web plays it", "# usermod -aG class www-data && systemctl restart nginx")
     for _ in range(2):
         play.run("tess", text.lines[0][0][2:])
-    text.leave("$ mux-user --users users --page $ORIGIN link ann", "tests/outside/browser plays it")
+    text.leave("tests/outside/browser plays it", "$ mux-user --users users --page $ORIGIN link ann")
     home = os.path.expanduser("~tess") if accounts.real else play.on.home
     with open(os.path.join(home, "class/ann.token"), "rb") as file:
         token = file.read().strip()
@@ -575,14 +568,12 @@ def turns(play, accounts):
     on.shows("ann", r"^(\$ )?tess types")
     denied("bob")
     text.take("mux-turn --keep tess --for 5m --window lesson bob")
-    before = on.prompts("tess")
     on.type("tess", "mux-turn --keep tess --for 5m --window lesson bob\n")
     on.shows("bob", "^own: bob may type for 5m")
     on.type("bob", "echo bob types\n")
     on.shows("ann", r"^(\$ )?bob types")
     denied("ann")
-    on.keys("tess", "C-c")
-    on.wait("tess", "end of mux-turn", lambda: on.prompts("tess") > before)
+    on.ends("tess", "mux-turn", "C-c")
     denied("bob")
     text.take("mux-turn --keep tess --window lesson none")
     on.run("tess", "mux-turn --keep tess --window lesson none; clear")
@@ -612,9 +603,9 @@ def policies(play):
     """docs/POLICIES.md: each policy on a server of its own, and what its guests may not."""
     on = play.on
     text = play.text
-    text.leave("mux-shell --title shop sudo -iu lab", "it is played with docs/TEACHING.md")
-    text.leave("$ mux-guest --read shop --for 30m sue", "tests/outside/policies plays it, for a shorter time")
-    text.leave("mux-shell --title shop podman run --rm -it debian bash", "it needs podman, and fetches an image")
+    text.leave("it is played with docs/TEACHING.md", "mux-shell --title shop sudo -iu lab")
+    text.leave("tests/outside/policies plays it, for a shorter time", "$ mux-guest --read shop --for 30m sue")
+    text.leave("it needs podman, and fetches an image", "mux-shell --title shop podman run --rm -it debian bash")
     on.open("own")
     on.run("own", "for name in own sue pia ben kay fay ann bob jo lee kim; do"
            " new-token --users ~/session/users $name; done")
@@ -710,7 +701,7 @@ def policies(play):
             may_not(user, window, "stuff x", "denied: w on window %s: entry %s -w" % (window, user))
     may_not("ann", None, "aclchg jo +w hers", "denied: x on aclchg: entry ann -x")
     over()
-    text.leave("$ muxsim --show --setup support own < support.mux", "make examples compares what it prints")
+    text.leave("make examples compares what it prints", "$ muxsim --show --setup support own < support.mux")
     for name in ("support", "support.mux"):
         shutil.copy(os.path.join(TOP, "contrib/policies", name), on.home)
     on.run("own", "cd; clear")
@@ -749,7 +740,7 @@ def operating(play):
                               ("muxd --trail", "tests/outside/trailfile plays it")):
             if words in line:
                 why = better
-        text.leave(line, why)
+        text.leave(why, line)
 
     def leave_until(line):
         """Passes over the lines of blocks up to this one."""
@@ -759,9 +750,10 @@ def operating(play):
     on.open("root")
     on.run("root", "export MUX_USER=own; cd")
     leave_until("$ mux-console web1")
-    text.leave(text.lines[0][0], "tests/outside/boot plays it")
-    on.run("root", play.real("(umask 007; setsid -f muxd-run --socket /run/mux/ops/socket --users /var/lib/mux/ops/users"
-                             " --rights /etc/mux/ops/rights > ~/log 2>&1); muxd-wait --socket /run/mux/ops/socket"))
+    text.leave("tests/outside/boot plays it", text.lines[0][0])
+    on.run("root",
+           play.real("(umask 007; setsid -f muxd-run --socket /run/mux/ops/socket --users /var/lib/mux/ops/users"
+                     " --rights /etc/mux/ops/rights > ~/log 2>&1); muxd-wait --socket /run/mux/ops/socket"))
     leave_until("# export MUX_SOCKET=/run/mux/ops/socket MUX_TOKEN=/var/lib/mux/ops/own.token MUX_LOCK=/etc/mux/ops")
     play.run("root", text.lines[0][0][2:])
     play.run("root", 'own() { mux-rights /etc/mux/ops/rights command "$@"; }')
@@ -786,9 +778,7 @@ def operating(play):
     play.text.take("# " + line)
     on.type("root", line + "\n")
     on.shows("root", "^guest1 reads web1 for 30m")
-    before = on.prompts("root")
-    on.keys("root", "C-c")
-    on.wait("root", "end of mux-guest", lambda: on.prompts("root") > before)
+    on.ends("root", "mux-guest", "C-c")
     on.run("root", "clear; own aclgrp guest1", ["acl: 1"])
     leave_until("$ mux-watch --user wall --token wall.token --window web1")
     on.open("wall")
@@ -813,30 +803,27 @@ def operating(play):
     # The wall says that the session ended, waits for the next one, and ends by C-c with its terminal as it was.
     on.run("root", play.real("own quit; while [ -e /run/mux/ops/socket ]; do sleep 0.1; done"))
     on.shows("wall", "no session: ", 4)
-    on.run("root", play.real("(umask 007; setsid -f muxd-run --socket /run/mux/ops/socket --users /var/lib/mux/ops/users"
-                             " --rights /etc/mux/ops/rights > ~/log 2>&1); muxd-wait"))
+    on.run("root",
+           play.real("(umask 007; setsid -f muxd-run --socket /run/mux/ops/socket --users /var/lib/mux/ops/users"
+                     " --rights /etc/mux/ops/rights > ~/log 2>&1); muxd-wait"))
     on.run("root", "setsid -f mux-shell --title web1 sh -c 'echo new; cat'; muxd-wait --window web1")
     on.run("root", play.real("mux-rights /etc/mux/ops/rights window web1"))
     on.shows("wall", "^new")
-    before = on.prompts("wall")
-    on.keys("wall", "C-c")
-    on.wait("wall", "end of mux-watch", lambda: on.prompts("wall") > before)
+    on.ends("wall", "mux-watch", "C-c")
     on.run("wall", "stty -a | grep -c ' echo '", ["1"])
     on.run("root", "own quit")
 
 
 def words_alone(play):
     """docs/FOR-SCREEN-USERS.md and examples/README.md: no line to be typed as it stands."""
-    lines = {"docs/FOR-SCREEN-USERS.md": ("mux-attach --user NAME", "mux-attach --rows 24 --cols 80",
-                                          "mux-shell --detach", "muxsim --edition 1"),
-             "examples/README.md": ("make try-server", "make build", "make demo SCRIPT=rights", "make examples",
-                                    "muxsim --show --setup contrib/policies/support own"
-                                    " < contrib/policies/support.mux")}
-    for line in lines[play.text.name]:
-        play.text.leave(line, "it is a pattern, or builds")
-    if play.text.name == "docs/FOR-SCREEN-USERS.md":
-        for line in ("mux-share --with cole", "mux-join dana"):
-            play.text.leave(line, "tests/outside/share plays it, with three accounts")
+    if play.text.name == "examples/README.md":
+        play.text.leave("it builds, or plays itself", "make shell", "make try-server", "make build",
+                        "make demo SCRIPT=rights", "make examples",
+                        "muxsim --show --setup contrib/policies/support own < contrib/policies/support.mux")
+    else:
+        play.text.leave("it is a pattern", "mux-attach --user NAME", "mux-attach --rows 24 --cols 80",
+                        "mux-attach --fit", "mux-shell --detach", "mux-console db7", "muxsim --edition 1")
+        play.text.leave("tests/outside/share plays it, with three accounts", "mux-share --with cole", "mux-join dana")
 
 
 def muxd_page(play):
@@ -849,13 +836,10 @@ def muxd_page(play):
     play.run("ann", "setsid -f mux-shell --user ann --title shell")
     play.run("ann", "muxd-wait --user ann --window shell")
     play.attach("ann", "mux-attach --user ann", "^0 shell")
-    before = on.prompts("ann")
-    on.keys("ann", "C-a", "d")
-    on.wait("ann", "end of mux-attach", lambda: on.prompts("ann") > before)
+    on.ends("ann", "mux-attach", "C-a", "d")
     on.run("ann", "mux-command --user ann quit; clear")
-    for line in ("$ loginctl enable-linger", "$ systemctl --user start muxd"):
-        play.text.leave(line, "it needs systemd")
-    play.text.leave("# install -d -m 2750 -o ann -g ops /srv/ops", "it needs other logins")
+    play.text.leave("it needs systemd", "$ loginctl enable-linger", "$ systemctl --user start muxd")
+    play.text.leave("it needs other logins", "# install -d -m 2750 -o ann -g ops /srv/ops")
     os.mkdir(os.path.join(on.far, "ops"))
     play.run("ann", "new-token --users ~/ops/users own; new-token --users ~/ops/users ann")
     play.run("ann", "(umask 007; setsid -f muxd --socket /srv/ops/socket --users ~/ops/users)")
@@ -875,14 +859,14 @@ def muxd_page(play):
     on.shows("ann", "^legal: 1 entries$")
     on.shows("ann", r"^whole: it ended \(quit\) at ")
     # The page's .Dl lines stand in its prose.
-    play.text.leave("$ mux-shell --title lesson sudo -iu lab", "as above")
+    play.text.leave("as above", "$ mux-shell --title lesson sudo -iu lab")
 
 
 def mux_users_page(play):
     """man/mux-users.5: the folder and the umask of a group."""
     on = play.on
     on.open("ann")
-    play.text.leave("# install -d -m 2750 -o ann -g ops /srv/ops", "it needs other logins")
+    play.text.leave("it needs other logins", "# install -d -m 2750 -o ann -g ops /srv/ops")
     os.mkdir(os.path.join(on.far, "ops"))
     on.run("ann", "new-token --users ~/ops/users own")
     play.run("ann", "(umask 007; setsid -f muxd --socket /srv/ops/socket --users ~/ops/users)")
@@ -944,14 +928,12 @@ def session_pages(play):
     while play.text.lines:
         line = play.text.lines[0][0][2:]
         if "ssh" in line:
-            play.text.leave("$ " + line, "tests/outside/terminals plays it")
+            play.text.leave("tests/outside/terminals plays it", "$ " + line)
         elif "mux-guest" in line:
-            play.text.leave("$ " + line, "tests/outside/policies plays it, for a shorter time")
+            play.text.leave("tests/outside/policies plays it, for a shorter time", "$ " + line)
         elif "mux-attach" in line or "mux-watch" in line:
             play.attach("ann", line, "^[02] (shell|board)")
-            before = on.prompts("ann")
-            on.keys("ann", *(["C-c"] if "mux-watch" in line else ["C-a", "d"]))
-            on.wait("ann", "end of `%s`" % line, lambda: on.prompts("ann") > before)
+            on.ends("ann", line, *(["C-c"] if "mux-watch" in line else ["C-a", "d"]))
         else:
             play.run("ann", line)
             on.run("ann", "echo status $?", ["status 0"])
@@ -960,23 +942,20 @@ def session_pages(play):
 
 
 def words_agree():
-    """The words of each script's --help are those of its page."""
-    for name in sorted(os.listdir(os.path.join(TOP, "contrib"))):
-        path = os.path.join(TOP, "contrib", name)
-        if os.path.isdir(path) or not os.access(path, os.X_OK):
+    """The words of each script's --help are those of its page, and the page has what it was told of it."""
+    for path in sorted(CONTRIB.iterdir()):
+        if path.is_dir() or not os.access(path, os.X_OK):
             continue
-        page = os.path.join(TOP, "man", name + ".1")
-        if not os.path.exists(page):
-            raise Fault("contrib/%s has no page man/%s.1" % (name, name))
-        done = subprocess.run([path, "--help"], stdout=subprocess.PIPE, check=True)
-        listed = re.findall(r"^  (--[a-z-]+(?: [A-Z]+)?(?:, --[a-z-]+(?: [A-Z]+)?)*)", done.stdout.decode(),
-                            re.MULTILINE)
-        words = set(re.findall(r"--([a-z-]+)", " ".join(listed)))
-        with open(page, encoding="utf-8") as file:
-            tagged = re.findall(r"^\.It .*", file.read(), re.MULTILINE)
-        said = set(re.findall(r"Fl Fl ([a-z-]+)", " ".join(tagged)))
+        page = TOP / "man" / f"{path.name}.1"
+        if not page.exists():
+            raise Fault("contrib/%s has no page man/%s.1" % (path.name, path.name))
+        listed = re.findall(r"^  (--[a-z-]+(?: [A-Z]+)?(?:, --[a-z-]+(?: [A-Z]+)?)*)",
+                            run(path, "--help", check=True).stdout, re.MULTILINE)
+        tagged = re.findall(r"^\.It .*", run(TOP / "man/whole", page, check=True).stdout, re.MULTILINE)
+        words, said = set(re.findall(r"--([a-z-]+)", " ".join(listed))), set(re.findall(r"Fl Fl ([a-z-]+)",
+                                                                                        " ".join(tagged)))
         if words != said:
-            raise Fault("man/%s.1 and --help differ: %s" % (name, ", ".join(sorted(words ^ said))))
+            raise Fault("man/%s.1 and --help differ: %s" % (path.name, ", ".join(sorted(words ^ said))))
     check("the words of --help and of the pages agree", True)
 
 

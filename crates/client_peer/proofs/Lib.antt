@@ -1,2 +1,3 @@
 mod Fitting
 pub mod Passing
+pub mod Sending

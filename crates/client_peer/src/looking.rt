@@ -69,6 +69,8 @@ pub enum Step {
     WaitShortly,
     /// Begin to read standard input.
     Begin,
+    /// Open the window again.
+    Reopen,
     /// Send the frames that wait.
     Send,
     /// The connection ended. Ask whether the peer comes back.
@@ -96,8 +98,8 @@ impl Peer {
             self.times.has_begun = true;
             return Step::Begin;
         }
-        if self.is_welcome && !self.held.is_empty() {
-            let _ = self.let_out();
+        if self.is_reopening {
+            return Step::Reopen;
         }
         self.look_at_notice(now);
         self.look_at_fit(now);

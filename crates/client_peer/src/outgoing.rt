@@ -1,5 +1,11 @@
 //! Frames for the server, in their order and whole.
 
+ghost use Rattle.std.specs.Prelude.{◌≡◌, ◌≤◌, ◌++◌, length, OnOk, IfOk};
+ghost use Rattle.attach_proto.specs.Spelling.{frame};
+ghost use Rattle.attach_proto.specs.declared.kind.Kind.TheVariants.{Keys, Output};
+ghost use Rattle.client_peer.specs.Reopening.{Sends, Reopens};
+ghost use Rattle.client_peer.specs.Showing.{Keeps};
+
 use crate::peer::Peer;
 use attach_proto::{Kind, LONGEST, Message, head_of};
 use client_words::{Fault, frame_of};
@@ -22,31 +28,40 @@ pub struct Batch {
     connection: u32,
 }
 
-impl Peer {
-    // Puts bytes down as frames of a kind.
-    fn put_frames(&mut self, kind: Kind, bytes: &[u8]) -> Result<(), AllocError> {
-        let mut rest = bytes;
-        for _ in 0..=bytes.len() {
-            if rest.is_empty() {
-                break;
-            }
-            let (piece, later) = rest.split_at(rest.len().min(LONGEST));
-            self.frames.extend_from_slice(&head_of(kind, piece))?;
-            self.frames.extend_from_slice(piece)?;
-            rest = later;
-        }
-        Ok(())
+// Appends bytes as frames of a kind.
+fn put_frames(kind: Kind, bytes: &[u8], frames: &mut Vec<u8>) -> Result<(), AllocError>
+    ensures { OnOk result (Sends frames.old.items frames.new.items kind bytes.now) }
+{
+    let mut rest = bytes;
+    'pieces: while !rest.is_empty() {
+        let (piece, later) = rest.split_at(rest.len().min(LONGEST));
+        put_frame(kind, piece, frames)?;
+        rest = later;
     }
+    Ok(())
+}
 
+fn put_frame(kind: Kind, piece: &[u8], frames: &mut Vec<u8>) -> Result<(), AllocError>
+    requires { length piece.now ≤ 8192 }
+    ensures { OnOk result (frames.new.items ≡ frames.old.items ++ frame kind piece.now) }
+{
+    frames.extend_from_slice(&head_of(kind, piece))?;
+    frames.extend_from_slice(piece)
+}
+
+impl Peer {
     /// Puts down what was typed.
-    pub fn put_keys(&mut self, keys: &[u8]) -> Result<(), AllocError> {
-        self.put_frames(Kind::Keys, keys)
+    pub fn put_keys(&mut self, keys: &[u8]) -> Result<(), AllocError>
+        ensures { OnOk result (Sends self.old.frames.items self.new.frames.items Keys keys.now) }
+    {
+        put_frames(Kind::Keys, keys, &mut self.frames)
     }
 
     /// Puts down what a window's program printed, or holds it while no server has the window.
     pub fn print(&mut self, bytes: &[u8]) -> Result<(), AllocError> {
-        if self.is_welcome && self.held.is_empty() {
-            return self.put_frames(Kind::Output, bytes);
+        if self.is_welcome && !self.is_reopening {
+            self.page.read(bytes);
+            return put_frames(Kind::Output, bytes, &mut self.frames);
         }
         self.held.extend_from_slice(bytes)?;
         if self.held.len() > MOST_HELD.saturating_mul(2) {
@@ -55,18 +70,46 @@ impl Peer {
         Ok(())
     }
 
-    // Keeps the newest of the bytes that are held.
+    // Keeps the newest of the bytes that are held. The page reads the others.
     fn trim(&mut self) -> Result<(), AllocError> {
         let held = mem::replace(&mut self.held, Vec::new(self.alloc));
-        let from = held.len().saturating_sub(MOST_HELD);
-        self.held.extend_from_slice(held.get(from..).unwrap_or(&[]))
+        let (old, new) = held.split_at(held.len().saturating_sub(MOST_HELD));
+        self.page.read(old);
+        self.held.extend_from_slice(new)
     }
 
-    /// Puts down what was held, once a server has the window again.
-    pub fn let_out(&mut self) -> Result<(), AllocError> {
-        self.trim()?;
+    /// Puts down the page and what was held, once a server has the window again. Returns whether the server is told the
+    /// page.
+    pub fn reopen(&mut self) -> Result<bool, AllocError>
+        ensures ok { IfOk result (λ is_told. Reopens self.old self.new is_told) }
+        ensures keeps { Keeps self.old self.new }
+    {
         let held = mem::replace(&mut self.held, Vec::new(self.alloc));
-        self.put_frames(Kind::Output, &held)
+        let read = self.page.settle(&held);
+        let (_, later) = held.split_at(read);
+        match self.page.told() {
+            Some(bytes) => {
+                self.put_again(bytes, later)?;
+                Ok(true)
+            }
+            None => {
+                self.put_again(Vec::new(self.alloc), later)?;
+                Ok(false)
+            }
+        }
+    }
+
+    // Puts down what the server is told, and what it is to read after that, as the page does.
+    fn put_again(&mut self, told: Vec<u8>, later: &[u8]) -> Result<(), AllocError>
+        ensures ok { OnOk result (Sends self.old.frames.items self.new.frames.items Output
+            (told.items ++ later.now)) }
+        ensures held { self.new.held ≡ self.old.held }
+        ensures keeps { Keeps self.old self.new }
+    {
+        self.page.read(later);
+        let mut bytes = told;
+        bytes.extend_from_slice(later)?;
+        put_frames(Kind::Output, &bytes, &mut self.frames)
     }
 
     /// Asks for a whole draw: RESIZE, with the size that the terminal has.

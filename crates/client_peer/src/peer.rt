@@ -6,6 +6,7 @@ ghost use Rattle.client_peer.specs.Showing.{BeginsAnew};
 
 use crate::looking::Times;
 use crate::notice::Notice;
+use crate::page::KeptPage;
 use crate::typing::Typing;
 use attach_proto::Why;
 use client_words::{Fault, Size, Way, Words};
@@ -58,6 +59,14 @@ pub struct Peer {
     pub connection: u32,
     /// What a window's program printed while no server was there.
     pub held: Vec<u8>,
+    /// The page of a window that stays.
+    pub page: KeptPage,
+    /// The number that the window had when a server let it in last.
+    pub(crate) number: u8,
+    /// The same of the last server that the page was opened in.
+    pub page_number: u8,
+    /// The window is to be opened again: what it prints waits.
+    pub is_reopening: bool,
     pub typing: Typing,
     /// This connection's server let the peer in.
     pub is_welcome: bool,
@@ -108,6 +117,10 @@ impl Peer {
             is_shut: false,
             connection: 0,
             held: Vec::new(alloc),
+            page: KeptPage::new(alloc, words),
+            number: 0,
+            page_number: 0,
+            is_reopening: false,
             typing: Typing::new(words),
             is_welcome: false,
             was_welcome: false,
@@ -137,6 +150,7 @@ impl Peer {
         self.connection = self.connection.wrapping_add(1);
         self.typing.begin();
         self.is_welcome = false;
+        self.is_reopening = false;
         self.said = None;
         self.end = None;
     }

@@ -110,21 +110,46 @@ impl Peer {
         self.hear_later(text)
     }
 
-    // Notes that the peer is let in, and puts down a window's first size.
+    // Notes that the peer is let in. A window gets its first size. One that is opened again has to know first whether
+    // its page may be told.
     fn welcome(&mut self) -> Result<(), Fault>
         ensures { Keeps self.old self.new }
     {
         if self.is_welcome || self.way.is_command() {
             return Ok(());
         }
+        self.is_reopening = self.was_welcome && self.way.is_window();
         self.is_welcome = true;
         self.was_welcome = true;
         self.loss = None;
         self.times.wants_fit = self.fits;
-        if self.way.is_window() {
+        if self.way.is_window() && !self.is_reopening {
+            self.page_number = self.number;
             return self.put_size(self.rows, self.columns);
         }
         Ok(())
+    }
+
+    /// Opens a window again, whose page is hidden from this server or isn't. If the server isn't told the page, the
+    /// window's size is told again, so that its program draws anew.
+    pub fn open_again(&mut self, is_hidden: bool) -> Result<(), Fault>
+        ensures { Keeps self.old self.new }
+    {
+        self.is_reopening = false;
+        self.page_number = self.number;
+        self.page.is_hidden = is_hidden;
+        if self.reopen()? {
+            return Ok(());
+        }
+        self.put_size(self.rows, self.columns)
+    }
+
+    // Takes a window's new size.
+    fn resize_window(&mut self, rows: u16, columns: u16) -> Result<(), Fault>
+        ensures { Keeps self.old self.new }
+    {
+        self.page.resize(rows, columns);
+        self.put_size(rows, columns)
     }
 
     // Puts down what a message has for the files that the peer writes to. A server of ours sends draws to
@@ -139,9 +164,13 @@ impl Peer {
                 text.as_str(),
             ),
             Message::Input(bytes) if self.way.is_window() => self.put(bytes.as_slice()),
-            Message::Size { rows, columns } if self.way.is_window() => self.put_size(
+            Message::Size { rows, columns } if self.way.is_window() => self.resize_window(
                 *rows, *columns,
             ),
+            Message::Welcome(number) => {
+                self.number = *number;
+                Ok(())
+            }
             Message::Draw(_) | Message::Input(_) | Message::Size { .. } => {
                 Err(Fault::NoServerOfOurs)
             }

@@ -12,6 +12,11 @@ const SOCKET: &str = "client_tests.socket";
 
 const TOKEN: &str = "client_tests.token";
 
+/// What names the session, and the windows that mustn't tell their page.
+const SESSION: &str = "client_tests.socket.session";
+
+const RESTORING: &str = "client_tests.socket.restoring";
+
 const TOKEN_TEXT: &[u8] = b"0000000000000000000000000000000000000000000000000000000000000000
 ";
 
@@ -57,6 +62,8 @@ enum Peer {
     Window,
     /// The same of a window.
     Staying,
+    /// The same after its program has printed something.
+    Telling,
     Command,
 }
 
@@ -74,7 +81,7 @@ struct Talk {
     kept_back: &'static [u8],
 }
 
-static TALKS: [Talk; 13] = [
+static TALKS: [Talk; 14] = [
     // A client: its keys are sent, and a draw is written.
     Talk {
         peer: Peer::Client,
@@ -186,6 +193,17 @@ static TALKS: [Talk; 13] = [
         written: b"typed",
         kept_back: b"g\0",
     },
+    // The next server is told the window's page.
+    Talk {
+        peer: Peer::Telling,
+        typed: b"printed",
+        first: b"y\0\x01\0",
+        awaited: b"printed\x1bE\x1bE",
+        last: b"i\0\x05typedg\0\x01\x03",
+        status: 0,
+        written: b"typed",
+        kept_back: b"g\0",
+    },
     // A command: what is said is written, a text a line.
     Talk {
         peer: Peer::Command,
@@ -237,16 +255,27 @@ fn awaits(stream: &mut UnixStream, came: &mut Vec<u8>, bytes: &[u8]) -> io::Resu
     Ok(false)
 }
 
+// Serves the first connection of a peer that comes back, and goes.
+fn serve_first<R: Stage>(rt: &R, listener: &UnixListener, talk: Talk) -> io::Result<()> {
+    let (mut stream, _) = listener.accept()?;
+    let mut came = Vec::new(rt.alloc());
+    stream.write_all(talk.first)?;
+    match talk.peer {
+        Peer::Again => stream.write_all(b"d\0\x03\x1b[?")?,
+        Peer::Telling => {
+            awaits(&mut stream, &mut came, b"O\0\x07printed")?;
+        }
+        _ => {
+            awaits(&mut stream, &mut came, talk.awaited)?;
+        }
+    }
+    Ok(())
+}
+
 // Serves one talk. Returns whether what it waits for came.
 fn serve<R: Stage>(rt: &R, listener: &UnixListener, talk: Talk) -> io::Result<bool> {
-    if matches!(talk.peer, Peer::Again | Peer::Staying) {
-        let (mut stream, _) = listener.accept()?;
-        let mut came = Vec::new(rt.alloc());
-        awaits(&mut stream, &mut came, talk.awaited)?;
-        stream.write_all(talk.first)?;
-        if matches!(talk.peer, Peer::Again) {
-            stream.write_all(b"d\0\x03\x1b[?")?;
-        }
+    if matches!(talk.peer, Peer::Again | Peer::Staying | Peer::Telling) {
+        serve_first(rt, listener, talk)?;
     }
     let (mut stream, _) = listener.accept()?;
     let mut came = Vec::new(rt.alloc());
@@ -263,7 +292,7 @@ fn call<R: Stage + Threads + Wait>(rt: &R, talk: Talk) -> io::Result<bool> {
         Peer::Client => answer(rt, &ATTACH, talk.typed)?,
         Peer::Assisted => answer(rt, &ASSISTED, talk.typed)?,
         Peer::Again => answer(rt, &AGAIN, talk.typed)?,
-        Peer::Staying => answer(rt, &STAYING, talk.typed)?,
+        Peer::Staying | Peer::Telling => answer(rt, &STAYING, talk.typed)?,
         Peer::Window => answer(rt, &WINDOW, talk.typed)?,
         Peer::Command => answer(rt, &COMMAND, talk.typed)?,
     };
@@ -280,9 +309,11 @@ fn is_right(served: io::Result<bool>, called: io::Result<bool>) -> bool {
 /// What is typed is sent, what is drawn or said is written, and the status is that of the end.
 #[test]
 fn talks_go_as_they_must(rt: HostRuntime) {
-    let Ok(()) = write_file(&rt, TOKEN, TOKEN_TEXT) else {
-        panic!(rt; "the token can't be written")
-    };
+    for (path, text) in [(TOKEN, TOKEN_TEXT), (SESSION, b"1"), (RESTORING, b"")] {
+        let Ok(()) = write_file(&rt, path, text) else {
+            panic!(rt; "a file can't be written")
+        };
+    }
     let Ok(listener) = UnixListener::bind(&rt, SOCKET) else {
         panic!(rt; "no socket")
     };
@@ -303,7 +334,7 @@ fn talks_go_as_they_must(rt: HostRuntime) {
         Ok((status, _)) => status,
         Err(_) => NO_CALL,
     };
-    for path in [TOKEN, SOCKET] {
+    for path in [TOKEN, SESSION, RESTORING, SOCKET] {
         let _ = fs::remove_file(&rt, path);
     }
     assert_eq!(rt; wrong, None);

@@ -1,10 +1,11 @@
-//! The arguments of `mux`, its messages for faults and refusals, lines that say the size of a terminal,
-//! input in which a byte leaves, and text made visible.
+//! The arguments of `mux`, the scripts beside it, its messages for faults and refusals, lines that say the
+//! size of a terminal, input in which a byte leaves, and text made visible.
 #![tactic(auto)]
 
 mod fault;
 mod leaving;
 mod refusals;
+mod scripts;
 mod size_lines;
 mod visible;
 mod words;

@@ -3,9 +3,10 @@
 ghost use Rattle.std.specs.Prelude.{◌≡◌, ◌↔◌, IsTrue};
 ghost use Rattle.client_words.specs.declared.words.Way.TheVariants.{Attach, Window, Command};
 
+use crate::scripts::tell_words;
 use attach_proto::{Bytes, Message, Text, Token, WriteFault, write_message};
 use clap::ArgMatches;
-use program_words::{of_client, tell};
+use program_words::of_client;
 use std::alloc::{AllocError, Global};
 use std::fmt;
 use std::io::Write;
@@ -218,6 +219,6 @@ pub fn words_of<'a, O: Write, E: Write>(
 ) -> Result<Words<'a>, u8> {
     match of_client(alloc, words) {
         Ok(matches) => Words::of(&matches).ok_or(2),
-        Err(error) => Err(tell(&error, output, errors)),
+        Err(error) => Err(tell_words(&error, words, output, errors)),
     }
 }

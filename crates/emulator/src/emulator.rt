@@ -1,7 +1,7 @@
 //! A VT220 that turns bytes into a page.
 
 ghost use Rattle.std.specs.Prelude.{◌≡◌, ◌≤◌, ◌<◌, ◌+◌, ◌*◌, ◌↔◌, ◌++◌, Err, IfOk, IfErr, OnOk};
-ghost use Rattle.std.specs.Prelude.{OnErr, IsOk, length, vec_len, vec_capacity};
+ghost use Rattle.std.specs.Prelude.{OnErr, IsOk, IsTrue, length, vec_len, vec_capacity};
 ghost use Rattle.cells.specs.Page.{IsPage, IsGridSize};
 ghost use Rattle.charsets.specs.Units.{unit_list};
 ghost use Rattle.terminal_model.specs.Screen.{starting};
@@ -11,6 +11,7 @@ ghost use Rattle.terminal_model.specs.Writing.{Size, reads_anew};
 ghost use Rattle.vt_screen.specs.Sizes.{IsScreenSize};
 ghost use Rattle.emulator.specs.Standing.{StandsFor, StandsWithin, HasRead, HasReadWithin};
 ghost use Rattle.emulator.specs.Standing.{HasReadByte, HasTaken, TakesWriting, in_screen_coding};
+ghost use Rattle.emulator.specs.Standing.{IsBetween};
 ghost use Rattle.emulator.specs.Commanded.{writing_in};
 ghost use Rattle.terminal_model.specs.Scrollback.{moved_back};
 
@@ -203,6 +204,22 @@ impl Emulator {
         ensures page { offset ≡ 0 → result ≡ self.now.screen.page }
     {
         MovedPage::of(&self.screen, offset)
+    }
+
+    /// Lends its screen.
+    pub fn screen(&self) -> &Screen
+        ensures { result.now.screen ≡ self.now.screen }
+    {
+        &self.screen
+    }
+
+    /// Whether no character, sequence or string is incomplete, and it reads in the coding that the window asked for.
+    pub fn is_between(&self) -> bool
+        ensures { IsTrue result ↔ IsBetween self.now.screen.state.coding self.now }
+    {
+        self.decoder.is_idle()
+            && self.parser.is_idle()
+            && self.decoder.coding() == self.screen.coding()
     }
 
     /// The cursor's line and column, counted from 0.

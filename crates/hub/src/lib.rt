@@ -19,6 +19,7 @@ ghost use Rattle.hub_ledger.specs.declared.ledger.answer.HubFault.TheVariants.{N
 ghost use Rattle.hub_ledger.specs.declared.ledger.answer.HubFault.TheVariants.{TrailFull};
 ghost use Rattle.hub_trail.specs.Filing.{kept_of};
 
+use acl::UserId;
 pub use hub_check::{Judge, Replay, all_pass, failed, follow_clients, user_of_client};
 pub use hub_ledger::{
     Answer, Begun, CheckFault, FULL, Foreign, Full, Handed, HubFault, Kept, Ledger, Receipt,
@@ -101,10 +102,10 @@ impl<L: Begun> Hub<L> {
         self.ledger.lock(rt).take(seat)
     }
 
-    /// Whether a client may type into a window at this moment: both are there, the client's user has w
-    /// on the window, and no other user holds its lock.
-    pub fn may_type<R: Wait>(&self, rt: &R, client: u32, window: u32) -> bool {
-        self.ledger.lock(rt).may_type(client, window)
+    /// Whether a user may type into a window at this moment: it is open, the user has w on it, and no
+    /// other user holds its lock.
+    pub fn may_type<R: Wait>(&self, rt: &R, user: UserId, window: u32) -> bool {
+        self.ledger.lock(rt).may_type(user, window)
     }
 
     /// The trail; and the lowest place for which the receipts of these seats aren't exactly one,

@@ -11,6 +11,7 @@ use Rattle.std.proofs.lemmas.List.{append-nil, map-set, map_push}
 use Rattle.std.proofs.lemmas.List.Elements.{filter-append}
 use Rattle.std.specs.declared.vec.Vec.{Vec}
 use Rattle.std.specs.declared.alloc.Global.{Global}
+use Rattle.acl.specs.declared.user_id.UserId.{UserId}
 use Rattle.session.proofs.Lists.{equal, itself}
 use Rattle.session.specs.event.Effect.{Effect}
 use Rattle.session.specs.event.Effect.TheVariants.{Input, Deliver, Say, Size, Gone}
@@ -50,11 +51,11 @@ seat_within n o (Gone (peer.Client client) why) s all at = all_at (λ k. k < n) 
 
 -- ---- one effect more
 
-abbrev pub Waits : Owners → Option ℕ → List Effect → List (List Sent) → List (List Sent) → Type 0
+abbrev pub Waits : Owners → Option UserId → List Effect → List (List Sent) → List (List Sent) → Type 0
 Waits o typist effects old new = (seat : ℕ) (before : List Sent) → slice_get old seat ≡ Some before
     → slice_get new seat ≡ Some (before ++ sent_by typist (filter (is_for o seat) effects))
 
-pub none_waits : (o : Owners) (typist : Option ℕ) (ws : List (List Sent)) → Waits o typist [] ws ws
+pub none_waits : (o : Owners) (typist : Option UserId) (ws : List (List Sent)) → Waits o typist [] ws ws
 none_waits o typist ws seat before at = at ∙ ap (λ (x : List Sent). Some x) (sym (append-nil before))
 
 push_here : (o : Owners) (k : ℕ) (e : Effect) (es : List Effect) → seat_of o e ≡ Some k
@@ -80,7 +81,7 @@ views_at : (ws : List (Vec Sent Global)) (k : ℕ) (v : Vec Sent Global) → sli
 views_at ws k v at = slice_get-map (λ (u : Vec Sent Global). u.items) ws k
     ∙ ap (option_map (λ (u : Vec Sent Global). u.items)) at
 
-push_waits : (o : Owners) (typist : Option ℕ) (es : List Effect) (e : Effect) (k : ℕ) (old now : List (List Sent))
+push_waits : (o : Owners) (typist : Option UserId) (es : List Effect) (e : Effect) (k : ℕ) (old now : List (List Sent))
     (items : List Sent) → k < length now → seat_of o e ≡ Some k → slice_get now k ≡ Some items
     → Waits o typist es old now → Waits o typist (es ++ e ∷ []) old (set now k (items ++ (e, typist) ∷ []))
 push_waits o typist es e k old now items here is at waits seat before was = on (k == seat) refl where
@@ -110,7 +111,7 @@ push_waits o typist es e k old now items here is at waits seat before was = on (
       slice_get-set_other now k (items ++ (e, typist) ∷ []) seat (λ p. other (sym p)) ∙ waits seat before was
       ∙ ap (λ (x : List Effect). Some (before ++ sent_by typist x)) (sym (push_other o k seat e es is other))
 
-pub more_waits : (o : Owners) (typist : Option ℕ) (es : List Effect) (e : Effect) (k : ℕ) (old : List (List Sent))
+pub more_waits : (o : Owners) (typist : Option UserId) (es : List Effect) (e : Effect) (k : ℕ) (old : List (List Sent))
     (ws : List (Vec Sent Global)) (v new : Vec Sent Global) → k < length (views ws) → seat_of o e ≡ Some k
     → slice_get ws k ≡ Some v → new.items ≡ v.items ++ (e, typist) ∷ [] → Waits o typist es old (views ws)
     → Waits o typist (es ++ e ∷ []) old (views (set ws k new))

@@ -8,19 +8,24 @@ use Rattle.std.specs.declared.vec.Vec.{Vec}
 use Rattle.std.specs.declared.alloc.Global.{Global}
 use Rattle.session.specs.event.Effect.{Effect}
 use Rattle.session.specs.event.Effect.TheVariants.{Input}
-use Rattle.session.specs.Trace.{EventValue, Draw, Keys, Output}
+use Rattle.acl.specs.declared.user_id.UserId.{UserId}
+use Rattle.session.specs.Trace.{EventValue, Command, Draw, Keys, Output}
+use Rattle.session.specs.Tables.{Tables}
+use Rattle.session.specs.MayType.{client_user}
 use Rattle.hub_peers.specs.Peers.{Owners, seat_of}
 
--- an effect, with the client that typed it
+-- an effect, with the user who typed it
 abbrev pub Sent : Type 0
-Sent = Effect × Option ℕ
+Sent = Effect × Option UserId
 
--- all effects of a step of keys are typed by the client whose keys they were
-abbrev pub typist_of : EventValue → Option ℕ
-typist_of (Keys client bytes) = Some client
-typist_of event = None
+-- the user who types, by the tables before the step: that of the client whose keys they are, or who gives the
+-- command; what a program puts out is typed by nobody
+abbrev pub typist_of : Tables → EventValue → Option UserId
+typist_of t (Keys client bytes) = client_user t client
+typist_of t (Command user number line) = Some user
+typist_of t event = None
 
-abbrev pub sent_by : Option ℕ → List Effect → List Sent
+abbrev pub sent_by : Option UserId → List Effect → List Sent
 sent_by typist effects = map (λ e. (e, typist)) effects
 
 abbrev pub views : List (Vec Sent Global) → List (List Sent)
@@ -39,7 +44,7 @@ is_for o seat effect = option_map_or (λ s. s == seat) (seat_of o effect) false
 -- the effects for a seat's peers, with who typed them, are put after those that wait for it, in order;
 -- each effect is for a peer of some seat
 pub record AreRouted
-    (o : Owners) (typist : Option ℕ) (effects : List Effect) (old new : List (List Sent))
+    (o : Owners) (typist : Option UserId) (effects : List Effect) (old new : List (List Sent))
     : Type 0 where
   pub found : AllByRecursion (λ e. IsSome (seat_of o e)) effects
   pub seats : length new ≡ length old

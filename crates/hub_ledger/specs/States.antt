@@ -62,13 +62,15 @@ pub record IsKept (s : State) : Type 0 where
 
 -- The state after a step for a seat, and the window into which it typed. Whichever run the session
 -- stood for, it stands for it with this step, whose entry is the last one of the trail. What came
--- belongs to the seat. Each effect is put after those that wait for its peer's seat, with the client
--- that typed it. A step other than a Draw marks every seat.
+-- belongs to the seat. Each effect is put after those that wait for its peer's seat, with the user who
+-- typed it, by the tables before the step. A step other than a Draw marks every seat.
 pub record IsAfter (seat : ℕ) (step : Entry) (typed : Option ℕ) (old new : State) : Type 0 where
   pub stands : (h : Trace) → StandsFor h old.session → StandsFor (with_step h step) new.session
   pub trail : new.trail ≡ with_entries old.trail (filed step)
   pub owners : new.owners ≡ with_peers step.event step.reply seat old.owners
-  pub waiting : AreRouted old.owners (typist_of step.event) step.effects old.waiting new.waiting
+  pub typist : Option UserId
+  pub typist_is : (h : Trace) → StandsFor h old.session → typist ≡ typist_of (tables_of h) step.event
+  pub waiting : AreRouted old.owners typist step.effects old.waiting new.waiting
   pub typed_is : typed ≡ typed_in step.event step.effects
   pub marks : new.marks ≡ marked step.event old.marks
 

@@ -123,6 +123,7 @@ impl FiledSession {
         self.entries.make_room()?;
         self.peers.make_room()?;
         self.waiting.make_room()?;
+        let typist = typist_of(&self.session, event);
         let mut effects = Vec::new(self.alloc);
         let mut notes = Notes::new(self.alloc);
         let reply = self.session.step(event, &mut effects, &mut notes);
@@ -130,7 +131,6 @@ impl FiledSession {
             return Err(AllocError);
         }
         let typed = typed_in(event, effects.as_slice());
-        let typist = typist_of(event);
         self.waiting.route(&self.peers, typist, effects);
         self.peers.add(event, &reply, seat);
         self.waiting.mark(event);

@@ -2,12 +2,13 @@
 
 ghost use Rattle.std.specs.Prelude.{◌≡◌};
 
+use acl::UserId;
 use session::Effect;
 use std::marker::Model;
 
-/// An effect, with the client that typed it. All effects of a step of keys have the client whose keys
-/// they were; those of other steps have none.
-pub type Sent = (Effect, Option<u32>);
+/// An effect, with the user who typed it: all effects of a step of keys or of a command have the user
+/// whose step it was; those of other steps have none.
+pub type Sent = (Effect, Option<UserId>);
 
 /// The effects that a take hands out, in order. Only a ledger makes them, so nothing can be left out,
 /// put in or moved.

@@ -25,6 +25,7 @@ use crate::closing::{count, first_wrong};
 use crate::filed_session::FiledSession;
 use crate::handed::Handed;
 use crate::seat::Seat;
+use acl::UserId;
 pub use answer::{Answer, Foreign, Full, HubFault};
 use hub_record::Receipts;
 use hub_trail::writes_entry;
@@ -241,13 +242,13 @@ impl<L: Begun> Ledger<L> {
         (effects, is_told)
     }
 
-    /// Whether a client may type into a window at this moment: both are there, the client's user has w
-    /// on the window, and no other user holds its lock. It takes no memory.
-    pub fn may_type(&self, client: u32, window: u32) -> bool
+    /// Whether a user may type into a window at this moment: it is open, the user has w on it, and no
+    /// other user holds its lock. It takes no memory.
+    pub fn may_type(&self, user: UserId, window: u32) -> bool
         ensures { (h : Trace) → StandsFor h self.now.session
-            → result ≡ may_type (tables_of h) client window }
+            → result ≡ may_type (tables_of h) user window }
     {
-        self.filed.session.may_type(client, window)
+        self.filed.session.may_type(user, window)
     }
 
     /// The state is that of a run, and its trail is legal.

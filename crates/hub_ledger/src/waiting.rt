@@ -3,14 +3,17 @@
 ghost use Rattle.std.specs.Prelude.{◌≡◌, ◌≤◌, ◌<◌, [], length, map, true, false, IfOk, OnOk, Some};
 ghost use Rattle.std.specs.Prelude.{slice_get, slice_set, replicate};
 ghost use Rattle.std.specs.List.{AllByRecursion};
-ghost use Rattle.session.specs.Trace.{happening};
+ghost use Rattle.session.specs.Run.{tables_of};
+ghost use Rattle.session.specs.Stands.{StandsFor};
+ghost use Rattle.session.specs.Trace.{Trace, happening};
 ghost use Rattle.hub_peers.specs.Peers.{AreSeats, HasPeer, owners_of};
 ghost use Rattle.hub_ledger.specs.Routing.{views, HaveRoom, AreRouted, marked, is_draw, typist_of};
 ghost use Rattle.hub_ledger.specs.Routing.{last_input, later, typed_in};
 
 use crate::handed::{Handed, Sent};
+use acl::UserId;
 use hub_peers::Peers;
-use session::{Effect, Event};
+use session::{Effect, Event, Session};
 use std::alloc::{AllocError, Global};
 use std::mem;
 
@@ -55,8 +58,8 @@ impl SeatEffects {
         make_room(self.lists.as_mut_slice())
     }
 
-    /// Puts each effect, which this client typed, after those that wait for the seat of its peer.
-    pub fn route(&mut self, peers: &Peers, typist: Option<u32>, effects: Vec<Effect>)
+    /// Puts each effect, which this user typed, after those that wait for the seat of its peer.
+    pub fn route(&mut self, peers: &Peers, typist: Option<UserId>, effects: Vec<Effect>)
         requires seats { AreSeats (length self.old.lists.items) (owners_of peers.now) }
         requires come { AllByRecursion (HasPeer (owners_of peers.now)) effects.items }
         requires few { length effects.items ≤ 256 }
@@ -105,7 +108,7 @@ fn make_room(waiting: &mut [Vec<Sent>]) -> Result<(), AllocError>
     Ok(())
 }
 
-fn route(waiting: &mut [Vec<Sent>], peers: &Peers, typist: Option<u32>, effects: Vec<Effect>)
+fn route(waiting: &mut [Vec<Sent>], peers: &Peers, typist: Option<UserId>, effects: Vec<Effect>)
     requires seats { AreSeats (length waiting.old) (owners_of peers.now) }
     requires come { AllByRecursion (HasPeer (owners_of peers.now)) effects.items }
     requires few { length effects.items ≤ 256 }
@@ -133,12 +136,14 @@ fn is_draw(event: Event) -> bool
     matches!(event, Event::Draw { .. })
 }
 
-/// The client whose keys an event is.
-pub fn typist_of(event: Event) -> Option<u32>
-    ensures { result ≡ typist_of (happening event.entry) }
+/// The user who types with an event: that of the client whose keys it is, or who gives the command.
+pub fn typist_of(session: &Session, event: Event) -> Option<UserId>
+    ensures { (h : Trace) → StandsFor h session.now
+        → result ≡ typist_of (tables_of h) (happening event.entry) }
 {
     match event {
-        Event::Keys { client, .. } => Some(client),
+        Event::Keys { client, .. } => session.user_of(client),
+        Event::Command { user, .. } => Some(user),
         _ => None,
     }
 }

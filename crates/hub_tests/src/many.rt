@@ -1,5 +1,5 @@
 //! A thousand steps of all kinds over two seats, beside a session that runs the same events: each
-//! seat takes what the session made for its own clients and windows, with the client that typed it,
+//! seat takes what the session made for its own clients and windows, with the user who typed it,
 //! each answer has the session's reply, and each step but a Draw marks both seats.
 
 ghost use Rattle.std.specs.Prelude.{◌≡◌};
@@ -19,20 +19,33 @@ use std::sync::ledger::Blank;
 /// How many turns there are.
 const TURNS: u32 = 50;
 
-/// The kinds of effects that a seat took, if they are those that the session made of an event for its
-/// peers, in their order, typed by the client whose keys it is: the second seat's have odd serials.
-fn kinds_of(taken: &[Sent], event: Event<'_>, made: &[Effect], is_second: bool) -> Option<u8> {
-    let typist = match event {
-        Event::Keys { client, .. } => Some(client),
+/// What the session made of an event, and who typed it.
+#[derive(Clone, Copy)]
+struct Made<'a> {
+    event: Event<'a>,
+    typist: Option<UserId>,
+    effects: &'a [Effect],
+}
+
+/// The user whose keys or whose command an event is.
+fn typist_of(twin: &Session, event: Event<'_>) -> Option<UserId> {
+    match event {
+        Event::Keys { client, .. } => twin.user_of(client),
+        Event::Command { user, .. } => Some(user),
         _ => None,
-    };
+    }
+}
+
+/// The kinds of effects that a seat took, if they are those that the session made of an event for its
+/// peers, in their order, with the user who typed them: the second seat's have odd serials.
+fn kinds_of(taken: &[Sent], made: Made<'_>, is_second: bool) -> Option<u8> {
     let mut kinds = 0u8;
     let mut next = 0;
-    for effect in made {
+    for effect in made.effects {
         let effect = parts_of(effect);
         if (effect.peer % 2 == 1) == is_second {
             let (sent, by) = taken.get(next)?;
-            if *by != typist || !are_same(effect, parts_of(sent)) {
+            if *by != made.typist || !are_same(effect, parts_of(sent)) {
                 return None;
             }
             kinds |= effect.kind;
@@ -52,17 +65,16 @@ fn taken<L: Begun, R: Wait>(
     rt: &R,
     hub: &Hub<L>,
     seats: &mut [Seat<L>],
-    event: Event<'_>,
-    made: &[Effect],
+    made: Made<'_>,
 ) -> Option<u8> {
     let mut kinds = 0u8;
     for seat in seats.iter_mut() {
         let is_second = seat.number() == 1;
         let (effects, is_marked) = hub.take(rt, seat);
-        if is_marked == matches!(event, Event::Draw { .. }) {
+        if is_marked == matches!(made.event, Event::Draw { .. }) {
             return None;
         }
-        kinds |= kinds_of(effects.as_slice(), event, made, is_second)?;
+        kinds |= kinds_of(effects.as_slice(), made, is_second)?;
     }
     Some(kinds)
 }
@@ -121,13 +133,19 @@ fn step<L: Begun, R: Wait>(
     event: Event<'_>,
     number: usize,
 ) -> Option<Counted> {
-    let mut made = Vec::new(alloc);
+    let mut effects = Vec::new(alloc);
     let mut replies = Vec::new(alloc);
-    let _ = pair.twin.run(&[event], &mut made, &mut replies);
+    let typist = typist_of(&pair.twin, event);
+    let _ = pair.twin.run(&[event], &mut effects, &mut replies);
     let reply = replies.as_slice().last()?;
     let seat = pair.seats.get_mut(number)?;
     let entries = entries_of(rt, &pair.hub, seat, event, reply)?;
-    let kinds = taken(rt, &pair.hub, &mut pair.seats, event, made.as_slice())?;
+    let made = Made {
+        event,
+        typist,
+        effects: effects.as_slice(),
+    };
+    let kinds = taken(rt, &pair.hub, &mut pair.seats, made)?;
     Some(Counted { entries, kinds })
 }
 

@@ -1,19 +1,21 @@
 //! The loop of a bridge: one thread, and all connections.
 
-use crate::halls::Halls;
 use crate::log::WebLog;
-use crate::relay::Relay;
-use crate::showing::{enter_hall, redeem, show, tell};
-use crate::streams::{Around, Browser, WebListener, browser_token, listener_token, server_token};
-use mio::{Events, Poll, Registry, Token};
+use crate::showing::{enter_hall, redeem, tell};
+use mio::{Events, Poll, Registry};
 use server_system::Host;
-use std::alloc::Global;
+use slab::Slab;
+use std::alloc::{AllocError, Global};
 use std::io;
 use std::io::ErrorKind;
 use std::sync::{Arc, Wait};
 use std::time::Duration;
 use web_client::Site;
 use web_options::WebOptions;
+use web_relay::{
+    Around, Browser, Halls, Relay, WebListener, Woken, browser_token, is_full, listener_token,
+    mark, oldest_silent, server_token, woken_by,
+};
 
 /// The size of a read.
 const CHUNK: usize = 16_384;
@@ -45,7 +47,7 @@ pub struct Bridge<'a> {
     most: usize,
     /// None if it logs nothing.
     log: Option<Arc<WebLog>>,
-    relays: Vec<Option<Relay>>,
+    relays: Slab<Relay>,
     halls: Halls,
     buffer: Vec<u8>,
     /// Browsers may wait at a listener. It tells of those that come, and not again of those that wait.
@@ -70,7 +72,7 @@ impl<'a> Bridge<'a> {
             links: options.links,
             most: options.most,
             log,
-            relays: Vec::new(alloc),
+            relays: Slab::new(alloc),
             halls: Halls::new(alloc, options.choice(alloc)?),
             buffer: vec![in alloc; 0; CHUNK]?,
             has_comers: true,
@@ -79,61 +81,21 @@ impl<'a> Bridge<'a> {
         })
     }
 
-    fn free_place(&mut self) -> io::Result<usize> {
-        if let Some(place) = self.relays.iter().position(|relay| relay.is_none()) {
-            return Ok(place);
-        }
-        let place = self.relays.len();
-        self.relays.push(None)?;
-        Ok(place)
-    }
-
-    fn count(&self) -> usize {
-        self.relays.iter().filter(|relay| relay.is_some()).count()
-    }
-
-    // The place of the oldest connection that hasn't said who it is.
-    fn oldest_silent(&self) -> Option<usize> {
-        let mut oldest: Option<(usize, Duration)> = None;
-        for (place, relay) in self.relays.iter().enumerate() {
-            if let Some(relay) = relay {
-                let is_older = match oldest {
-                    Some((_, began)) => relay.began() < began,
-                    None => true,
-                };
-                if !relay.has_begun() && is_older {
-                    oldest = Some((place, relay.began()));
-                }
-            }
-        }
-        match oldest {
-            Some((place, _)) => Some(place),
-            None => None,
-        }
-    }
-
-    // Leaves a place free.
-    fn release(&mut self, place: usize) {
-        if let Some(slot) = self.relays.get_mut(place) {
-            *slot = None;
-        }
-    }
-
     // Lets a browser in, if there is memory and the system watches its connection. If there are too many, the oldest
     // one goes that hasn't said who it is.
     fn let_in(&mut self, browser: Browser, registry: &Registry, now: Duration) -> io::Result<()> {
         let mut browser = browser;
-        if self.count() >= self.most.saturating_add(SPARE) {
-            if let Some(place) = self.oldest_silent() {
-                self.release(place);
+        if self.relays.len() >= self.most.saturating_add(SPARE) {
+            if let Some(place) = oldest_silent(&self.relays) {
+                let _ = self.relays.try_remove(place);
             }
         }
-        let place = self.free_place()?;
+        let place = self.relays.vacant_key();
         browser.register(registry, browser_token(place))?;
-        if let Some(slot) = self.relays.get_mut(place) {
-            *slot = Some(Relay::new(self.alloc, browser, now));
+        match self.relays.insert(Relay::new(self.alloc, browser, now)) {
+            Ok(_) => Ok(()),
+            Err(error) => Err(io::Error::from(AllocError::from(error))),
         }
-        Ok(())
     }
 
     // Takes browsers that wait at a listener. Returns whether more may be taken at once. If the system refuses to
@@ -197,46 +159,19 @@ impl<'a> Bridge<'a> {
         }
     }
 
-    // Notes that the connection of this token has something to read, or has room.
-    fn mark(&mut self, token: Token) {
-        let Token(number) = token;
-        let place = number / 4;
-        match (number % 4, self.relays.get_mut(place)) {
-            (1, Some(Some(relay))) => relay.browser_ready = true,
-            (2, Some(Some(relay))) => relay.server_ready = true,
-            (3, _) => self.halls.mark(place),
-            (0, _) => self.has_comers = true,
-            _ => {}
+    // Notes what an event is for.
+    fn wake(&mut self, woken: Woken) {
+        match woken {
+            Woken::Listener(_) => self.has_comers = true,
+            _ => mark(woken, &mut self.relays, &mut self.halls),
         }
-    }
-
-    // Whether the page at this place is one too many: of all, or of its address.
-    fn is_full(&self, place: usize) -> bool {
-        let Some(Some(relay)) = self.relays.get(place) else {
-            return false;
-        };
-        let address = relay.visitor.address.as_slice();
-        let mut all = 0usize;
-        let mut same = 0usize;
-        for (number, other) in self.relays.iter().enumerate() {
-            if let Some(other) = other {
-                if number != place && other.has_begun() && other.visitor.is_open() {
-                    all = all.saturating_add(1);
-                    if other.visitor.address.as_slice() == address {
-                        same = same.saturating_add(1);
-                    }
-                }
-            }
-        }
-        let share = self.most.saturating_sub(self.most / 4);
-        all >= self.most || (!address.is_empty() && same >= share)
     }
 }
 
 impl Bridge<'_> {
     // Reads one browser. A page that is one too many is turned away: when it opens, or when it says who it is.
     fn read(&mut self, registry: &Registry, place: usize, now: Duration) {
-        let Some(Some(relay)) = self.relays.get_mut(place) else {
+        let Some(relay) = self.relays.get_mut(place) else {
             return;
         };
         let around = Around {
@@ -247,8 +182,8 @@ impl Bridge<'_> {
         };
         let opens = relay.read_browser(around, self.buffer.as_mut_slice());
         let begins = relay.begins();
-        if (opens || begins) && self.is_full(place) {
-            if let Some(Some(relay)) = self.relays.get_mut(place) {
+        if (opens || begins) && is_full(&self.relays, place, self.most) {
+            if let Some(relay) = self.relays.get_mut(place) {
                 relay.turn_away(opens, FULL);
             }
         }
@@ -262,7 +197,7 @@ impl Bridge<'_> {
         place: usize,
         now: Duration,
     ) -> bool {
-        let Some(Some(relay)) = self.relays.get_mut(place) else {
+        let Some(relay) = self.relays.get_mut(place) else {
             return false;
         };
         let around = Around {
@@ -279,27 +214,22 @@ impl Bridge<'_> {
         relay.read_server(self.buffer.as_mut_slice());
         tell(rt, &self.log, place, relay);
         relay.write_all();
-        show(relay, &mut self.halls);
+        self.halls.show(relay);
         relay.write_all();
         relay.look(now);
         relay.is_busy()
     }
 
-    // Lets a relay go that is over.
+    // Lets a relay go that is over, with its own client.
     fn let_go<R: Wait>(&mut self, rt: &R, place: usize) {
-        let Some(slot) = self.relays.get_mut(place) else {
-            return;
+        let (is_told, is_refused) = match self.relays.get(place) {
+            Some(relay) if relay.is_over() => (relay.is_told(), relay.is_refused()),
+            _ => return,
         };
-        let (is_over, is_told, is_refused) = match slot {
-            Some(relay) => (relay.is_over, relay.is_told(), relay.is_refused()),
-            None => (false, false, false),
-        };
-        if is_over {
-            *slot = None;
-            self.refused = self.refused.saturating_add(u64::from(is_refused));
-            if let (true, Some(log)) = (is_told, &self.log) {
-                log.put(rt, &format_args!("{place} ends"));
-            }
+        drop(self.relays.try_remove(place));
+        self.refused = self.refused.saturating_add(u64::from(is_refused));
+        if let (true, Some(log)) = (is_told, &self.log) {
+            log.put(rt, &format_args!("{place} ends"));
         }
     }
 
@@ -315,7 +245,7 @@ impl Bridge<'_> {
         };
         self.halls.renew(rt, around);
         self.halls.choose(now);
-        for place in 0..self.relays.len() {
+        for place in 0..self.relays.capacity() {
             self.read(registry, place, now);
             is_busy |= self.turn_of(rt, registry, place, now);
             self.let_go(rt, place);
@@ -349,7 +279,7 @@ pub fn serve<R: Host + Wait>(
         }
         let now = rt.monotonic()?;
         for event in &events {
-            bridge.mark(event.token());
+            bridge.wake(woken_by(event.token()));
         }
         let has_more = bridge.accept_all(&listeners, &registry, now);
         is_busy = bridge.turn(rt, &registry, now) || has_more;

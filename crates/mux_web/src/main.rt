@@ -4,12 +4,9 @@
 #![tactic(auto)]
 
 mod bridge;
-mod halls;
 mod log;
-mod relay;
 mod serving;
 mod showing;
-mod streams;
 
 use crate::serving::run;
 use program_words::{given, not_given};

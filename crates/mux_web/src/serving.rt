@@ -2,7 +2,6 @@
 
 use crate::bridge::{Bridge, serve};
 use crate::log::start_log;
-use crate::streams::WebListener;
 use program_words::{of_web, tell};
 use server_system::{Host, SocketPath};
 use std::io::{ErrorKind, Write};
@@ -11,6 +10,7 @@ use std::sync::Wait;
 use std::thread::Threads;
 use web_client::Site;
 use web_options::{Listen, WebFault, WebOptions, look_for_paths, origins_of, site_of};
+use web_relay::WebListener;
 
 /// The system's number for a kind of addresses that it doesn't have.
 const EAFNOSUPPORT: i32 = 97;

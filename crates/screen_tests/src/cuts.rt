@@ -20,13 +20,17 @@ const BYTES: [u8; 64] =
 
 /// Pseudorandom numbers (Knuth, The Art of Computer Programming, volume 2, 3.3.4).
 #[derive(Drop)]
-struct Numbers {
+pub struct Numbers {
     state: u64,
 }
 
 impl Numbers {
+    pub fn new(state: u64) -> Numbers {
+        Numbers { state }
+    }
+
     /// The next number below 64.
-    fn next(&mut self) -> usize
+    pub fn next(&mut self) -> usize
         ensures { result < 64 }
     {
         self.state = self
@@ -87,7 +91,7 @@ fn is_whole(alloc: Global, bytes: &[u8], cut: usize, other_cut: usize) -> bool {
 
 /// The first list whose pieces give another result.
 fn first_wrong(alloc: Global) -> Option<u32> {
-    let mut numbers = Numbers { state: 20 };
+    let mut numbers = Numbers::new(20);
     let mut list = [0; LONGEST];
     for number in 0..LISTS {
         let count = next_list(&mut numbers, &mut list);

@@ -111,6 +111,13 @@ impl Ring {
         self.count
     }
 
+    /// The most lines that it keeps.
+    pub fn keep(&self) -> usize
+        ensures { result ≡ self.now.keep }
+    {
+        self.lines.capacity()
+    }
+
     /// The number of cells of each line.
     pub fn columns(&self) -> usize
         ensures { result ≡ self.now.columns }

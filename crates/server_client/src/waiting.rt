@@ -91,23 +91,97 @@ pub fn start<R: PeerHost + Threads + Wait>(
     Ok(())
 }
 
+// What a peer that comes back goes by.
+#[derive(Drop)]
+struct Comeback {
+    /// What named the session when the peer was let in first; empty if nothing did.
+    named: Vec<u8>,
+    /// How many tries it has let pass.
+    held: u32,
+}
+
+// Whether the next server must not be told a window's page, since a command has cleared it, or this isn't known.
+// SOCKET.restoring has a line for each such window, with its user and the number that it had.
+fn is_hidden<R: Files<File = File> + AllocGlobal>(rt: &R, words: &Words<'_>, number: u8) -> bool {
+    let line = format!(in rt.alloc(); "{} {number}", words.user);
+    let path = format!(in rt.alloc(); "{}.restoring", words.socket);
+    let (Ok(line), Ok(path)) = (line, path) else {
+        return true;
+    };
+    match fs::read(rt, path.as_str()) {
+        Ok(lines) => has_line(&lines, line.as_bytes()),
+        Err(_) => true,
+    }
+}
+
+fn has_line(lines: &[u8], wanted: &[u8]) -> bool {
+    for line in lines.split(|byte| *byte == b'\n') {
+        if line == wanted {
+            return true;
+        }
+    }
+    false
+}
+
+impl Comeback {
+    // Whether a client lets windows go first: one that comes before them shows none.
+    fn lets_pass<R: Files<File = File> + AllocGlobal>(
+        &mut self,
+        rt: &R,
+        words: &Words<'_>,
+    ) -> bool {
+        let passes = words.way.is_attach() && self.held < HELD && is_beside(rt, words, ".pending");
+        self.held = if passes { self.held.wrapping_add(1) } else { 0 };
+        passes
+    }
+
+    // Whether the session is another one now. None if that isn't known.
+    fn is_another<R: Files<File = File> + AllocGlobal>(
+        &self,
+        rt: &R,
+        words: &Words<'_>,
+    ) -> Option<bool> {
+        let named = session(rt, words);
+        let is_known = !self.named.is_empty() && !named.is_empty();
+        is_known.then_some(self.named.as_slice() != named.as_slice())
+    }
+
+    // Opens a window again in a server that has let it in. What stands beside the socket is that server's by now.
+    fn reopen<R: PeerHost + Wait + Files<File = File> + AllocGlobal>(
+        &self,
+        rt: &R,
+        shared: &Shared,
+        words: &Words<'_>,
+    ) {
+        let is_another = self.is_another(rt, words);
+        let mut seat = shared.seat.lock(rt);
+        let number = seat.peer.page_number;
+        let opened = match is_another {
+            Some(true) => Err(Fault::OtherSession),
+            Some(false) => seat.peer.open_again(is_hidden(rt, words, number)),
+            None => seat.peer.open_again(true),
+        };
+        if let Err(fault) = opened {
+            seat.peer.end_by(Err(fault));
+        }
+        drop(seat);
+        shared.work.notify_all();
+    }
+}
+
 // Comes back to a server of the same session.
 fn come_back<R: PeerHost + Threads + Wait + Files<File = File> + AllocGlobal>(
     rt: &R,
     shared: &Arc<Shared, Global>,
     words: &Words<'_>,
-    before: &[u8],
-    held: &mut u32,
+    comeback: &mut Comeback,
 ) -> Result<(), Fault> {
     thread::sleep(rt, Duration::from_millis(PAUSE));
-    if words.way.is_attach() && *held < HELD && is_beside(rt, words, ".pending") {
-        *held = held.wrapping_add(1);
+    if comeback.lets_pass(rt, words) {
         return Ok(());
     }
-    *held = 0;
     shared.begin(rt);
-    let named = session(rt, words);
-    if !before.is_empty() && !named.is_empty() && before != named.as_slice() {
+    if comeback.is_another(rt, words) == Some(true) {
         return Err(Fault::OtherSession);
     }
     let seat = shared.seat.lock(rt);
@@ -121,8 +195,8 @@ fn ask<R: PeerHost + Threads + Wait + Files<File = File> + AllocGlobal>(
     rt: &R,
     shared: &Arc<Shared, Global>,
     words: &Words<'_>,
-    before: &[u8],
-    (time, held): (u64, &mut u32),
+    time: u64,
+    comeback: &mut Comeback,
 ) {
     let (is_planned, has_place) = (is_beside(rt, words, ".again"), has_place(rt, words));
     let mut seat = shared.seat.lock(rt);
@@ -132,7 +206,7 @@ fn ask<R: PeerHost + Threads + Wait + Files<File = File> + AllocGlobal>(
         return;
     }
     shared.work.notify_all();
-    if let Err(fault) = come_back(rt, shared, words, before, held) {
+    if let Err(fault) = come_back(rt, shared, words, comeback) {
         shared.seat.lock(rt).peer.end_by(Err(fault));
     }
 }
@@ -146,20 +220,22 @@ pub fn wait<R: PeerHost + Threads + Wait + Files<File = File> + AllocGlobal, I: 
 ) -> PeerEnding {
     let began = Instant::now(rt).ok();
     let mut sources = sources;
-    let (mut named, mut held) = (Vec::new(shared.alloc), 0);
+    let mut comeback = Comeback {
+        named: Vec::new(shared.alloc),
+        held: 0,
+    };
     for _ in rt.forever() {
         match look(rt, shared, began) {
             Step::Wait | Step::WaitShortly => {}
             Step::Send => send(rt, shared),
+            Step::Reopen => comeback.reopen(rt, shared, words),
             Step::Begin => {
-                named = session(rt, words);
+                comeback.named = session(rt, words);
                 if sources.start(rt, shared).is_err() {
                     shared.seat.lock(rt).peer.end_by(Err(Fault::NoMemory));
                 }
             }
-            Step::Ask => {
-                ask(rt, shared, words, &named, (now(rt, began), &mut held));
-            }
+            Step::Ask => ask(rt, shared, words, now(rt, began), &mut comeback),
             Step::End => break,
         }
     }

@@ -126,18 +126,15 @@ pub trait SessionSeat {
     /// Whether the trail has a file to which nothing is written any more.
     fn has_stopped(&self) -> bool;
 
-    /// Takes the effects that wait for the loop's peers, each with the client that typed it, and says
+    /// Takes the effects that wait for the loop's peers, each with the user who typed it, and says
     /// whether a step other than a draw was made since the last call.
-    fn take<R: Wait>(&mut self, rt: &R) -> (Vec<(Effect, Option<u32>)>, bool)
+    fn take<R: Wait>(&mut self, rt: &R) -> (Vec<(Effect, Option<UserId>)>, bool)
         ensures handed { handed self.new ≡ (handed self.old + length result.0.items) % 2 ^ 64 }
         ensures steps { steps self.new ≡ steps self.old }
         ensures known { known self.new ≡ known self.old };
 
-    /// Whether what this client typed may go into this window.
-    fn may_type<R: Wait>(&self, rt: &R, client: u32, window: u32) -> bool;
-
-    /// A client left by itself: what it typed before may go on, though it may type no more.
-    fn set_left<R: Wait>(&self, _rt: &R, _client: u32) {}
+    /// Whether what this user typed may go into this window.
+    fn may_type<R: Wait>(&self, rt: &R, user: UserId, window: u32) -> bool;
 
     /// Tells all loops that much waits for a window, or that little does again.
     fn set_full<R: Wait>(&self, rt: &R, window: u32, is_full: bool);

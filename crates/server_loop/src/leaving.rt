@@ -16,9 +16,6 @@ impl<S: Read + Write + Drop, G: Gate + Drop, J: SessionSeat + Drop> Loop<S, G, J
         let Some(event) = peer.leaves.parting() else {
             return Ok(());
         };
-        if let Role::Client(client) = peer.leaves {
-            self.seat.set_left(rt, client);
-        }
         if let Err(SeatFault::NoMemory) = self.submit(rt, event) {
             self.has_refused = true;
             return Err(SeatFault::NoMemory);

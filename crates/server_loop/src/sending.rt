@@ -87,7 +87,7 @@ impl<S: Read + Write + Drop, G: Gate + Drop, J: SessionSeat + Drop> Loop<S, G, J
         self.may_have_lost |= is_told;
     }
 
-    // Takes out of what waits for a window what clients typed that may not type into it any more.
+    // Takes out of what waits for a window what users typed who may not type into it any more.
     fn drop_typed(&mut self, rt: &impl Wait, key: usize) {
         let Role::Window(window) = self.role_of(key) else {
             return;
@@ -95,15 +95,15 @@ impl<S: Read + Write + Drop, G: Gate + Drop, J: SessionSeat + Drop> Loop<S, G, J
         let mut last = None;
         for _ in 0..u32::MAX {
             let peer = self.connections.get(key);
-            let Some(client) = peer.and_then(|peer| peer.turn.typist_after(last)) else {
+            let Some(user) = peer.and_then(|peer| peer.turn.typist_after(last)) else {
                 return;
             };
-            if !self.seat.may_type(rt, client, window) {
+            if !self.seat.may_type(rt, user, window) {
                 if let Some(peer) = self.connections.touch(key) {
-                    peer.turn.drop_typed(client);
+                    peer.turn.drop_typed(user);
                 }
             }
-            last = Some(client);
+            last = Some(user);
         }
     }
 

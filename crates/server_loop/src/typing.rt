@@ -78,11 +78,11 @@ impl<S: Read + Write + Drop, G: Gate + Drop, J: SessionSeat + Drop> Loop<S, G, J
 
     // Whether the keys that wait have to wait on, since the window that they are for takes no more for now.
     // Those that begin a command don't wait. If their user may not type any more, none wait.
-    fn must_wait(&mut self, rt: &impl Wait, key: usize, client: u32) -> bool {
+    fn must_wait(&mut self, rt: &impl Wait, key: usize) -> bool {
         let Some(peer) = self.connections.touch(key) else {
             return false;
         };
-        let Some(window) = peer.types_into else {
+        let (Some(window), Some(shown)) = (peer.types_into, peer.user) else {
             return false;
         };
         let typed = &mut peer.inbox.typed;
@@ -90,7 +90,7 @@ impl<S: Read + Write + Drop, G: Gate + Drop, J: SessionSeat + Drop> Loop<S, G, J
         if !is_full && !typed.is_held() {
             return false;
         }
-        if !self.seat.may_type(rt, client, window) {
+        if !self.seat.may_type(rt, shown.user(), window) {
             typed.let_go();
             return false;
         }
@@ -103,7 +103,7 @@ impl<S: Read + Write + Drop, G: Gate + Drop, J: SessionSeat + Drop> Loop<S, G, J
     // Does a step of the keys that wait, unless they have to wait on. Keys that were held and can't be done
     // are as old as they are if it isn't known where they go.
     fn judge_or_wait(&mut self, rt: &impl Wait, key: usize, client: u32) -> Progress {
-        if self.must_wait(rt, key, client) {
+        if self.must_wait(rt, key) {
             return Progress::Held;
         }
         let progress = self.judge(rt, key, client);

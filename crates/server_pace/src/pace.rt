@@ -1,7 +1,7 @@
 //! When a loop's draws wait, and how long it sleeps.
 
 ghost use Rattle.std.specs.Prelude.{◌≡◌, ◌⊎◌, ◌+◌, ◌<◌, ◌≤◌, IfSome, IsSome, IsSomeAnd, Some, None, true};
-ghost use Rattle.std.specs.Prelude.{is_some};
+ghost use Rattle.std.specs.Prelude.{◌↔◌, false, is_some};
 ghost use Rattle.std.specs.Duration.{as_nanos};
 
 use std::sync::atomic::{AtomicU64, Ordering};
@@ -35,7 +35,11 @@ pub struct Pace {
 }
 
 // This time, if it is less than `LULL` ago. Without a clock it is over.
-fn lately(last: Option<Duration>, now: Option<Duration>) -> Option<Duration> {
+fn lately(last: Option<Duration>, now: Option<Duration>) -> Option<Duration>
+    ensures lately { IfSome result (λ at. (last ≡ Some at)
+        × IsSomeAnd now (λ n. as_nanos n < as_nanos at + 1000000)) }
+    ensures over { result ≡ None → IfSome last (λ at. IfSome now (λ n. as_nanos at + 1000000 ≤ as_nanos n)) }
+{
     match (last, now) {
         (Some(last), Some(now)) if now.saturating_sub(last) < Duration::from_millis(LULL) => {
             Some(last)
@@ -56,7 +60,9 @@ impl Pace {
     }
 
     /// Whether much comes to this loop.
-    pub fn is_busy(&self) -> bool {
+    pub fn is_busy(&self) -> bool
+        ensures { result ≡ is_some self.now.much }
+    {
         self.much.is_some()
     }
 
@@ -83,7 +89,10 @@ impl Pace {
     }
 
     /// Notes how many clients were drawn in this turn.
-    pub fn draw(&mut self, now: Option<Duration>, clients: usize) {
+    pub fn draw(&mut self, now: Option<Duration>, clients: usize)
+        ensures crowd { 8 ≤ clients → self.new ≡ record self.old { drawn = now } }
+        ensures few { clients < 8 → self.new ≡ self.old }
+    {
         if clients >= CROWD {
             self.drawn = now;
         }
@@ -91,7 +100,16 @@ impl Pace {
 
     /// Notes whether much comes to this loop, and counts it among those to which much comes. Returns
     /// whether that changed. Without a clock it is over at once.
-    pub fn note(&mut self, busy: &AtomicU64, now: Option<Duration>, is_much: bool) -> bool {
+    pub fn note(&mut self, busy: &AtomicU64, now: Option<Duration>, is_much: bool) -> bool
+        ensures much { is_much ≡ true → IsSome self.new.much × (IsSome now → self.new.much ≡ now) }
+        // It goes on for less than a millisecond, by the clock.
+        ensures lately { is_much ≡ false → IfSome self.new.much (λ at. (self.old.much ≡ Some at)
+            × IsSomeAnd now (λ n. as_nanos n < as_nanos at + 1000000)) }
+        ensures over { is_much ≡ false → self.new.much ≡ None
+            → IfSome self.old.much (λ at. IfSome now (λ n. as_nanos at + 1000000 ≤ as_nanos n)) }
+        ensures changed { (result ≡ false) ↔ (is_some self.new.much ≡ is_some self.old.much) }
+        ensures same { self.new ≡ record self.old { much = self.new.much } }
+    {
         let was_busy = self.is_busy();
         self.much = if is_much {
             Some(now.unwrap_or(Duration::ZERO))

@@ -8,6 +8,7 @@ ghost use Rattle.server_sending.specs.Frames.{Sends, SendsFront};
 ghost use Rattle.server_sending.specs.Causes.{told_of};
 
 use crate::turn::Turn;
+use acl::UserId;
 use attach_proto::{Kind, LONGEST, Message, Text, Why, WriteFault, head_of, write_message};
 use session::Reason;
 use std::alloc::{AllocError, Global};
@@ -40,8 +41,8 @@ pub enum Sending<'a> {
     Message(&'a Message),
     /// Bytes for a client's terminal.
     Draw(&'a [u8]),
-    /// Bytes for a window's program, and the client that typed them, if one did.
-    Input(&'a [u8], Option<u32>),
+    /// Bytes for a window's program, and the user who typed them, if one did.
+    Input(&'a [u8], Option<UserId>),
     /// A text for the user.
     Say(&'a [u8]),
 }
@@ -76,10 +77,10 @@ fn put_frames(
     turn: &mut Turn,
     kind: Kind,
     bytes: &[u8],
-    typist: Option<u32>,
+    typist: Option<UserId>,
 ) -> Result<(), AllocError>
-    ensures ok { OnOk result (PutsFrames kind bytes.now turn.old turn.new) }
-    ensures err { OnErr result (PutsFront kind bytes.now turn.old turn.new) }
+    ensures ok { OnOk result (PutsFrames kind typist bytes.now turn.old turn.new) }
+    ensures err { OnErr result (PutsFront kind typist bytes.now turn.old turn.new) }
 {
     for piece in bytes.chunks(LONGEST) {
         turn.put_frame(head_of(kind, piece), piece, typist)?;

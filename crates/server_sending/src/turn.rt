@@ -2,11 +2,12 @@
 
 ghost use Rattle.std.specs.Prelude.{◌≡◌, ◌==◌, ◌&&◌, ◌≤◌, ◌++◌, ℕ, List, [], true, false};
 ghost use Rattle.std.specs.Prelude.{length, drop, take, vec_len, vec_capacity, IfOk, OnOk, OnErr, if◌then◌else◌};
-ghost use Rattle.std.specs.Prelude.{◌+◌};
+ghost use Rattle.std.specs.Prelude.{◌+◌, ◌-◌};
 ghost use Rattle.std.specs.Io.KnownBytes.{WriteAppends};
-ghost use Rattle.server_sending.specs.Written.{HasWritten, IsWritten, ended};
+ghost use Rattle.server_sending.specs.Written.{HasWritten, IsWritten, ended, unbegun, with_frame, without_typed};
 
-use crate::typists::Typists;
+use crate::typists::{Frame, drop_frames, forget_begun, typist_after};
+use acl::UserId;
 use std::alloc::{AllocError, Global};
 use std::io;
 use std::io::Write;
@@ -26,9 +27,8 @@ pub struct Turn {
     sent: usize,
     told: bool,
     has_ended: bool,
-    // How many bytes were written in all.
-    written: usize,
-    typists: Typists,
+    // The frames that users typed, by their places after what was written.
+    typed: Vec<Frame>,
 }
 
 impl Drop for Turn {
@@ -38,49 +38,47 @@ impl Drop for Turn {
             sent: _,
             told: _,
             has_ended: _,
-            written: _,
-            typists: _,
+            typed: _,
         } = self;
     }
 }
 
 impl Model for Turn {
-    ghost use Rattle.std.specs.Prelude.{◌≡◌, ◌≤◌, ◌+◌, false, drop, vec_len, vec_capacity};
-    ghost use Rattle.server_sending.specs.Written.{Waiting};
+    ghost use Rattle.std.specs.Prelude.{◌≡◌, ◌≤◌, ◌+◌, ◌-◌, false, drop, vec_len, vec_capacity};
+    ghost use Rattle.server_sending.specs.Written.{AreWithin, Waiting};
 
     ghost Value = { Waiting };
 
     ghost view = { λ t. record {
       unsent = drop t.sent t.bytes.items;
+      typed = t.typed.items;
       told = t.told;
       has_ended = t.has_ended;
     } };
 
-    // Until the end, its bytes have room.
+    // Until the end, its bytes have room. Frames that were typed are among the bytes that wait.
     ghost invariant = { λ t. (t.sent ≤ vec_len t.bytes)
-        × (t.has_ended ≡ false → vec_len t.bytes + 4 ≤ vec_capacity t.bytes) };
+        × (t.has_ended ≡ false → vec_len t.bytes + 4 ≤ vec_capacity t.bytes)
+        × AreWithin 0 t.typed.items (vec_len t.bytes - t.sent) };
 }
 
-// Takes this many bytes out, from one place on.
-fn cut(bytes: &mut Vec<u8>, from: usize, count: usize)
-    ensures cut { from + count ≤ vec_len bytes.old
-        → bytes.new.items ≡ take from bytes.old.items ++ drop (from + count) bytes.old.items }
-    ensures stays { (n : ℕ) → n ≤ from → n ≤ vec_len bytes.old → n ≤ vec_len bytes.new }
-    ensures len { vec_len bytes.new ≤ vec_len bytes.old }
+// Lets go of this many bytes, which were written.
+fn let_go(bytes: &mut Vec<u8>, sent: usize)
+    requires { sent ≤ vec_len bytes.old }
+    ensures rest { bytes.new.items ≡ drop sent bytes.old.items }
+    ensures len { vec_len bytes.new ≡ vec_len bytes.old - sent }
     ensures room { vec_capacity bytes.new ≡ vec_capacity bytes.old }
 {
-    if count <= bytes.len() && from <= bytes.len() - count {
-        let left = bytes.len() - count;
-        bytes.copy_within(from + count.., from);
-        bytes.truncate(left);
-    }
+    let left = bytes.len() - sent;
+    bytes.copy_within(sent.., 0);
+    bytes.truncate(left);
 }
 
 impl Turn {
     /// A connection with nothing to write yet. The room for the last bytes is reserved.
     pub fn new(alloc: Global) -> Result<Turn, AllocError>
         ensures nothing { IfOk result (λ t.
-            t ≡ record { unsent = []; told = false; has_ended = false }) }
+            t ≡ record { unsent = []; typed = []; told = false; has_ended = false }) }
         ensures written { IfOk result (HasWritten [] []) }
     {
         let mut bytes = Vec::new(alloc);
@@ -90,8 +88,7 @@ impl Turn {
             sent: 0,
             told: false,
             has_ended: false,
-            written: 0,
-            typists: Typists::new(alloc),
+            typed: Vec::new(alloc),
         })
     }
 
@@ -103,9 +100,7 @@ impl Turn {
             self.bytes.clear();
             self.sent = 0;
         } else if self.sent >= self.bytes.len() - self.sent {
-            let left = self.bytes.len() - self.sent;
-            self.bytes.copy_within(self.sent.., 0);
-            self.bytes.truncate(left);
+            let_go(&mut self.bytes, self.sent);
             self.sent = 0;
         }
     }
@@ -124,28 +119,32 @@ impl Turn {
     }
 
     /// Puts a frame's head and its payload after the bytes that wait: both or neither. It is noted which
-    /// client typed it.
+    /// user typed it.
     pub fn put_frame(
         &mut self,
         head: [u8; HEAD],
         payload: &[u8],
-        typist: Option<u32>,
+        typist: Option<UserId>,
     ) -> Result<(), AllocError>
         ensures ok { OnOk result
-            (self.new ≡ record self.old { unsent = self.old.unsent ++ (head ++ payload.now) }) }
+            (self.new ≡ with_frame typist (head ++ payload.now) self.old) }
         ensures err { OnErr result (self.new ≡ self.old) }
         ensures written { (put written : List ℕ) → HasWritten put written self.old
             → OnOk result (HasWritten (put ++ (head ++ payload.now)) written self.new) }
     {
         self.shrink();
-        self.bytes.reserve(HEAD + payload.len() + LAST)?;
-        if let Some(client) = typist {
-            let from = self.written.saturating_add(self.unsent());
-            self.typists.add(client, from, HEAD + payload.len())?;
-        }
+        let len = HEAD + payload.len();
+        self.bytes.reserve(len + LAST)?;
+        self.typed.reserve(1)?;
+        let from = self.bytes.len() - self.sent;
         // The room is there.
         let _ = self.bytes.extend_from_slice(&head);
-        self.bytes.extend_from_slice(payload)
+        self.bytes.extend_from_slice(payload)?;
+        if let Some(user) = typist {
+            let len = self.bytes.len() - self.sent - from;
+            self.typed.push_reserved(Frame { user, from, len });
+        }
+        Ok(())
     }
 
     /// Puts the last bytes after those that wait. A second call puts nothing. It takes no memory.
@@ -166,7 +165,10 @@ impl Turn {
     pub fn send<W: Write>(&mut self, writer: &mut W) -> io::Result<usize>
         ensures count { IfOk result (λ n. n ≤ length self.old.unsent) }
         ensures ok { IfOk result (λ n.
-            self.new ≡ record self.old { unsent = drop n self.old.unsent }) }
+            self.new ≡ record self.old {
+              unsent = drop n self.old.unsent;
+              typed = unbegun n self.old.typed;
+            }) }
         ensures err { OnErr result (self.new ≡ self.old) }
         ensures writes { WriteAppends (W.contents writer.old) (W.contents writer.new) result
             self.old.unsent }
@@ -176,46 +178,31 @@ impl Turn {
         let (_, waiting) = self.bytes.as_slice().split_at(self.sent);
         let taken = writer.write(waiting)?;
         self.sent += taken;
-        self.written = self.written.saturating_add(taken);
-        self.typists.forget_begun(self.written);
+        forget_begun(&mut self.typed, taken);
         Ok(taken)
     }
 
-    /// Of the clients that typed frames of which nothing was written, the one whose serial follows this
-    /// one.
-    pub fn typist_after(&self, last: Option<u32>) -> Option<u32> {
-        self.typists.after(last)
+    /// Of the users who typed frames of which nothing was written, the one whose name follows this one's.
+    pub fn typist_after(&self, last: Option<UserId>) -> Option<UserId> {
+        typist_after(self.typed.as_slice(), last)
     }
 
     /// How many frames that were typed wait.
-    pub fn typed_frames(&self) -> usize {
-        self.typists.len()
+    pub fn typed_frames(&self) -> usize
+        ensures { result ≡ length self.now.typed }
+    {
+        self.typed.len()
     }
 
-    // Takes out the first frame that a client typed and of which nothing was written. Returns whether there
-    // was one.
-    fn drop_first_of(&mut self, client: u32) -> bool
-        ensures same { self.new ≡ record self.old { unsent = self.new.unsent } }
-        ensures less { length self.new.unsent ≤ length self.old.unsent }
+    /// Takes out the frames that a user typed and of which nothing was written.
+    pub fn drop_typed(&mut self, user: UserId)
+        ensures { self.new ≡ without_typed user self.old }
     {
-        let Some((from, len)) = self.typists.take_first_of(client) else {
-            return false;
-        };
-        let place = from.saturating_sub(self.written);
-        cut(&mut self.bytes, self.sent.saturating_add(place), len);
-        true
-    }
-
-    /// Takes out the frames that a client typed and of which nothing was written.
-    pub fn drop_typed(&mut self, client: u32)
-        ensures same { self.new ≡ record self.old { unsent = self.new.unsent } }
-        ensures less { length self.new.unsent ≤ length self.old.unsent }
-    {
-        'frames: for _ in 0..self.typed_frames() {
-            if !self.drop_first_of(client) {
-                return;
-            }
-        }
+        let_go(&mut self.bytes, self.sent);
+        self.sent = 0;
+        let left = drop_frames(self.bytes.as_mut_slice(), self.typed.as_mut_slice(), user);
+        self.bytes.truncate(left.bytes);
+        self.typed.truncate(left.frames);
     }
 
     /// How many bytes wait.

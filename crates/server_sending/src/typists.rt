@@ -1,71 +1,90 @@
 //! Who typed the frames that wait for a window.
 
-use std::alloc::{AllocError, Global};
+ghost use Rattle.std.specs.Prelude.{◌≡◌, ◌≤◌, length, map, take};
+ghost use Rattle.server_sending.specs.Written.{AreWithin, frames_of_others, moved_up, unbegun, without_frames};
 
-// A frame that a client typed, by its place among all bytes that were put.
+use acl::UserId;
+
+/// A frame that a user typed, by its place among the bytes that wait.
 #[derive(Clone, Copy)]
-struct Frame {
-    client: u32,
-    from: usize,
-    len: usize,
+pub struct Frame {
+    pub user: UserId,
+    pub from: usize,
+    pub len: usize,
 }
 
-/// The frames that clients typed and of which nothing was written, in order.
-#[derive(Drop)]
-pub struct Typists {
-    frames: Vec<Frame>,
+/// How many bytes and how many frames are left.
+#[derive(Clone, Copy)]
+pub struct Left {
+    pub bytes: usize,
+    pub frames: usize,
 }
 
-impl Typists {
-    pub fn new(alloc: Global) -> Typists {
-        Typists {
-            frames: Vec::new(alloc),
+// The frames' places, after this many bytes were written.
+fn move_up(frames: &mut [Frame], written: usize)
+    ensures { frames.new ≡ map (moved_up written) frames.old }
+{
+    for i in 0..frames.len() {
+        frames[i].from = frames[i].from.saturating_sub(written);
+    }
+}
+
+/// This many bytes were written: frames that were begun aren't kept any more.
+pub fn forget_begun(frames: &mut Vec<Frame>, written: usize)
+    ensures { frames.new.items ≡ unbegun written frames.old.items }
+{
+    frames.retain(|frame| frame.from >= written);
+    move_up(frames.as_mut_slice(), written);
+}
+
+// Whether a user's name follows one name and precedes another, as far as these are given.
+fn is_between(last: Option<UserId>, user: UserId, next: Option<UserId>) -> bool {
+    last.is_none_or(|last| last.as_bytes() < user.as_bytes())
+        && next.is_none_or(|next| user.as_bytes() < next.as_bytes())
+}
+
+/// Of the users who typed frames, the one whose name follows this one's.
+pub fn typist_after(frames: &[Frame], last: Option<UserId>) -> Option<UserId> {
+    let mut next: Option<UserId> = None;
+    for frame in frames {
+        if is_between(last, frame.user, next) {
+            next = Some(frame.user);
         }
     }
+    next
+}
 
-    /// How many frames there are.
-    pub fn len(&self) -> usize {
-        self.frames.len()
-    }
-
-    /// Adds the last frame that was put.
-    pub fn add(&mut self, client: u32, from: usize, len: usize) -> Result<(), AllocError> {
-        self.frames.push(Frame { client, from, len })?;
-        Ok(())
-    }
-
-    /// So many bytes were written: frames that were begun aren't kept any more.
-    pub fn forget_begun(&mut self, written: usize) {
-        if self
-            .frames
-            .first()
-            .is_some_and(|frame| frame.from < written)
-        {
-            self.frames.retain(|frame| frame.from >= written);
+/// Takes out the frames of a user: what stays is moved to the front.
+pub fn drop_frames(bytes: &mut [u8], frames: &mut [Frame], user: UserId) -> Left
+    requires { AreWithin 0 frames.old (length bytes.old) }
+    ensures bytes { take result.bytes bytes.new ≡ without_frames user 0 frames.old bytes.old }
+    ensures frames { take result.frames frames.new ≡ frames_of_others user 0 frames.old }
+    ensures within { (result.bytes ≤ length bytes.new) × (result.frames ≤ length frames.new) }
+{
+    let len = bytes.len();
+    let mut at = 0;
+    let mut gone = 0;
+    let mut kept = 0;
+    'frames: for i in 0..frames.len() {
+        let frame = frames[i];
+        let end = frame.from + frame.len;
+        if frame.user == user {
+            bytes.copy_within(at..frame.from, at - gone);
+            gone += frame.len;
+            at = end;
+            continue;
         }
+        bytes.copy_within(at..end, at - gone);
+        frames[kept] = Frame {
+            from: frame.from - gone,
+            ..frame
+        };
+        kept += 1;
+        at = end;
     }
-
-    /// Of the clients that typed frames, the one whose serial follows this one.
-    pub fn after(&self, last: Option<u32>) -> Option<u32> {
-        let mut next: Option<u32> = None;
-        for frame in &self.frames {
-            let client = frame.client;
-            if last.is_none_or(|last| last < client) && next.is_none_or(|next| client < next) {
-                next = Some(client);
-            }
-        }
-        next
-    }
-
-    /// Takes out the first frame of a client, after which the others stand that many bytes earlier.
-    /// Returns its place and its length.
-    pub fn take_first_of(&mut self, client: u32) -> Option<(usize, usize)> {
-        let place = self.frames.iter().position(|frame| frame.client == client)?;
-        let Frame { from, len, .. } = self.frames[place];
-        let _ = self.frames.remove(place);
-        for index in place..self.frames.len() {
-            self.frames[index].from = self.frames[index].from.saturating_sub(len);
-        }
-        Some((from, len))
+    bytes.copy_within(at.., at - gone);
+    Left {
+        bytes: len - gone,
+        frames: kept,
     }
 }

@@ -1,7 +1,6 @@
 //! What all loops share beside their session.
 
 use crate::full_windows::FullWindows;
-use crate::left_clients::LeftClients;
 use crate::trail_size::TrailSize;
 use acl::UserId;
 use server_connections::GuestKind;
@@ -28,8 +27,8 @@ impl Limits {
 }
 
 /// What each user may still try in vain, how many clients and windows they have, how large the trail
-/// is, the windows for which much waits, and who left. The loops share it, so a lock is around each
-/// part. What a call does to it is said by the part's own contract.
+/// is, and the windows for which much waits. The loops share it, so a lock is around each part. What a
+/// call does to it is said by the part's own contract.
 #[derive(Drop)]
 pub struct Accounts {
     allowances: Mutex<Allowances>,
@@ -37,7 +36,6 @@ pub struct Accounts {
     windows: Mutex<Tally>,
     pub(crate) trail: TrailSize,
     pub(crate) full_windows: FullWindows,
-    pub(crate) left: LeftClients,
 }
 
 impl Accounts {
@@ -49,7 +47,6 @@ impl Accounts {
             windows: Mutex::new(Tally::new(alloc, limits.windows)),
             trail: TrailSize::new(),
             full_windows: FullWindows::new(alloc),
-            left: LeftClients::new(alloc),
         }
     }
 

@@ -4,7 +4,6 @@
 
 mod accounts;
 mod full_windows;
-mod left_clients;
 mod loop_body;
 mod seated;
 mod setting_up;

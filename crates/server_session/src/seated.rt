@@ -125,17 +125,13 @@ impl<L: Begun> SessionSeat for Seated<'_, L> {
         self.shared.has_stopped() || self.accounts.trail.is_full()
     }
 
-    fn take<R: Wait>(&mut self, rt: &R) -> (Vec<(Effect, Option<u32>)>, bool) {
+    fn take<R: Wait>(&mut self, rt: &R) -> (Vec<(Effect, Option<UserId>)>, bool) {
         let (handed, is_told) = self.shared.hub.take(rt, &mut self.seat);
         (handed.into_items(), is_told)
     }
 
-    fn may_type<R: Wait>(&self, rt: &R, client: u32, window: u32) -> bool {
-        self.shared.hub.may_type(rt, client, window) || self.accounts.left.has(rt, client)
-    }
-
-    fn set_left<R: Wait>(&self, rt: &R, client: u32) {
-        self.accounts.left.add(rt, client);
+    fn may_type<R: Wait>(&self, rt: &R, user: UserId, window: u32) -> bool {
+        self.shared.hub.may_type(rt, user, window)
     }
 
     fn set_full<R: Wait>(&self, rt: &R, window: u32, is_full: bool) {

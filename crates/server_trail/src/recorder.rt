@@ -26,6 +26,8 @@ pub struct WaitingLines {
     pub merge: Merge,
     /// How many loops haven't ended.
     pub loops: usize,
+    /// A line that waits tells of a change: it is written as soon as all before it are there.
+    pub is_urgent: bool,
 }
 
 /// The lines of a session's trail on their way to a file. Loops put them down and one thread
@@ -86,6 +88,7 @@ impl Recorder {
             waiting: Mutex::new(WaitingLines {
                 merge: Merge::new(alloc),
                 loops,
+                is_urgent: false,
             }),
             news: Condvar::new(),
             ms: AtomicU64::new(0),
@@ -111,10 +114,17 @@ impl Recorder {
             Some(entry) => line_of(self.alloc, place, ms, entry),
             None => Err(AllocError),
         };
-        self.put_line(rt, place, line);
+        let is_urgent = entry.is_some_and(|entry| !entry.acts().is_empty());
+        self.put_line(rt, place, line, is_urgent);
     }
 
-    fn put_line(&self, rt: &impl Wait, place: usize, line: Result<Vec<u8>, AllocError>) {
+    fn put_line(
+        &self,
+        rt: &impl Wait,
+        place: usize,
+        line: Result<Vec<u8>, AllocError>,
+        is_urgent: bool,
+    ) {
         let mut waiting = self.waiting.lock(rt);
         if self.stopped().is_some() {
             return;
@@ -123,8 +133,9 @@ impl Recorder {
             Ok(line) => waiting.put(place, line),
             Err(_) => Err(StopCause::Memory),
         };
+        waiting.is_urgent |= is_urgent;
         let is_news = match put {
-            Ok(is_news) => is_news,
+            Ok(is_news) => is_news || is_urgent,
             Err(stopped) => {
                 let _ = self.stopped.set(rt, stopped);
                 false

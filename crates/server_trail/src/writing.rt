@@ -1,7 +1,7 @@
 //! The thread that writes a trail's file.
 
 ghost use Rattle.std.specs.Prelude.{◌≡◌, ◌≤◌, ◌+◌, ◌++◌, ◌∷◌, [], ℕ, List, true, false, length, take};
-ghost use Rattle.std.specs.Prelude.{◌==◌, ◌&&◌, ◌||◌, IfOk, is_some, vec_len};
+ghost use Rattle.std.specs.Prelude.{◌==◌, ◌&&◌, ◌||◌, ◌<◌, IfOk, is_some, vec_len};
 ghost use Rattle.std.specs.Io.KnownBytes.{Appends, Keeps};
 ghost use Rattle.trail_lines.specs.Heading.{end_text};
 ghost use Rattle.server_trail.specs.Files.{HasWritten, end_line};
@@ -129,16 +129,42 @@ fn last_line(alloc: Global, ended: &Ended) -> Result<Vec<u8>, AllocError>
     Ok(line)
 }
 
+// What is there for the writer.
+#[derive(Clone, Copy)]
+struct Ready {
+    bytes: usize,
+    // A line among them, or one that waits for an earlier line, tells of a change.
+    is_urgent: bool,
+    // All loops have ended.
+    is_over: bool,
+}
+
+impl Ready {
+    // Whether the writer waits for no more.
+    fn is_due(self) -> bool
+        ensures urgent { self.is_urgent ≡ true → 0 < self.bytes → result ≡ true }
+        ensures over { self.is_over ≡ true → result ≡ true }
+    {
+        self.is_over || self.bytes >= BLOCK || (self.is_urgent && self.bytes > 0)
+    }
+}
+
 impl Recorder {
-    // How many bytes are ready, and whether all loops have ended.
-    fn look(&self, rt: &impl Wait) -> (usize, bool) {
+    fn look(&self, rt: &impl Wait) -> Ready {
         let waiting = self.waiting.lock(rt);
-        (waiting.merge.ready(), waiting.loops == 0)
+        Ready {
+            bytes: waiting.merge.ready(),
+            is_urgent: waiting.is_urgent,
+            is_over: waiting.loops == 0,
+        }
     }
 
     // Takes the text that is ready.
     fn take(&self, rt: &impl Wait) -> Vec<u8> {
-        self.waiting.lock(rt).merge.take()
+        let mut waiting = self.waiting.lock(rt);
+        let text = waiting.merge.take();
+        waiting.is_urgent &= waiting.merge.waiting() > 0;
+        text
     }
 
     // Writes the bytes. A refused write is tried again each second; after all loops have ended, only for
@@ -158,8 +184,7 @@ impl Recorder {
                 if tries >= LAST_TRIES {
                     return false;
                 }
-                let (_, is_over) = self.look(rt);
-                if is_over {
+                if self.look(rt).is_over {
                     tries += 1;
                 }
                 thread::sleep(rt, Duration::from_secs(1));
@@ -180,9 +205,9 @@ impl Recorder {
     }
 
     /// Writes the lines as they come, until all loops have ended. It sleeps as long as no line is ready,
-    /// and waits a tenth of a second for more if few are. A refused write is tried again each second,
-    /// and for five seconds at the end. The file is synced in each second in which something was
-    /// written.
+    /// and waits a tenth of a second for more if few are and none tells of a change. A refused write is
+    /// tried again each second, and for five seconds at the end. The file is synced in each second in
+    /// which something was written.
     pub fn write_all<R: Clock + Wait, F: TrailFile>(&self, rt: &R, file: &mut F) -> Written {
         let mut syncing = Syncing {
             is_behind: false,
@@ -190,18 +215,18 @@ impl Recorder {
         };
         for _ in rt.forever() {
             let seen = self.news.notifications();
-            let (ready, is_over) = self.look(rt);
-            if ready == 0 && is_over {
+            let ready = self.look(rt);
+            if ready.bytes == 0 && ready.is_over {
                 return self.written(rt, true);
             }
-            if ready < BLOCK && !is_over {
-                let pause = match ready {
+            if !ready.is_due() {
+                let pause = match ready.bytes {
                     0 => syncing.pause(),
                     _ => Duration::from_millis(PAUSE),
                 };
                 self.news.sleep(rt, seen, pause);
             }
-            if ready > 0 {
+            if ready.bytes > 0 {
                 if !self.write_ready(rt, file) {
                     return self.written(rt, false);
                 }

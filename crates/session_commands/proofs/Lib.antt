@@ -16,3 +16,4 @@ pub mod OnLists
 pub mod Parting
 pub mod Pushed
 pub mod There
+pub mod Quiet

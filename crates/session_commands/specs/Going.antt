@@ -1,6 +1,6 @@
 -- Which clients go, and what they leave.
 use Rattle.std.specs.Prelude.{ℕ, ◌≡◌, ◌==◌, Bool, true, not, ◌&&◌, ◌||◌, List, Option, Some, None}
-use Rattle.std.specs.Prelude.{if◌then◌else◌, map, filter, reverse}
+use Rattle.std.specs.Prelude.{Result, OnOk, if◌then◌else◌, map, filter, reverse}
 use Rattle.std.specs.List.{list_any}
 use Rattle.acl.specs.declared.user_id.UserId.{UserId}
 use Rattle.acl.specs.declared.act.Act.{Act}
@@ -16,10 +16,10 @@ use Rattle.session_model.specs.Tables.{Tables}
 use Rattle.session_model.specs.Sound.{Rises, client_serials}
 use Rattle.session_model.specs.Deeds.{parts}
 use Rattle.session_state.specs.declared.client.Client.{Client}
-use Rattle.session_state.specs.declared.step_output.StepOutput.{StepOutput}
-use Rattle.session_state.specs.declared.state.State.{State}
 use Rattle.session_state.specs.Stands.{Stands}
 use Rattle.session_state.specs.Doing.{HasDone}
+use Rattle.session_commands.specs.declared.context.Context.{Context}
+use Rattle.session_commands.specs.Contexts.{IsWhole}
 use Rattle.session_commands.specs.declared.going.Going.{Going}
 use Rattle.session_commands.specs.declared.going.Going.TheVariants.{One, Of, AllBut, All}
 
@@ -73,6 +73,8 @@ pub record AreAttached (t : Tables) : Type 0 where
       clients_of t.acts ≡ reverse (map (λ (c : model.Client). (c.serial, c.user)) t.clients)
 
 -- the clients that go have gone, for all tables that the state stood for
-abbrev pub Goes : Going → Reason → State → State → StepOutput → StepOutput → Type 0
-Goes g why old new before after =
-    (t : Tables) → Stands t old → AreAttached t → HasDone t (parts (goes g) why t) new before after
+abbrev pub Goes : {E : Type 0} → Going → Reason → Context → Result (Unit {0}) E → Context → Type 0
+Goes g why old result new =
+    IsWhole old result new
+    × OnOk result ((t : Tables) → Stands t old.state.now → AreAttached t
+    → HasDone t (parts (goes g) why t) new.state.now old.made.now new.made.now)

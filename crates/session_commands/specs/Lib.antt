@@ -6,3 +6,4 @@ pub mod Closing
 pub mod Going
 pub mod Settling
 pub mod Written
+pub mod Contexts

@@ -10,6 +10,8 @@ use Rattle.session_state.specs.declared.state.State.{State}
 use Rattle.session_state.specs.Stands.{Stands}
 use Rattle.session_model.specs.Sound.{AreFit}
 use Rattle.session_state.specs.Doing.{Answers}
+use Rattle.session_commands.specs.declared.context.Context.{Context}
+use Rattle.session_commands.specs.Contexts.{IsWhole}
 
 -- the answer of a command that lists nothing
 abbrev pub Settled :
@@ -19,9 +21,11 @@ Settled t answer (Err r) new before after = Answers t answer (Err r) new before 
 
 -- for all tables that the state stood for
 abbrev pub Settles :
-    (Tables → Answer) → State → Result (Unit {0}) Refusal → State → StepOutput → StepOutput → Type 0
-Settles answer old result new before after =
-    (t : Tables) → Stands t old → AreFit t → Settled t (answer t) result new before after
+    (Tables → Answer) → Context → Result (Unit {0}) Refusal → Context → Type 0
+Settles answer old result new =
+    IsWhole old result new
+    × ((t : Tables) → Stands t old.state.now → AreFit t
+    → Settled t (answer t) result new.state.now old.made.now new.made.now)
 
 -- the client with this serial, if there is one, goes
 abbrev pub detaching : ℕ → Tables → Answer

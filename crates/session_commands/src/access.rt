@@ -4,19 +4,21 @@ ghost use Rattle.std.specs.Prelude.{◌≡◌, None, Some};
 ghost use Rattle.command_lang.specs.declared.command.Command.TheVariants as command;
 ghost use Rattle.session_model.specs.Tables.{Tables};
 ghost use Rattle.session_state.specs.declared.step_output.StepOutput.{StepOutput};
-ghost use Rattle.session_state.specs.Doing.{Does, DoesForAll, IsSilent};
+ghost use Rattle.session_state.specs.Doing as doing;
 ghost use Rattle.session_state.specs.Stands.{Stands};
 ghost use Rattle.session_commands.specs.Asked.{answered, refusal_of};
+ghost use Rattle.session_commands.specs.Contexts.{Does, DoesForAll};
 ghost use Rattle.session_state.specs.Leaders.{IsKnownUser};
 
+use crate::context::{CommandReply, Context};
 use crate::going::{Going, gone_clients, note_parted};
 use crate::masks::entries_of;
 use crate::names::{named, names_of, new_leader};
 use crate::objects::{every_object, objects_of};
 use acl::{AclFault, LeaderChange, MaskChange, NewUsers, RightsChange, UserId};
 use command_lang::{BitList, Leader, Masks, Text, Texts, Users};
-use session_model::{Bytes, Reason, Refusal};
-use session_state::{Caller, State, StepOutput, leaders_text};
+use session_model::{Reason, Refusal};
+use session_state::{Caller, State, leaders_text};
 
 /// The most acts that may follow those of a command in its step: one for each client that leaves a
 /// window.
@@ -33,7 +35,7 @@ fn refusal_of(fault: AclFault) -> Refusal
 }
 
 /// The answer of a command on the lists, which was done or refused.
-fn answered(done: Result<(), AclFault>) -> Result<Option<Bytes>, Refusal>
+fn answered(done: Result<(), AclFault>) -> CommandReply
     ensures { result ≡ answered done }
 {
     match done {
@@ -43,15 +45,10 @@ fn answered(done: Result<(), AclFault>) -> Result<Option<Bytes>, Refusal>
 }
 
 /// `acladd`: makes users known, and gives them each bit on each window and command.
-pub fn acladd(
-    state: &mut State,
-    users: &Users,
-    made: &mut StepOutput,
-) -> Result<Option<Bytes>, Refusal>
-    ensures answer { DoesForAll (command.Acladd users.now)
-        state.old result state.new made.old made.new }
-    ensures silent { IsSilent result state.old state.new made.old made.new }
+pub fn acladd(context: &mut Context, users: &Users) -> CommandReply
+    ensures { DoesForAll (command.Acladd users.now) context.old result context.new }
 {
+    let (state, made) = (&mut *context.state, &mut *context.made);
     let names = names_of(state.alloc, &state.acl, users)?;
     let objects = every_object(state.alloc, &state.windows)?;
     let users = NewUsers {
@@ -63,18 +60,13 @@ pub fn acladd(
 }
 
 /// `acldel`: removes a user's clients, and then the user.
-pub fn acldel(
-    state: &mut State,
-    word: &str,
-    made: &mut StepOutput,
-) -> Result<Option<Bytes>, Refusal>
-    ensures answer { DoesForAll (command.Acldel word.now) state.old result state.new
-        made.old made.new }
-    ensures silent { IsSilent result state.old state.new made.old made.new }
+pub fn acldel(context: &mut Context, word: &str) -> CommandReply
+    ensures { DoesForAll (command.Acldel word.now) context.old result context.new }
 {
     let Some(user) = UserId::of(word.as_bytes()) else {
         return Err(Refusal::Acl(AclFault::ReservedName));
     };
+    let (state, made) = (&mut *context.state, &mut *context.made);
     let going = Going::Of(user);
     let clients = state.clients.as_slice();
     let mut gone = gone_clients(state.alloc, clients, going, Reason::Removed)?;
@@ -95,17 +87,11 @@ pub fn acldel(
 
 /// `aclchg`: gives users bits on the objects of a list, or takes them. If a name is wrong and an item
 /// names nothing, the name's fault is the answer.
-pub fn aclchg(
-    state: &mut State,
-    users: &Users,
-    bits: &BitList,
-    list: &Texts,
-    made: &mut StepOutput,
-) -> Result<Option<Bytes>, Refusal>
-    ensures answer { DoesForAll (command.Aclchg users.now bits.now list.now)
-        state.old result state.new made.old made.new }
-    ensures silent { IsSilent result state.old state.new made.old made.new }
+pub fn aclchg(context: &mut Context, users: &Users, bits: &BitList, list: &Texts) -> CommandReply
+    ensures { DoesForAll (command.Aclchg users.now bits.now list.now)
+        context.old result context.new }
 {
+    let (state, made) = (&mut *context.state, &mut *context.made);
     let names = names_of(state.alloc, &state.acl, users)?;
     if let Some(fault) = state.acl.change_fault(&names) {
         return Err(Refusal::Acl(fault));
@@ -121,16 +107,11 @@ pub fn aclchg(
 }
 
 /// `aclgrp` with a leader: the user follows that leader, or nobody if it is `none`.
-pub fn aclgrp(
-    state: &mut State,
-    name: &Text,
-    leader: &Leader,
-    made: &mut StepOutput,
-) -> Result<Option<Bytes>, Refusal>
-    ensures answer { DoesForAll (command.Aclgrp name.now (Some leader.now))
-        state.old result state.new made.old made.new }
-    ensures silent { IsSilent result state.old state.new made.old made.new }
+pub fn aclgrp(context: &mut Context, name: &Text, leader: &Leader) -> CommandReply
+    ensures { DoesForAll (command.Aclgrp name.now (Some leader.now))
+        context.old result context.new }
 {
+    let (state, made) = (&mut *context.state, &mut *context.made);
     let change = LeaderChange {
         name: named(name),
         leader: new_leader(leader),
@@ -156,9 +137,9 @@ fn known_user(state: &State, word: &str) -> Result<UserId, AclFault>
 }
 
 /// `aclgrp` without a leader: lists a user's leaders.
-pub fn aclgrp_of(state: &State, caller: Caller, name: &str) -> Result<Option<Bytes>, Refusal>
+pub fn aclgrp_of(state: &State, caller: Caller, name: &str) -> CommandReply
     ensures { (made : StepOutput)
-        → Does caller (command.Aclgrp name.now None) state.now result state.now made made }
+        → doing.Does caller (command.Aclgrp name.now None) state.now result state.now made made }
 {
     match known_user(state, name) {
         Ok(user) => Ok(Some(leaders_text(state, user)?)),
@@ -167,16 +148,10 @@ pub fn aclgrp_of(state: &State, caller: Caller, name: &str) -> Result<Option<Byt
 }
 
 /// `aclumask`: sets what users get on windows that the caller opens later, and the presets.
-pub fn aclumask(
-    state: &mut State,
-    caller: Caller,
-    masks: &Masks,
-    made: &mut StepOutput,
-) -> Result<Option<Bytes>, Refusal>
-    ensures answer { Does caller (command.Aclumask masks.now)
-        state.old result state.new made.old made.new }
-    ensures silent { IsSilent result state.old state.new made.old made.new }
+pub fn aclumask(context: &mut Context, caller: Caller, masks: &Masks) -> CommandReply
+    ensures { Does caller (command.Aclumask masks.now) context.old result context.new }
 {
+    let (state, made) = (&mut *context.state, &mut *context.made);
     let entries = entries_of(state.alloc, &state.acl, masks.as_slice())?;
     let change = MaskChange {
         by: caller.user,

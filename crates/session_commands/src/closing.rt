@@ -6,13 +6,12 @@ ghost use Rattle.acl.specs.declared.edition.Edition.{Edition};
 ghost use Rattle.acl.specs.History.{History, followed_by};
 ghost use Rattle.acl.specs.Table.{StandsFor};
 ghost use Rattle.writelock.specs.LockTable.{LocksStandFor};
-ghost use Rattle.session_state.specs.Doing.{IsWhole};
 ghost use Rattle.session_commands.specs.Closing.{closing, gone_row, closed_acts};
 ghost use Rattle.session_commands.specs.Settling.{Settles};
 
+use crate::context::Context;
 use acl::{Acl, Act, UserId};
 use session_model::{Effect, Peer, Reason, Refusal};
-use session_state::{State, StepOutput};
 use std::alloc::{AllocError, Global};
 use windows::Window;
 use writelock::Locks;
@@ -54,15 +53,10 @@ pub(crate) fn note_closed(windows: &[Window], acl: &mut Acl, locks: &mut Locks, 
 }
 
 /// Closes a window: its row is removed, no region shows it, and its rights and its lock vanish.
-pub(crate) fn close(
-    state: &mut State,
-    window: u32,
-    why: Reason,
-    made: &mut StepOutput,
-) -> Result<(), Refusal>
-    ensures answer { Settles (closing window why) state.old result state.new made.old made.new }
-    ensures whole { IsWhole result state.old state.new made.old made.new }
+pub(crate) fn close(context: &mut Context, window: u32, why: Reason) -> Result<(), Refusal>
+    ensures { Settles (closing window why) context.old result context.new }
 {
+    let (state, made) = (&mut *context.state, &mut *context.made);
     made.acts.reserve(65)?;
     made.effects.reserve(1)?;
     state.windows.close(window)?;

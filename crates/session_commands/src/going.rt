@@ -2,7 +2,7 @@
 
 ghost use Rattle.std.specs.Prelude.{◌≡◌, ◌≤◌, ◌+◌, ◌++◌, ◌&&◌, ℕ, not, filter, map};
 ghost use Rattle.std.specs.Prelude.{length, reverse, vec_len, vec_capacity};
-ghost use Rattle.std.specs.Prelude.{IfOk, OnOk};
+ghost use Rattle.std.specs.Prelude.{IfOk};
 ghost use Rattle.std.specs.List.{list_any};
 ghost use Rattle.acl.specs.declared.edition.Edition.{Edition};
 ghost use Rattle.acl.specs.History.{History, followed_by};
@@ -10,14 +10,14 @@ ghost use Rattle.writelock.specs.Holding.{clients_of};
 ghost use Rattle.writelock.specs.LockTable.{LocksStandFor};
 ghost use Rattle.session_model.specs.Sound.{Rises};
 ghost use Rattle.session_state.specs.Clients.{Keeps};
-ghost use Rattle.session_state.specs.Doing.{IsWhole};
 ghost use Rattle.session_commands.specs.Going.{goes, goes_now, gone_now, parted_now};
 ghost use Rattle.session_commands.specs.Going.{serials_now, attached_now, is_of_now};
 ghost use Rattle.session_commands.specs.Going.{last_of, Goes};
 
+use crate::context::Context;
 use acl::{Act, UserId};
 use session_model::{Effect, Peer, Reason};
-use session_state::{Client, Clients, State, StepOutput};
+use session_state::{Client, Clients};
 use std::alloc::{AllocError, Global};
 use writelock::Locks;
 
@@ -131,15 +131,10 @@ fn remove(clients: &mut Clients, going: Going)
 }
 
 /// Removes clients, and tells each of them why it goes.
-pub(crate) fn go(
-    state: &mut State,
-    going: Going,
-    why: Reason,
-    made: &mut StepOutput,
-) -> Result<(), AllocError>
-    ensures done { OnOk result (Goes going why state.old state.new made.old made.new) }
-    ensures whole { IsWhole result state.old state.new made.old made.new }
+pub(crate) fn go(context: &mut Context, going: Going, why: Reason) -> Result<(), AllocError>
+    ensures { Goes going why context.old result context.new }
 {
+    let (state, made) = (&mut *context.state, &mut *context.made);
     let clients = state.clients.as_slice();
     let mut gone = gone_clients(state.alloc, clients, going, why)?;
     made.acts.reserve(clients.len() + 64)?;

@@ -3,64 +3,55 @@
 ghost use Rattle.std.specs.Prelude.{◌≡◌, true, IsOk};
 ghost use Rattle.command_lang.specs.declared.command.Command.TheVariants as command;
 ghost use Rattle.session_model.specs.declared.event.Reason.TheVariants as reason;
-ghost use Rattle.session_state.specs.Doing.{DoesForAll, DoesBy, DoesOn, HasRoomToLeave};
-ghost use Rattle.session_state.specs.Doing.{IsSilent, IsWhole};
+ghost use Rattle.session_state.specs.Doing.{HasRoomToLeave};
+ghost use Rattle.session_commands.specs.Contexts.{DoesForAll, DoesBy, DoesOn};
 ghost use Rattle.session_commands.specs.Closing.{closing};
 ghost use Rattle.session_commands.specs.Settling.{Settles, detaching};
 
 use crate::closing::{close, gone_windows, note_closed};
+use crate::context::{CommandReply, Context};
 use crate::going::{Going, go, gone_clients, note_parted};
-use session_model::{Bytes, Reason, Refusal};
-use session_state::{State, StepOutput};
+use session_model::{Reason, Refusal};
 
 /// Removes a client whose terminal went.
-pub fn detach_client(state: &mut State, client: u32, made: &mut StepOutput) -> Result<(), Refusal>
-    ensures answer { Settles (detaching client) state.old result state.new made.old made.new }
-    ensures whole { IsWhole result state.old state.new made.old made.new }
+pub fn detach_client(context: &mut Context, client: u32) -> Result<(), Refusal>
+    ensures { Settles (detaching client) context.old result context.new }
 {
-    let Some(_client) = state.clients.get(client) else {
+    let Some(_client) = context.state.clients.get(client) else {
         return Err(Refusal::NoWindow);
     };
-    go(state, Going::One(client), Reason::Detached, made)?;
+    go(context, Going::One(client), Reason::Detached)?;
     Ok(())
 }
 
 /// Closes a window whose program ended.
-pub fn close_window(state: &mut State, window: u32, made: &mut StepOutput) -> Result<(), Refusal>
-    ensures answer { Settles (closing window reason.Detached) state.old result state.new
-        made.old made.new }
-    ensures whole { IsWhole result state.old state.new made.old made.new }
+pub fn close_window(context: &mut Context, window: u32) -> Result<(), Refusal>
+    ensures { Settles (closing window reason.Detached) context.old result context.new }
 {
-    close(state, window, Reason::Detached, made)
+    close(context, window, Reason::Detached)
 }
 
 /// `detach`: removes the client that gives the command.
-pub fn detach(
-    state: &mut State,
-    client: u32,
-    made: &mut StepOutput,
-) -> Result<Option<Bytes>, Refusal>
-    ensures answer { DoesBy client command.Detach state.old result state.new made.old made.new }
-    ensures silent { IsSilent result state.old state.new made.old made.new }
+pub fn detach(context: &mut Context, client: u32) -> CommandReply
+    ensures { DoesBy client command.Detach context.old result context.new }
 {
-    detach_client(state, client, made)?;
+    detach_client(context, client)?;
     Ok(None)
 }
 
 /// `kill`: closes the window.
-pub fn kill(state: &mut State, window: u32, made: &mut StepOutput) -> Result<Option<Bytes>, Refusal>
-    ensures answer { DoesOn window command.Kill state.old result state.new made.old made.new }
-    ensures silent { IsSilent result state.old state.new made.old made.new }
+pub fn kill(context: &mut Context, window: u32) -> CommandReply
+    ensures { DoesOn window command.Kill context.old result context.new }
 {
-    close(state, window, Reason::Killed, made)?;
+    close(context, window, Reason::Killed)?;
     Ok(None)
 }
 
 /// `quit`: closes all windows, and removes all clients.
-pub fn quit(state: &mut State, made: &mut StepOutput) -> Result<Option<Bytes>, Refusal>
-    ensures answer { DoesForAll command.Quit state.old result state.new made.old made.new }
-    ensures silent { IsSilent result state.old state.new made.old made.new }
+pub fn quit(context: &mut Context) -> CommandReply
+    ensures { DoesForAll command.Quit context.old result context.new }
 {
+    let (state, made) = (&mut *context.state, &mut *context.made);
     let windows = state.windows.as_slice();
     let clients = state.clients.as_slice();
     let mut gone = gone_windows(state.alloc, windows, Reason::Quit)?;
@@ -77,23 +68,17 @@ pub fn quit(state: &mut State, made: &mut StepOutput) -> Result<Option<Bytes>, R
 
 /// `multiuser`: lets other users than the owner in, or removes their clients. `on` takes no memory if
 /// there is room for acts.
-pub fn multiuser(
-    state: &mut State,
-    is_on: bool,
-    made: &mut StepOutput,
-) -> Result<Option<Bytes>, Refusal>
-    ensures answer { DoesForAll (command.Multiuser is_on) state.old result state.new
-        made.old made.new }
-    ensures silent { IsSilent result state.old state.new made.old made.new }
-    ensures memory { is_on ≡ true → HasRoomToLeave made.old → IsOk result }
+pub fn multiuser(context: &mut Context, is_on: bool) -> CommandReply
+    ensures does { DoesForAll (command.Multiuser is_on) context.old result context.new }
+    ensures memory { is_on ≡ true → HasRoomToLeave context.old.made.now → IsOk result }
 {
     if is_on {
-        made.acts.reserve(64)?;
-        state.is_multiuser = true;
+        context.made.acts.reserve(64)?;
+        context.state.is_multiuser = true;
         return Ok(None);
     }
-    let owner = state.acl.owner();
-    go(state, Going::AllBut(owner), Reason::SingleUser, made)?;
-    state.is_multiuser = false;
+    let owner = context.state.acl.owner();
+    go(context, Going::AllBut(owner), Reason::SingleUser)?;
+    context.state.is_multiuser = false;
     Ok(None)
 }

@@ -4,6 +4,7 @@
 
 mod access;
 mod closing;
+mod context;
 mod entering;
 mod giver;
 mod going;
@@ -18,7 +19,7 @@ mod pages;
 mod window;
 
 pub use access::{acladd, aclchg, acldel, aclgrp, aclgrp_of, aclumask};
-pub use entering::enter;
+pub use context::{CommandReply, Context};
 pub use giver::client_of;
 pub use leaving::{close_window, detach, detach_client, kill, multiuser, quit};
 pub use lists::{displays, screen, windows};

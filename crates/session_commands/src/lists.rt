@@ -9,7 +9,8 @@ ghost use Rattle.session_state.specs.declared.step_output.StepOutput.{StepOutput
 ghost use Rattle.session_state.specs.Doing.{Does, caller_in};
 ghost use Rattle.session_state.specs.Stands.{Stands};
 
-use session_model::{Bytes, Refusal};
+use crate::context::CommandReply;
+use session_model::Bytes;
 use session_state::{Caller, State, clients_text, windows_text};
 
 /// The window in focus of a client that asks.
@@ -22,7 +23,7 @@ fn focus_of(state: &State, caller: Caller) -> Option<u32>
 }
 
 /// `windows`: lists the windows. A title that the caller may not read is `?`.
-pub fn windows(state: &State, caller: Caller) -> Result<Option<Bytes>, Refusal>
+pub fn windows(state: &State, caller: Caller) -> CommandReply
     ensures { (made : StepOutput) → Does caller command.Windows state.now result state.now made made }
 {
     let text = windows_text(state, caller.user, focus_of(state, caller))?;
@@ -30,14 +31,14 @@ pub fn windows(state: &State, caller: Caller) -> Result<Option<Bytes>, Refusal>
 }
 
 /// `displays`: lists the clients.
-pub fn displays(state: &State, caller: Caller) -> Result<Option<Bytes>, Refusal>
+pub fn displays(state: &State, caller: Caller) -> CommandReply
     ensures { (made : StepOutput) → Does caller command.Displays state.now result state.now made made }
 {
     Ok(Some(clients_text(state)?))
 }
 
 /// `screen`: says how windows are opened.
-pub fn screen(state: &State, caller: Caller) -> Result<Option<Bytes>, Refusal>
+pub fn screen(state: &State, caller: Caller) -> CommandReply
     ensures { (made : StepOutput) → Does caller command.Screen state.now result state.now made made }
 {
     let text = Bytes::of(state.alloc, b"windows are opened by mux window")?;

@@ -2,44 +2,35 @@
 
 ghost use Rattle.std.specs.Prelude.{◌≡◌, Some};
 ghost use Rattle.command_lang.specs.declared.command.Command.TheVariants as command;
-ghost use Rattle.session_state.specs.Doing.{Does, DoesForAll, HasRoomToAct, IsSilent};
+ghost use Rattle.session_commands.specs.Contexts.{DoesForAll, DoesIf, HasRoomToAct};
 
+use crate::context::{CommandReply, Context};
 use acl::{Act, LockMode};
-use session_model::{Bytes, Refusal};
-use session_state::{Caller, State, StepOutput};
+use session_state::Caller;
 
 /// `writelock`: sets the lock mode of the caller's window. Then the caller holds the lock, or nobody in
 /// mode off.
-pub fn writelock(
-    state: &mut State,
-    caller: Caller,
-    window: u32,
-    mode: LockMode,
-    made: &mut StepOutput,
-) -> Result<Option<Bytes>, Refusal>
-    requires { HasRoomToAct made.old }
-    ensures answer { caller.window ≡ Some window
-        → Does caller (command.Writelock mode) state.old result state.new made.old made.new }
-    ensures silent { IsSilent result state.old state.new made.old made.new }
+pub fn writelock(context: &mut Context, caller: Caller, window: u32, mode: LockMode) -> CommandReply
+    requires { HasRoomToAct context.old }
+    ensures { DoesIf (caller.window ≡ Some window) caller (command.Writelock mode)
+        context.old result context.new }
 {
     let by = caller.user;
-    made.acts.push(Act::Mode { by, window, mode }).unwrap();
-    state.locks.set_mode(by, window, mode);
+    context
+        .made
+        .acts
+        .push(Act::Mode { by, window, mode })
+        .unwrap();
+    context.state.locks.set_mode(by, window, mode);
     Ok(None)
 }
 
 /// `defwritelock`: sets the lock mode of windows that are opened later.
-pub fn defwritelock(
-    state: &mut State,
-    mode: LockMode,
-    made: &mut StepOutput,
-) -> Result<Option<Bytes>, Refusal>
-    requires { HasRoomToAct made.old }
-    ensures answer { DoesForAll (command.Defwritelock mode) state.old result state.new
-        made.old made.new }
-    ensures silent { IsSilent result state.old state.new made.old made.new }
+pub fn defwritelock(context: &mut Context, mode: LockMode) -> CommandReply
+    requires { HasRoomToAct context.old }
+    ensures { DoesForAll (command.Defwritelock mode) context.old result context.new }
 {
-    made.acts.push(Act::Default { mode }).unwrap();
-    state.locks.set_default(mode);
+    context.made.acts.push(Act::Default { mode }).unwrap();
+    context.state.locks.set_default(mode);
     Ok(None)
 }

@@ -3,11 +3,11 @@
 ghost use Rattle.std.specs.Prelude.{◌≡◌, ◌++◌, codes, IfOk};
 ghost use Rattle.acl.specs.Names.{name_of};
 ghost use Rattle.command_lang.specs.declared.command.Command.TheVariants as command;
-ghost use Rattle.session_state.specs.Doing.{Does, HasRoomToAct, IsSilent};
+ghost use Rattle.session_commands.specs.Contexts.{Does, HasRoomToAct};
 
+use crate::context::{CommandReply, Context};
 use acl::UserId;
-use session_model::{Bytes, Refusal};
-use session_state::{Caller, State, StepOutput, messages_of};
+use session_state::{Caller, messages_of};
 use std::alloc::{AllocError, Global};
 
 /// The message of a user to all: `USER: TEXT`.
@@ -22,17 +22,11 @@ fn said_by(alloc: Global, user: UserId, text: &[u8]) -> Result<Vec<u8>, AllocErr
 }
 
 /// `wall`: tells every client the caller's message.
-pub fn wall(
-    state: &mut State,
-    caller: Caller,
-    text: &[u8],
-    made: &mut StepOutput,
-) -> Result<Option<Bytes>, Refusal>
-    requires { HasRoomToAct made.old }
-    ensures answer { Does caller (command.Wall text.now) state.old result state.new
-        made.old made.new }
-    ensures silent { IsSilent result state.old state.new made.old made.new }
+pub fn wall(context: &mut Context, caller: Caller, text: &[u8]) -> CommandReply
+    requires { HasRoomToAct context.old }
+    ensures { Does caller (command.Wall text.now) context.old result context.new }
 {
+    let (state, made) = (&mut *context.state, &mut *context.made);
     let said = said_by(state.alloc, caller.user, text)?;
     let mut messages = messages_of(state.alloc, &said, state.clients.len())?;
     let mut says = state.clients.says(state.alloc, &said)?;

@@ -3,46 +3,36 @@
 ghost use Rattle.std.specs.Prelude.{◌≡◌, ◌<◌, IfOk, true};
 ghost use Rattle.emulator.specs.Commanded.{writing_in};
 ghost use Rattle.command_lang.specs.declared.command.Command.TheVariants as command;
-ghost use Rattle.session_state.specs.Doing.{Does, DoesOn, GivesBy, HasRoomToAct, IsSilent};
+ghost use Rattle.session_state.specs.Doing.{GivesBy};
+ghost use Rattle.session_commands.specs.Contexts.{DoesIf, DoesOn, HasRoomToAct};
 ghost use Rattle.session_commands.specs.Giving.{IsFocusedBox};
 ghost use Rattle.session_commands.specs.Written.{writes, writing_of};
 
+use crate::context::{CommandReply, Context};
 use crate::giver::{refusal_of, window_of};
 use command_lang::{Coding, Command};
 use regions::{Rect, RegionFault};
 use session_model::{Bytes, Effect, Refusal};
-use session_state::{Caller, Client, State, StepOutput};
+use session_state::{Caller, Client};
 use std::alloc::Global;
 use windows::{Writing, is_window_size};
 
 /// `title`: gives a window another title.
-pub fn title(
-    state: &mut State,
-    window: u32,
-    text: &str,
-    made: &mut StepOutput,
-) -> Result<Option<Bytes>, Refusal>
-    requires { HasRoomToAct made.old }
-    ensures answer { DoesOn window (command.Title text.now) state.old result state.new
-        made.old made.new }
-    ensures silent { IsSilent result state.old state.new made.old made.new }
+pub fn title(context: &mut Context, window: u32, text: &str) -> CommandReply
+    requires { HasRoomToAct context.old }
+    ensures { DoesOn window (command.Title text.now) context.old result context.new }
 {
-    state.windows.retitle(state.alloc, window, text)?;
+    let alloc = context.state.alloc;
+    context.state.windows.retitle(alloc, window, text)?;
     Ok(None)
 }
 
 /// `number`: gives a window another number, unless another window has it.
-pub fn number(
-    state: &mut State,
-    window: u32,
-    n: u8,
-    made: &mut StepOutput,
-) -> Result<Option<Bytes>, Refusal>
-    requires { HasRoomToAct made.old }
-    ensures answer { DoesOn window (command.Number n) state.old result state.new made.old made.new }
-    ensures silent { IsSilent result state.old state.new made.old made.new }
+pub fn number(context: &mut Context, window: u32, n: u8) -> CommandReply
+    requires { HasRoomToAct context.old }
+    ensures { DoesOn window (command.Number n) context.old result context.new }
 {
-    state.windows.renumber(window, n)?;
+    context.state.windows.renumber(window, n)?;
     Ok(None)
 }
 
@@ -61,38 +51,25 @@ fn writing_of(command: &Command) -> Writing
 }
 
 /// `clear`, `reset` and `encoding`: writes to a window, as if its program had.
-pub fn write(
-    state: &mut State,
-    window: u32,
-    command: &Command,
-    made: &mut StepOutput,
-) -> Result<Option<Bytes>, Refusal>
-    requires room { HasRoomToAct made.old }
+pub fn write(context: &mut Context, window: u32, command: &Command) -> CommandReply
+    requires room { HasRoomToAct context.old }
     requires writes { writes command.now ≡ true }
-    ensures answer { DoesOn window command.now state.old result state.new made.old made.new }
-    ensures silent { IsSilent result state.old state.new made.old made.new }
+    ensures { DoesOn window command.now context.old result context.new }
 {
-    state.windows.write(window, writing_of(command))?;
+    context.state.windows.write(window, writing_of(command))?;
     Ok(None)
 }
 
 /// `stuff`: types bytes into a window.
-pub fn stuff(
-    state: &mut State,
-    window: u32,
-    bytes: &[u8],
-    made: &mut StepOutput,
-) -> Result<Option<Bytes>, Refusal>
-    requires { HasRoomToAct made.old }
-    ensures answer { DoesOn window (command.Stuff bytes.now) state.old result state.new
-        made.old made.new }
-    ensures silent { IsSilent result state.old state.new made.old made.new }
+pub fn stuff(context: &mut Context, window: u32, bytes: &[u8]) -> CommandReply
+    requires { HasRoomToAct context.old }
+    ensures { DoesOn window (command.Stuff bytes.now) context.old result context.new }
 {
     if bytes.is_empty() {
         return Ok(None);
     }
-    let typed = Bytes::of(state.alloc, bytes)?;
-    made.effects.push(Effect::Input(window, typed))?;
+    let typed = Bytes::of(context.state.alloc, bytes)?;
+    context.made.effects.push(Effect::Input(window, typed))?;
     Ok(None)
 }
 
@@ -110,17 +87,12 @@ fn focused_box(alloc: Global, client: &Client) -> Result<Rect, Refusal>
 }
 
 /// `fit`: gives a window the size of the focused region without its caption.
-pub fn fit(
-    state: &mut State,
-    caller: Caller,
-    client: u32,
-    made: &mut StepOutput,
-) -> Result<Option<Bytes>, Refusal>
-    requires { HasRoomToAct made.old }
-    ensures answer { GivesBy client state.old caller
-        → Does caller command.Fit state.old result state.new made.old made.new }
-    ensures silent { IsSilent result state.old state.new made.old made.new }
+pub fn fit(context: &mut Context, caller: Caller, client: u32) -> CommandReply
+    requires { HasRoomToAct context.old }
+    ensures { DoesIf (GivesBy client context.old.state.now caller) caller command.Fit
+        context.old result context.new }
 {
+    let (state, made) = (&mut *context.state, &mut *context.made);
     let Some(row) = state.clients.get(client) else {
         return Err(Refusal::NoWindow);
     };

@@ -17,7 +17,7 @@ use Rattle.session_model.specs.declared.check.Check.TheVariants.{Right, Unlocked
 use Rattle.session_model.specs.Sound.{AreFit}
 use Rattle.session_model.specs.Tables as model
 use Rattle.session_model.specs.Tables.{Tables, window_at}
-use Rattle.session_core.specs.MayType.{lets_type}
+use Rattle.session_core.specs.MayType.{may_type}
 
 and_true : (b : Bool) → (b && true) ≡ b
 and_true true = refl
@@ -29,10 +29,10 @@ copied_some (Some r) e = refl
 
 module _ (t : Tables) (user : UserId) (window : ℕ) where
   pub none_there : (found : Option Window) → BothOrNone WindowStands (window_at t window) found
-      → is_some found ≡ false → false ≡ lets_type t user window
+      → is_some found ≡ false → false ≡ may_type t user window
   none_there found both none = on (window_at t window) refl found both none where
     on : (o : Option model.Window) → window_at t window ≡ o → (p : Option Window) → BothOrNone WindowStands o p
-        → is_some p ≡ false → false ≡ lets_type t user window
+        → is_some p ≡ false → false ≡ may_type t user window
     on None at p both none = sym (ap (λ (x : Option model.Window). list_all (passes t) (typing_checks user x)) at)
     on (Some w) at (Some v) both none = absurd (false≢true (sym none))
     on (Some w) at None both none = absurd both
@@ -40,12 +40,12 @@ module _ (t : Tables) (user : UserId) (window : ℕ) where
   pub one_there : (found : Option Window) → BothOrNone WindowStands (window_at t window) found
       → is_some found ≡ true
       → ((passes t (Right user Write (object.Window window)) && passes t (Unlocked user window))
-      ≡ lets_type t user window) × (AreFit t → is_open t.acts window ≡ true)
+      ≡ may_type t user window) × (AreFit t → is_open t.acts window ≡ true)
   one_there found both some = on (window_at t window) refl found both some where
     on : (o : Option model.Window) → window_at t window ≡ o → (p : Option Window) → BothOrNone WindowStands o p
         → is_some p ≡ true
         → ((passes t (Right user Write (object.Window window)) && passes t (Unlocked user window))
-        ≡ lets_type t user window) × (AreFit t → is_open t.acts window ≡ true)
+        ≡ may_type t user window) × (AreFit t → is_open t.acts window ≡ true)
     on None at None both some = absurd (false≢true some)
     on None at (Some v) both some = absurd both
     on (Some w) at p both some =

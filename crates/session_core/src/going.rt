@@ -6,7 +6,7 @@ ghost use Rattle.session_state.specs.Doing.{IsAsBefore};
 ghost use Rattle.session_input.specs.Stepping.{Steps};
 
 use crate::coming::made_so;
-use session_commands::{close_window, detach_client};
+use session_commands::{Context, close_window, detach_client};
 use session_events::{Focuses, leave};
 use session_model::Reply;
 use session_state::{State, Step};
@@ -17,7 +17,11 @@ pub(crate) fn let_go(state: &mut State, client: u32, step: &mut Step) -> Reply
     ensures err { OnErr result (IsAsBefore state.old state.new step.old.made step.new.made) }
 {
     let focuses = Focuses::of(state);
-    detach_client(state, client, &mut step.made)?;
+    let mut context = Context {
+        state,
+        made: &mut step.made,
+    };
+    detach_client(&mut context, client)?;
     leave(state, &focuses, &mut step.made);
     Ok(made_so(0, 0))
 }
@@ -28,7 +32,11 @@ pub(crate) fn end_window(state: &mut State, window: u32, step: &mut Step) -> Rep
     ensures err { OnErr result (IsAsBefore state.old state.new step.old.made step.new.made) }
 {
     let focuses = Focuses::of(state);
-    close_window(state, window, &mut step.made)?;
+    let mut context = Context {
+        state,
+        made: &mut step.made,
+    };
+    close_window(&mut context, window)?;
     leave(state, &focuses, &mut step.made);
     Ok(made_so(0, 0))
 }

@@ -1,4 +1,4 @@
-//! Whether a client may type into a window.
+//! Who types, and whether a user may type into a window.
 
 ghost use Rattle.std.specs.Prelude.{◌≡◌, true};
 ghost use Rattle.acl.specs.History.{is_open};
@@ -9,7 +9,7 @@ ghost use Rattle.session_model.specs.declared.check.Check.TheVariants.{Right, Un
 ghost use Rattle.session_model.specs.Sound.{AreFit};
 ghost use Rattle.session_model.specs.Tables.{Tables};
 ghost use Rattle.session_state.specs.Stands.{Stands};
-ghost use Rattle.session_core.specs.MayType.{lets_type, may_type};
+ghost use Rattle.session_core.specs.MayType.{client_user, may_type};
 
 use acl::{Bit, Object, UserId};
 use session_state::State;
@@ -34,8 +34,8 @@ fn is_free(state: &State, user: UserId, window: u32) -> bool
 }
 
 /// Whether a user may type into a window: the checks of typed bytes, without verdicts.
-fn lets_type(state: &State, user: UserId, window: u32) -> bool
-    ensures { (t : Tables) → Stands t state.now → AreFit t → result ≡ lets_type t user window }
+pub fn may_type(state: &State, user: UserId, window: u32) -> bool
+    ensures { (t : Tables) → Stands t state.now → AreFit t → result ≡ may_type t user window }
 {
     if state.windows.get(window).is_none() {
         return false;
@@ -43,12 +43,12 @@ fn lets_type(state: &State, user: UserId, window: u32) -> bool
     may_write(state, user, window) && is_free(state, user, window)
 }
 
-/// Whether a client's user may type into a window.
-pub fn may_type(state: &State, client: u32, window: u32) -> bool
-    ensures { (t : Tables) → Stands t state.now → AreFit t → result ≡ may_type t client window }
+/// The user of an attached client.
+pub fn user_of(state: &State, client: u32) -> Option<UserId>
+    ensures { (t : Tables) → Stands t state.now → result ≡ client_user t client }
 {
     match state.clients.get(client) {
-        Some(row) => lets_type(state, row.user, window),
-        None => false,
+        Some(row) => Some(row.user),
+        None => None,
     }
 }

@@ -10,7 +10,7 @@ ghost use Rattle.session_model.specs.Run.{tables_of};
 ghost use Rattle.session_model.specs.Sound.{client_serials};
 ghost use Rattle.session_state.specs.declared.client.Client.{Client};
 ghost use Rattle.session_core.specs.Least.{least_from};
-ghost use Rattle.session_core.specs.MayType.{may_type};
+ghost use Rattle.session_core.specs.MayType.{client_user, may_type};
 ghost use Rattle.session_core.specs.Stands.{StandsFor, IfTaken, Takes, wants_memory};
 ghost use Rattle.session_core.specs.Headline.{SomeRun, SomeSteps, IsRunOf, AllSteps, Keeps};
 ghost use Rattle.session_core.specs.Headline.{HasCome, run_call, take_call, IsPartOf, IsViewOf};
@@ -18,7 +18,7 @@ ghost use Rattle.session_core.specs.Headline.{read_by};
 
 use crate::coming::made_so;
 use crate::drawing::{draws_one_of, note_drawn};
-use crate::may_type::may_type;
+use crate::may_type::{may_type, user_of};
 use crate::sharing::{Sharing, note_step};
 use crate::taking::take;
 use acl::{Edition, UserId};
@@ -197,13 +197,21 @@ impl Session {
         view_of(&self.state, client)
     }
 
-    /// Whether a client may type into a window at this moment: both are there, the client's user has w
-    /// on the window, and no other user holds its lock. It takes no memory.
-    pub fn may_type(&self, client: u32, window: u32) -> bool
+    /// Whether a user may type into a window at this moment: it is open, the user has w on it, and no
+    /// other user holds its lock. It takes no memory.
+    pub fn may_type(&self, user: UserId, window: u32) -> bool
         ensures { (h : Trace) → StandsFor h self.now
-            → result ≡ may_type (tables_of h) client window }
+            → result ≡ may_type (tables_of h) user window }
     {
-        may_type(&self.state, client, window)
+        may_type(&self.state, user, window)
+    }
+
+    /// The user of an attached client; `None` if no client with this serial is attached.
+    pub fn user_of(&self, client: u32) -> Option<UserId>
+        ensures { (h : Trace) → StandsFor h self.now
+            → result ≡ client_user (tables_of h) client }
+    {
+        user_of(&self.state, client)
     }
 
     /// The lowest serial of a client that isn't below this one.

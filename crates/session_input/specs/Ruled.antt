@@ -1,5 +1,6 @@
 -- Commands that were ruled on.
-use Rattle.std.specs.Prelude.{ℕ, ◌≡◌, ◌⊎◌, ◌++◌, List, Option, Result, Ok, Err}
+use Rattle.std.specs.Prelude.{ℕ, ◌≡◌, ◌⊎◌, ◌++◌, true, List, Option, Result, Ok, Err, IfOk}
+use Rattle.std.specs.Option.{is_some}
 use Rattle.command_lang.specs.declared.command.Command.{Command}
 use Rattle.session_model.specs.declared.refusal.Refusal.{Refusal}
 use Rattle.session_model.specs.declared.refusal.Refusal.TheVariants.{NoMemory}
@@ -10,7 +11,17 @@ use Rattle.session_state.specs.declared.step_notes.Step.{Step}
 use Rattle.session_state.specs.declared.state.State.{State}
 use Rattle.session_state.specs.Stands.{Stands}
 use Rattle.session_model.specs.Sound.{AreFit}
-use Rattle.session_state.specs.Doing.{Answers, caller_in}
+use Rattle.session_state.specs.Doing.{Answers, Does, IsAsBefore, caller_in}
+use Rattle.session_commands.specs.declared.context.Context.{Context}
+use Rattle.session_commands.specs.Contexts.{IsWhole}
+
+-- a command answers as its row says; one that lists changes nothing
+abbrev pub Acts : Caller → Command → Context → Result (Option (List ℕ)) Refusal → Context → Type 0
+Acts k c old result new =
+    IsWhole old result new
+    × IfOk result (λ text. is_some text ≡ true
+    → IsAsBefore old.state.now new.state.now old.made.now new.made.now)
+    × Does k c old.state.now result new.state.now old.made.now new.made.now
 
 -- its deed was done, or it was refused, and its verdicts were noted; or memory was refused
 abbrev pub Ruled : Tables → Ruling → Result (Option (List ℕ)) Refusal →

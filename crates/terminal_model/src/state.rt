@@ -4,7 +4,7 @@ use cells::Rendition;
 use charsets::{Coding, Shifts};
 
 /// A place of the page. Lines and columns count from 0.
-#[derive(Clone, Copy, Debug)]
+#[derive(Clone, Copy, Debug, PartialEq, Eq)]
 pub struct Position {
     pub line: usize,
     pub column: usize,
@@ -12,7 +12,7 @@ pub struct Position {
 
 /// The modes that SM, RM, DECSM, DECRM, DECKPAM and DECKPNM set and reset (VT220 manual, chapter 4,
 /// "Modes").
-#[derive(Clone, Copy, Debug)]
+#[derive(Clone, Copy, Debug, PartialEq, Eq)]
 pub struct Modes {
     /// IRM: printing moves the cells after the new ones.
     pub inserts: bool,
@@ -33,7 +33,7 @@ pub struct Modes {
 }
 
 /// The state of a terminal. Lines and columns count from 0.
-#[derive(Clone, Copy, Debug)]
+#[derive(Clone, Copy, Debug, PartialEq, Eq)]
 pub struct State {
     pub rows: usize,
     pub columns: usize,
@@ -60,7 +60,7 @@ pub struct State {
 }
 
 /// What DECSC saves (VT220 manual, 4.17).
-#[derive(Clone, Copy, Debug)]
+#[derive(Clone, Copy, Debug, PartialEq, Eq)]
 pub struct Saved {
     pub line: usize,
     pub column: usize,

@@ -1,5 +1,9 @@
 //! Lines with one command each, on which as many words stand as fit.
 
+ghost use Rattle.std.specs.Prelude.{◌≡◌, ◌++◌, ℕ, List, [], ◌∷◌, OnOk, OnErr};
+ghost use Rattle.trail_setup.specs.Lines.{HoldWords, PutsLines, begun, kind_of, letters_of, given_text};
+ghost use Rattle.trail_setup.specs.Lines.{letter as letter_of};
+
 use std::alloc::{AllocError, Global};
 
 /// The most bytes of a line. A setup's line has at most 1,024.
@@ -28,19 +32,22 @@ pub struct Lines<'a> {
 
 impl<'a> Lines<'a> {
     /// Before the first word.
-    pub fn new(alloc: Global, form: Form<'a>) -> Lines<'a> {
+    pub fn new(alloc: Global, form: Form<'a>) -> Lines<'a>
+        ensures form { result.form ≡ form.entry }
+        ensures begins { (out : List ℕ) → HoldWords (kind_of result.form) out [] out result.line.items }
+    {
         Lines {
             form,
             line: Vec::new(alloc),
         }
     }
 
-    /// Puts a word on the line, or on the next one if it doesn't fit.
-    pub fn put(&mut self, word: &[u8], out: &mut Vec<u8>) -> Result<(), AllocError> {
-        let length = self.line.len().saturating_add(word.len());
-        if length.saturating_add(self.form.tail.len()) >= LONGEST {
-            self.end(out)?;
-        }
+    // Puts a word on the line.
+    fn push(&mut self, word: &[u8]) -> Result<(), AllocError>
+        ensures form { self.new.form ≡ self.old.form }
+        ensures begins { (last : List (List ℕ)) → self.old.line.items ≡ begun (kind_of self.old.form) last
+            → OnOk result (self.new.line.items ≡ begun (kind_of self.old.form) (last ++ word.now ∷ [])) }
+    {
         if self.line.is_empty() {
             self.line.extend_from_slice(self.form.head)?;
             self.line.extend_from_slice(b" ")?;
@@ -50,8 +57,29 @@ impl<'a> Lines<'a> {
         self.line.extend_from_slice(word)
     }
 
+    /// Puts a word on the line, or on the next one if it doesn't fit.
+    pub fn put(&mut self, word: &[u8], out: &mut Vec<u8>) -> Result<(), AllocError>
+        ensures form { self.new.form ≡ self.old.form }
+        ensures holds { (start : List ℕ) (words : List (List ℕ))
+            → HoldWords (kind_of self.old.form) start words out.old.items self.old.line.items
+            → OnOk result (HoldWords (kind_of self.old.form) start (words ++ word.now ∷ []) out.new.items
+            self.new.line.items) }
+    {
+        let length = self.line.len().saturating_add(word.len());
+        if length.saturating_add(self.form.tail.len()) >= LONGEST {
+            self.end(out)?;
+        }
+        self.push(word)
+    }
+
     /// Appends the line, if it has words.
-    pub fn end(&mut self, out: &mut Vec<u8>) -> Result<(), AllocError> {
+    pub fn end(&mut self, out: &mut Vec<u8>) -> Result<(), AllocError>
+        ensures form { self.new.form ≡ self.old.form }
+        ensures empty { OnOk result (self.new.line.items ≡ []) }
+        ensures puts { (start : List ℕ) (words : List (List ℕ))
+            → HoldWords (kind_of self.old.form) start words out.old.items self.old.line.items
+            → OnOk result (PutsLines (kind_of self.old.form) start words out.new.items) }
+    {
         if self.line.is_empty() {
             return Ok(());
         }
@@ -63,27 +91,35 @@ impl<'a> Lines<'a> {
     }
 }
 
-/// Appends the letters of the bits that have this value, after a sign, if there are any.
-fn push_letters(sign: u8, given: Given, value: bool, out: &mut Vec<u8>) -> Result<(), AllocError> {
-    let [read, write, execute] = given;
-    if read != value && write != value && execute != value {
-        return Ok(());
-    }
-    out.push(sign)?;
-    if read == value {
-        out.push(b'r')?;
-    }
-    if write == value {
-        out.push(b'w')?;
-    }
-    if execute == value {
-        out.push(b'x')?;
+// Appends a letter if it is asked for.
+fn push_letter(letter: u8, is_asked: bool, out: &mut Vec<u8>) -> Result<(), AllocError>
+    ensures { OnOk result (out.new.items ≡ out.old.items ++ letter_of letter is_asked) }
+{
+    if is_asked {
+        out.push(letter)?;
     }
     Ok(())
 }
 
+// Appends the letters of the bits that are asked for, after a sign, if there are any.
+fn push_letters(sign: u8, asked: Given, out: &mut Vec<u8>) -> Result<(), AllocError>
+    ensures { OnOk result (out.new.items ≡ out.old.items ++ letters_of sign asked) }
+{
+    let [read, write, execute] = asked;
+    if !read && !write && !execute {
+        return Ok(());
+    }
+    out.push(sign)?;
+    push_letter(b'r', read, out)?;
+    push_letter(b'w', write, out)?;
+    push_letter(b'x', execute, out)
+}
+
 /// Appends bits as BITS that set all three, as `+r-wx`.
-pub fn push_bits(given: Given, out: &mut Vec<u8>) -> Result<(), AllocError> {
-    push_letters(b'+', given, true, out)?;
-    push_letters(b'-', given, false, out)
+pub fn push_bits(given: Given, out: &mut Vec<u8>) -> Result<(), AllocError>
+    ensures { OnOk result (out.new.items ≡ out.old.items ++ given_text given) }
+{
+    let [read, write, execute] = given;
+    push_letters(b'+', given, out)?;
+    push_letters(b'-', [!read, !write, !execute], out)
 }

@@ -20,7 +20,7 @@ use cells::{Cell, GridFault};
 use charsets::Coding;
 use std::alloc::Global;
 use std::marker::Model;
-use terminal_model::{MAX_KEEP, Modes};
+use terminal_model::{MAX_KEEP, Modes, Saved, State};
 
 // Wraps `Display`, which has no invariant: it would have to be shown after each field that a row
 // sets.
@@ -180,6 +180,34 @@ impl Screen {
         ensures { result ≡ cell_at (line_at self.now.screen.page line) column }
     {
         self.row(line)[column]
+    }
+
+    /// The most lines that the scrollback keeps.
+    pub fn keep(&self) -> usize
+        ensures { result ≡ self.now.screen.keep }
+    {
+        self.display.ring.keep()
+    }
+
+    /// What it holds beside its page, tab stops, saved place and scrollback.
+    pub fn state(&self) -> State
+        ensures { result ≡ self.now.screen.state }
+    {
+        self.display.state
+    }
+
+    /// For each column whether it has a tab stop.
+    pub fn stops(&self) -> &[bool]
+        ensures { result.now ≡ self.now.screen.tabs }
+    {
+        self.display.tabs.stops()
+    }
+
+    /// What DECSC saved, if it saved anything.
+    pub fn saved(&self) -> Option<Saved>
+        ensures { result ≡ self.now.screen.saved }
+    {
+        self.display.saved
     }
 
     /// The cursor's line and column, counted from 0.

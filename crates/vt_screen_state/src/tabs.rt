@@ -54,6 +54,13 @@ impl Tabs {
         *self = Tabs::new(self.columns);
     }
 
+    /// For each column whether it has a stop.
+    pub fn stops(&self) -> &[bool]
+        ensures { result.now ≡ self.now }
+    {
+        &self.stops[0..self.columns]
+    }
+
     /// HTS: sets a stop in a column.
     pub fn set(&mut self, column: usize)
         requires { column < length self.old }

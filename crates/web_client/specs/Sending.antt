@@ -1,5 +1,7 @@
 -- Bytes on their way to a writer, and from a reader.
 use Rattle.std.specs.Prelude.{◌≡◌, ℕ, List, ◌++◌, Option, Some, None}
+use Rattle.std.specs.Io.KnownBytes.{Consumes}
+use Rattle.web_page.specs.Hearing.{Display, Hears}
 
 -- of the bytes that were put, a writer holds those that were written, and the rest waits; what the
 -- writer holds is known
@@ -12,3 +14,7 @@ IsSent put (Some written) waiting = put ≡ written ++ waiting
 abbrev pub IsReceived : List ℕ → Option (List ℕ) → List ℕ → Type 0
 IsReceived sent None waiting = ⊥
 IsReceived sent (Some left) waiting = sent ≡ waiting ++ left
+
+-- a display heard the next bytes of a reader, and no others
+abbrev pub HearsNext : Option (List ℕ) → Display → Option (List ℕ) → Display → Type 0
+HearsNext left old later new = (bytes : List ℕ) × Consumes left later bytes × Hears old bytes new

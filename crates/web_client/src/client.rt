@@ -1,19 +1,21 @@
 //! A client of the server: the frames that go to it, and what came from it.
 
-ghost use Rattle.std.specs.Prelude.{◌≡◌, ◌++◌, ◌≤◌, ℕ, List, length, take, drop, Err, IfOk, OnOk, OnErr, IfErr};
+ghost use Rattle.std.specs.Prelude.{◌≡◌, ◌≢◌, ◌++◌, ◌≤◌, ℕ, List, length, take, drop, IfOk, OnOk, OnErr, IfErr};
+ghost use Rattle.std.specs.IoError.{error_kind};
+ghost use Rattle.std.specs.Io.KnownBytes.{Keeps};
 ghost use Rattle.std.specs.String.{string_bytes};
 ghost use Rattle.attach_proto.specs.Spelling.{spelling, IsSpellable};
-ghost use Rattle.web_page.specs.Hearing.{IsBlank, IsResized, Hears};
+ghost use Rattle.web_page.specs.Hearing.{IsBlank, IsResized};
 ghost use Rattle.web_client.specs.Asking.{IsLogin};
 ghost use Rattle.web_client.specs.Judging.{IsTyped, FailsFor};
-ghost use Rattle.web_client.specs.Sending.{IsSent};
+ghost use Rattle.web_client.specs.Sending.{IsSent, HearsNext};
 ghost use Rattle.web_client.specs.declared.client.WebClient.{WebClient as Attached};
 
 use crate::outgoing::Outgoing;
 use attach_proto::{Bytes, Message, Text, Token, WriteFault, write_message};
 use std::alloc::Global;
 use std::io;
-use std::io::Write;
+use std::io::{ErrorKind, Read, Write};
 use web_page::{ClientFault, Display};
 use web_requests::Watcher;
 
@@ -21,10 +23,9 @@ use web_requests::Watcher;
 #[derive(Drop)]
 pub struct WebClient {
     alloc: Global,
-    /// The frames that wait for the server. The token is in them, and nowhere else.
-    pub outgoing: Outgoing,
-    /// What the server has told it.
-    pub display: Display,
+    // The frames that wait for the server. The token is in them, and nowhere else.
+    pub(crate) outgoing: Outgoing,
+    pub(crate) display: Display,
 }
 
 impl WebClient {
@@ -44,7 +45,7 @@ impl WebClient {
     }
 
     /// A client on a page of this many lines and columns, which says who it is.
-    pub fn attach(
+    pub(crate) fn attach(
         alloc: Global,
         rows: u16,
         columns: u16,
@@ -74,15 +75,22 @@ impl WebClient {
         Ok(client)
     }
 
+    /// What the server has told it.
+    pub fn display(&self) -> &Display
+        ensures { result.now ≡ self.now.display }
+    {
+        &self.display
+    }
+
     /// How many bytes wait for the server.
-    pub fn waiting(&self) -> usize
+    pub(crate) fn waiting(&self) -> usize
         ensures { result ≡ length self.now.outgoing }
     {
         self.outgoing.waiting()
     }
 
     /// Passes on what was typed.
-    pub fn press(&mut self, keys: &[u8]) -> Result<(), ClientFault>
+    pub(crate) fn press(&mut self, keys: &[u8]) -> Result<(), ClientFault>
         ensures ok { OnOk result (self.new
             ≡ record self.old { outgoing = self.old.outgoing ++ spelling (Message.Keys keys.now) }) }
         ensures err { OnErr result (self.new ≡ self.old) }
@@ -93,7 +101,7 @@ impl WebClient {
     }
 
     /// Passes on a new size. The page is drawn in it from now on.
-    pub fn resize(&mut self, rows: u16, columns: u16) -> Result<(), ClientFault>
+    pub(crate) fn resize(&mut self, rows: u16, columns: u16) -> Result<(), ClientFault>
         ensures asks { OnOk result (self.new.outgoing
             ≡ self.old.outgoing ++ spelling (Message.Resize rows columns)) }
         ensures display { OnOk result (IsResized rows columns self.old.display self.new.display) }
@@ -105,7 +113,7 @@ impl WebClient {
     }
 
     /// Asks to leave.
-    pub fn detach(&mut self) -> Result<(), ClientFault>
+    pub(crate) fn detach(&mut self) -> Result<(), ClientFault>
         ensures ok { OnOk result (self.new
             ≡ record self.old { outgoing = self.old.outgoing ++ spelling Message.Detach }) }
         ensures err { OnErr result (self.new ≡ self.old) }
@@ -114,8 +122,28 @@ impl WebClient {
         self.ask(&Message::Detach)
     }
 
+    /// Reads the server once, and hears the bytes that this read gave. If the stream has a fault, the error is
+    /// `InvalidData`.
+    pub(crate) fn receive<S: Read>(
+        &mut self,
+        server: &mut S,
+        buffer: &mut [u8],
+    ) -> io::Result<usize>
+        ensures hears { OnOk result (HearsNext (S.remaining server.old) self.old.display (S.remaining server.new)
+            self.new.display) }
+        ensures unheard { IfErr result (λ error. error_kind error ≢ ErrorKind.InvalidData
+            → (self.new ≡ self.old) × Keeps (S.remaining server.old) (S.remaining server.new)) }
+        ensures asks { self.new.outgoing ≡ self.old.outgoing }
+    {
+        let count = server.read(buffer)?;
+        match self.display.hear_all(&buffer[..count]) {
+            Ok(()) => Ok(count),
+            Err(_) => Err(io::Error::from(ErrorKind::InvalidData)),
+        }
+    }
+
     /// Writes the bytes that wait, as far as the server takes them.
-    pub fn send_all<W: Write>(&mut self, server: &mut W) -> io::Result<()>
+    pub(crate) fn send_all<W: Write>(&mut self, server: &mut W) -> io::Result<()>
         ensures sent { (put : List ℕ) → IsSent put (W.contents server.old) self.old.outgoing
             → IsSent put (W.contents server.new) self.new.outgoing }
         ensures display { self.new.display ≡ self.old.display }
@@ -155,13 +183,13 @@ impl SharedClient {
         &self.client.display
     }
 
-    /// Takes bytes of the server.
-    pub fn hear(&mut self, bytes: &[u8]) -> Result<(), ClientFault>
-        ensures hears { (result ≡ Err ClientFault.NoMemory → ⊥)
-            → Hears self.old.client.display bytes.now self.new.client.display }
+    /// Reads the server once, and hears the bytes that this read gave.
+    pub fn receive<S: Read>(&mut self, server: &mut S, buffer: &mut [u8]) -> io::Result<usize>
+        ensures hears { OnOk result (HearsNext (S.remaining server.old) self.old.client.display
+            (S.remaining server.new) self.new.client.display) }
         ensures asks { self.new.client.outgoing ≡ self.old.client.outgoing }
     {
-        self.client.display.hear_all(bytes)
+        self.client.receive(server, buffer)
     }
 
     /// Passes on keys that choose its window.

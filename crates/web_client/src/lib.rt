@@ -6,6 +6,7 @@ mod client;
 mod frame;
 mod identity;
 mod outgoing;
+mod pages;
 mod visitor;
 mod wire;
 

@@ -2,14 +2,13 @@
 
 ghost use Rattle.std.specs.Prelude.{◌≡◌, ◌↔◌, ◌⊎◌, ℕ, List, drop, IfOk, OnOk, OnErr, IsTrue, ◌<◌, ◌≤◌, []};
 ghost use Rattle.std.specs.Prelude.{length, false, true, codes, vec_len};
-ghost use Rattle.web_client.specs.Asking.{Asks, Keeps, IsOwn, IfOwn, IsWatcher};
+ghost use Rattle.web_client.specs.Asking.{Asks, IfOwn};
 ghost use Rattle.web_client.specs.Sending.{IsReceived, IsSent};
-ghost use Rattle.web_client.specs.Rows.{Adds, IsDue, Shows, SendsAll, TellsLast, TellsHere, Refuses, said, handed};
+ghost use Rattle.web_client.specs.Rows.{TellsLast, TellsHere, Refuses, said, handed};
 ghost use Rattle.web_requests.specs.Serving.{refusal};
 ghost use Rattle.web_client.specs.Frames.{page, page_after, begun, Reads, Answers, TakesMessage, TakesSome};
-ghost use Rattle.web_client.specs.Frames.{TakesBytes, IsBounded, IsWithin};
+ghost use Rattle.web_client.specs.Frames.{TakesBytes, IsBounded};
 
-use crate::client::SharedClient;
 use crate::frame::PageFrame;
 use crate::identity::{Identity, MessageFault};
 use crate::outgoing::{drop_front, write_all};
@@ -37,10 +36,10 @@ const UNKNOWN: &str = "unknown user or wrong token";
 #[derive(Drop)]
 pub struct Visitor {
     input: Vec<u8>,
-    wire: Wire,
-    view: SentPage,
-    /// Who the browser is.
-    pub identity: Identity,
+    pub(crate) wire: Wire,
+    pub(crate) view: SentPage,
+    // Only what the browser sends, and the server's bytes for its own client, change it.
+    pub(crate) identity: Identity,
     /// The address that the web server before the bridge saw; empty if it told none.
     pub address: Vec<u8>,
 }
@@ -59,6 +58,13 @@ impl Visitor {
             identity: Identity::Nobody,
             address: Vec::new(alloc),
         }
+    }
+
+    /// Who the browser is.
+    pub fn identity(&self) -> &Identity
+        ensures { result.now ≡ self.now.identity }
+    {
+        &self.identity
     }
 
     /// Whether nothing is read any more.
@@ -308,69 +314,5 @@ impl Visitor {
         self.wire.ask()?;
         self.check_bounds()?;
         Ok(())
-    }
-
-    /// Another page is shown from now on, of which nothing was sent.
-    pub fn change_page(&mut self)
-        ensures { self.new ≡ record self.old { view = record { is_welcomed = false; since = 0 } } }
-    {
-        self.view = SentPage::NOTHING;
-    }
-
-    /// Whether it watches a page that others watch too. It is shown that page, and every other browser its own.
-    pub fn is_watcher(&self) -> bool
-        ensures { IsTrue result ↔ IsWatcher self.now.identity }
-    {
-        match &self.identity {
-            Identity::Watching(_, _) => true,
-            Identity::Nobody
-            | Identity::Own(_)
-            | Identity::Link(_)
-            | Identity::Unknown
-            | Identity::Left => false,
-        }
-    }
-
-    /// Shows the page of a shared client to a browser that watches. No other one is sent it.
-    pub fn show_shared(&mut self, shared: &mut SharedClient) -> Result<(), WireFault>
-        ensures apart { (IsWatcher self.old.identity → ⊥) → (self.new ≡ self.old) × (shared.new ≡ shared.old) }
-        ensures closed { (self.old.wire.phase ≡ Phase.Socket → ⊥) → (self.new ≡ self.old)
-            × (shared.new ≡ shared.old) }
-        ensures shows { self.old.wire.phase ≡ Phase.Socket → IsWatcher self.old.identity
-            → IsDue shared.old.client.display self.old.wire
-            → OnOk result (Shows shared.old.client.display self.old.view.since self.old.wire
-            shared.new.client.display self.new.view.since self.new.wire) }
-        ensures sends { self.old.wire.phase ≡ Phase.Socket → IsWatcher self.old.identity
-            → OnOk result (SendsAll shared.old.client.display.told self.old.wire self.new.wire) }
-        ensures adds { OnOk result (Adds self.old.wire self.new.wire) }
-        ensures identity { self.new.identity ≡ self.old.identity }
-    {
-        if !self.is_open() || !self.is_watcher() {
-            return Ok(());
-        }
-        self.wire.show(&mut self.view, &mut shared.client.display)
-    }
-
-    /// Shows the page of its own client: what the browser is sent is made from the display alone.
-    pub fn show_own(&mut self) -> Result<(), WireFault>
-        ensures apart { (IsOwn self.old.identity (λ _. Unit {0}) → ⊥) → self.new ≡ self.old }
-        ensures closed { (self.old.wire.phase ≡ Phase.Socket → ⊥) → self.new ≡ self.old }
-        ensures shows { self.old.wire.phase ≡ Phase.Socket
-            → IfOwn self.old.identity (λ old. IsDue old.display self.old.wire
-            → OnOk result (IsOwn self.new.identity (λ new. Shows old.display self.old.view.since self.old.wire
-            new.display self.new.view.since self.new.wire))) }
-        ensures sends { self.old.wire.phase ≡ Phase.Socket
-            → IfOwn self.old.identity (λ old. OnOk result (SendsAll old.display.told self.old.wire self.new.wire)) }
-        ensures adds { OnOk result (Adds self.old.wire self.new.wire) }
-        ensures bound { self.old.wire.phase ≡ Phase.Socket → OnOk result (IsWithin self.new.wire) }
-        ensures keeps { Keeps self.old.identity self.new.identity }
-    {
-        if !self.is_open() {
-            return Ok(());
-        }
-        match &mut self.identity {
-            Identity::Own(client) => self.wire.show(&mut self.view, &mut client.display),
-            _ => self.wire.check_bound(),
-        }
     }
 }

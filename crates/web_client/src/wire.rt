@@ -346,6 +346,10 @@ impl Wire {
         ensures adds { OnOk result (Adds self.old self.new) }
         ensures due { IsDue display.old self.old → OnOk result (Shows display.old view.old.since self.old
             display.new view.new.since self.new) }
+        ensures later { (IsDue display.old self.old → ⊥)
+            → (view.new.since ≡ view.old.since) × (display.new ≡ display.old)
+            × (self.new.sent ≡ self.old.sent) }
+        ensures gone { IfSome display.old.told.gone (λ _. OnOk result (self.new.phase ≡ Phase.Last)) }
         ensures bound { OnOk result (IsWithin self.new) }
     {
         self.send_new(view, display)?;

@@ -11,4 +11,4 @@ invariant-loop-piece l =
     × (chunks_size l.piece-iterator ≡ 8192)
     × (done : List ℕ)
     × (done ++ chunks_rest l.piece-iterator ≡ l.bytes)
-    × PutsFrames l.kind done l.fn.turn l.turn
+    × PutsFrames l.kind l.typist done l.fn.turn l.turn

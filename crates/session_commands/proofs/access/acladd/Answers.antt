@@ -9,10 +9,12 @@ use Rattle.session_model.specs.Deeds.{changes}
 use Rattle.windows_model.proofs.Serials.{on_ok}
 use Rattle.session_commands.proofs.There.{all_there}
 use Rattle.session_commands.proofs.OnLists.{acted, says_nothing, change_done, change_refused}
+use Rattle.session_commands.proofs.Quiet.{quietly}
 use Rattle.session_commands.proofs.access.acladd.Goals as goal
 
-pub returns-clause-answer : goal.returns-clause-answer
-returns-clause-answer c = λ k t st fit passed.
+pub returns : goal.returns
+returns c = quietly ((refl, refl), (says_nothing c.add.result c.answered.result c.answered.ensures, search rules))
+    (λ k t st fit passed.
     let names = c.deref.result.now in
     let objects = c.deref-2.result.now in
     let asked = names_of t c.args.users.now in
@@ -20,15 +22,11 @@ returns-clause-answer c = λ k t st fit passed.
     let same : names ≡ asked = c.deref.ensures.value ∙ c.in_ok-names.ensures t st.acl in
     let found : objects ≡ all = c.deref-2.ensures.value ∙ c.in_ok-objects.ensures t st.windows in
     let at : Some all ≡ Some objects = ap (λ os. Some os) (sym found) in
-    acted t (add_acts (known_users t) names objects) c.args.state.now c.add.new.self c.add.new.follower
-    c.args.made.now _ (changes t asked (Some all) (add_acts_in t asked))
+    acted t (add_acts (known_users t) names objects) c.args.context.now.state.now c.add.new.self c.add.new.follower
+    c.args.context.now.made.now _ (changes t asked (Some all) (add_acts_in t asked))
     (change_fault t.owner (known_users t) names) c.add.result c.answered.result c.answered.ensures st
     (change_done t names asked same (Some all) objects (add_acts_in t) at)
     (change_refused t names asked same (Some all) (add_acts_in t asked))
-    (c.add.ensures.answer t.edition t.owner t.acts st.acl)
-    (on_ok c.add.result (λ done. done t.edition t.owner t.acts st.acl
-    (subst (All (λ o. there t.acts o ≡ true)) (sym found) (all_there t fit.agree))) c.add.ensures.done)
-    refl
-
-pub returns-clause-silent : goal.returns-clause-silent
-returns-clause-silent c = (says_nothing c.add.result c.answered.result c.answered.ensures, search rules)
+    (c.add.ensures.answer t.edition t.owner t.acts st.acl) (on_ok c.add.result
+    (λ done. done t.edition t.owner t.acts st.acl (subst (All (λ o. there t.acts o ≡ true)) (sym found)
+    (all_there t fit.agree))) c.add.ensures.done) refl)

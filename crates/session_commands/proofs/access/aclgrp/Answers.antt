@@ -9,10 +9,12 @@ use Rattle.session_model.specs.Rights.{group_fault_in}
 use Rattle.session_model.specs.Deeds.{Answer, acting, unless}
 use Rattle.windows_model.proofs.Serials.{on_ok}
 use Rattle.session_commands.proofs.OnLists.{acted, says_nothing, unless_none, unless_some}
+use Rattle.session_commands.proofs.Quiet.{quietly}
 use Rattle.session_commands.proofs.access.aclgrp.Goals as goal
 
-pub returns-clause-answer : goal.returns-clause-answer
-returns-clause-answer c = λ k t st fit passed.
+pub returns : goal.returns
+returns c = quietly ((refl, refl), (says_nothing c.group.result c.answered.result c.answered.ensures, search rules))
+    (λ k t st fit passed.
     let name = c.named.result in
     let leader = c.new_leader.result in
     let row : Option UserId → NewLeader → Answer = λ n l.
@@ -20,14 +22,10 @@ returns-clause-answer c = λ k t st fit passed.
     let same : row (named_by c.args.name.now) (new_leader_of c.args.leader.now) ≡ row name leader =
     ap (λ n. row n (new_leader_of c.args.leader.now)) (sym c.named.ensures)
     ∙ ap (row name) (sym c.new_leader.ensures) in
-    acted t (group_acts name leader) c.args.state.now c.group.new.self c.group.new.follower
-    c.args.made.now _ (row (named_by c.args.name.now) (new_leader_of c.args.leader.now))
+    acted t (group_acts name leader) c.args.context.now.state.now c.group.new.self c.group.new.follower
+    c.args.context.now.made.now _ (row (named_by c.args.name.now) (new_leader_of c.args.leader.now))
     (group_fault_in t name leader) c.group.result c.answered.result c.answered.ensures st
     (λ none. same ∙ unless_none Acl (acting t (group_acts name leader)) _ none)
     (λ f is. same ∙ unless_some Acl (acting t (group_acts name leader)) _ f is)
-    (c.group.ensures.answer t.edition t.owner t.acts st.acl)
-    (on_ok c.group.result (λ done. done t.edition t.owner t.acts st.acl) c.group.ensures.done)
-    refl
-
-pub returns-clause-silent : goal.returns-clause-silent
-returns-clause-silent c = (says_nothing c.group.result c.answered.result c.answered.ensures, search rules)
+    (c.group.ensures.answer t.edition t.owner t.acts st.acl) (on_ok c.group.result
+    (λ done. done t.edition t.owner t.acts st.acl) c.group.ensures.done) refl)

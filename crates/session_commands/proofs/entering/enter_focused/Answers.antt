@@ -1,5 +1,5 @@
-use Rattle.std.proofs.Common.{arith}
+use Rattle.std.proofs.Common.{arith, rules}
 use Rattle.session_commands.proofs.entering.enter_focused.Goals as goal
 
-pub returns-in-Some-window-clause-room : goal.returns-in-Some-window-clause-room
-returns-in-Some-window-clause-room c = c.enter.ensures.noted.room 64 (omega (arith, c.requires))
+pub returns-in-Some-window : goal.returns-in-Some-window
+returns-in-Some-window c = (search rules, c.enter.ensures.1.room 64 (omega (arith, c.requires)), search rules)

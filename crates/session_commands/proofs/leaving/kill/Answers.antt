@@ -1,4 +1,4 @@
-use Rattle.std.proofs.Common.{subst, Ok, None}
+use Rattle.std.proofs.Common.{subst, Ok, None, rules}
 use Rattle.std.proofs.lemmas.Result.{err_from_is_err_and}
 use Rattle.command_lang.specs.declared.command.Command.TheVariants as command
 use Rattle.session_model.specs.declared.event.Reason.TheVariants as reason
@@ -6,17 +6,18 @@ use Rattle.session_model.specs.Commands.{does}
 use Rattle.session_state.specs.Doing.{Answers, caller_in}
 use Rattle.session_commands.specs.Closing.{closing}
 use Rattle.session_commands.proofs.LeavingRows.{kill_is, refused_alike}
+use Rattle.session_commands.proofs.Quiet.{quietly}
 use Rattle.session_commands.proofs.leaving.kill.Goals as goal
 
-pub returns-in_err-close-clause-answer : goal.returns-in_err-close-clause-answer
-returns-in_err-close-clause-answer c = λ k at t st fit passed.
+pub returns-in_err-close : goal.returns-in_err-close
+returns-in_err-close c = quietly (search rules) (λ k at t st fit passed.
     let p = err_from_is_err_and c.from_residual.result c.from_residual.ensures.1 in
     let window = c.args.window in
     rw (p.1, p.2)
     (refused_alike (closing window reason.Killed t) (does t (caller_in t k) command.Kill) c.in_err-close.field-0.0
-    (kill_is t k window at) (c.in_err-close.ensures.answer t st fit))
+    (kill_is t k window at) (c.in_err-close.ensures.1 t st fit)))
 
-pub returns-clause-answer : goal.returns-clause-answer
-returns-clause-answer c = λ k at t st fit passed.
-    subst (λ a. Answers t a (Ok None) c.close.new.state c.args.made.now c.close.new.made)
-    (kill_is t k c.args.window at) (c.in_ok-close.ensures.answer t st fit)
+pub returns : goal.returns
+returns c = quietly (search rules) (λ k at t st fit passed.
+    subst (λ a. Answers t a (Ok None) c.close.new.context.state.now c.args.context.now.made.now
+    c.close.new.context.made.now) (kill_is t k c.args.window at) (c.in_ok-close.ensures.1 t st fit))

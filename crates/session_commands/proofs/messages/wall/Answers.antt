@@ -1,5 +1,5 @@
 use Rattle.std.proofs.Common.{◌≡◌, ◌++◌, ℕ, List, length, map, replicate, refl, ap, sym, ◌∙◌}
-use Rattle.std.proofs.Common.{append-nil}
+use Rattle.std.proofs.Common.{append-nil, rules}
 use Rattle.std.specs.Prelude.{codes}
 use Rattle.acl.specs.Names.{name_of}
 use Rattle.session_model.specs.declared.event.Effect.{Effect}
@@ -7,12 +7,13 @@ use Rattle.session_model.specs.declared.event.Effect.TheVariants.{Say}
 use Rattle.session_model.specs.declared.message.StatusMessage.TheVariants.{Text}
 use Rattle.session_model.specs.Tables.{Client}
 use Rattle.session_model.specs.Deeds.{tells}
+use Rattle.session_commands.proofs.Quiet.{quietly}
 use Rattle.session_commands.proofs.messages.wall.Goals as goal
 
-pub returns-clause-answer : goal.returns-clause-answer
-returns-clause-answer c = λ t st fit passed.
+pub returns : goal.returns
+returns c = quietly (search rules) (λ t st fit passed.
     let k = c.args.caller in
-    let before = c.args.made.now.effects.items in
+    let before = c.args.context.now.made.now.effects.items in
     let text : List ℕ = name_of k.user ++ (codes ": " ++ c.args.text.now) in
     let heard : c.deref.result.now ≡ text = c.deref.ensures.value ∙ c.in_ok-said.ensures in
     let said : c.deref-2.result.now ≡ text = c.deref-2.ensures.value ∙ c.in_ok-said.ensures in (
@@ -26,10 +27,9 @@ returns-clause-answer c = λ t st fit passed.
           multiuser_is = st.multiuser_is;
           windows = st.windows;
           clients =
-              c.hear_all.ensures text
-              (c.in_ok-messages.ensures
+              c.hear_all.ensures text (c.in_ok-messages.ensures
               ∙ (ap (λ n. replicate n (Text c.deref.result.now)) c.len.ensures
-              ∙ ap (λ bs. replicate (length c.args.state.now.clients) (Text bs)) heard)) t.clients
+              ∙ ap (λ bs. replicate (length c.args.context.now.state.now.clients) (Text bs)) heard)) t.clients
               st.clients;
           next_window_is = st.next_window_is;
           next_client_is = st.next_client_is;
@@ -40,4 +40,4 @@ returns-clause-answer c = λ t st fit passed.
             ∙ (ap (λ (es : List Effect). before ++ es) (c.in_ok-says.ensures t.clients st.clients)
             ∙ ap (λ bs. before ++ map (λ (m : Client). Say m.serial bs) t.clients) said);
       },
-    )
+    ))

@@ -1,4 +1,4 @@
-use Rattle.std.proofs.Common.{ap, inr}
+use Rattle.std.proofs.Common.{ap, inr, rules}
 use Rattle.std.specs.Prelude.{option_copied}
 use Rattle.session_model.specs.Naming.{window_after}
 use Rattle.session_model.specs.declared.refusal.Refusal.TheVariants.{NoWindow}
@@ -7,24 +7,22 @@ use Rattle.session_state.specs.Doing.{caller_in}
 use Rattle.session_commands.proofs.Answering.{shown_on, not_shown_on}
 use Rattle.session_commands.proofs.Members.{StandsAt, of_after, stand_there}
 use Rattle.session_commands.proofs.Paging.{giver_there}
+use Rattle.session_commands.proofs.Quiet.{quietly}
 use Rattle.session_commands.proofs.pages.next.Goals as goal
 
-pub returns-in_default-clause-answer : goal.returns-in_default-clause-answer
-returns-in_default-clause-answer c = λ gives t st fit free.
-    let by = giver_there t c.args.caller c.args.client c.args.state.now st gives in
-    inr (not_shown_on t c.args.caller c.args.client by.0 by.1
-    (λ (d : model.Client). window_after t.windows (caller_in t c.args.caller).window) NoWindow _
-    (c.after.ensures t.windows (caller_in t c.args.caller).window st.windows (c.number_of-from.ensures t st))
-    (ap option_copied c.in_default.is))
+pub returns-in_default : goal.returns-in_default
+returns-in_default c = quietly (search rules) (λ gives t st fit free.
+    let by = giver_there t c.args.caller c.args.client c.args.context.now.state.now st gives in
+    inr (not_shown_on t c.args.caller c.args.client by.0 by.1 (λ (d : model.Client). window_after t.windows
+    (caller_in t c.args.caller).window) NoWindow _ (c.after.ensures t.windows (caller_in t c.args.caller).window
+    st.windows (c.number_of-from.ensures t st)) (ap option_copied c.in_default.is)))
 
-pub returns-clause-answer : goal.returns-clause-answer
-returns-clause-answer c = λ gives t st fit free.
-    let by = giver_there t c.args.caller c.args.client c.args.state.now st gives in
-    shown_on t c.args.caller c.args.client by.0 by.1
-    (λ (d : model.Client). window_after t.windows (caller_in t c.args.caller).window) NoWindow _
-    c.in-Some.window.now c.args.state.now
-    c.show.new.state c.args.made.now c.show.new.made st fit
+pub returns : goal.returns
+returns c = quietly (search rules) (λ gives t st fit free.
+    let by = giver_there t c.args.caller c.args.client c.args.context.now.state.now st gives in
+    shown_on t c.args.caller c.args.client by.0 by.1 (λ (d : model.Client). window_after t.windows
+    (caller_in t c.args.caller).window) NoWindow _ c.in-Some.window.now c.args.context.now.state.now
+    c.show.new.context.state.now c.args.context.now.made.now c.show.new.context.made.now st fit
     (c.after.ensures t.windows (caller_in t c.args.caller).window st.windows (c.number_of-from.ensures t st))
-    (ap option_copied c.in-Some.is)
-    (of_after (StandsAt t.windows) t.windows (caller_in t c.args.caller).window (stand_there t.windows))
-    c.show.ensures.done
+    (ap option_copied c.in-Some.is) (of_after (StandsAt t.windows) t.windows (caller_in t c.args.caller).window
+    (stand_there t.windows)) c.show.ensures.2)

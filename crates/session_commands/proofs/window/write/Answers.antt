@@ -1,15 +1,15 @@
-use Rattle.std.proofs.Common.{subst, Ok}
+use Rattle.std.proofs.Common.{subst, Ok, rules}
 use Rattle.terminal_model.specs.Writing.{Writing}
 use Rattle.windows.specs.Standing.{written, written_in, Answered}
 use Rattle.session_commands.specs.Written.{writing_of}
 use Rattle.session_commands.proofs.Changing.{change_done, writing_changes}
+use Rattle.session_commands.proofs.Quiet.{quietly}
 use Rattle.session_commands.proofs.window.write.Goals as goal
 
-pub returns-clause-answer : goal.returns-clause-answer
-returns-clause-answer c = λ k at t st fit passed.
-    change_done t c.args.state.now k c.args.window c.args.command.now (written (writing_of c.args.command.now))
-    (writing_changes t c.args.command.now c.requires.writes) at st passed c.in_ok-write.field-0 c.write.new.self
-    c.args.made.now
+pub returns : goal.returns
+returns c = quietly (search rules) (λ k at t st fit passed.
+    change_done t c.args.context.now.state.now k c.args.window c.args.command.now
+    (written (writing_of c.args.command.now)) (writing_changes t c.args.command.now c.requires.writes) at st passed
+    c.in_ok-write.field-0 c.write.new.self c.args.context.now.made.now
     (subst (λ (what : Writing). Answered (written_in c.args.window what t.windows) (Ok c.in_ok-write.field-0)
-    c.write.new.self) c.writing_of.ensures
-    (c.in_ok-write.ensures.answer t.windows st.windows))
+    c.write.new.self) c.writing_of.ensures (c.in_ok-write.ensures.answer t.windows st.windows)))

@@ -1,4 +1,5 @@
-use Rattle.client_peer.proofs.Passing.{passes_same}
+use Rattle.std.proofs.Common.{refl}
+use Rattle.client_peer.proofs.Passing.{passes_keeps, passes_same}
 use Rattle.client_peer.proofs.peer.Peer.put_message.Goals as goal
 
 pub returns-in_default : goal.returns-in_default
@@ -6,3 +7,6 @@ returns-in_default c = record { ok = passes_same c.args.self.now; err = tt }
 
 pub returns-in_default-3 : goal.returns-in_default-3
 returns-in_default-3 c = record { ok = passes_same c.args.self.now; err = tt }
+
+pub returns-in-Welcome-clause-ok : goal.returns-in-Welcome-clause-ok
+returns-in-Welcome-clause-ok c = passes_keeps c.args.self.now _ (record { way = refl; draws = refl; kept = refl })

@@ -1,4 +1,4 @@
-use Rattle.std.proofs.Common.{◌≡◌, ◌<◌, ℕ, List, Option, length, sym, ap, ◌∙◌, subst, false, Bool}
+use Rattle.std.proofs.Common.{◌≡◌, ◌<◌, List, length, sym, ap, ◌∙◌, subst, false, Bool}
 use Rattle.std.specs.declared.vec.Vec.{Vec}
 use Rattle.std.specs.declared.alloc.Global.{Global}
 use Rattle.std.specs.List.{AllByRecursion}
@@ -7,7 +7,7 @@ use Rattle.session.specs.Trace.{happening}
 use Rattle.session.specs.Stands.{entry_of, wants_memory}
 use Rattle.hub_trail.specs.Filing.{kept_of}
 use Rattle.hub_peers.specs.Peers.{HasPeer, Owners, owners_of, with_peers}
-use Rattle.hub_ledger.specs.Routing.{Sent, views, marked, typed_in, typist_of, AreRouted}
+use Rattle.hub_ledger.specs.Routing.{Sent, views, marked, typed_in, AreRouted}
 use Rattle.hub_ledger.specs.Slips.{with_entries, written}
 use Rattle.hub_ledger.specs.States.{state_of, trail_in}
 use Rattle.hub_ledger.proofs.Steps.{few, peers_there, made_by, filed_is, kept_after}
@@ -52,20 +52,18 @@ returns-clause-step c =
             ∙ (λ i. with_entries (c.make_room.ensures.same i) (written (c.requires.prepared i) noted reply))
             ∙ ap (with_entries (trail_in c.args.self.now.entries)) (filed_is (kept_of event) event reply noted effects);
         owners = c.add.ensures ∙ ap (with_peers event reply c.args.seat) c.make_room-2.ensures.same;
+        typist = c.typist_of-typist.result;
+        typist_is = c.typist_of-typist.ensures;
         waiting = subst
-            (λ (now : List (List Sent)). AreRouted (owners_of c.args.self.now.peers) (typist_of event) effects
+            (λ (now : List (List Sent)). AreRouted (owners_of c.args.self.now.peers) c.typist_of-typist.result effects
             (views c.args.self.now.waiting.lists.items) now)
             (sym (ap (λ (v : Vec (Vec Sent Global) Global). views v.items) c.mark.ensures.lists))
             (subst
-            (λ (was : List (List Sent)). AreRouted (owners_of c.args.self.now.peers) (typist_of event) effects was
-            (views c.route.new.self.lists.items)) c.make_room-3.ensures.lists
+            (λ (was : List (List Sent)). AreRouted (owners_of c.args.self.now.peers) c.typist_of-typist.result effects
+            was (views c.route.new.self.lists.items)) c.make_room-3.ensures.lists
             (subst
-            (λ (o : Owners). AreRouted o (typist_of event) effects (views c.make_room-3.new.self.lists.items)
-            (views c.route.new.self.lists.items)) c.make_room-2.ensures.same
-            (subst
-            (λ (t : Option ℕ). AreRouted (owners_of c.make_room-2.new.self) t effects
-            (views c.make_room-3.new.self.lists.items) (views c.route.new.self.lists.items))
-            c.typist_of-typist.ensures c.route.ensures.lists)));
+            (λ (o : Owners). AreRouted o c.typist_of-typist.result effects (views c.make_room-3.new.self.lists.items)
+            (views c.route.new.self.lists.items)) c.make_room-2.ensures.same c.route.ensures.lists));
         typed_is = c.typed_in-typed.ensures ∙ ap (typed_in event) c.as_slice.ensures.value;
         marks = c.mark.ensures.marks
             ∙ ap (λ (m : Vec Bool Global). marked event m.items) (c.route.ensures.marks ∙ c.make_room-3.ensures.marks);

@@ -1,0 +1,18 @@
+use Rattle.std.proofs.Common.{sym, subst, arith}
+use Rattle.terminal_model.specs.Reading.{Terminal, reads}
+use Rattle.emulator.specs.Standing.{StandsFor}
+use Rattle.emulator.proofs.Feeding.{reads-more}
+use Rattle.client_peer.proofs.page.read_to_end.Goals as goal
+
+pub bytes-init : goal.bytes-init
+unfolding reads
+bytes-init c = record { read = λ t h. h; few = omega arith }
+
+pub bytes-preserved : goal.bytes-preserved
+bytes-preserved c = record {
+  read = λ t h.
+      subst (λ (u : Terminal). StandsFor c.feed.new.self u)
+      (sym (reads-more t c.args.bytes.now c.bytes.read (omega arith)))
+      (c.feed.ensures.read _ (c.bytes.invariant.read t h)).stands;
+  few = omega arith;
+}

@@ -1,0 +1,46 @@
+-- What a window that stays sends first when a server has it again.
+use Rattle.std.specs.Prelude.{◌≡◌, ℕ, ◌≤◌, Bool, true, false, List, [], ◌++◌, length, take, drop, Option, Some, None}
+use Rattle.std.specs.List.{AllByRecursion, flat_map}
+use Rattle.attach_proto.specs.declared.kind.Kind.{Kind}
+use Rattle.attach_proto.specs.declared.kind.Kind.TheVariants.{Output}
+use Rattle.attach_proto.specs.Spelling.{frame}
+use Rattle.terminal_model.specs.Reading.{Terminal, reads}
+use Rattle.emulator.specs.Standing.{Parts, StandsFor}
+use Rattle.rebuild.specs.Rebuilt.{BringsBack}
+use Rattle.client_peer.specs.declared.peer.Peer.{Peer}
+
+-- these bytes were added to the frames for the server, in pieces that fit in a frame: none is lost or doubled
+pub record Sends (old new : List ℕ) (kind : Kind) (bytes : List ℕ) : Type 0 where
+  pub pieces : List (List ℕ)
+  pub whole : flat_map (λ piece. piece) pieces ≡ bytes
+  pub fit : AllByRecursion (λ piece. length piece ≤ 8192) pieces
+  pub added : new ≡ old ++ flat_map (frame kind) pieces
+
+-- a kept terminal has read the first bytes, from whatever terminal it stood for before
+abbrev pub Settles : Option Parts → List ℕ → ℕ → Option Parts → Type 0
+Settles None bytes count new = (count ≡ 0) × (new ≡ None)
+Settles (Some e) bytes count None = ⊥
+Settles (Some e) bytes count (Some e') =
+    (t : Terminal) → StandsFor e t → StandsFor e' (reads t (take count bytes)).terminal
+
+-- these bytes bring a kept terminal back, which isn't hidden
+abbrev pub TellsPage : Option Parts → Bool → List ℕ → Type 0
+TellsPage None is_hidden bytes = ⊥
+TellsPage (Some e) true bytes = ⊥
+TellsPage (Some e) false bytes = BringsBack e bytes
+
+-- the page is told, or no byte is
+abbrev pub TellsIf : Bool → Option Parts → Bool → List ℕ → Type 0
+TellsIf true e is_hidden bytes = TellsPage e is_hidden bytes
+TellsIf false e is_hidden bytes = bytes ≡ []
+
+-- A window that is opened again sends the page that it had, and then what was held, in order. The page has read the
+-- bytes of it that end a function which the last server had begun to read; so these aren't sent again.
+pub record Reopens (old new : Peer) (is_told : Bool) : Type 0 where
+  pub told : List ℕ
+  pub read : ℕ
+  pub settled : Option Parts
+  pub settles : Settles old.page.emulator old.held.items read settled
+  pub sends : Sends old.frames.items new.frames.items Output (told ++ drop read old.held.items)
+  pub page : TellsIf is_told settled old.page.is_hidden told
+  pub none : new.held.items ≡ []

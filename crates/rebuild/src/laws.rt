@@ -1,0 +1,17 @@
+//! What follows of a terminal that was brought back.
+
+ghost use Rattle.std.specs.Prelude.{◌≡◌, ℕ, List};
+ghost use Rattle.terminal_model.specs.Reading.{Terminal, reads};
+ghost use Rattle.emulator.specs.Standing.{Parts, StandsFor, IsBetween};
+ghost use Rattle.rebuild.specs.Rebuilt.{BringsBack, rebuilt};
+
+/// The terminal that was brought back is the one that was there before, whatever that had read. So what both read
+/// later, they show, keep and answer alike.
+pub fn rebuilt_is_the_same()
+    ensures terminal { (e : Parts) (bytes : List ℕ) (t : Terminal)
+        → IsBetween e.screen.state.coding e → BringsBack e bytes → StandsFor e t
+        → (rebuilt e bytes).terminal ≡ t }
+    ensures later { (e : Parts) (bytes later : List ℕ) (t : Terminal)
+        → IsBetween e.screen.state.coding e → BringsBack e bytes → StandsFor e t
+        → reads (rebuilt e bytes).terminal later ≡ reads t later }
+{}

@@ -1,0 +1,115 @@
+//! A browser's own client, and which page a browser is shown.
+
+ghost use Rattle.std.specs.Prelude.{◌≡◌, ◌↔◌, ℕ, List, OnOk, IsTrue, false};
+ghost use Rattle.web_client.specs.Asking.{Keeps, IsOwn, IfOwn, IsWatcher};
+ghost use Rattle.web_client.specs.Sending.{IsSent, HearsNext};
+ghost use Rattle.web_client.specs.Rows.{Adds, IsDue, Shows, SendsAll};
+ghost use Rattle.web_client.specs.Frames.{IsWithin};
+
+use crate::client::SharedClient;
+use crate::identity::Identity;
+use crate::visitor::Visitor;
+use crate::wire::{Phase, SentPage, WireFault};
+use std::io;
+use std::io::{Read, Write};
+
+impl Visitor {
+    /// Reads the server once for the browser's own client, which hears what this read gave. `Ok(0)` if it has none.
+    pub fn hear<S: Read>(&mut self, server: &mut S, buffer: &mut [u8]) -> io::Result<usize>
+        ensures hears { IfOwn self.old.identity (λ old. OnOk result (IsOwn self.new.identity (λ new.
+            HearsNext (S.remaining server.old) old.display (S.remaining server.new) new.display))) }
+        ensures keeps { Keeps self.old.identity self.new.identity }
+        ensures same { self.new ≡ record self.old { identity = self.new.identity } }
+    {
+        match &mut self.identity {
+            Identity::Own(client) => client.receive(server, buffer),
+            _ => Ok(0),
+        }
+    }
+
+    /// Writes what its own client has for the server, as far as the server takes it.
+    pub fn ask<S: Write>(&mut self, server: &mut S) -> io::Result<()>
+        ensures sent { IfOwn self.old.identity (λ old. IsOwn self.new.identity (λ new. (put : List ℕ)
+            → IsSent put (S.contents server.old) old.outgoing → IsSent put (S.contents server.new) new.outgoing)) }
+        ensures display { IfOwn self.old.identity (λ old. IsOwn self.new.identity (λ new. new.display ≡ old.display)) }
+        ensures apart { (IsOwn self.old.identity (λ _. Unit {0}) → ⊥) → (self.new ≡ self.old) × (server.new ≡ server.old) }
+        ensures same { self.new ≡ record self.old { identity = self.new.identity } }
+    {
+        match &mut self.identity {
+            Identity::Own(client) => client.send_all(server),
+            _ => Ok(()),
+        }
+    }
+
+    /// Another page is shown from now on, of which nothing was sent.
+    pub fn change_page(&mut self)
+        ensures { self.new ≡ record self.old { view = record { is_welcomed = false; since = 0 } } }
+    {
+        self.view = SentPage::NOTHING;
+    }
+
+    /// Whether it watches a page that others watch too. It is shown that page, and every other browser its own.
+    pub fn is_watcher(&self) -> bool
+        ensures { IsTrue result ↔ IsWatcher self.now.identity }
+    {
+        match &self.identity {
+            Identity::Watching(_, _) => true,
+            Identity::Nobody
+            | Identity::Own(_)
+            | Identity::Link(_)
+            | Identity::Unknown
+            | Identity::Left => false,
+        }
+    }
+
+    /// Shows the page of a shared client to a browser that watches. No other one is sent it.
+    pub fn show_shared(&mut self, shared: &mut SharedClient) -> Result<(), WireFault>
+        ensures apart { (IsWatcher self.old.identity → ⊥) → (self.new ≡ self.old) × (shared.new ≡ shared.old) }
+        ensures closed { (self.old.wire.phase ≡ Phase.Socket → ⊥) → (self.new ≡ self.old)
+            × (shared.new ≡ shared.old) }
+        ensures shows { self.old.wire.phase ≡ Phase.Socket → IsWatcher self.old.identity
+            → IsDue shared.old.client.display self.old.wire
+            → OnOk result (Shows shared.old.client.display self.old.view.since self.old.wire
+            shared.new.client.display self.new.view.since self.new.wire) }
+        // Rows that aren't due stay to be sent.
+        ensures later { (IsDue shared.old.client.display self.old.wire → ⊥)
+            → (self.new.view.since ≡ self.old.view.since) × (shared.new ≡ shared.old) }
+        ensures sends { self.old.wire.phase ≡ Phase.Socket → IsWatcher self.old.identity
+            → OnOk result (SendsAll shared.old.client.display.told self.old.wire self.new.wire) }
+        ensures adds { OnOk result (Adds self.old.wire self.new.wire) }
+        ensures bound { self.old.wire.phase ≡ Phase.Socket → IsWatcher self.old.identity
+            → OnOk result (IsWithin self.new.wire) }
+        ensures identity { self.new.identity ≡ self.old.identity }
+    {
+        if !self.is_open() || !self.is_watcher() {
+            return Ok(());
+        }
+        self.wire.show(&mut self.view, &mut shared.client.display)
+    }
+
+    /// Shows the page of its own client: what the browser is sent is made from the display alone.
+    pub fn show_own(&mut self) -> Result<(), WireFault>
+        ensures apart { (IsOwn self.old.identity (λ _. Unit {0}) → ⊥) → self.new ≡ self.old }
+        ensures closed { (self.old.wire.phase ≡ Phase.Socket → ⊥) → self.new ≡ self.old }
+        ensures shows { self.old.wire.phase ≡ Phase.Socket
+            → IfOwn self.old.identity (λ old. IsDue old.display self.old.wire
+            → OnOk result (IsOwn self.new.identity (λ new. Shows old.display self.old.view.since self.old.wire
+            new.display self.new.view.since self.new.wire))) }
+        // Rows that aren't due stay to be sent.
+        ensures later { IfOwn self.old.identity (λ old. (IsDue old.display self.old.wire → ⊥)
+            → (self.new.view.since ≡ self.old.view.since) × IsOwn self.new.identity (λ new. new ≡ old)) }
+        ensures sends { self.old.wire.phase ≡ Phase.Socket
+            → IfOwn self.old.identity (λ old. OnOk result (SendsAll old.display.told self.old.wire self.new.wire)) }
+        ensures adds { OnOk result (Adds self.old.wire self.new.wire) }
+        ensures bound { self.old.wire.phase ≡ Phase.Socket → OnOk result (IsWithin self.new.wire) }
+        ensures keeps { Keeps self.old.identity self.new.identity }
+    {
+        if !self.is_open() {
+            return Ok(());
+        }
+        match &mut self.identity {
+            Identity::Own(client) => self.wire.show(&mut self.view, &mut client.display),
+            _ => self.wire.check_bound(),
+        }
+    }
+}

@@ -1,0 +1,5 @@
+pub mod Tokens
+pub mod Halls
+pub mod Places
+pub mod Relaying
+pub mod Seeing

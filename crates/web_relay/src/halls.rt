@@ -1,0 +1,320 @@
+//! Pages that several watchers share: one client of the server for each size.
+
+ghost use Rattle.std.specs.Prelude.{◌≡◌, ◌≢◌, ◌↔◌, ◌⊎◌, ◌≤◌, ◌<◌, ℕ, [], Some, None, IsTrue, IsSome, IfSome, IfNone, true};
+ghost use Rattle.slab.specs.Slab.{get, slab_len, Updates};
+ghost use Rattle.web_relay.specs.Halls.{hall_of, HasSize};
+
+use crate::streams::{Around, ReadOutcome, hall_token, outcome_of};
+use mio::net::UnixStream;
+use slab::Slab;
+use std::alloc::Global;
+use std::net::Net;
+use std::time::Duration;
+use web_client::SharedClient;
+
+/// How many pages are shared at most.
+const MOST: usize = 8;
+
+/// How often a connection is read in one turn.
+const READS: usize = 16;
+
+/// A client that sees no window attaches again after this number of seconds, and one is sent to the chosen window.
+const PAUSE: u64 = 10;
+
+/// A page that nobody watches is closed after this number of seconds: who comes and goes doesn't use up
+/// what its user may still try at the server.
+const STAY: u64 = 30;
+
+/// The number of a hall. A place may have one hall after another.
+#[derive(Clone, Copy, PartialEq, Eq)]
+pub struct HallNumber {
+    pub(crate) place: usize,
+    pub(crate) serial: u64,
+}
+
+/// A page that watchers share.
+#[derive(Drop)]
+pub struct Hall {
+    pub(crate) serial: u64,
+    size: (u16, u16),
+    pub(crate) client: SharedClient,
+    stream: UnixStream,
+    is_ready: bool,
+    // How many watch it.
+    pub(crate) audience: usize,
+    // Whether its connection ended.
+    pub(crate) is_lost: bool,
+    opened: Duration,
+    watched: Duration,
+    // When it was sent to the chosen window.
+    chosen: Option<Duration>,
+}
+
+impl Hall {
+    // Reads what the server has sent, and writes what waits for it.
+    fn turn(&mut self, buffer: &mut [u8])
+        ensures { self.new.serial ≡ self.old.serial }
+    {
+        self.audience = 0;
+        'reads: for _ in 0..READS {
+            if !self.is_ready || self.is_lost {
+                break;
+            }
+            match outcome_of(self.client.receive(&mut self.stream, buffer)) {
+                ReadOutcome::Nothing => self.is_ready = false,
+                ReadOutcome::End => self.is_lost = true,
+                ReadOutcome::More => {}
+            }
+        }
+        if self.client.send_all(&mut self.stream).is_err() {
+            self.is_lost = true;
+        }
+    }
+
+    // Notes whether somebody watches it.
+    fn note_audience(&mut self, now: Duration)
+        ensures { self.new ≡ record self.old { watched = self.new.watched } }
+    {
+        if self.audience > 0 {
+            self.watched = now;
+        }
+    }
+
+    // Whether it ended, or nobody has watched it for a while.
+    fn is_over(&self, now: Duration) -> bool
+        ensures lost { self.now.is_lost ≡ true → result ≡ true }
+        ensures gone { IsSome self.now.client.client.display.told.gone → result ≡ true }
+    {
+        let alone = now.saturating_sub(self.watched);
+        self.is_lost || self.client.display().gone().is_some() || alone >= Duration::from_secs(STAY)
+    }
+
+    // Sends its client to the chosen window: at first, and again now and then, since the window may open later.
+    fn choose(&mut self, choice: &str, now: Duration)
+        ensures { self.new.serial ≡ self.old.serial }
+    {
+        let is_due = match self.chosen {
+            Some(chosen) => now.saturating_sub(chosen) >= Duration::from_secs(PAUSE),
+            None => true,
+        };
+        if is_due && self.client.display().is_welcome() {
+            self.chosen = Some(now);
+            self.is_lost |= self.client.choose(choice.as_bytes()).is_err();
+        }
+    }
+
+    // Whether its client is to attach again: it sees no window.
+    fn is_stuck(&self, now: Duration) -> bool {
+        now.saturating_sub(self.opened) >= Duration::from_secs(PAUSE)
+            && self.client.display().is_vacant()
+    }
+}
+
+/// The pages that watchers share.
+#[derive(Drop)]
+pub struct Halls {
+    alloc: Global,
+    /// The keys that choose the window to show, if one is chosen.
+    choice: Option<String>,
+    pub(crate) list: Slab<Hall>,
+    /// The serial of the next hall.
+    next: u64,
+}
+
+impl Halls {
+    /// No page yet.
+    pub fn new(alloc: Global, choice: Option<String>) -> Halls
+        ensures { result.list.slots ≡ [] }
+    {
+        Halls {
+            alloc,
+            choice,
+            list: Slab::new(alloc),
+            next: 0,
+        }
+    }
+
+    /// Notes that the connection of the hall at this place has something to read, or has room.
+    pub fn mark(&mut self, place: usize)
+        ensures { (other : ℕ) → other ≢ place → get self.new.list other ≡ get self.old.list other }
+    {
+        if let Some(hall) = self.list.get_mut(place) {
+            hall.is_ready = true;
+        }
+    }
+
+    // The number of the hall at this place.
+    fn number(&self, place: usize) -> Option<HallNumber>
+        ensures is { IfSome result (λ number. IsSome (hall_of self.now.list number)) }
+        ensures place { IfSome result (λ number. number.place ≡ place) }
+        ensures none { IfNone result (get self.now.list place ≡ None) }
+    {
+        match self.list.get(place) {
+            Some(hall) => Some(HallNumber {
+                place,
+                serial: hall.serial,
+            }),
+            None => None,
+        }
+    }
+
+    // The place of the hall of this size.
+    fn of_size(&self, size: (u16, u16)) -> Option<usize>
+        ensures { IfSome result (λ place. HasSize size (get self.now.list place)) }
+    {
+        'halls: for place in 0..self.list.capacity() {
+            if let Some(hall) = self.list.get(place) {
+                if hall.size == size {
+                    return Some(place);
+                }
+            }
+        }
+        None
+    }
+
+    // The place of a hall whose page isn't larger than this, or else of any.
+    fn stand_in(&self, size: (u16, u16)) -> Option<usize>
+        ensures { IfSome result (λ place. IsSome (get self.now.list place)) }
+    {
+        let mut best = None;
+        'halls: for place in 0..self.list.capacity() {
+            if let Some(hall) = self.list.get(place) {
+                if best.is_none() || (hall.size.0 <= size.0 && hall.size.1 <= size.1) {
+                    best = Some(place);
+                }
+            }
+        }
+        best
+    }
+
+    // The place of the hall of this size, or a stand-in if all places are taken by others.
+    fn find(&self, size: (u16, u16)) -> Option<usize>
+        ensures some { IfSome result (λ place. IsSome (get self.now.list place)) }
+        ensures size { IfSome result (λ place. HasSize size (get self.now.list place) ⊎ (MOST ≤ slab_len self.now.list)) }
+    {
+        match self.of_size(size) {
+            Some(place) => Some(place),
+            None if self.list.len() < MOST => None,
+            None => self.stand_in(size),
+        }
+    }
+
+    // A new hall of this size for this place.
+    fn made<R: Net>(
+        &mut self,
+        rt: &R,
+        around: Around<'_>,
+        size: (u16, u16),
+        place: usize,
+    ) -> Option<Hall>
+        ensures { self.new.list ≡ self.old.list }
+    {
+        let watcher = around.site.watcher.as_ref()?;
+        let client = SharedClient::attach(self.alloc, size.0, size.1, watcher).ok()?;
+        let stream = around.connect(rt, hall_token(place)).ok()?;
+        let serial = self.next;
+        self.next = serial.saturating_add(1);
+        Some(Hall {
+            serial,
+            size,
+            client,
+            stream,
+            is_ready: false,
+            audience: 0,
+            is_lost: false,
+            opened: around.now,
+            watched: around.now,
+            chosen: None,
+        })
+    }
+
+    // Opens a hall of this size.
+    fn open<R: Net>(&mut self, rt: &R, around: Around<'_>, size: (u16, u16)) -> Option<usize>
+        ensures some { IfSome result (λ place. IsSome (get self.new.list place)) }
+        ensures others { (other : ℕ) → IsSome (get self.old.list other) → get self.new.list other ≡ get self.old.list other }
+    {
+        let place = self.list.vacant_key();
+        let hall = self.made(rt, around, size, place)?;
+        match self.list.insert(hall) {
+            Ok(place) => Some(place),
+            Err(_) => None,
+        }
+    }
+
+    /// The number of a hall for a page of this size, which is opened if there is none.
+    pub fn enter<R: Net>(
+        &mut self,
+        rt: &R,
+        around: Around<'_>,
+        size: (u16, u16),
+    ) -> Option<HallNumber>
+        ensures some { IfSome result (λ number. IsSome (hall_of self.new.list number)) }
+        ensures others { (other : ℕ) → IsSome (get self.old.list other) → get self.new.list other ≡ get self.old.list other }
+    {
+        let place = match self.find(size) {
+            Some(place) => place,
+            None => self.open(rt, around, size)?,
+        };
+        self.number(place)
+    }
+
+    // The size of the hall at this place, and when it was watched last, if its client is to attach again.
+    fn stuck(&self, place: usize, now: Duration) -> Option<((u16, u16), Duration)> {
+        match self.list.get(place) {
+            Some(hall) if hall.is_stuck(now) => Some((hall.size, hall.watched)),
+            _ => None,
+        }
+    }
+
+    /// Attaches the clients again whose window has closed. They then see the first window that there
+    /// is.
+    pub fn renew<R: Net>(&mut self, rt: &R, around: Around<'_>) {
+        for place in 0..self.list.capacity() {
+            if let Some((size, watched)) = self.stuck(place, around.now) {
+                // The old client leaves first: the user may have a bound of clients.
+                let _ = self.list.try_remove(place);
+                if let Some(mut hall) = self.made(rt, around, size, place) {
+                    hall.watched = watched;
+                    let _ = self.list.insert(hall);
+                }
+            }
+        }
+    }
+
+    /// Sends their clients to the chosen window.
+    pub fn choose(&mut self, now: Duration) {
+        let Some(choice) = &self.choice else {
+            return;
+        };
+        for place in 0..self.list.capacity() {
+            if let Some(hall) = self.list.get_mut(place) {
+                hall.choose(choice.as_str(), now);
+            }
+        }
+    }
+
+    /// Reads and writes for all halls. Nobody counts as their audience yet.
+    pub fn turn(&mut self, buffer: &mut [u8]) {
+        for place in 0..self.list.capacity() {
+            if let Some(hall) = self.list.get_mut(place) {
+                hall.turn(buffer);
+            }
+        }
+    }
+
+    /// Closes the halls that ended, and those that nobody has watched for a while.
+    pub fn close(&mut self, now: Duration) {
+        for place in 0..self.list.capacity() {
+            let is_over = match self.list.get_mut(place) {
+                Some(hall) => {
+                    hall.note_audience(now);
+                    hall.is_over(now)
+                }
+                None => false,
+            };
+            if is_over {
+                let _ = self.list.try_remove(place);
+            }
+        }
+    }
+}

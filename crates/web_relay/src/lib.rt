@@ -1,0 +1,17 @@
+//! Who is sent what: a browser and the connection of its own client, pages that watchers share, and the place of each.
+//! What comes from the server for a client goes to its browser alone, and what a browser types to its own client alone.
+#![tactic(auto)]
+
+mod halls;
+mod places;
+mod relay;
+mod seating;
+mod streams;
+mod upstream;
+
+pub use halls::{HallNumber, Halls};
+pub use places::{is_full, mark, oldest_silent};
+pub use relay::Relay;
+pub use streams::{
+    Around, Browser, WebListener, Woken, browser_token, listener_token, server_token, woken_by,
+};

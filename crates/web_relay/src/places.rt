@@ -1,0 +1,79 @@
+//! The places of browsers: who is woken, who goes for another, and whether there is room.
+
+ghost use Rattle.std.specs.Prelude.{◌≡◌, ℕ, IfSome};
+ghost use Rattle.slab.specs.Slab.{get};
+ghost use Rattle.web_relay.specs.Places.{changed_at, heeds_browser, heeds_server, IsSilent};
+
+use crate::halls::Halls;
+use crate::relay::Relay;
+use crate::streams::Woken;
+use slab::Slab;
+use std::time::Duration;
+
+/// Notes that a connection has something to read, or has room.
+pub fn mark(woken: Woken, relays: &mut Slab<Relay>, halls: &mut Halls)
+    ensures browser { (place : ℕ) → woken ≡ Woken.Browser place
+        → (relays.new ≡ changed_at relays.old place heeds_browser) × (halls.new ≡ halls.old) }
+    ensures server { (place : ℕ) → woken ≡ Woken.Server place
+        → (relays.new ≡ changed_at relays.old place heeds_server) × (halls.new ≡ halls.old) }
+    ensures hall { (place : ℕ) → woken ≡ Woken.Hall place → relays.new ≡ relays.old }
+    ensures listener { (number : ℕ) → woken ≡ Woken.Listener number
+        → (relays.new ≡ relays.old) × (halls.new ≡ halls.old) }
+{
+    match woken {
+        Woken::Browser(place) => {
+            if let Some(relay) = relays.get_mut(place) {
+                relay.browser_ready = true;
+            }
+        }
+        Woken::Server(place) => {
+            if let Some(relay) = relays.get_mut(place) {
+                relay.server_ready = true;
+            }
+        }
+        Woken::Hall(place) => halls.mark(place),
+        Woken::Listener(_) => {}
+    }
+}
+
+/// The place of the oldest browser that hasn't said who it is.
+pub fn oldest_silent(relays: &Slab<Relay>) -> Option<usize>
+    ensures { IfSome result (λ place. IsSilent (get relays.now place)) }
+{
+    let mut oldest: Option<(usize, Duration)> = None;
+    'places: for place in 0..relays.capacity() {
+        if let Some(relay) = relays.get(place) {
+            let is_older = match oldest {
+                Some((_, began)) => relay.began() < began,
+                None => true,
+            };
+            if !relay.has_begun() && is_older {
+                oldest = Some((place, relay.began()));
+            }
+        }
+    }
+    match oldest {
+        Some((place, _)) => Some(place),
+        None => None,
+    }
+}
+
+/// Whether the page at this place is one too many: of all, or of its address.
+pub fn is_full(relays: &Slab<Relay>, place: usize, most: usize) -> bool {
+    let Some(relay) = relays.get(place) else {
+        return false;
+    };
+    let address = relay.visitor.address.as_slice();
+    let all = relays
+        .iter()
+        .filter(|(number, other)| *number != place && other.has_page())
+        .count();
+    let same = relays
+        .iter()
+        .filter(|(number, other)| {
+            *number != place && other.has_page() && other.visitor.address.as_slice() == address
+        })
+        .count();
+    let share = most.saturating_sub(most / 4);
+    all >= most || (!address.is_empty() && same >= share)
+}

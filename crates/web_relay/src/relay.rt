@@ -1,0 +1,339 @@
+//! A browser, and the connection to the server of its own client.
+
+ghost use Rattle.std.specs.Prelude.{◌≡◌, ◌↔◌, ℕ, List, None, IsTrue, IsSome, IfSome, true, false};
+ghost use Rattle.web_client.specs.Frames.{page, begun};
+ghost use Rattle.web_client.specs.Asking.{Asks, Keeps, IsOwn};
+ghost use Rattle.web_client.specs.Rows.{TellsLast, Refuses, handed};
+ghost use Rattle.web_relay.specs.Places.{has_page};
+ghost use Rattle.web_relay.specs.Relaying.{IsOpen, HasClient, HasPage, HasGone, Loses, Stays};
+ghost use Rattle.web_client.specs.declared.wire.Phase.TheVariants as phase;
+
+use crate::halls::HallNumber;
+use crate::streams::{Around, Browser, ReadOutcome, outcome_of};
+use attach_proto::Token;
+use mio::net::UnixStream;
+use std::alloc::Global;
+use std::net::Net;
+use std::time::Duration;
+use web_client::{Identity, Visitor};
+
+/// How often a connection is read in one turn.
+const READS: usize = 16;
+
+/// The own client's connection to the server.
+#[derive(Drop)]
+pub(crate) enum Upstream {
+    /// There was none yet.
+    Unasked,
+    Connected(UnixStream),
+    /// It ended.
+    Lost,
+}
+
+/// A browser, and its own client's connection.
+#[derive(Drop)]
+pub struct Relay {
+    pub(crate) visitor: Visitor,
+    pub(crate) browser: Browser,
+    pub(crate) server: Upstream,
+    /// The hall whose page it watches.
+    pub(crate) hall: Option<HallNumber>,
+    pub(crate) browser_ready: bool,
+    pub(crate) server_ready: bool,
+    // Frames of it may be left that weren't taken yet.
+    pub(crate) has_more: bool,
+    pub(crate) has_begun: bool,
+    // It was logged that it is there.
+    pub(crate) is_told: bool,
+    pub(crate) began: Duration,
+    pub(crate) heard: Duration,
+    pub(crate) asked: Duration,
+    pub(crate) is_over: bool,
+}
+
+impl Relay {
+    /// A browser that has just come.
+    pub fn new(alloc: Global, browser: Browser, now: Duration) -> Relay
+        ensures page { page result.visitor ≡ begun }
+        ensures begins { (result.has_begun ≡ false) × (result.is_told ≡ false) × (result.is_over ≡ false) }
+        ensures apart { (result.server ≡ Upstream.Unasked) × (result.hall ≡ None) }
+    {
+        Relay {
+            visitor: Visitor::new(alloc),
+            browser,
+            server: Upstream::Unasked,
+            hall: None,
+            browser_ready: true,
+            server_ready: false,
+            has_more: false,
+            has_begun: false,
+            is_told: false,
+            began: now,
+            heard: now,
+            asked: now,
+            is_over: false,
+        }
+    }
+
+    /// Who the browser is, and what it was sent.
+    pub fn visitor(&self) -> &Visitor
+        ensures { result.now ≡ self.now.visitor }
+    {
+        &self.visitor
+    }
+
+    /// Whether its place is to be left free.
+    pub fn is_over(&self) -> bool
+        ensures { result ≡ self.now.is_over }
+    {
+        self.is_over
+    }
+
+    /// Reads what the browser has sent, up to 64 frames in a turn if they are short. Returns whether its page opened.
+    /// Its own client is asked for what these frames say, and for nothing else.
+    pub fn read_browser(&mut self, around: Around<'_>, buffer: &mut [u8]) -> bool
+        ensures asks { Asks self.old.visitor.identity self.new.visitor.identity }
+        ensures opens { IsTrue result ↔ ((IsOpen self.old.visitor → ⊥) × IsOpen self.new.visitor) }
+        ensures stays { Stays self.old self.new }
+        ensures server { self.new.server ≡ self.old.server }
+    {
+        let was_open = self.visitor.is_open();
+        if self.has_more && self.visitor.can_read() {
+            self.take(around);
+        }
+        self.read_some(around, buffer);
+        !was_open && self.visitor.is_open()
+    }
+
+    // Reads the browser while it has sent something.
+    fn read_some(&mut self, around: Around<'_>, buffer: &mut [u8])
+        ensures asks { Asks self.old.visitor.identity self.new.visitor.identity }
+        ensures stays { Stays self.old self.new }
+        ensures server { self.new.server ≡ self.old.server }
+    {
+        'reads: for _ in 0..READS {
+            if self.has_more || !self.browser_ready || !self.visitor.can_read() {
+                break;
+            }
+            self.read_once(around, buffer);
+        }
+    }
+
+    // Reads the browser once.
+    fn read_once(&mut self, around: Around<'_>, buffer: &mut [u8])
+        ensures asks { Asks self.old.visitor.identity self.new.visitor.identity }
+        ensures stays { Stays self.old self.new }
+        ensures server { self.new.server ≡ self.old.server }
+    {
+        match outcome_of(self.visitor.receive(&mut self.browser, buffer)) {
+            ReadOutcome::Nothing => self.browser_ready = false,
+            ReadOutcome::End => {
+                self.is_over = true;
+                self.browser_ready = false;
+            }
+            ReadOutcome::More => self.take(around),
+        }
+    }
+
+    // Takes what came of the browser.
+    fn take(&mut self, around: Around<'_>)
+        ensures asks { Asks self.old.visitor.identity self.new.visitor.identity }
+        ensures same { self.new ≡ record self.old {
+          visitor = self.new.visitor;
+          heard = around.entry.now;
+          has_more = self.new.has_more;
+          is_over = self.new.is_over;
+        } }
+    {
+        self.heard = around.now;
+        match self.visitor.take(around.site) {
+            Ok(has_more) => self.has_more = has_more,
+            Err(_) => self.is_over = true,
+        }
+    }
+
+    /// Whether its page says now who it is: a user, or one who watches.
+    pub fn begins(&mut self) -> bool
+        ensures begins { IsTrue result ↔ (HasPage self.old.visitor.identity × (self.old.has_begun ≡ false)
+            × IsOpen self.old.visitor) }
+        ensures begun { result ≡ true → self.new ≡ record self.old { has_begun = true } }
+        ensures same { result ≡ false → self.new ≡ self.old }
+    {
+        let has_page = match self.visitor.identity() {
+            Identity::Own(_) | Identity::Watching(_, _) => true,
+            Identity::Nobody | Identity::Link(_) | Identity::Unknown | Identity::Left => false,
+        };
+        if has_page && !self.has_begun && self.visitor.is_open() {
+            self.has_begun = true;
+            return true;
+        }
+        false
+    }
+
+    /// There is no place for its page, which opens now or is open.
+    pub fn turn_away(&mut self, opens: bool, reason: &str)
+        ensures open { opens ≡ false → self.new.is_over ≡ false
+            → Loses reason.now self.old.visitor self.new.visitor }
+        ensures last { opens ≡ true → self.new.is_over ≡ false → self.new.visitor.wire.phase ≡ phase.Last }
+        ensures same { self.new ≡ record self.old { visitor = self.new.visitor; is_over = self.new.is_over } }
+    {
+        if !opens {
+            self.lose(reason);
+            return;
+        }
+        match self.visitor.turn_away() {
+            Ok(()) => {}
+            Err(_) => self.is_over = true,
+        }
+    }
+
+    /// Whether it has said who it is.
+    pub fn has_begun(&self) -> bool
+        ensures { result ≡ self.now.has_begun }
+    {
+        self.has_begun
+    }
+
+    // Whether its page has said who it is, and is open.
+    pub(crate) fn has_page(&self) -> bool
+        ensures { result ≡ has_page self.now }
+    {
+        self.has_begun && self.visitor.is_open()
+    }
+
+    /// When it came.
+    pub fn began(&self) -> Duration
+        ensures { result ≡ self.now.began }
+    {
+        self.began
+    }
+
+    // Whether it has a client of its own.
+    fn has_client(&self) -> bool
+        ensures { IsTrue result ↔ HasClient self.now.visitor.identity }
+    {
+        match self.visitor.identity() {
+            Identity::Own(_) => true,
+            _ => false,
+        }
+    }
+
+    /// Whether its own client is to be connected: once, when its page has said who it is.
+    pub fn wants_server(&self) -> bool
+        ensures { IsTrue result ↔ (HasClient self.now.visitor.identity × IsOpen self.now.visitor
+            × (self.now.has_begun ≡ true) × (self.now.server ≡ Upstream.Unasked)) }
+    {
+        let is_unasked = match &self.server {
+            Upstream::Unasked => true,
+            Upstream::Connected(_) | Upstream::Lost => false,
+        };
+        self.has_client() && self.visitor.is_open() && self.has_begun && is_unasked
+    }
+
+    /// The name of its user, if the server has let it in and this wasn't logged.
+    pub fn is_let_in(&self) -> Option<&str>
+        ensures { IfSome result (λ name. (self.now.is_told ≡ false) × IsOwn self.now.visitor.identity (λ c.
+            (c.display.told.is_welcome ≡ true) × (name.now ≡ c.display.name))) }
+    {
+        match self.visitor.identity() {
+            Identity::Own(client) if client.display().is_welcome() && !self.is_told => {
+                Some(client.display().name())
+            }
+            _ => None,
+        }
+    }
+
+    /// It was logged that it is there.
+    pub fn note_told(&mut self)
+        ensures { self.new ≡ record self.old { is_told = true } }
+    {
+        self.is_told = true;
+    }
+
+    /// Whether it was logged that it is there.
+    pub fn is_told(&self) -> bool
+        ensures { result ≡ self.now.is_told }
+    {
+        self.is_told
+    }
+
+    // Whether the server has said why it lets its own client go.
+    pub(crate) fn has_gone(&self) -> bool
+        ensures { IsTrue result ↔ HasGone self.now.visitor.identity }
+    {
+        match self.visitor.identity() {
+            Identity::Own(client) => client.display().gone().is_some(),
+            _ => false,
+        }
+    }
+
+    /// Whether it gave a name and a token with which nobody is let in.
+    pub fn is_refused(&self) -> bool {
+        match self.visitor.identity() {
+            Identity::Own(_) => !self.is_told && self.has_gone(),
+            Identity::Unknown => true,
+            _ => false,
+        }
+    }
+
+    /// Connects its own client.
+    pub fn connect<R: Net>(&mut self, rt: &R, around: Around<'_>, token: mio::Token)
+        ensures { Keeps self.old.visitor.identity self.new.visitor.identity }
+    {
+        match around.connect(rt, token) {
+            Ok(stream) => self.server = Upstream::Connected(stream),
+            Err(_) => self.lose("no server: is muxd running?"),
+        }
+    }
+
+    /// The secret of the link that its open page shows.
+    pub fn secret(&self) -> Option<Token>
+        ensures some { IfSome result (λ secret. IsOpen self.now.visitor
+            × (self.now.visitor.identity ≡ Identity.Link secret)) }
+        ensures none { (secret : List ℕ) → self.now.visitor.identity ≡ Identity.Link secret
+            → IsOpen self.now.visitor → IsSome result }
+    {
+        match self.visitor.identity() {
+            Identity::Link(secret) if self.visitor.is_open() => Some(secret.copied()),
+            _ => None,
+        }
+    }
+
+    /// Tells its page which user and token its link stands for, and ends.
+    pub fn hand(&mut self, name: &str, token: &str)
+        ensures hands { self.new.is_over ≡ false
+            → TellsLast (handed name.now token.now) self.old.visitor.wire self.new.visitor.wire }
+        ensures last { self.new.is_over ≡ false → self.new.visitor.wire.phase ≡ phase.Last }
+        ensures same { self.new ≡ record self.old { visitor = self.new.visitor; is_over = self.new.is_over } }
+    {
+        match self.visitor.hand(name, token) {
+            Ok(()) => {}
+            Err(_) => self.is_over = true,
+        }
+    }
+
+    /// Tells its page why it isn't let in, and ends.
+    pub fn refuse(&mut self, reason: &str)
+        ensures refuses { self.new.is_over ≡ false
+            → Refuses reason.now self.old.visitor.wire self.new.visitor.wire }
+        ensures last { self.new.is_over ≡ false → self.new.visitor.wire.phase ≡ phase.Last }
+        ensures same { self.new ≡ record self.old { visitor = self.new.visitor; is_over = self.new.is_over } }
+    {
+        match self.visitor.refuse(reason) {
+            Ok(()) => {}
+            Err(_) => self.is_over = true,
+        }
+    }
+
+    /// Tells its page why it ends.
+    pub fn lose(&mut self, reason: &str)
+        ensures loses { self.new.is_over ≡ false → Loses reason.now self.old.visitor self.new.visitor }
+        ensures identity { self.new.visitor.identity ≡ self.old.visitor.identity }
+        ensures same { self.new ≡ record self.old { visitor = self.new.visitor; is_over = self.new.is_over } }
+    {
+        match self.visitor.lose(reason) {
+            Ok(()) => {}
+            Err(_) => self.is_over = true,
+        }
+    }
+}
