@@ -1,6 +1,6 @@
 //! Performs all the actions of a control function.
 
-ghost use Rattle.std.specs.Prelude.{◌≡◌, ◌≤◌, [], ◌∷◌, None, false, length, IfSome};
+ghost use Rattle.std.specs.Prelude.{◌≡◌, ◌≤◌, [], ◌∷◌, None, length, IfSome};
 ghost use Rattle.control_parser.specs.declared.func.Func.TheVariants.{Control, Csi, Esc};
 ghost use Rattle.terminal_model.specs.Functions.{actions_of, alone, each, sequence_actions};
 ghost use Rattle.terminal_model.specs.Reports.{report};
@@ -14,7 +14,9 @@ use crate::screen::Screen;
 use charsets::Unit;
 use control_parser::Func;
 use terminal_model::{Action, Report};
-use vt_screen_state::{Setting, control_action, escape_action, sequence_action, setting_of};
+use vt_screen_state::{
+    Setting, control_action, escape_action, is_answered, sequence_action, setting_of,
+};
 
 impl Screen {
     /// Performs a control function, as the screen table says, and returns the answer. It needs no
@@ -165,19 +167,4 @@ impl Screen {
     {
         self.display.apply_row(action);
     }
-}
-
-/// Whether an action is answered: only DSR and DA are.
-#[inline(always)]
-fn is_answered(action: &Action) -> bool
-    ensures { result ≡ false → IsSilent action.now }
-{
-    matches!(
-        action,
-        Action::ReportStatus
-            | Action::ReportPlace
-            | Action::ReportPrinter
-            | Action::ReportAttributes
-            | Action::ReportSecondaryAttributes
-    )
 }

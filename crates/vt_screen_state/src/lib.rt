@@ -24,7 +24,7 @@ pub use modes::{
     designate, protect, render, set_application_keypad, set_coding, set_eight_bit_reports,
     set_mode, shift, soft_reset, starting_state,
 };
-pub use report::report_of;
+pub use report::{is_answered, report_of};
 pub use saved::{fit_saved, restore, saved_of};
 pub use sequences::{sequence_action, setting_of};
 pub use tabs::Tabs;

@@ -1,8 +1,9 @@
 //! Reports (ECMA-48, 8.3.14, CPR, and 8.3.35, DSR; VT220 Programmer Reference Manual, reports).
 
-ghost use Rattle.std.specs.Prelude.{◌≡◌, ◌+◌, ◌<◌, ◌≤◌, ◌++◌, length};
+ghost use Rattle.std.specs.Prelude.{◌≡◌, ◌+◌, ◌<◌, ◌≤◌, ◌++◌, false, length};
 ghost use Rattle.control_parser.specs.Spelling.{decimal};
 ghost use Rattle.terminal_model.specs.Reports.{answer, introducer};
+ghost use Rattle.vt_screen_state.specs.Silent.{IsSilent};
 
 use charsets::Coding;
 use terminal_model::{Action, Report, State};
@@ -22,6 +23,21 @@ pub fn report_of(state: &State, action: Action) -> Report
         Action::ReportSecondaryAttributes => answer(state, b">1;10;0c"),
         _ => Report::none(),
     }
+}
+
+/// Whether an action is answered: only DSR and DA are.
+#[inline(always)]
+pub fn is_answered(action: &Action) -> bool
+    ensures { result ≡ false → IsSilent action.now }
+{
+    matches!(
+        action,
+        Action::ReportStatus
+            | Action::ReportPlace
+            | Action::ReportPrinter
+            | Action::ReportAttributes
+            | Action::ReportSecondaryAttributes
+    )
 }
 
 /// The CSI of answers, in the form that the window asked for.
