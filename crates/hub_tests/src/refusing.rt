@@ -21,7 +21,7 @@ const TRIES: u32 = 40;
 /// How many times effects are taken: of both seats after each step.
 const TAKES: usize = 46;
 
-type TakenEffects = Vec<Vec<Sent>>;
+type Takes = Vec<Vec<Sent>>;
 
 /// How many bytes of an event a step took; none if it was refused.
 fn taken_of<L: Begun>(
@@ -61,11 +61,7 @@ fn is_taken<L: Begun>(ledger: &mut Ledger<L>, seat: &mut Seat<L>, event: Event<'
     false
 }
 
-fn take_all<L: Begun>(
-    ledger: &mut Ledger<L>,
-    seats: &mut [Seat<L>],
-    taken: &mut TakenEffects,
-) -> bool {
+fn take_all<L: Begun>(ledger: &mut Ledger<L>, seats: &mut [Seat<L>], taken: &mut Takes) -> bool {
     for seat in seats.iter_mut() {
         let (effects, _mark) = ledger.take(seat);
         if taken.push(effects.into_items()).is_err() {
@@ -80,7 +76,7 @@ fn is_played<L: Begun>(
     ledger: &mut Ledger<L>,
     seats: &mut Vec<Seat<L>>,
     turn: &StepTurn,
-    taken: &mut TakenEffects,
+    taken: &mut Takes,
 ) -> bool {
     for step in 0..STEPS {
         let Some(seat) = seats.get_mut(seat_of(0, step)) else {
@@ -101,7 +97,7 @@ fn played<L: Begun>(
     session: Session,
     owner: UserId,
     bob: UserId,
-) -> Result<Option<TakenEffects>, HubFault>
+) -> Result<Option<Takes>, HubFault>
     requires blank { (blank.name ≡ L.name) × (blank.parts ≡ L.parts) × (blank.parts ≡ 2) }
     requires fresh { StandsFor (begun L.edition L.owner) session }
 {
@@ -120,7 +116,7 @@ fn played<L: Begun>(
     })
 }
 
-fn play(alloc: Global, owner: UserId, bob: UserId) -> Result<Option<TakenEffects>, HubFault> {
+fn play(alloc: Global, owner: UserId, bob: UserId) -> Result<Option<Takes>, HubFault> {
     let Ok(session) = Session::new(alloc, owner) else {
         return Err(HubFault::NoMemory);
     };
@@ -128,7 +124,7 @@ fn play(alloc: Global, owner: UserId, bob: UserId) -> Result<Option<TakenEffects
 }
 
 /// Plays a turn, once more if there was no memory for its ledger.
-fn play_twice(alloc: Global, owner: UserId, bob: UserId) -> Option<TakenEffects> {
+fn play_twice(alloc: Global, owner: UserId, bob: UserId) -> Option<Takes> {
     match play(alloc, owner, bob) {
         Ok(taken) => taken,
         Err(_) => play(alloc, owner, bob).ok()?,

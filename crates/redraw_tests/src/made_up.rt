@@ -85,11 +85,11 @@ const STRANGE: &[u8] =
 
 /// Pseudorandom numbers (Knuth, The Art of Computer Programming, volume 2, 3.3.4).
 #[derive(Drop)]
-struct PageRng {
+struct Dice {
     state: u64,
 }
 
-impl PageRng {
+impl Dice {
     /// The next number below this one.
     fn below(&mut self, count: usize) -> usize {
         self.state = self
@@ -242,7 +242,7 @@ impl DrawStage {
     }
 
     /// Takes one random step.
-    fn steps(&mut self, dice: &mut PageRng) -> bool {
+    fn steps(&mut self, dice: &mut Dice) -> bool {
         match dice.below(16) {
             0 | 1 => match KEYS.get(dice.below(KEYS.len())) {
                 Some(keys) => self.types(keys),
@@ -279,7 +279,7 @@ fn first_wrong(alloc: Global) -> Option<u32> {
     let Some(mut stage) = DrawStage::new(alloc) else {
         return Some(0);
     };
-    let mut dice = PageRng { state: 1 };
+    let mut dice = Dice { state: 1 };
     if !stage.begins() {
         return Some(0);
     }

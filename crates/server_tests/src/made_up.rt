@@ -22,11 +22,11 @@ fn byte_of(number: usize) -> u8 {
 
 /// Numbers of a linear congruence.
 #[derive(Drop)]
-struct Lcg {
+struct Numbers {
     state: u32,
 }
 
-impl Lcg {
+impl Numbers {
     // A number below this one.
     fn below(&mut self, bound: usize) -> usize {
         self.state = self
@@ -114,7 +114,7 @@ fn beginning(number: usize) -> &'static [u8] {
 }
 
 fn lists(alloc: Global) -> Result<Vec<Vec<u8>>, AllocError> {
-    let mut numbers = Lcg { state: 1 };
+    let mut numbers = Numbers { state: 1 };
     let mut lists = Vec::new(alloc);
     for number in 0..LISTS {
         lists.push(numbers.list(alloc, beginning(number))?)?;
