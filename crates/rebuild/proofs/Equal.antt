@@ -1,4 +1,4 @@
--- Tests of `==` that are true of equal things alone.
+-- What a derived `==` tells: where it is true, the two values are equal.
 use Rattle.std.proofs.Common.{◌≡◌, true, false, not, refl, sym, ap, rules, Bool, ◌&&◌, [], ◌∷◌}
 use Rattle.std.specs.Prelude.{Some, None}
 use Rattle.std.specs.Bool.{beq}
@@ -18,15 +18,15 @@ use Rattle.terminal_model.specs.contracts.state as of_states
 use Rattle.cells.proofs.Alike.{same_rendition}
 
 infixr 60 ◌and◌
--- a test that is true of equal things alone
+-- a test that is true of equal values alone
 abbrev pub Tells : {A : Type 0} → (A → A → Bool) → Type 0
 Tells {A} test = (x y : A) → test x y ≡ true → x ≡ y
 
--- where `!=` is false
+-- two values whose `!=` is false
 pub unlike : {A : Type 0} {E : A → A → Bool} → Tells E → (x y : A) → false ≡ not (E x y) → x ≡ y
 unlike {E = E} f x y e = f x y (not-false _ (sym e))
 
--- of tuples, which are the values of structs
+-- the fields of a struct, one after another, down to the last; and the struct
 ◌and◌ : {A B : Type 0} {E : A → A → Bool} {F : B → B → Bool} → Tells E → Tells F
     → Tells (λ (x y : A × B). E x.0 y.0 && F x.1 y.1)
 ◌and◌ f g x y e = let (p, q) = and_parts _ _ e in λ i. (f x.0 y.0 p i, g x.1 y.1 q i)
@@ -75,7 +75,8 @@ shifts = struct of_shifts.Shifts.the_type
     (sets and sets and sets and sets and places and places and last (options places))
 
 modes : Tells of_states.ModesPartialEq.TheImpl.eq-value.it
-modes = struct of_states.Modes.the_type (flags and flags and flags and flags and flags and flags and flags and last flags)
+modes = struct of_states.Modes.the_type
+    (flags and flags and flags and flags and flags and flags and flags and last flags)
 
 positions : Tells of_states.PositionPartialEq.TheImpl.eq-value.it
 positions = struct of_states.Position.the_type (numbers and last numbers)
