@@ -11,11 +11,11 @@ use Rattle.std.proofs.lemmas.List.{map_more}
 use Rattle.std.proofs.lemmas.List.Elements.{Contains-push_cases, Contains-append_right, Contains-append_left}
 use Rattle.acl.specs.declared.user_id.UserId.{UserId}
 use Rattle.acl.specs.Names.{name_of}
-use Rattle.server_sending.specs.declared.typists.Frame.{Frame}
+use Rattle.server_sending.specs.declared.typists.TypedFrame.{TypedFrame}
 use Rattle.server_sending.specs.Typists.{HasNoTypist, IsNextTypist, comes_before, follows, leads, typists}
 
 -- of the users who typed these frames, this one is the next, or there is none
-abbrev pub IsFound : Option UserId → List Frame → Option UserId → Type 0
+abbrev pub IsFound : Option UserId → List TypedFrame → Option UserId → Type 0
 IsFound last frames None = HasNoTypist last frames
 IsFound last frames (Some user) = IsNextTypist last frames user
 
@@ -47,10 +47,10 @@ earlier u v w false is second not = refl
 
 -- ---- one frame more
 
-module _ (frames : List Frame) (i : ℕ) (f d : Frame) (within : i < length frames) (is : f ≡ get_or frames i d) where
+module _ (frames : List TypedFrame) (i : ℕ) (f d : TypedFrame) (within : i < length frames) (is : f ≡ get_or frames i d) where
   more : typists (take (i + 1) frames) ≡ typists (take i frames) ++ f.user ∷ []
-  more = map_more (λ (g : Frame). g.user) frames i d within
-      ∙ ap (λ (g : Frame). typists (take i frames) ++ g.user ∷ []) (sym is)
+  more = map_more (λ (g : TypedFrame). g.user) frames i d within
+      ∙ ap (λ (g : TypedFrame). typists (take i frames) ++ g.user ∷ []) (sym is)
 
   seen_or_new : (u : UserId) → Contains (typists (take (i + 1) frames)) u
       → Contains (typists (take i frames)) u ⊎ (f.user ≡ u)

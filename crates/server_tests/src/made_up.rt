@@ -1,7 +1,10 @@
 //! Connections that send made-up bytes.
 
 use crate::rows::{play, typed};
-use server_stage::{ATTACH, Act, Habit, Received, Seen, System, WINDOW, Why};
+use rand::seq::IndexedRandom;
+use rand::{RngExt, SeedableRng};
+use rand_pcg::Pcg32;
+use server_stage::{ATTACH, Habit, Received, Seen, StageAct, System, WINDOW, Why};
 use std::alloc::{AllocError, Global};
 
 const LISTS: usize = 3_000;
@@ -12,59 +15,40 @@ const KINDS: &[u8] = b"AWCKROD";
 // Kinds that the server sends, and codes of no kind.
 const OTHERS: &[u8] = b"ydiszg\0\xFF";
 
-// A number below 256 as a byte.
-fn byte_of(number: usize) -> u8 {
-    match u8::try_from(number) {
-        Ok(byte) => byte,
-        Err(_) => 0,
+// Appends something like a frame: its kind and its length may be wrong, and some bytes may be missing.
+// No byte is C-a, after which a client's keys would be commands.
+fn push_frame(rng: &mut Pcg32, out: &mut Vec<u8>) -> Result<(), AllocError> {
+    let kinds = if rng.random_ratio(1, 6) {
+        OTHERS
+    } else {
+        KINDS
+    };
+    out.push(*kinds.choose(rng).unwrap())?;
+    out.push(if rng.random_ratio(1, 12) { 0x20 } else { 0 })?;
+    let len = if rng.random_ratio(1, 3) {
+        4
+    } else {
+        rng.random_range(0..9u8)
+    };
+    out.push(len)?;
+    let lacking = if rng.random_ratio(1, 4) {
+        rng.random_range(0..3)
+    } else {
+        0
+    };
+    for _ in 0..len.saturating_sub(lacking) {
+        let byte = rng.random();
+        out.push(if byte == 1 { 0 } else { byte })?;
     }
+    Ok(())
 }
 
-/// Numbers of a linear congruence.
-#[derive(Drop)]
-struct Numbers {
-    state: u32,
-}
-
-impl Numbers {
-    // A number below this one.
-    fn below(&mut self, bound: usize) -> usize {
-        self.state = self
-            .state
-            .wrapping_mul(1_664_525)
-            .wrapping_add(1_013_904_223);
-        let number = (self.state >> 16) as usize;
-        number.checked_rem(bound).unwrap_or(0)
+fn list(alloc: Global, rng: &mut Pcg32, begin: &[u8]) -> Result<Vec<u8>, AllocError> {
+    let mut list = Vec::from_slice(alloc, begin)?;
+    for _ in 0..rng.random_range(0..4) {
+        push_frame(rng, &mut list)?;
     }
-
-    fn one_of(&mut self, bytes: &[u8]) -> u8 {
-        let place = self.below(bytes.len());
-        bytes.get(place).copied().unwrap_or(0)
-    }
-
-    // Something like a frame: its kind and its length may be wrong, and some bytes may be missing. No
-    // byte is C-a, after which a client's keys would be commands.
-    fn push_frame(&mut self, out: &mut Vec<u8>) -> Result<(), AllocError> {
-        let kinds = if self.below(6) == 0 { OTHERS } else { KINDS };
-        out.push(self.one_of(kinds))?;
-        out.push(if self.below(12) == 0 { 0x20 } else { 0 })?;
-        let len = if self.below(3) == 0 { 4 } else { self.below(9) };
-        out.push(byte_of(len))?;
-        let lacking = if self.below(4) == 0 { self.below(3) } else { 0 };
-        for _ in 0..len.saturating_sub(lacking) {
-            let byte = byte_of(self.below(256));
-            out.push(if byte == 1 { 0 } else { byte })?;
-        }
-        Ok(())
-    }
-
-    fn list(&mut self, alloc: Global, begin: &[u8]) -> Result<Vec<u8>, AllocError> {
-        let mut list = Vec::from_slice(alloc, begin)?;
-        for _ in 0..self.below(4) {
-            self.push_frame(&mut list)?;
-        }
-        Ok(list)
-    }
+    Ok(list)
 }
 
 // What the frame at the front of these bytes leads to: its length in bytes if the connection goes on
@@ -114,41 +98,45 @@ fn beginning(number: usize) -> &'static [u8] {
 }
 
 fn lists(alloc: Global) -> Result<Vec<Vec<u8>>, AllocError> {
-    let mut numbers = Numbers { state: 1 };
+    let mut rng = Pcg32::seed_from_u64(1);
     let mut lists = Vec::new(alloc);
     for number in 0..LISTS {
-        lists.push(numbers.list(alloc, beginning(number))?)?;
+        lists.push(list(alloc, &mut rng, beginning(number))?)?;
     }
     Ok(lists)
 }
 
 // A window and its client, which types at last. Meanwhile connections send the lists, each list cut
 // at two places. A turn takes 200 milliseconds, so that no size has to wait for long.
-fn acts(alloc: Global, lists: &[Vec<u8>]) -> Result<Vec<Act<'_>>, AllocError> {
+fn acts(alloc: Global, lists: &[Vec<u8>]) -> Result<Vec<StageAct<'_>>, AllocError> {
     let mut acts = Vec::with_capacity(alloc, lists.len().saturating_mul(11).saturating_add(8))?;
     acts.extend_from_slice(&[
-        Act::SetTime(0, 200),
-        Act::Connect(Habit::Whole, WINDOW),
-        Act::Turns(2),
-        Act::Connect(Habit::Whole, ATTACH),
-        Act::Turns(2),
+        StageAct::SetTime(0, 200),
+        StageAct::Connect(Habit::Whole, WINDOW),
+        StageAct::Turns(2),
+        StageAct::Connect(Habit::Whole, ATTACH),
+        StageAct::Turns(2),
     ])?;
     for list in lists {
         acts.extend_from_slice(&[
-            Act::Connect(Habit::Whole, list),
-            Act::Turns(2),
-            Act::Note(2),
-            Act::Leave,
-            Act::Turns(1),
-            Act::Connect(Habit::Steady, list),
-            Act::Turns(12),
-            Act::Note(2),
-            Act::Leave,
-            Act::Turns(1),
-            Act::Note(2),
+            StageAct::Connect(Habit::Whole, list),
+            StageAct::Turns(2),
+            StageAct::Note(2),
+            StageAct::Leave,
+            StageAct::Turns(1),
+            StageAct::Connect(Habit::Steady, list),
+            StageAct::Turns(12),
+            StageAct::Note(2),
+            StageAct::Leave,
+            StageAct::Turns(1),
+            StageAct::Note(2),
         ])?;
     }
-    acts.extend_from_slice(&[Act::Send(1, b"K\0\x05still"), Act::Turns(2), Act::Note(0)])?;
+    acts.extend_from_slice(&[
+        StageAct::Send(1, b"K\0\x05still"),
+        StageAct::Turns(2),
+        StageAct::Note(0),
+    ])?;
     Ok(acts)
 }
 

@@ -1,10 +1,10 @@
 use Rattle.std.proofs.Common.{[], ◌∙◌, ◌+◌, refl, subst, sym, take}
-use Rattle.server_sending.specs.declared.typists.Frame.{Frame}
+use Rattle.server_sending.specs.declared.typists.TypedFrame.{TypedFrame}
 use Rattle.server_sending.proofs.Following.{IsFound, step_on, step_past}
 use Rattle.server_sending.proofs.typists.typist_after.Goals as goal
 use Rattle.server_sending.proofs.typists.typist_after.Goals.{then-is_between, else-is_between}
 
-abbrev blank : Frame
+abbrev blank : TypedFrame
 blank = record { user = record { name = [] }; from = 0; len = 0 }
 
 pub loop-frame-preserved : goal.loop-frame-preserved
