@@ -1,9 +1,10 @@
 #!/usr/bin/env python3
 """Fills a server's trail: 63 users type into a window until the 4,194,304 entries are there.
 
-One user alone would take more than an hour: a user causes at most 1,000 entries a second in the long run. Each byte
-that was told as an entry reaches the window, in one INPUT each; the next one finds the trail full: clients and window
-get GONE 7, in whichever loop they are, and muxd says so, in its log how full it was before, and ends with status 1.
+One user alone would take more than an hour: a user causes at most 1,000 entries a second in the long run. Each types
+a letter of their own when the last one has come, since keys that wait are one entry. Each byte that was told as an
+entry reaches the window, in one INPUT each; the next one finds the trail full: clients and window get GONE 7, in
+whichever loop they are, and muxd says so, in its log how full it was before, and ends with status 1.
 Equal entries share one stored form: the trail takes 4 bytes for each, and the seats' receipts 8, in all some 50 MB.
 The server is to stay below 120 MB, with what the clients need that type at once.
 
@@ -26,36 +27,38 @@ from play import WORDS, check, figure
 
 ENTRIES = 4_194_304
 USERS = [OWNER] + [b"u%d" % number for number in range(1, 63)]
-BATCH = 2_000
+LETTERS = bytes(range(0x21, 0x21 + len(USERS)))
 MOST = 120
 DAY, TYPISTS, BURSTS, MOST_A_KEY = 1_400_000, 5, (1, 5, 40), 20
 
 
 class Peer(peer.Peer):
-    """A connection that reads without waiting: how many bytes of INPUT it was sent, and its last frame."""
+    """A connection that reads without waiting: how many bytes of INPUT it was sent, which last, and its last frame."""
 
     def __init__(self, path, first):
         super().__init__(path, first)
-        self.typed, self.ended = 0, False
+        self.typed, self.came, self.ended = 0, b"", False
         while not self.rest:
             self.rest = self.socket.recv(65536)
         self.socket.setblocking(False)
         self.take()
 
     def take(self):
-        at = 0
+        at, came = 0, []
         while len(self.rest) >= at + 3:
             end = at + 3 + int.from_bytes(self.rest[at + 1:at + 3], "big")
             if len(self.rest) < end:
                 break
             kind = self.rest[at:at + 1]
             if kind == INPUT:
-                self.typed += end - at - 3
+                came.append(self.rest[at + 3:end])
             self.gone = self.rest[end - 1] if kind == GONE else None
             at = end
-        self.rest = self.rest[at:]
+        self.rest, self.came = self.rest[at:], b"".join(came)
+        self.typed += len(self.came)
 
     def read(self):
+        self.came = b""
         try:
             data = self.socket.recv(1 << 20)
         except BlockingIOError:
@@ -68,28 +71,27 @@ class Peer(peer.Peer):
 
 
 def fill(shell, clients):
-    """Has each type a byte an event, until all were let go; how many were sent."""
-    keys, sent = frame(KEYS, b"x") * BATCH, 0
-    rests = {client.socket: b"" for client in clients}
+    """Has each type a letter when its last one has come, until all were let go; how many were sent."""
+    frames = {letter: (client, frame(KEYS, bytes([letter]))) for letter, client in zip(LETTERS, clients)}
+    sent, due = 0, LETTERS
     with selectors.DefaultSelector() as ready:
-        ready.register(shell.socket, selectors.EVENT_READ, shell)
-        for client in clients:
-            ready.register(client.socket, selectors.EVENT_READ | selectors.EVENT_WRITE, client)
+        for it in [shell, *clients]:
+            ready.register(it.socket, selectors.EVENT_READ, it)
         while not (shell.ended and all(client.ended for client in clients)):
-            for key, events in ready.select():
-                it = key.data
-                if events & selectors.EVENT_READ:
-                    it.read()
-                if it.ended:
-                    ready.unregister(it.socket)
-                elif events & selectors.EVENT_WRITE:
-                    rest = rests[it.socket] or keys
-                    try:
-                        count = it.socket.send(rest)
-                    except (BlockingIOError, BrokenPipeError):
-                        continue
-                    sent, rests[it.socket] = sent + count, rest[count:]
-    return sent // 4
+            for client, keys in (frames[letter] for letter in due):
+                try:
+                    client.socket.send(keys)
+                except (BrokenPipeError, ConnectionResetError):
+                    continue
+                sent += 1
+            due = b""
+            for key, _ in ready.select():
+                key.data.read()
+                if key.data is shell:
+                    due = shell.came
+                if key.data.ended:
+                    ready.unregister(key.fileobj)
+    return sent
 
 
 def type_for_a_day(client, number):
