@@ -1,10 +1,14 @@
 //! A connection that a loop waits for.
 
-use crate::unread::bound_unread;
+use crate::unread::{bound_unread, widen_unread};
 use mio::net::UnixStream;
 use mio::{Interest, Registry, Token};
 use std::io;
 use std::io::{ErrorKind, Read, Write};
+
+// Of more bytes that wait, as a page of 200 by 300 can have, the system keeps what it can: a connection for which more
+// than 1 MiB waits in the server is told to go.
+const LARGE: usize = 1_048_576;
 
 /// A connection whose loop is woken when there is something to read. While bytes wait to be written,
 /// the loop is also woken when the connection takes bytes again.
@@ -14,6 +18,7 @@ pub struct Wired<'a> {
     registry: &'a Registry,
     token: Token,
     awaits_room: bool,
+    is_widened: bool,
 }
 
 impl<'a> Wired<'a> {
@@ -29,7 +34,21 @@ impl<'a> Wired<'a> {
             registry,
             token,
             awaits_room: false,
+            is_widened: false,
         })
+    }
+
+    // Lets the system keep much of a large page, and little of all else.
+    fn suit(&mut self, is_large: bool) {
+        if self.is_widened == is_large {
+            return;
+        }
+        self.is_widened = is_large;
+        if is_large {
+            widen_unread(&self.stream);
+        } else {
+            bound_unread(&self.stream);
+        }
     }
 
     fn await_room(&mut self, awaits_room: bool) -> io::Result<()> {
@@ -56,6 +75,7 @@ impl Read for Wired<'_> {
 
 impl Write for Wired<'_> {
     fn write(&mut self, buf: &[u8]) -> io::Result<usize> {
+        self.suit(buf.len() > LARGE);
         match self.stream.write(buf) {
             Ok(count) => {
                 if count == buf.len() {
