@@ -1,7 +1,9 @@
 pub mod Ending
+pub mod Fullness
 pub mod Lending
 pub mod Life
 pub mod Marked
+pub mod Overdue
 pub mod Peers
 pub mod Putting
 pub mod Streaming
