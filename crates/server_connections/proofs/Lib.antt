@@ -2,3 +2,4 @@ mod Looking
 mod Marking
 mod Standing
 mod Walking
+mod Writing

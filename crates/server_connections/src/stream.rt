@@ -4,7 +4,7 @@ ghost use Rattle.std.specs.Prelude.{◌≡◌, ◌≤◌, ◌++◌, ◌∷◌, �
 ghost use Rattle.std.specs.Io.KnownBytes.{Consumes};
 ghost use Rattle.attach_proto.specs.declared.message.Message.{Message};
 ghost use Rattle.server_connections.specs.Peers.{is_open};
-ghost use Rattle.server_connections.specs.Streaming.{IsIdle, IsSameGuest, IsWrittenTo, rest_of};
+ghost use Rattle.server_connections.specs.Streaming.{IsFull, IsIdle, IsThrough, IsWrittenOn, IsWrittenTo, rest_of};
 ghost use Rattle.server_inbox.specs.Asking.{Gives, IsWhole, Stands, TakesIn};
 
 use crate::peer::{Peer, Role, Stage};
@@ -132,7 +132,10 @@ impl<S: Read + Write + Drop> Peer<S> {
         ensures written { (put : List ℕ) → IsWrittenTo S.contents put self.old
             → IsWrittenTo S.contents put self.new }
         ensures idle { IsIdle self.old → (result ≡ false) × (self.new ≡ self.old) }
-        ensures same { IsSameGuest self.old self.new }
+        ensures on { IsWrittenOn self.old self.new }
+        ensures none { self.old.stream ≡ None → self.new ≡ self.old }
+        ensures again { result ≡ true → self.new.is_full ≡ self.old.is_full }
+        ensures through { result ≡ false → IsThrough self.new }
     {
         let Some(stream) = &mut self.stream else {
             return false;
@@ -169,7 +172,11 @@ impl<S: Read + Write + Drop> Peer<S> {
             → IsWrittenTo S.contents put self.new }
         // If nothing waits, and it isn't to go, nothing is done.
         ensures idle { IsIdle self.old → self.new ≡ self.old }
-        ensures same { IsSameGuest self.old self.new }
+        ensures full { IsFull self.old → self.new ≡ self.old }
+        // Nothing of it changes but what was written, unless it is given up.
+        ensures on { IsWrittenOn self.old self.new }
+        // It is written to until nothing is left to be written for now.
+        ensures through { IsThrough self.new }
     {
         if self.is_full && self.stage != Stage::Cut {
             return;
@@ -179,6 +186,8 @@ impl<S: Read + Write + Drop> Peer<S> {
                 return;
             }
         }
+        // In practice it never comes to this many writes.
+        self.close();
     }
 }
 
