@@ -6,6 +6,7 @@ pub mod Marked
 pub mod Overdue
 pub mod Peers
 pub mod Putting
+pub mod Reading
 pub mod Streaming
 pub mod Telling
 pub mod Walking
