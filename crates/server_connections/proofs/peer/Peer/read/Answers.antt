@@ -1,4 +1,5 @@
-use Rattle.std.proofs.Common.{◌≡◌, ◌∙◌, ◌++◌, ℕ, List, [], sym, ap, subst, rules, arith, refl, inr, eq-eqb, ne_eqb, length}
+use Rattle.std.proofs.Common.{◌≡◌, ◌∙◌, ◌++◌, ℕ, List, [], sym, ap}
+use Rattle.std.proofs.Common.{subst, rules, arith, refl, inr, eq-eqb, ne_eqb, length}
 use Rattle.std.proofs.lemmas.Grind.{common_steps}
 use Rattle.std.proofs.lemmas.List.{length-take-le}
 use Rattle.std.specs.Prelude.{take, true}
@@ -10,7 +11,13 @@ use Rattle.server_connections.proofs.Standing.{none_read, quiet, typed_anew, unb
 use Rattle.server_connections.proofs.peer.Peer.read.Goals as goal
 
 pub returns-then-not-is_open-clause-bytes : goal.returns-then-not-is_open-clause-bytes
-returns-then-not-is_open-clause-bytes g c = ([], none_read _, refl, grind (arith, common_steps), λ taken stream h whole. quiet _ _ taken stream h)
+returns-then-not-is_open-clause-bytes g c = (
+  [],
+  none_read _,
+  refl,
+  grind (arith, common_steps),
+  λ taken stream h whole. quiet _ _ taken stream h,
+)
 
 pub returns-then-count-eq0-clause-bytes : goal.returns-then-count-eq0-clause-bytes
 returns-then-count-eq0-clause-bytes g c =
@@ -61,7 +68,8 @@ returns-else-is_much-clause-bytes g c =
           c.read_from-count.ensures.bytes,
       inr (omega (arith, len)),
       λ readable. ap (λ (p : Peer g.row.S.Denot). p.has_more) c.feed.ensures.same ∙ (c.may_have_more-has_more.ensures
-          ∙ more_than_some old (length (take c.read_from-count.result.0 c.read_from-count.new.buffer)) _ (ne_eqb _ _ c.if-is_much.false)
+          ∙ more_than_some old (length (take c.read_from-count.result.0 c.read_from-count.new.buffer)) _
+          (ne_eqb _ _ c.if-is_much.false)
           (λ e. c.if-count-eq0.false (sym len ∙ e))),
       λ taken stream h whole. c.feed.ensures.stands taken stream (c.may_read.ensures.none may)
           (unbroken old.has_more old.inbox.is_broken (sym c.has_more.ensures ∙ more))
