@@ -1,4 +1,6 @@
 mod Looking
 mod Marking
+mod Reading
 mod Standing
 mod Walking
+mod Writing

@@ -102,7 +102,8 @@ module _ (words : List ℕ) (key w : ℕ) (within : key / 64 < length words) whe
   at_it : get_or (set words (key / 64) w) (key / 64) 0 ≡ w
   at_it = get_or-set_same words (key / 64) w 0 within
 
-  other_bit : ((i : ℕ) → i < 64 → i ≢ key % 64 → bit_at w i ≡ bit_at (get_or words (key / 64) 0) i) → (k : ℕ) → k ≢ key
+  other_bit : ((i : ℕ) → i < 64 → i ≢ key % 64 → bit_at w i ≡ bit_at (get_or words (key / 64) 0) i)
+      → (k : ℕ) → k ≢ key
       → bit_at (get_or (set words (key / 64) w) (k / 64) 0) (k % 64) ≡ bit_at (get_or words (k / 64) 0) (k % 64)
   other_bit same k other =
       elim (cases_eq (k / 64) (key / 64)) [
@@ -132,7 +133,8 @@ module _ (words : List ℕ) (key v : ℕ) (within : key / 64 < length words) (is
   pub as_marked : set words (key / 64) (bit_or v (1 * 2 ^ (key % 64) % 2 ^ 64)) ≡ with_mark words key
   as_marked = ap (λ w. set words (key / 64) (bit_or w (1 * 2 ^ (key % 64) % 2 ^ 64))) at_zero
 
-  pub as_unmarked : set words (key / 64) (bit_and v (2 ^ 64 - 1 - 1 * 2 ^ (key % 64) % 2 ^ 64)) ≡ without_mark words key
+  pub as_unmarked : set words (key / 64) (bit_and v (2 ^ 64 - 1 - 1 * 2 ^ (key % 64) % 2 ^ 64))
+      ≡ without_mark words key
   as_unmarked = ap (λ w. set words (key / 64) (bit_and w (2 ^ 64 - 1 - 1 * 2 ^ (key % 64) % 2 ^ 64))) at_zero
 
   pub marked : IsMarked (set words (key / 64) (bit_or v (1 * 2 ^ (key % 64) % 2 ^ 64))) key
@@ -153,7 +155,8 @@ module _ (words : List ℕ) (key v : ℕ) (within : key / 64 < length words) (is
       ∙ bit_at_clear_same w64 v (key % 64) (omega arith) in
       absurd (omega (arith, e, marks))
 
-  pub unmarked_alone : IsSameBut key words (set words (key / 64) (bit_and v (2 ^ 64 - 1 - 1 * 2 ^ (key % 64) % 2 ^ 64)))
+  pub unmarked_alone : IsSameBut key words
+      (set words (key / 64) (bit_and v (2 ^ 64 - 1 - 1 * 2 ^ (key % 64) % 2 ^ 64)))
   unmarked_alone =
       same_but words key (bit_and v (2 ^ 64 - 1 - 1 * 2 ^ (key % 64) % 2 ^ 64)) within
       (λ i small other. bit_at_clear_other w64 v (key % 64) (omega arith) i small other
@@ -181,7 +184,8 @@ at_key words place bit small =
     let r : (place * 64 + bit) % 64 ≡ bit = omega arith in
     ap (λ n. bit_at (get_or words n 0) ((place * 64 + bit) % 64)) q ∙ ap (λ i. bit_at (get_or words place 0) i) r
 
-of_key : (words : List ℕ) (place k : ℕ) → k / 64 ≡ place → IsMarked words k → bit_at (get_or words place 0) (k % 64) ≡ 1
+of_key : (words : List ℕ) (place k : ℕ) → k / 64 ≡ place → IsMarked words k
+    → bit_at (get_or words place 0) (k % 64) ≡ 1
 of_key words place k at is = sym (ap (λ n. bit_at (get_or words n 0) (k % 64)) at) ∙ is
 
 module _ (words : List ℕ) (from place low : ℕ) (small : low < 64) (begun : from ≤ 64 * place + low)

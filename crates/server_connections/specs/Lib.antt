@@ -1,9 +1,12 @@
 pub mod Ending
+pub mod Fullness
 pub mod Lending
 pub mod Life
 pub mod Marked
+pub mod Overdue
 pub mod Peers
 pub mod Putting
+pub mod Reading
 pub mod Streaming
 pub mod Telling
 pub mod Walking

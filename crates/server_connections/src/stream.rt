@@ -1,10 +1,12 @@
 //! Reads and writes of one connection.
 
-ghost use Rattle.std.specs.Prelude.{◌≡◌, ◌≤◌, ◌++◌, ◌∷◌, ℕ, List, [], Some, None, IfSome, false, length, take, true};
+ghost use Rattle.std.specs.Prelude.{◌≡◌, ◌≢◌, ◌≤◌, ◌++◌, ◌∷◌, ◌||◌, ℕ, List, [], Some, None, IfSome};
+ghost use Rattle.std.specs.Prelude.{false, length, take, true};
 ghost use Rattle.std.specs.Io.KnownBytes.{Consumes};
 ghost use Rattle.attach_proto.specs.declared.message.Message.{Message};
-ghost use Rattle.server_connections.specs.Peers.{is_open};
-ghost use Rattle.server_connections.specs.Streaming.{IsIdle, IsSameGuest, IsWrittenTo, rest_of};
+ghost use Rattle.server_connections.specs.Peers.{is_open, is_stranger};
+ghost use Rattle.server_connections.specs.Reading.{Fills, is_again, is_readable, more_after};
+ghost use Rattle.server_connections.specs.Streaming.{IsFull, IsIdle, IsThrough, IsWrittenOn, IsWrittenTo, rest_of};
 ghost use Rattle.server_inbox.specs.Asking.{Gives, IsWhole, Stands, TakesIn};
 
 use crate::peer::{Peer, Role, Stage};
@@ -69,16 +71,19 @@ impl<S: Read + Write + Drop> Peer<S> {
 
     // Whether more may be there after a read of this many bytes. A stranger's bytes may come in pieces,
     // however many are there.
-    fn may_have_more(&self, is_much: bool) -> bool {
+    fn may_have_more(&self, is_much: bool) -> bool
+        ensures { result ≡ ((is_much || self.now.has_hung_up) || is_stranger self.now.role) }
+    {
         is_much || self.has_hung_up || self.role.is_stranger()
     }
 
     // A read brought no byte.
     fn note_none(&mut self, now: u64, arrival: Arrival)
-        ensures { self.new ≡ record self.old {
+        ensures same { self.new ≡ record self.old {
           has_more = self.new.has_more;
           inbox = record self.old.inbox { typed = self.new.inbox.typed };
         } }
+        ensures more { self.new.has_more ≡ is_again arrival }
     {
         self.has_more = arrival == Arrival::Some;
         if arrival == Arrival::Nothing {
@@ -90,9 +95,15 @@ impl<S: Read + Write + Drop> Peer<S> {
     /// bytes came than the buffer takes, nothing is left for now; but if the other end was closed, the end
     /// comes after them.
     pub fn read(&mut self, buffer: &mut [u8], now: u64) -> Arrival
-        // What was read is taken in after all that was read before.
+        // If it may not be read nothing is done.
+        ensures held { is_readable now self.old ≡ false
+            → (result ≡ Arrival.Nothing) × (self.new ≡ self.old) }
+        // What was read is taken in after all that was read before, and it is known whether more may be there.
         ensures bytes { (piece : List ℕ)
             × Consumes (rest_of S.remaining self.old.stream) (rest_of S.remaining self.new.stream) piece
+            × Fills (length buffer.old) (length piece) result
+            × (is_readable now self.old ≡ true
+            → self.new.has_more ≡ more_after self.old (length piece) result)
             × ((taken : List Message) (stream : List ℕ)
             → Stands self.old.inbox self.old.reader taken stream
             → IsWhole self.new.inbox self.new.reader
@@ -132,7 +143,10 @@ impl<S: Read + Write + Drop> Peer<S> {
         ensures written { (put : List ℕ) → IsWrittenTo S.contents put self.old
             → IsWrittenTo S.contents put self.new }
         ensures idle { IsIdle self.old → (result ≡ false) × (self.new ≡ self.old) }
-        ensures same { IsSameGuest self.old self.new }
+        ensures on { IsWrittenOn self.old self.new }
+        ensures none { self.old.stream ≡ None → self.new ≡ self.old }
+        ensures again { result ≡ true → self.new.is_full ≡ self.old.is_full }
+        ensures through { result ≡ false → IsThrough self.new }
     {
         let Some(stream) = &mut self.stream else {
             return false;
@@ -169,7 +183,11 @@ impl<S: Read + Write + Drop> Peer<S> {
             → IsWrittenTo S.contents put self.new }
         // If nothing waits, and it isn't to go, nothing is done.
         ensures idle { IsIdle self.old → self.new ≡ self.old }
-        ensures same { IsSameGuest self.old self.new }
+        ensures full { IsFull self.old → self.new ≡ self.old }
+        // Nothing of it changes but what was written, unless it is given up.
+        ensures on { IsWrittenOn self.old self.new }
+        // It is written to until nothing is left to be written for now.
+        ensures through { IsThrough self.new }
     {
         if self.is_full && self.stage != Stage::Cut {
             return;
@@ -179,6 +197,8 @@ impl<S: Read + Write + Drop> Peer<S> {
                 return;
             }
         }
+        // In practice it never comes to this many writes.
+        self.close();
     }
 }
 
@@ -186,6 +206,7 @@ impl<S: Read + Write + Drop> Peer<S> {
 // to be read again.
 fn read_from<S: Read>(stream: &mut S, buffer: &mut [u8]) -> (usize, Arrival)
     ensures within { result.0 ≤ length buffer.new }
+    ensures none { result.0 ≡ 0 → result.1 ≢ Arrival.Much }
     ensures bytes { Consumes (S.remaining stream.old) (S.remaining stream.new) (take result.0 buffer.new) }
 {
     match stream.read(buffer) {

@@ -28,7 +28,8 @@ returns-in_default g c =
 pub visits-preserved : goal.visits-preserved
 visits-preserved g c = (
   c.visits.invariant.0,
-  λ new rest. c.visits.invariant.1 new (with_visit (λ h. (g.T.HasConnections.held h).awake) (goal.F-post g c.args.visit)
+  λ new rest. c.visits.invariant.1 new (
+      with_visit (λ h. (g.T.HasConnections.held h).awake) (goal.F-post g c.args.visit)
       c.end-end.result c.visits.counter c.visits.from c.in-Some.key c.connections-in-visits.result.now.awake
       c.visits.holder c.visit.new.arg2 new
       (ap (λ (s : Connections g.row.S.Denot). s.awake) c.connections-in-visits.ensures)

@@ -33,7 +33,8 @@ returns-in-Err-clause-fault g c =
     record {
       first = c.in-Some.ensures.some;
       peer = c.in-Some-touch.peer.now;
-      was = ap (λ (s : Slab (Peer g.row.S.Denot)). get s c.in-Some.key) (sym peers) ∙ sym c.in-Some-touch.ensures.value;
+      was = ap (λ (s : Slab (Peer g.row.S.Denot)). get s c.in-Some.key) (sym peers)
+          ∙ sym c.in-Some-touch.ensures.value;
       turn = c.put.new.turn;
       put = c.in-Err.ensures.err;
       new_is = ap

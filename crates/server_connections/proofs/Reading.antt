@@ -1,0 +1,28 @@
+-- What a read brought.
+use Rattle.std.proofs.Common.{◌≡◌, ◌≢◌, ℕ, Bool, true, false, ◌||◌, refl, inl, ne_eqb}
+use Rattle.server_connections.specs.Peers.{is_stranger}
+use Rattle.server_connections.specs.Reading.{Fills, is_again, more_after}
+use Rattle.server_connections.specs.declared.peer.Peer.{Peer}
+use Rattle.server_connections.specs.declared.stream.Arrival.{Arrival}
+use Rattle.server_connections.specs.declared.stream.Arrival.TheVariants as arrival
+
+pub none_came : (size : ℕ) (a : Arrival) → a ≢ arrival.Much → Fills size 0 a
+none_came size arrival.Much not = absurd (not refl)
+none_came size arrival.Some not = inl refl
+none_came size arrival.Nothing not = refl
+none_came size arrival.End not = refl
+
+module _ {S : Type 0} where
+  pub more_than_none : (p : Peer S) (a : Arrival) → a ≢ arrival.Much → is_again a ≡ more_after p 0 a
+  more_than_none p arrival.Much not = absurd (not refl)
+  more_than_none p arrival.Some not = refl
+  more_than_none p arrival.Nothing not = refl
+  more_than_none p arrival.End not = refl
+
+  pub more_than_some : (p : Peer S) (n : ℕ) (m : Bool) → m ≡ false → (n ≡ 0 → ⊥)
+      → ((m || p.has_hung_up) || is_stranger p.role) ≡ more_after p n arrival.Some
+  more_than_some p n m few not = rw (few, ne_eqb n 0 not)
+
+  pub more_than_much : (p : Peer S) (n : ℕ) (m : Bool) → m ≡ true
+      → ((m || p.has_hung_up) || is_stranger p.role) ≡ more_after p n arrival.Much
+  more_than_much p n m all = rw all
