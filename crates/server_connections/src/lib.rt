@@ -6,6 +6,7 @@ mod connections;
 mod fullness;
 mod marks;
 mod news;
+mod overdue;
 mod peer;
 mod seat;
 mod stream;

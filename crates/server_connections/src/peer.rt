@@ -2,13 +2,11 @@
 
 ghost use Rattle.std.specs.Prelude.{◌≡◌, ◌↔◌, ◌<◌, ◌&&◌, ◌||◌, IfOk, IsTrue, Some, [], false, true, length, not};
 ghost use Rattle.std.specs.Prelude.{option_map};
-ghost use Rattle.std.specs.Duration.{as_nanos};
 ghost use Rattle.server_connections.specs.Peers.{IsNewcomer, awaits, has_more, is_at_rest, is_awaited};
 ghost use Rattle.server_connections.specs.Peers.{is_closed, is_done, is_due, is_new, is_open, is_stranger};
 ghost use Rattle.server_connections.specs.Peers.{listens};
 ghost use Rattle.server_connections.specs.Life.{dismissed, given_up, gone_guest, left, parting};
 ghost use Rattle.server_connections.specs.Life.{wanted_draw, without_guest};
-ghost use Rattle.server_connections.specs.Overdue.{awaited_from, is_overdue, sent_off};
 ghost use Rattle.server_connections.specs.Streaming.{Gathers};
 ghost use Rattle.server_inbox.specs.Asking.{Stands, is_empty};
 ghost use Rattle.server_typing.specs.Typed.{untyped};
@@ -25,9 +23,6 @@ use std::time::Duration;
 
 // A connection for which more bytes wait is told to go.
 const MOST_UNSENT: usize = 1_048_576;
-
-// A connection has this many seconds for its first message, and again to read its last frame.
-const PATIENCE: u64 = 10;
 
 /// What a connection is to the session. Clients and windows are named by their serials.
 #[derive(Clone, Copy, Debug, PartialEq, Eq)]
@@ -142,7 +137,7 @@ pub struct Peer<S> {
     // Why it was told to go.
     why: Option<Why>,
     // Since when its first message, or the end of its reading, is waited for.
-    awaited: Option<Duration>,
+    pub(crate) awaited: Option<Duration>,
 }
 
 impl<S: Drop> Peer<S> {
@@ -355,38 +350,6 @@ impl<S: Drop> Peer<S> {
             Stage::Open => self.role.is_stranger() && self.inbox.is_empty(),
             Stage::Ending => true,
             Stage::Leaving | Stage::Cut | Stage::Closed => false,
-        }
-    }
-
-    // Whether it was waited for as long as it may be. The time counts from the first call on.
-    fn is_overdue(&mut self, now: Duration) -> bool
-        ensures overdue { result ≡ is_overdue (as_nanos now) self.old }
-        ensures since { self.new ≡ awaited_from now self.old }
-    {
-        if !self.is_awaited() {
-            return false;
-        }
-        match self.awaited {
-            Some(since) => now.saturating_sub(since).as_secs() >= PATIENCE,
-            None => {
-                self.awaited = Some(now);
-                false
-            }
-        }
-    }
-
-    /// Once it was waited for as long as it may be: closes it if it was told to go, and else tells it
-    /// so.
-    pub fn expire(&mut self, now: Duration)
-        ensures overdue { is_overdue (as_nanos now) self.old ≡ true → self.new ≡ sent_off self.old }
-        ensures waits { is_overdue (as_nanos now) self.old ≡ false
-            → self.new ≡ awaited_from now self.old }
-    {
-        if self.is_overdue(now) {
-            match self.stage {
-                Stage::Ending => self.close(),
-                _ => self.end(Why::Fault),
-            }
         }
     }
 
