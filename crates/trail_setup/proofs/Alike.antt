@@ -1,7 +1,7 @@
 -- A history without leaders, clients and locks gives the same users, windows, masks, presets and entries.
 use Rattle.std.proofs.Common.{◌≡◌, ◌∙◌, ◌∷◌, ◌+◌, ◌-◌, ◌||◌, ◌&&◌, [], ℕ, List, Bool}
 use Rattle.std.proofs.Common.{true, false, not, Option, Some, None, refl}
-use Rattle.std.proofs.Common.{ap, sym, subst, filter, unwrap_or, is_none, nat_lt, if◌then◌else◌}
+use Rattle.std.proofs.Common.{ap, sym, filter, unwrap_or, is_none, nat_lt, if◌then◌else◌}
 use Rattle.std.specs.List.{list_any}
 use Rattle.std.proofs.lemmas.Bool.{false≢true}
 use Rattle.acl.specs.declared.act.Act.{Act}

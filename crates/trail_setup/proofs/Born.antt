@@ -1,16 +1,14 @@
 -- What a user gets on a window that is opened under closed masks.
-use Rattle.std.proofs.Common.{◌≡◌, ◌∙◌, ◌∷◌, ◌&&◌, [], ℕ, List, Bool, true, false, Some, None, refl, ap, sym}
+use Rattle.std.proofs.Common.{◌≡◌, ◌∙◌, ◌&&◌, ℕ, Bool, true, false, Some, None, ap, sym}
 use Rattle.std.proofs.Common.{unwrap_or, if◌then◌else◌, rules}
 use Rattle.std.specs.Prelude.{◌==◌}
-use Rattle.std.specs.List.{list_all, AllByRecursion}
+use Rattle.std.specs.List.{list_all}
 use Rattle.std.proofs.lemmas.Bool.{false≢true}
 use Rattle.acl.specs.declared.act.Object.TheVariants.{Window}
-use Rattle.acl.specs.declared.bits.Bit.{Bit}
-use Rattle.acl.specs.declared.user_id.UserId.{UserId}
-use Rattle.acl.specs.History.{History, decided, has, is_known, mask}
+use Rattle.acl.specs.History.{decided, has, is_known, mask}
 use Rattle.acl.specs.Same.{same_user}
 use Rattle.hub.proofs.Folding.{all_holds}
-use Rattle.trail_setup.specs.Closing.{closed, BornClosed}
+use Rattle.trail_setup.specs.Closing.{BornClosed}
 
 right_of : (a b : Bool) → (a && b) ≡ true → b ≡ true
 right_of true b e = e

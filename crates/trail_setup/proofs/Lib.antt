@@ -1,3 +1,4 @@
 pub mod Alike
 pub mod Born
 pub mod Filling
+pub mod Putting

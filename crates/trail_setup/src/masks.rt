@@ -1,5 +1,15 @@
 //! The masks of a setup.
 
+ghost use Rattle.std.specs.Prelude.{◌≡◌, ◌∷◌, ◌++◌, [], ℕ, List, OnOk, true};
+ghost use Rattle.acl.specs.declared.edition.Edition.{Edition};
+ghost use Rattle.acl.specs.declared.user_id.UserId.{UserId};
+ghost use Rattle.acl.specs.History.{History, among, is_open};
+ghost use Rattle.trail_setup.specs.Lines.{HoldWords, PutsLines, kind_of};
+ghost use Rattle.trail_setup.specs.Alone.{HasEntries};
+ghost use Rattle.trail_setup.specs.Masks.{Stands, closed_bits, comes_back, differing, has_if_back, has_on_all};
+ghost use Rattle.trail_setup.specs.Masks.{is_first, known_in, mask_kind, mask_word, said_bits, words_in, words_of};
+
+use crate::commands::are_same;
 use crate::lines::{Given, LineForm, Lines, push_bits};
 use crate::state::SetupState;
 use acl::{Bit, CommandName, Object, UserId};
@@ -14,14 +24,32 @@ pub struct SetupMasks<'a> {
     pub users: &'a [UserId],
 }
 
-/// Whether a mask leaves all bits.
-fn leaves_all(given: Given) -> bool {
-    given == [true, true, true]
+/// All bits.
+const ALL_BITS: Given = [true, true, true];
+
+/// These bits, unless they are the same as the others.
+fn differing(bits: Given, other: Given) -> Option<Given>
+    ensures { result ≡ differing bits other }
+{
+    if are_same(bits, other) {
+        None
+    } else {
+        Some(bits)
+    }
+}
+
+/// Whether the user is one of these.
+fn is_among(users: &[UserId], user: UserId) -> bool
+    ensures { result ≡ among users.now user }
+{
+    users.iter().any(|other| user == *other)
 }
 
 impl SetupMasks<'_> {
     /// Whether the user is the owner.
-    fn is_owner(&self, user: UserId) -> bool {
+    fn is_owner(&self, user: UserId) -> bool
+        ensures { result ≡ is_first self.now.users.now user }
+    {
         match self.users {
             [owner, ..] => *owner == user,
             [] => false,
@@ -30,15 +58,29 @@ impl SetupMasks<'_> {
 
     /// Whether a window of this opener comes back as a window of the user. What somebody opened who is gone
     /// comes back as the owner's, since nobody else can open it again.
-    fn comes_back_as(&self, opener: UserId, by: UserId) -> bool {
-        opener == by || (self.is_owner(by) && !self.users.contains(&opener))
+    fn comes_back_as(&self, opener: UserId, by: UserId) -> bool
+        ensures { result ≡ comes_back self.now.users.now opener by }
+    {
+        opener == by || (self.is_owner(by) && !is_among(self.users, opener))
+    }
+
+    /// Whether the user has the bit on a window, if it comes back as one of this opener's.
+    fn has_if_back(&self, by: UserId, user: UserId, bit: Bit, window: (u32, UserId)) -> bool
+        ensures { (edition : Edition) (owner : UserId) (h : History) →
+            HasEntries self.now.state.now.entries edition owner h → is_open h window.0 ≡ true →
+            result ≡ has_if_back owner h self.now.users.now by user bit window }
+    {
+        !self.comes_back_as(window.1, by)
+            || self.state.entries.has(user, bit, Object::Window(window.0))
     }
 
     /// Whether the user has the bit on each window that comes back as the opener's.
-    fn has_on_all(&self, by: UserId, user: UserId, bit: Bit) -> bool {
+    fn has_on_all(&self, by: UserId, user: UserId, bit: Bit) -> bool
+        ensures { (edition : Edition) (owner : UserId) (h : History) → Stands self.now.state.now edition owner h →
+            result ≡ has_on_all owner h (known_in self.now) by user bit }
+    {
         for row in &self.state.windows {
-            let object = Object::Window(row.0);
-            if self.comes_back_as(row.1, by) && !self.state.entries.has(user, bit, object) {
+            if !self.has_if_back(by, user, bit, *row) {
                 return false;
             }
         }
@@ -47,7 +89,10 @@ impl SetupMasks<'_> {
 
     /// What a closed mask leaves to a user: what the mask does, less each bit that the user lacks on a window
     /// that comes back as the opener's.
-    fn closed_of(&self, by: UserId, user: UserId) -> Given {
+    fn closed_of(&self, by: UserId, user: UserId) -> Given
+        ensures { (edition : Edition) (owner : UserId) (h : History) → Stands self.now.state.now edition owner h →
+            result ≡ closed_bits owner h (known_in self.now) by user }
+    {
         let [read, write, execute] = self.state.mask_of(by, user);
         [
             read && self.has_on_all(by, user, Bit::Read),
@@ -63,11 +108,54 @@ impl SetupMasks<'_> {
         given: Given,
         lines: &mut Lines<'_>,
         out: &mut Vec<u8>,
-    ) -> Result<(), AllocError> {
+    ) -> Result<(), AllocError>
+        ensures form { lines.new.form ≡ lines.old.form }
+        ensures holds { (start : List ℕ) (words : List (List ℕ))
+            → HoldWords (kind_of lines.old.form) start words out.old.items lines.old.line.items
+            → OnOk result (HoldWords (kind_of lines.old.form) start (words ++ mask_word user given ∷ [])
+            out.new.items lines.new.line.items) }
+    {
         let mut word = Vec::new(self.alloc);
         word.extend_from_slice(user.as_bytes())?;
         push_bits(given, &mut word)?;
         lines.put(word.as_slice(), out)
+    }
+
+    /// What an opener says of one user: the closed mask if it takes a bit, or later the mask if it was closed
+    /// further than it is.
+    fn said_of(&self, is_later: bool, by: UserId, user: UserId) -> Option<Given>
+        ensures { (edition : Edition) (owner : UserId) (h : History) → Stands self.now.state.now edition owner h →
+            result ≡ said_bits is_later owner h (known_in self.now) by user }
+    {
+        if user == by || self.is_owner(user) {
+            return None;
+        }
+        let (own, closed) = (self.state.mask_of(by, user), self.closed_of(by, user));
+        if is_later {
+            differing(own, closed)
+        } else {
+            differing(closed, ALL_BITS)
+        }
+    }
+
+    /// Puts what an opener says of one user on a line.
+    fn put_said(
+        &self,
+        said: Option<Given>,
+        user: UserId,
+        lines: &mut Lines<'_>,
+        out: &mut Vec<u8>,
+    ) -> Result<(), AllocError>
+        ensures form { lines.new.form ≡ lines.old.form }
+        ensures holds { (start : List ℕ) (words : List (List ℕ))
+            → HoldWords (kind_of lines.old.form) start words out.old.items lines.old.line.items
+            → OnOk result (HoldWords (kind_of lines.old.form) start (words ++ words_in user said)
+            out.new.items lines.new.line.items) }
+    {
+        match said {
+            Some(given) => self.put(user, given, lines, out),
+            None => Ok(()),
+        }
     }
 
     /// Appends what an opener says to mask users: the closed masks if they take a bit, or later those
@@ -78,7 +166,11 @@ impl SetupMasks<'_> {
         by: UserId,
         head: &[u8],
         out: &mut Vec<u8>,
-    ) -> Result<(), AllocError> {
+    ) -> Result<(), AllocError>
+        ensures { (edition : Edition) (owner : UserId) (h : History) → Stands self.now.state.now edition owner h →
+            OnOk result (PutsLines (mask_kind head.now) out.old.items (words_of is_later owner h (known_in self.now) by)
+            out.new.items) }
+    {
         let form = LineForm {
             head,
             between: b' ',
@@ -86,16 +178,8 @@ impl SetupMasks<'_> {
         };
         let mut lines = Lines::new(self.alloc, form);
         for user in self.users {
-            if *user == by || self.is_owner(*user) {
-                continue;
-            }
-            let (own, closed) = (self.state.mask_of(by, *user), self.closed_of(by, *user));
-            if is_later && own != closed {
-                self.put(*user, own, &mut lines, out)?;
-            }
-            if !is_later && !leaves_all(closed) {
-                self.put(*user, closed, &mut lines, out)?;
-            }
+            let said = self.said_of(is_later, by, *user);
+            self.put_said(said, *user, &mut lines, out)?;
         }
         lines.end(out)
     }

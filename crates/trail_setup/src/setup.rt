@@ -1,12 +1,18 @@
 //! The lines of a setup.
 
+ghost use Rattle.std.specs.Prelude.{◌≡◌, ◌++◌, OnOk, map};
+ghost use Rattle.acl.specs.Names.{name_of};
+ghost use Rattle.trail_setup.specs.Giving.{default_line, first_text, preset_line, users_kind};
+ghost use Rattle.trail_setup.specs.Lines.{PutsLines};
+ghost use Rattle.trail_setup.specs.Masks.{preset_in};
+
 use crate::commands::{push_commands, push_leaders};
 use crate::lines::{LineForm, Lines, push_bits};
 use crate::masks::SetupMasks;
 use crate::mode::ModeSeen;
 use crate::state::SetupState;
 use acl::{LockMode, PresetKind, UserId};
-use line_fields::parts::{push_mode, push_preset};
+use line_fields::parts::push_preset;
 use std::alloc::{AllocError, Global};
 use trail_rights::{Watch, users_of};
 
@@ -14,7 +20,9 @@ use trail_rights::{Watch, users_of};
 const LATER: &[u8] = b"# later: ";
 
 /// Appends the lines that make users known with nothing, in their order.
-fn push_users(alloc: Global, users: &[UserId], out: &mut Vec<u8>) -> Result<(), AllocError> {
+fn push_users(alloc: Global, users: &[UserId], out: &mut Vec<u8>) -> Result<(), AllocError>
+    ensures { OnOk result (PutsLines users_kind (out.old.items ++ first_text) (map name_of users.now) out.new.items) }
+{
     out.extend_from_slice(b"multiuser on\naclumask ?-rwx ??-rwx\n")?;
     let form = LineForm {
         head: b"aclchg",
@@ -33,7 +41,9 @@ fn push_preset_line(
     state: &SetupState,
     kind: PresetKind,
     out: &mut Vec<u8>,
-) -> Result<(), AllocError> {
+) -> Result<(), AllocError>
+    ensures { OnOk result (out.new.items ≡ out.old.items ++ preset_line kind (preset_in state.now kind)) }
+{
     out.extend_from_slice(b"aclumask ")?;
     push_preset(kind, out)?;
     push_bits(state.preset(kind), out)?;
@@ -41,13 +51,14 @@ fn push_preset_line(
 }
 
 /// Appends the line that sets the mode of the locks of windows to come, if it isn't off.
-fn push_default(mode: LockMode, out: &mut Vec<u8>) -> Result<(), AllocError> {
-    if mode == LockMode::Off {
-        return Ok(());
+fn push_default(mode: LockMode, out: &mut Vec<u8>) -> Result<(), AllocError>
+    ensures { OnOk result (out.new.items ≡ out.old.items ++ default_line mode) }
+{
+    match mode {
+        LockMode::Off => Ok(()),
+        LockMode::Auto => out.extend_from_slice(b"defwritelock auto\n"),
+        LockMode::On => out.extend_from_slice(b"defwritelock on\n"),
     }
-    out.extend_from_slice(b"defwritelock ")?;
-    push_mode(mode, out)?;
-    out.extend_from_slice(b"\n")
 }
 
 /// Appends the lines for later: what masks are once all windows are back, and the mode.

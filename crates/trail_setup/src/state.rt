@@ -1,5 +1,8 @@
 //! What a setup needs of a trail's entries, besides what a watch of them has.
 
+ghost use Rattle.std.specs.Prelude.{◌≡◌};
+ghost use Rattle.trail_setup.specs.Masks.{mask_in, preset_in};
+
 use crate::entries::Entries;
 use crate::lines::Given;
 use crate::mode::{ModeSeen, asks_for, mode_seen};
@@ -64,7 +67,9 @@ impl SetupState {
     }
 
     /// What an opener's mask leaves to a user.
-    pub(crate) fn mask_of(&self, by: UserId, user: UserId) -> Given {
+    pub(crate) fn mask_of(&self, by: UserId, user: UserId) -> Given
+        ensures { result ≡ mask_in self.now.masks.items by user }
+    {
         for mask in &self.masks {
             if mask.by == by && mask.user == user {
                 return mask.left;
@@ -74,7 +79,9 @@ impl SetupState {
     }
 
     /// What a preset gives.
-    pub(crate) fn preset(&self, kind: PresetKind) -> Given {
+    pub(crate) fn preset(&self, kind: PresetKind) -> Given
+        ensures { result ≡ preset_in self.now kind }
+    {
         match kind {
             PresetKind::Windows => self.on_windows,
             PresetKind::Commands => self.on_commands,

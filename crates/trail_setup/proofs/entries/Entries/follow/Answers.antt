@@ -1,4 +1,4 @@
-use Rattle.std.proofs.Common.{◌≡◌, ◌∷◌, ◌∙◌, Bool, sym, subst, if◌then◌else◌}
+use Rattle.std.proofs.Common.{◌∷◌, ◌∙◌, Bool, sym, subst, if◌then◌else◌}
 use Rattle.hub.specs.Following.{StandsAfter}
 use Rattle.trail_setup.specs.Alone.{alone}
 use Rattle.trail_setup.proofs.Alike.{follows_alone}

@@ -1,4 +1,4 @@
-use Rattle.std.proofs.Common.{◌≡◌, ◌∙◌, ℕ, List, [], refl, sym, subst}
+use Rattle.std.proofs.Common.{◌≡◌, refl}
 use Rattle.trail_setup.specs.Lines.{HoldWords, kind_of}
 use Rattle.trail_setup.proofs.Filling.{pushed}
 use Rattle.trail_setup.proofs.lines.Lines.put.Goals as goal

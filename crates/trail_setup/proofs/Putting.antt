@@ -1,0 +1,90 @@
+-- Lines of several kinds that are put out one after another.
+use Rattle.std.proofs.Common.{◌≡◌, ◌∙◌, ◌+◌, ◌<◌, ◌≤◌, ℕ, zero, suc, Bool, true, false, List, [], ◌∷◌, ◌++◌, refl, sym}
+use Rattle.std.proofs.Common.{subst, ap, map, take, drop, length, arith, slice_index_or}
+use Rattle.std.specs.Prelude.{filter}
+use Rattle.std.specs.List.{AllByRecursion, flat_map, list_all}
+use Rattle.std.proofs.lemmas.List.{flat_map_more}
+use Rattle.trail_rights.proofs.Stepping.{keeps_next, leaves_next, take_past}
+use Rattle.trail_setup.specs.declared.lines.LineForm.{LineForm}
+use Rattle.trail_setup.specs.Giving.{Part, PutsAll, PutsPart}
+use Rattle.trail_setup.specs.Lines.{HoldWords, Kind, kind_of}
+
+pub puts_append : (ps qs : List Part) (a b c : List ℕ) → PutsAll ps a b → PutsAll qs b c → PutsAll (ps ++ qs) a c
+puts_append [] qs a b c e more = subst (λ (x : List ℕ). PutsAll qs x c) e more
+puts_append (p ∷ ps) qs a b c all more = (all.0, all.1, puts_append ps qs all.0 b c all.2 more)
+
+pub puts_more : (ps : List Part) (p : Part) (a b c : List ℕ) → PutsAll ps a b → PutsPart p b c
+    → PutsAll (ps ++ p ∷ []) a c
+puts_more ps p a b c all more = puts_append ps (p ∷ []) a b c all (c, more, refl)
+
+map_more : {X Y : Type 0} (f : X → Y) (xs : List X) (x : X) → map f (xs ++ x ∷ []) ≡ map f xs ++ f x ∷ []
+map_more f [] x = refl
+map_more f (y ∷ xs) x = ap (λ l. f y ∷ l) (map_more f xs x)
+
+-- one more of those that have a line each
+pub maps_next : {X : Type 0} (f : X → Part) (xs : List X) (i : ℕ) (x : X) (a b c : List ℕ)
+    → take (i + 1) xs ≡ take i xs ++ x ∷ [] → PutsAll (map f (take i xs)) a b → PutsPart (f x) b c
+    → PutsAll (map f (take (i + 1) xs)) a c
+maps_next f xs i x a b c e all more =
+    subst (λ ps. PutsAll ps a c) (sym (ap (map f) e ∙ map_more f (take i xs) x))
+    (puts_more (map f (take i xs)) (f x) a b c all more)
+
+-- one more of those that have several
+pub flat_next : {X : Type 0} (f : X → List Part) (xs : List X) (i : ℕ) (x : X) (a b c : List ℕ)
+    → take (i + 1) xs ≡ take i xs ++ x ∷ [] → PutsAll (flat_map f (take i xs)) a b → PutsAll (f x) b c
+    → PutsAll (flat_map f (take (i + 1) xs)) a c
+flat_next f xs i x a b c e all more =
+    subst (λ ps. PutsAll ps a c) (flat_map_more f [] (take i xs) x ∙ ap (flat_map f) (sym e))
+    (puts_append (flat_map f (take i xs)) (f x) a b c all more)
+
+-- ---- words that are put in a loop
+
+pub puts_next : {X : Type 0} (p : X → Bool) (f : X → List ℕ) (xs : List X) (i : ℕ) (x : X) (k : Kind)
+    (start out now word : List ℕ) → take (i + 1) xs ≡ take i xs ++ x ∷ [] → p x ≡ true → word ≡ f x
+    → HoldWords k start (map f (filter p (take i xs)) ++ word ∷ []) out now
+    → HoldWords k start (map f (filter p (take (i + 1) xs))) out now
+puts_next p f xs i x k start out now word e is same held =
+    subst (λ (ws : List (List ℕ)). HoldWords k start ws out now)
+    (ap (λ (w : List ℕ). map f (filter p (take i xs)) ++ w ∷ []) same
+    ∙ sym (map_more f (filter p (take i xs)) x) ∙ ap (map f)
+    (keeps_next p xs (filter p (take i xs)) i x e is refl)) held
+
+pub leaves_out : {X : Type 0} (p : X → Bool) (f : X → List ℕ) (xs : List X) (i : ℕ) (x : X) (k : Kind)
+    (start out now : List ℕ) → take (i + 1) xs ≡ take i xs ++ x ∷ [] → p x ≡ false
+    → HoldWords k start (map f (filter p (take i xs))) out now
+    → HoldWords k start (map f (filter p (take (i + 1) xs))) out now
+leaves_out p f xs i x k start out now e is held =
+    subst (λ (ws : List (List ℕ)). HoldWords k start ws out now)
+    (ap (map f) (leaves_next p xs (filter p (take i xs)) i x e is refl)) held
+
+-- all words were put
+pub put_all : {X : Type 0} (p : X → Bool) (f : X → List ℕ) (xs : List X) (i : ℕ) (k : Kind) (start out now : List ℕ)
+    → length xs ≤ i → HoldWords k start (map f (filter p (take i xs))) out now
+    → HoldWords k start (map f (filter p xs)) out now
+put_all p f xs i k start out now past held =
+    subst (λ ys. HoldWords k start (map f (filter p ys)) out now) (take_past i xs past) held
+
+-- the form has changed in nothing
+pub reformed : (f g : LineForm) (start : List ℕ) (words : List (List ℕ)) (out now : List ℕ) → f ≡ g
+    → HoldWords (kind_of f) start words out now → HoldWords (kind_of g) start words out now
+reformed f g start words out now e held = subst (λ (x : LineForm). HoldWords (kind_of x) start words out now) e held
+
+pub all_past : {X : Type 0} (p : X → Bool) (xs : List X) (i : ℕ) (b : Bool) → length xs ≤ i
+    → list_all p (drop i xs) ≡ b → true ≡ b
+all_past p [] zero b past e = e
+all_past p [] (suc i) b past e = e
+all_past p (x ∷ xs) zero b past e = absurd (omega (arith, past))
+all_past p (x ∷ xs) (suc i) b past e = all_past p xs i b (omega (arith, past)) e
+
+pub nth : {X : Type 0} (P : X → Type 0) (xs : List X) (i : ℕ) (d : X) → i < length xs → AllByRecursion P xs
+    → P (slice_index_or xs i d)
+nth P [] i d l all = absurd (omega (arith, l))
+nth P (x ∷ xs) zero d l all = all.0
+nth P (x ∷ xs) (suc i) d l all = nth P xs i d (omega (arith, l)) all.1
+
+-- the kind and the words are others, but the same
+pub rewritten : (k m : Kind) (start : List ℕ) (ws vs : List (List ℕ)) (out now : List ℕ) → k ≡ m → ws ≡ vs
+    → HoldWords k start ws out now → HoldWords m start vs out now
+rewritten k m start ws vs out now e same held =
+    subst (λ (x : Kind). HoldWords x start vs out now) e
+    (subst (λ (xs : List (List ℕ)). HoldWords k start xs out now) same held)

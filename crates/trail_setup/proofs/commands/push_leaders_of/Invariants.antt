@@ -1,0 +1,8 @@
+use Rattle.std.proofs.Common.{◌≡◌, ◌++◌, take}
+use Rattle.std.specs.List.{flat_map}
+use Rattle.trail_setup.specs.Giving.{leader_line}
+use Rattle.trail_setup.proofs.commands.push_leaders_of.Given as goal
+
+abbrev pub invariant-loop-leader : goal.invariant-loop-leader
+invariant-loop-leader l =
+    l.out.items ≡ l.fn.out.items ++ flat_map (leader_line l.user) (take l.leader-index l.leaders)

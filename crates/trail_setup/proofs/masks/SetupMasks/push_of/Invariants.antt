@@ -1,0 +1,16 @@
+use Rattle.std.proofs.Common.{◌≡◌, take}
+use Rattle.std.specs.List.{flat_map}
+use Rattle.acl.specs.declared.edition.Edition.{Edition}
+use Rattle.acl.specs.declared.user_id.UserId.{UserId}
+use Rattle.acl.specs.History.{History}
+use Rattle.trail_setup.specs.Lines.{HoldWords, kind_of}
+use Rattle.trail_setup.specs.Masks.{Stands, known_in, mask_kind, word_of}
+use Rattle.trail_setup.proofs.masks.SetupMasks.push_of.Given as goal
+
+-- what is said of those so far was put
+abbrev pub invariant-loop-user : goal.invariant-loop-user
+invariant-loop-user l =
+    (kind_of l.lines.form ≡ mask_kind l.head)
+    × ((edition : Edition) (owner : UserId) (h : History) → Stands l.self.state.now edition owner h
+    → HoldWords (mask_kind l.head) l.fn.out.items (flat_map (word_of l.is_later owner h (known_in l.self) l.by)
+    (take l.user-index l.self.users.now)) l.out.items l.lines.line.items)

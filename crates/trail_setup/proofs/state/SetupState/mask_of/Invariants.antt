@@ -1,0 +1,7 @@
+use Rattle.std.proofs.Common.{◌≡◌, drop}
+use Rattle.trail_setup.specs.Masks.{mask_in}
+use Rattle.trail_setup.proofs.state.SetupState.mask_of.Given as goal
+
+abbrev pub invariant-loop-mask : goal.invariant-loop-mask
+invariant-loop-mask l =
+    mask_in (drop l.mask-index l.self.masks.items) l.by l.user ≡ mask_in l.self.masks.items l.by l.user
