@@ -1,5 +1,10 @@
 //! What is typed or printed, on its way to the server.
 
+ghost use Rattle.std.specs.Prelude.{◌≡◌, ◌↔◌, ℕ, [], ◌∷◌, ◌++◌, IsTrue, OnOk};
+ghost use Rattle.keys.specs.Grammar.{rest_step, nothing};
+ghost use Rattle.keys.specs.Kept.{StandsFor, rest_of, item_list};
+ghost use Rattle.client_peer.specs.Fitting.{given_keys, fit_keys, awaits_key};
+
 use crate::notice::NoticeStage;
 use crate::peer::Peer;
 use client_words::{Fault, InputStage, LeaveReader, Words};
@@ -19,6 +24,7 @@ pub struct Typing {
     keys: KeyReader,
     /// The command key was typed, and the key after it is still to come.
     is_begun: bool,
+    ghost begun: { is_begun ≡ awaits_key (rest_of keys) },
     /// Whether the client has keys of its own. Then the command key is sent with the one after it.
     pub assists: bool,
     /// How many lines the view was moved back by the client's own keys.
@@ -46,6 +52,8 @@ fn scroll_keys(bytes: &[u8]) -> Option<(usize, bool)> {
 }
 
 impl Typing {
+    ghost use Rattle.client_peer.specs.Typing.{LetsThrough, Follows};
+
     pub fn new(words: &Words<'_>) -> Typing {
         let leave = match words.leave {
             Some(byte) => Some(LeaveReader::new(byte)),
@@ -63,7 +71,9 @@ impl Typing {
     }
 
     /// Begins with another session, which has read no key.
-    pub fn begin(&mut self) {
+    pub fn begin(&mut self)
+        ensures { StandsFor self.new.keys [] }
+    {
         self.keys = KeyReader::new();
         self.is_begun = false;
         self.back = 0;
@@ -90,35 +100,52 @@ impl Typing {
     }
 
     /// Whether the session waits for no key: no prompt is open, and the command key wasn't typed last.
-    pub fn is_at_rest(&self) -> bool {
+    pub fn is_at_rest(&self) -> bool
+        ensures { IsTrue result ↔ (rest_of self.now.keys ≡ nothing) }
+    {
         !self.is_begun && self.keys.prompt().is_none()
     }
 
     // Reads a key along with the session.
-    fn follow(&mut self, key: u8) -> Option<KeyItem> {
+    fn follow(&mut self, key: u8) -> Option<KeyItem>
+        ensures next { rest_step (rest_of self.old.keys) key ≡ (item_list result self.new.keys.line, rest_of self.new.keys) }
+        ensures follows { Follows self.old.keys (key ∷ []) self.new.keys }
+        ensures same { self.new ≡ record self.old { keys = self.new.keys; is_begun = self.new.is_begun } }
+    {
         let item = self.keys.push(key);
         self.is_begun = item.is_none();
         item
     }
 
-    fn follow_all(&mut self, keys: &[u8]) {
-        for key in keys {
+    fn follow_all(&mut self, keys: &[u8])
+        ensures follows { Follows self.old.keys keys.now self.new.keys }
+        ensures same { self.new ≡ record self.old { keys = self.new.keys; is_begun = self.new.is_begun } }
+    {
+        'keys: for key in keys {
             self.follow(*key);
         }
     }
 
     // Gives a command by the prompt, between two keys.
-    fn give(&mut self, line: &[u8], out: &mut Vec<u8>) -> Result<(), AllocError> {
-        let from = out.len();
+    fn give(&mut self, line: &[u8], out: &mut Vec<u8>) -> Result<(), AllocError>
+        ensures given { OnOk result (out.new.items ≡ out.old.items ++ given_keys line.now) }
+        ensures follows { OnOk result (Follows self.old.keys (given_keys line.now) self.new.keys) }
+        ensures same { self.new ≡ record self.old { keys = self.new.keys; is_begun = self.new.is_begun } }
+    {
         out.extend_from_slice(b"\x01:")?;
         out.extend_from_slice(line)?;
         out.push(b'\r')?;
-        self.follow_all(out.get(from..).unwrap_or(&[]));
+        self.follow_all(b"\x01:");
+        self.follow_all(line);
+        self.follow_all(b"\r");
         Ok(())
     }
 
     /// Gives the window its region's size, between two keys.
-    pub fn fit(&mut self, out: &mut Vec<u8>) -> Result<(), AllocError> {
+    pub fn fit(&mut self, out: &mut Vec<u8>) -> Result<(), AllocError>
+        ensures given { OnOk result (out.new.items ≡ out.old.items ++ fit_keys) }
+        ensures follows { OnOk result (Follows self.old.keys fit_keys self.new.keys) }
+    {
         self.give(b"fit", out)
     }
 
@@ -181,7 +208,11 @@ impl Typing {
     }
 
     // Appends the input without the byte that leaves.
-    fn read(&mut self, input: &[u8], out: &mut Vec<u8>) -> Result<(), AllocError> {
+    fn read(&mut self, input: &[u8], out: &mut Vec<u8>) -> Result<(), AllocError>
+        ensures through { out.old.items ≡ []
+            → OnOk result (LetsThrough self.old.leave input.now out.new.items self.new.leave) }
+        ensures same { self.new ≡ record self.old { leave = self.new.leave; reads = self.new.reads } }
+    {
         self.reads = self.reads.wrapping_add(1);
         match &mut self.leave {
             Some(leave) => leave.feed(input, out),
@@ -191,8 +222,12 @@ impl Typing {
 }
 
 impl Peer {
+    ghost use Rattle.client_peer.specs.Typing.{TypesIn, Presses};
+
     /// Takes what was read of standard input.
-    pub fn type_in(&mut self, input: &[u8]) -> Result<(), Fault> {
+    pub fn type_in(&mut self, input: &[u8]) -> Result<(), Fault>
+        ensures { OnOk result (TypesIn self.old self.new input.now) }
+    {
         let mut bytes = Vec::new(self.alloc);
         self.typing.read(input, &mut bytes)?;
         if self.way.is_window() {
@@ -207,7 +242,10 @@ impl Peer {
     }
 
     // Takes keys. They are dropped while no server is there, and one takes the help away.
-    fn press(&mut self, keys: &[u8]) -> Result<(), Fault> {
+    fn press(&mut self, keys: &[u8]) -> Result<(), Fault>
+        ensures presses { OnOk result (Presses self.old self.new keys.now) }
+        ensures leave { self.new.typing.leave ≡ self.old.typing.leave }
+    {
         if self.is_lost() {
             if keys.contains(&ETX) {
                 self.is_final = true;
