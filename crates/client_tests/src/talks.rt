@@ -257,7 +257,7 @@ fn awaits(stream: &mut UnixStream, came: &mut Vec<u8>, bytes: &[u8]) -> io::Resu
     Ok(false)
 }
 
-// Says no more, and reads until the peer has gone. What nobody reads would be a fault of the connection to it, and no end.
+// Says no more, and reads until the peer has gone: what nobody reads would be a fault of its connection, and no end.
 fn leave(stream: &mut UnixStream) -> io::Result<()> {
     let mut buffer = [0; 1024];
     stream.set_read_timeout(Some(Duration::from_secs(1)))?;
