@@ -1,5 +1,5 @@
 -- What a peer has for its server, and what is on its way there.
-use Rattle.std.specs.Prelude.{◌≡◌, ℕ, ◌≤◌, ◌-◌, Bool, true, false, not, List, [], ◌∷◌, ◌++◌, ◌⊎◌, ◌↔◌, length, drop, IsTrue}
+use Rattle.std.specs.Prelude.{◌≡◌, ◌≢◌, ℕ, ◌≤◌, ◌-◌, Bool, true, false, not, List, [], ◌∷◌, ◌++◌, ◌⊎◌, length, drop}
 use Rattle.attach_proto.specs.declared.kind.Kind.{Kind}
 use Rattle.attach_proto.specs.declared.kind.Kind.TheVariants.{Output}
 use Rattle.client_peer.specs.declared.outgoing.Batch.{Batch}
@@ -27,11 +27,9 @@ pub record SendsFirst (old new : List ℕ) (kind : Kind) (bytes : List ℕ) : Ty
   pub sends : Sends old new kind first
 
 -- the server has let the peer in and takes frames, no thread sends any, and some wait
-pub record MaySend (p : Peer) : Type 0 where
-  pub welcome : p.is_welcome ≡ true
-  pub idle : p.is_sending ≡ false
-  pub open : p.is_shut ≡ false
-  pub some : p.frames.items ≡ [] → ⊥
+abbrev pub MaySend : Peer → Type 0
+MaySend p =
+    (p.is_welcome ≡ true) × (p.is_sending ≡ false) × (p.is_shut ≡ false) × (p.frames.items ≢ [])
 
 -- All that waits is handed out, for this connection, and none of it waits any more.
 pub record HandsOut (old : Peer) (batch : Batch) (new : Peer) : Type 0 where

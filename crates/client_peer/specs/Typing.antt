@@ -10,6 +10,7 @@ use Rattle.client_words.specs.Stands.{HasRead}
 use Rattle.keys.specs.Grammar.{nothing}
 use Rattle.keys.specs.Kept.{Keeping, StandsFor, rest_of}
 use Rattle.client_peer.specs.declared.peer.Peer.{Peer}
+use Rattle.client_peer.specs.declared.typing.Typing.{Typing}
 use Rattle.client_peer.specs.Fitting.{fit_keys}
 use Rattle.client_peer.specs.Reopening.{Sends}
 use Rattle.client_peer.specs.Sending.{Prints, SendsFirst}
@@ -26,6 +27,11 @@ LetsThrough (Some reader) input typed (Some after) =
 -- the reader has read these keys too
 abbrev pub Follows : Keeping → List ℕ → Keeping → Type 0
 Follows old keys new = (before : List ℕ) → StandsFor old before → StandsFor new (before ++ keys)
+
+-- but for the keys that it has read
+abbrev pub StaysBeside : Typing → Typing → Type 0
+StaysBeside old new =
+    (new.leave ≡ old.leave) × (new.assists ≡ old.assists) × (new.back ≡ old.back) × (new.asks_help ≡ old.asks_help)
 
 -- a client that knows a server, and shows no help
 pub record IsSeated (p : Peer) : Type 0 where

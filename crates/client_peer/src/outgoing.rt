@@ -1,10 +1,11 @@
 //! Frames for the server, in their order and whole.
 
-ghost use Rattle.std.specs.Prelude.{◌≡◌, ◌≤◌, ◌<◌, ◌++◌, ◌↔◌, length, [], OnOk, OnErr, IfOk, IfSome, IsNone, IsSome, IsTrue};
+ghost use Rattle.std.specs.Prelude.{◌≡◌, ◌≤◌, ◌<◌, ◌-◌, ◌++◌, ◌↔◌, length, drop, [], OnOk, OnErr, IfOk, IfSome, IsNone, IsSome, IsTrue};
 ghost use Rattle.attach_proto.specs.Spelling.{frame, spelling};
 ghost use Rattle.attach_proto.specs.declared.kind.Kind.TheVariants.{Keys, Output, Detach};
 ghost use Rattle.client_peer.specs.Reopening.{Sends, Reopens};
-ghost use Rattle.client_peer.specs.Sending.{Puts, SendsFirst, MaySend, HandsOut, HasBack, Prints, KeepsNewest, unsent, left};
+ghost use Rattle.client_peer.specs.Sending.{Puts, SendsFirst, MaySend, HandsOut, HasBack};
+ghost use Rattle.client_peer.specs.Sending.{HasServer, Prints, KeepsNewest, unsent, left};
 ghost use Rattle.client_peer.specs.Showing.{Keeps};
 
 use crate::peer::Peer;
@@ -73,10 +74,27 @@ impl Peer {
           page = self.new.page;
         } }
     {
-        if self.is_welcome && !self.is_reopening {
+        if self.has_server() {
             self.page.read(bytes);
-            return put_frames(Kind::Output, bytes, &mut self.frames);
+            put_frames(Kind::Output, bytes, &mut self.frames)?;
+            return Ok(());
         }
+        self.hold(bytes)?;
+        Ok(())
+    }
+
+    // Whether a server has the window.
+    fn has_server(&self) -> bool
+        ensures { IsTrue result ↔ HasServer self.now }
+    {
+        self.is_welcome && !self.is_reopening
+    }
+
+    // Holds what a window's program printed.
+    fn hold(&mut self, bytes: &[u8]) -> Result<(), AllocError>
+        ensures newest { OnOk result (KeepsNewest (self.old.held.items ++ bytes.now) self.new.held.items) }
+        ensures same { self.new ≡ record self.old { held = self.new.held; page = self.new.page } }
+    {
         self.held.extend_from_slice(bytes)?;
         if self.held.len() > MOST_HELD.saturating_mul(2) {
             self.trim()?;
@@ -86,7 +104,8 @@ impl Peer {
 
     // Keeps the newest of the bytes that are held. The page reads the others.
     fn trim(&mut self) -> Result<(), AllocError>
-        ensures newest { OnOk result (KeepsNewest self.old.held.items self.new.held.items) }
+        ensures newest { OnOk result (self.new.held.items
+            ≡ drop (length self.old.held.items - 262144) self.old.held.items) }
         ensures same { self.new ≡ record self.old { held = self.new.held; page = self.new.page } }
     {
         let held = mem::replace(&mut self.held, Vec::new(self.alloc));

@@ -52,7 +52,7 @@ fn scroll_keys(bytes: &[u8]) -> Option<(usize, bool)> {
 }
 
 impl Typing {
-    ghost use Rattle.client_peer.specs.Typing.{LetsThrough, Follows};
+    ghost use Rattle.client_peer.specs.Typing.{LetsThrough, Follows, StaysBeside};
 
     pub fn new(words: &Words<'_>) -> Typing {
         let leave = match words.leave {
@@ -108,9 +108,10 @@ impl Typing {
 
     // Reads a key along with the session.
     fn follow(&mut self, key: u8) -> Option<KeyItem>
-        ensures next { rest_step (rest_of self.old.keys) key ≡ (item_list result self.new.keys.line, rest_of self.new.keys) }
+        ensures next { rest_step (rest_of self.old.keys) key ≡
+            (item_list result self.new.keys.line, rest_of self.new.keys) }
         ensures follows { Follows self.old.keys (key ∷ []) self.new.keys }
-        ensures same { self.new ≡ record self.old { keys = self.new.keys; is_begun = self.new.is_begun } }
+        ensures same { StaysBeside self.old self.new }
     {
         let item = self.keys.push(key);
         self.is_begun = item.is_none();
@@ -119,7 +120,7 @@ impl Typing {
 
     fn follow_all(&mut self, keys: &[u8])
         ensures follows { Follows self.old.keys keys.now self.new.keys }
-        ensures same { self.new ≡ record self.old { keys = self.new.keys; is_begun = self.new.is_begun } }
+        ensures same { StaysBeside self.old self.new }
     {
         'keys: for key in keys {
             self.follow(*key);
@@ -130,7 +131,7 @@ impl Typing {
     fn give(&mut self, line: &[u8], out: &mut Vec<u8>) -> Result<(), AllocError>
         ensures given { OnOk result (out.new.items ≡ out.old.items ++ given_keys line.now) }
         ensures follows { OnOk result (Follows self.old.keys (given_keys line.now) self.new.keys) }
-        ensures same { self.new ≡ record self.old { keys = self.new.keys; is_begun = self.new.is_begun } }
+        ensures same { StaysBeside self.old self.new }
     {
         out.extend_from_slice(b"\x01:")?;
         out.extend_from_slice(line)?;
