@@ -1,5 +1,5 @@
 -- What a peer has for its server, and what is on its way there.
-use Rattle.std.specs.Prelude.{◌≡◌, ◌≢◌, ℕ, ◌≤◌, ◌-◌, Bool, true, false, not, List, [], ◌∷◌, ◌++◌, ◌⊎◌, length, drop}
+use Rattle.std.specs.Prelude.{◌≡◌, ◌≢◌, ℕ, ◌≤◌, ◌-◌, Bool, true, false, not, List, [], ◌++◌, ◌⊎◌, length, drop}
 use Rattle.attach_proto.specs.declared.kind.Kind.{Kind}
 use Rattle.attach_proto.specs.declared.kind.Kind.TheVariants.{Output}
 use Rattle.client_peer.specs.declared.outgoing.Batch.{Batch}

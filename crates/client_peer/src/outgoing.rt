@@ -1,6 +1,7 @@
 //! Frames for the server, in their order and whole.
 
-ghost use Rattle.std.specs.Prelude.{◌≡◌, ◌≤◌, ◌<◌, ◌-◌, ◌++◌, ◌↔◌, length, drop, [], OnOk, OnErr, IfOk, IfSome, IsNone, IsSome, IsTrue};
+ghost use Rattle.std.specs.Prelude.{◌≡◌, ◌≤◌, ◌<◌, ◌-◌, ◌++◌, ◌↔◌, length, drop, [], IsTrue};
+ghost use Rattle.std.specs.Prelude.{OnOk, OnErr, IfOk, IfSome, IsNone, IsSome};
 ghost use Rattle.attach_proto.specs.Spelling.{frame, spelling};
 ghost use Rattle.attach_proto.specs.declared.kind.Kind.TheVariants.{Keys, Output, Detach};
 ghost use Rattle.client_peer.specs.Reopening.{Sends, Reopens};
@@ -152,10 +153,15 @@ impl Peer {
     pub fn redraw(&mut self) -> Result<(), Fault>
         ensures ok { OnOk result (Puts self.old self.new
             (spelling (Message.Resize self.old.rows self.old.columns))) }
-        ensures err { OnErr result (Puts self.old self.new []) }
+        ensures err { OnErr result (self.new.frames.items ≡ self.old.frames.items) }
+        ensures same { self.new ≡ record self.old { frames = self.new.frames } }
     {
         let (rows, columns) = (self.rows, self.columns);
-        write_message(self.alloc, &Message::Resize { rows, columns }, &mut self.frames)?;
+        write_message(
+            self.alloc,
+            &Message::Resize { rows, columns },
+            &mut self.frames,
+        )?;
         Ok(())
     }
 

@@ -2,13 +2,13 @@
 
 ghost use Rattle.std.specs.Prelude.{◌≡◌, ◌↔◌, ℕ, [], ◌∷◌, ◌++◌, IsTrue, OnOk};
 ghost use Rattle.keys.specs.Grammar.{rest_step, nothing};
-ghost use Rattle.keys.specs.Kept.{StandsFor, rest_of, item_list};
+ghost use Rattle.keys.specs.Kept.{StandsFor, rest_of};
 ghost use Rattle.client_peer.specs.Fitting.{given_keys, fit_keys, awaits_key};
 
 use crate::notice::NoticeStage;
 use crate::peer::Peer;
 use client_words::{Fault, InputStage, LeaveReader, Words};
-use keys::{KeyItem, KeyReader};
+use keys::KeyReader;
 use std::alloc::AllocError;
 use std::io::Write;
 
@@ -107,15 +107,24 @@ impl Typing {
     }
 
     // Reads a key along with the session.
-    fn follow(&mut self, key: u8) -> Option<KeyItem>
-        ensures next { rest_step (rest_of self.old.keys) key ≡
-            (item_list result self.new.keys.line, rest_of self.new.keys) }
+    fn follow(&mut self, key: u8)
+        ensures next { (rest_step (rest_of self.old.keys) key).1 ≡ rest_of self.new.keys }
         ensures follows { Follows self.old.keys (key ∷ []) self.new.keys }
         ensures same { StaysBeside self.old self.new }
     {
-        let item = self.keys.push(key);
-        self.is_begun = item.is_none();
-        item
+        let begins = self.begins(key);
+        self.keys.push(key);
+        self.is_begun = begins;
+    }
+
+    // Whether a key is the command key, with another one to come.
+    fn begins(&self, key: u8) -> bool
+        ensures { result ≡ awaits_key (rest_step (rest_of self.now.keys) key).1 }
+    {
+        if key != 1 {
+            return false;
+        }
+        self.is_at_rest()
     }
 
     fn follow_all(&mut self, keys: &[u8])
@@ -151,7 +160,9 @@ impl Typing {
     }
 
     // Moves the view this many lines back.
-    fn scroll(&mut self, back: u16, out: &mut Vec<u8>) -> Result<(), Fault> {
+    fn scroll(&mut self, back: u16, out: &mut Vec<u8>) -> Result<(), Fault>
+        ensures { self.new.leave ≡ self.old.leave }
+    {
         let mut line = Vec::new(*out.allocator());
         write!(line, "scrollview {back}")?;
         self.give(&line, out)?;
@@ -160,7 +171,9 @@ impl Typing {
     }
 
     // Moves the view by a page.
-    fn turn(&mut self, is_up: bool, page: u16, out: &mut Vec<u8>) -> Result<(), Fault> {
+    fn turn(&mut self, is_up: bool, page: u16, out: &mut Vec<u8>) -> Result<(), Fault>
+        ensures { self.new.leave ≡ self.old.leave }
+    {
         let back = if is_up {
             self.back.saturating_add(page).min(MOST_BACK)
         } else {
@@ -169,30 +182,43 @@ impl Typing {
         self.scroll(back, out)
     }
 
-    // Takes a key that isn't the client's own. The command key waits for the one after it, which may ask
-    // for the help; the session drops that one.
-    fn press(&mut self, key: u8, is_last: bool, out: &mut Vec<u8>) -> Result<(), Fault> {
+    // Takes a key that isn't the client's own. Lines that were moved back come to the end first.
+    fn press(&mut self, key: u8, is_last: bool, out: &mut Vec<u8>) -> Result<(), Fault>
+        ensures { self.new.leave ≡ self.old.leave }
+    {
         if self.back > 0 && self.is_at_rest() {
             self.scroll(0, out)?;
         }
+        self.pass(key, is_last, out)
+    }
+
+    // Passes a key on. The command key waits for the one after it, which may ask for the help: that pair isn't sent.
+    fn pass(&mut self, key: u8, is_last: bool, out: &mut Vec<u8>) -> Result<(), Fault>
+        ensures { self.new.leave ≡ self.old.leave }
+    {
         let is_second = self.is_begun;
-        match self.follow(key) {
-            None => {}
-            Some(KeyItem::Command(b'?')) => self.asks_help = is_last,
-            Some(_) => {
-                if is_second {
-                    out.push(1)?;
-                }
-                out.push(key)?;
-            }
+        self.follow(key);
+        if self.is_begun {
+            return Ok(());
         }
+        if !is_second {
+            out.push(key)?;
+            return Ok(());
+        }
+        if key == b'?' {
+            self.asks_help = is_last;
+            return Ok(());
+        }
+        out.extend_from_slice(&[1, key])?;
         Ok(())
     }
 
     // Appends what is to be sent of some keys.
-    fn assist(&mut self, keys: &[u8], page: u16, out: &mut Vec<u8>) -> Result<(), Fault> {
+    fn assist(&mut self, keys: &[u8], page: u16, out: &mut Vec<u8>) -> Result<(), Fault>
+        ensures { self.new.leave ≡ self.old.leave }
+    {
         let mut skip = 0usize;
-        for at in 0..keys.len() {
+        'keys: for at in 0..keys.len() {
             let rest = keys.get(at..).unwrap_or(&[]);
             if skip > 0 {
                 skip -= 1;
@@ -239,7 +265,8 @@ impl Peer {
             return Ok(());
         }
         self.times.has_typed = true;
-        self.press(&bytes)
+        self.press(&bytes)?;
+        Ok(())
     }
 
     // Takes keys. They are dropped while no server is there, and one takes the help away.
@@ -257,7 +284,8 @@ impl Peer {
         if self.is_helping {
             self.is_helping = false;
             self.is_covered = self.is_cut;
-            return self.redraw();
+            self.redraw()?;
+            return Ok(());
         }
         if !self.typing.assists {
             if self.fits {
@@ -266,11 +294,14 @@ impl Peer {
             self.put_keys(keys)?;
             return Ok(());
         }
-        self.assist(keys)
+        self.assist(keys)?;
+        Ok(())
     }
 
     // Takes keys of a client that has its own.
-    fn assist(&mut self, keys: &[u8]) -> Result<(), Fault> {
+    fn assist(&mut self, keys: &[u8]) -> Result<(), Fault>
+        ensures { self.new.typing.leave ≡ self.old.typing.leave }
+    {
         let mut out = Vec::new(self.alloc);
         let page = self.rows.saturating_sub(3);
         let before = self.typing.back;
@@ -287,7 +318,9 @@ impl Peer {
     }
 
     // Says how to come back.
-    fn tell_scrolled(&mut self) -> Result<(), Fault> {
+    fn tell_scrolled(&mut self) -> Result<(), Fault>
+        ensures { self.new.typing ≡ self.old.typing }
+    {
         let back = self.typing.back;
         if back == 0 {
             self.notice.stage = NoticeStage::Nothing;

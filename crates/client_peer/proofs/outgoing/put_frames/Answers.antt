@@ -15,10 +15,12 @@ pieces-preserved c =
       front = front ++ piece;
       sends =
           sends-more c.args.frames.now.items c.pieces.frames.items c.put_frame.new.frames.items c.args.kind front piece
-          c.pieces.invariant.sends (omega (arith, c.split_at.ensures.front_len, c.min.ensures)) c.in_ok-put_frame.ensures.ok;
+          c.pieces.invariant.sends (omega (arith, c.split_at.ensures.front_len, c.min.ensures))
+          c.in_ok-put_frame.ensures.ok;
       whole =
           append_assoc front piece later
-          ∙ ap (λ x. front ++ x) (cut-whole c.min.result c.pieces.rest.now piece later c.split_at.ensures.front c.split_at.ensures.back)
+          ∙ ap (λ x. front ++ x)
+          (cut-whole c.min.result c.pieces.rest.now piece later c.split_at.ensures.front c.split_at.ensures.back)
           ∙ c.pieces.invariant.whole;
     }
 
