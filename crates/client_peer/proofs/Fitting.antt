@@ -1,7 +1,7 @@
 -- Keys between two keys.
 use Rattle.std.proofs.Common.{◌≡◌, ℕ, List, [], ◌∷◌, ◌++◌, refl, sym, ap, ◌∙◌, append_assoc}
 use Rattle.std.specs.Prelude.{codes}
-use Rattle.keys.specs.Grammar.{Item, line, Rest, nothing, rest_step, with_front, items_from, items}
+use Rattle.keys.specs.Grammar.{line, Rest, nothing, rest_step, with_front, items_from, items}
 use Rattle.client_peer.specs.Fitting.{fit_keys}
 
 from-append : (r : Rest) (keys later : List ℕ)

@@ -1,3 +1,5 @@
 mod Fitting
+pub mod Handing
 pub mod Passing
 pub mod Sending
+pub mod Typed

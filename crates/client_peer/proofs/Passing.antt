@@ -6,7 +6,7 @@ use Rattle.client_words.specs.declared.words.Way.TheVariants.{Attach}
 use Rattle.draw_check.specs.Functions.{BeginDraws}
 use Rattle.draw_check.specs.Places.{place_after}
 use Rattle.client_peer.specs.declared.peer.Peer.{Peer}
-use Rattle.client_peer.specs.Showing.{Adds, Keeps, Passed, Read, IfClient, PassesOn, StopsAt}
+use Rattle.client_peer.specs.Showing.{Adds, Keeps, Passed, PassesOn, StopsAt}
 
 pub passes_keeps : (old new : Peer) → Keeps old new → PassesOn old new
 passes_keeps old new k = record {

@@ -1,3 +1,5 @@
 pub mod Fitting
 pub mod Showing
 pub mod Reopening
+pub mod Sending
+pub mod Typing

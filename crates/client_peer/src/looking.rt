@@ -1,5 +1,7 @@
 //! What a peer does by itself, as time goes by.
 
+ghost use Rattle.client_peer.specs.Typing.{Fits};
+
 use crate::notice::NoticeStage;
 use crate::peer::Peer;
 use attach_proto::Why;
@@ -216,7 +218,9 @@ impl Peer {
 
     // Gives the window in focus its region's size, once the terminal's stays the same and the session
     // waits for no key.
-    fn look_at_fit(&mut self, now: u64) {
+    fn look_at_fit(&mut self, now: u64)
+        ensures { Fits self.old self.new }
+    {
         if !self.times.wants_fit || !self.is_welcome {
             return;
         }

@@ -1,5 +1,6 @@
 //! What a client writes to its terminal of its own: a line at the bottom, and its help.
 
+ghost use Rattle.std.specs.Prelude.{◌≡◌};
 ghost use Rattle.client_peer.specs.Showing.{Keeps};
 
 use crate::peer::Peer;
@@ -102,7 +103,8 @@ impl Peer {
 
     /// Shows a text on the terminal's last line, soon.
     pub fn notify(&mut self, text: &[u8]) -> Result<(), AllocError>
-        ensures { Keeps self.old self.new }
+        ensures keeps { Keeps self.old self.new }
+        ensures same { self.new ≡ record self.old { notice = self.new.notice } }
     {
         let mut visible = Vec::new(self.alloc);
         visible.extend_from_slice(b"mux: ")?;
@@ -126,7 +128,9 @@ impl Peer {
     }
 
     /// Shows the help, unless a draw is half written. It consists of functions that draws use.
-    pub fn help(&mut self) -> Result<(), Fault> {
+    pub fn help(&mut self) -> Result<(), Fault>
+        ensures { self.new.typing ≡ self.old.typing }
+    {
         if self.is_cut || self.is_covered {
             return Ok(());
         }

@@ -1,14 +1,17 @@
 //! Frames for the server, in their order and whole.
 
-ghost use Rattle.std.specs.Prelude.{◌≡◌, ◌≤◌, ◌++◌, length, OnOk, IfOk};
-ghost use Rattle.attach_proto.specs.Spelling.{frame};
-ghost use Rattle.attach_proto.specs.declared.kind.Kind.TheVariants.{Keys, Output};
+ghost use Rattle.std.specs.Prelude.{◌≡◌, ◌≤◌, ◌<◌, ◌-◌, ◌++◌, ◌↔◌, length, drop, [], IsTrue};
+ghost use Rattle.std.specs.Prelude.{OnOk, OnErr, IfOk, IfSome, IsNone, IsSome};
+ghost use Rattle.attach_proto.specs.Spelling.{frame, spelling};
+ghost use Rattle.attach_proto.specs.declared.kind.Kind.TheVariants.{Keys, Output, Detach};
 ghost use Rattle.client_peer.specs.Reopening.{Sends, Reopens};
+ghost use Rattle.client_peer.specs.Sending.{Puts, SendsFirst, MaySend, HandsOut, HasBack};
+ghost use Rattle.client_peer.specs.Sending.{HasServer, Prints, KeepsNewest, unsent, left};
 ghost use Rattle.client_peer.specs.Showing.{Keeps};
 
 use crate::peer::Peer;
-use attach_proto::{Kind, LONGEST, Message, head_of};
-use client_words::{Fault, frame_of};
+use attach_proto::{Kind, LONGEST, Message, head_of, write_message};
+use client_words::Fault;
 use std::alloc::AllocError;
 use std::mem;
 
@@ -30,7 +33,8 @@ pub struct Batch {
 
 // Appends bytes as frames of a kind.
 fn put_frames(kind: Kind, bytes: &[u8], frames: &mut Vec<u8>) -> Result<(), AllocError>
-    ensures { OnOk result (Sends frames.old.items frames.new.items kind bytes.now) }
+    ensures ok { OnOk result (Sends frames.old.items frames.new.items kind bytes.now) }
+    ensures err { OnErr result (SendsFirst frames.old.items frames.new.items kind bytes.now) }
 {
     let mut rest = bytes;
     'pieces: while !rest.is_empty() {
@@ -43,26 +47,55 @@ fn put_frames(kind: Kind, bytes: &[u8], frames: &mut Vec<u8>) -> Result<(), Allo
 
 fn put_frame(kind: Kind, piece: &[u8], frames: &mut Vec<u8>) -> Result<(), AllocError>
     requires { length piece.now ≤ 8192 }
-    ensures { OnOk result (frames.new.items ≡ frames.old.items ++ frame kind piece.now) }
+    ensures ok { OnOk result (frames.new.items ≡ frames.old.items ++ frame kind piece.now) }
+    ensures err { OnErr result (frames.new.items ≡ frames.old.items) }
 {
-    frames.extend_from_slice(&head_of(kind, piece))?;
+    let head = head_of(kind, piece);
+    frames.reserve(head.len().saturating_add(piece.len()))?;
+    frames.extend_from_slice(&head)?;
     frames.extend_from_slice(piece)
 }
 
 impl Peer {
     /// Puts down what was typed.
     pub fn put_keys(&mut self, keys: &[u8]) -> Result<(), AllocError>
-        ensures { OnOk result (Sends self.old.frames.items self.new.frames.items Keys keys.now) }
+        ensures sends { OnOk result (Sends self.old.frames.items self.new.frames.items Keys keys.now) }
+        ensures first { OnErr result (SendsFirst self.old.frames.items self.new.frames.items Keys keys.now) }
+        ensures same { self.new ≡ record self.old { frames = self.new.frames } }
     {
         put_frames(Kind::Keys, keys, &mut self.frames)
     }
 
     /// Puts down what a window's program printed, or holds it while no server has the window.
-    pub fn print(&mut self, bytes: &[u8]) -> Result<(), AllocError> {
-        if self.is_welcome && !self.is_reopening {
+    pub fn print(&mut self, bytes: &[u8]) -> Result<(), AllocError>
+        ensures prints { OnOk result (Prints self.old self.new bytes.now) }
+        ensures same { self.new ≡ record self.old {
+          frames = self.new.frames;
+          held = self.new.held;
+          page = self.new.page;
+        } }
+    {
+        if self.has_server() {
             self.page.read(bytes);
-            return put_frames(Kind::Output, bytes, &mut self.frames);
+            put_frames(Kind::Output, bytes, &mut self.frames)?;
+            return Ok(());
         }
+        self.hold(bytes)?;
+        Ok(())
+    }
+
+    // Whether a server has the window.
+    fn has_server(&self) -> bool
+        ensures { IsTrue result ↔ HasServer self.now }
+    {
+        self.is_welcome && !self.is_reopening
+    }
+
+    // Holds what a window's program printed.
+    fn hold(&mut self, bytes: &[u8]) -> Result<(), AllocError>
+        ensures newest { OnOk result (KeepsNewest (self.old.held.items ++ bytes.now) self.new.held.items) }
+        ensures same { self.new ≡ record self.old { held = self.new.held; page = self.new.page } }
+    {
         self.held.extend_from_slice(bytes)?;
         if self.held.len() > MOST_HELD.saturating_mul(2) {
             self.trim()?;
@@ -71,7 +104,11 @@ impl Peer {
     }
 
     // Keeps the newest of the bytes that are held. The page reads the others.
-    fn trim(&mut self) -> Result<(), AllocError> {
+    fn trim(&mut self) -> Result<(), AllocError>
+        ensures newest { OnOk result (self.new.held.items
+            ≡ drop (length self.old.held.items - 262144) self.old.held.items) }
+        ensures same { self.new ≡ record self.old { held = self.new.held; page = self.new.page } }
+    {
         let held = mem::replace(&mut self.held, Vec::new(self.alloc));
         let (old, new) = held.split_at(held.len().saturating_sub(MOST_HELD));
         self.page.read(old);
@@ -113,20 +150,33 @@ impl Peer {
     }
 
     /// Asks for a whole draw: RESIZE, with the size that the terminal has.
-    pub fn redraw(&mut self) -> Result<(), Fault> {
+    pub fn redraw(&mut self) -> Result<(), Fault>
+        ensures ok { OnOk result (Puts self.old self.new
+            (spelling (Message.Resize self.old.rows self.old.columns))) }
+        ensures err { OnErr result (self.new.frames.items ≡ self.old.frames.items) }
+        ensures same { self.new ≡ record self.old { frames = self.new.frames } }
+    {
         let (rows, columns) = (self.rows, self.columns);
-        let frame = frame_of(self.alloc, &Message::Resize { rows, columns })?;
-        self.frames.extend_from_slice(&frame)?;
+        write_message(
+            self.alloc,
+            &Message::Resize { rows, columns },
+            &mut self.frames,
+        )?;
         Ok(())
     }
 
     /// Puts down DETACH.
-    pub fn detach(&mut self) -> Result<(), AllocError> {
+    pub fn detach(&mut self) -> Result<(), AllocError>
+        ensures ok { OnOk result (Puts self.old self.new (frame Detach [])) }
+        ensures err { OnErr result (Puts self.old self.new []) }
+    {
         self.frames.extend_from_slice(&head_of(Kind::Detach, &[]))
     }
 
     /// Whether frames wait that can be sent.
-    pub fn can_send(&self) -> bool {
+    pub fn can_send(&self) -> bool
+        ensures { IsTrue result ↔ MaySend self.now }
+    {
         self.is_welcome && !self.is_sending && !self.is_shut && !self.frames.is_empty()
     }
 
@@ -136,7 +186,10 @@ impl Peer {
     }
 
     /// Takes the frames that wait, for a thread that sends them.
-    pub fn begin_sending(&mut self) -> Option<Batch> {
+    pub fn begin_sending(&mut self) -> Option<Batch>
+        ensures some { IfSome result (λ batch. MaySend self.old × HandsOut self.old batch self.new) }
+        ensures none { IsNone result → (MaySend self.old → ⊥) × (self.new ≡ self.old) }
+    {
         if !self.can_send() {
             return None;
         }
@@ -150,7 +203,10 @@ impl Peer {
 
     /// Takes back what wasn't sent. `is_open` is false if the connection takes no more: then what it has
     /// still to say tells why.
-    pub fn end_sending(&mut self, batch: Batch, is_open: bool) -> Result<(), AllocError> {
+    pub fn end_sending(&mut self, batch: Batch, is_open: bool) -> Result<(), AllocError>
+        ensures back { OnOk result (HasBack self.old batch is_open self.new) }
+        ensures ends { OnErr result (IsSome self.new.end) }
+    {
         self.is_sending = false;
         if self.connection != batch.connection {
             return Ok(());
@@ -158,10 +214,26 @@ impl Peer {
         self.is_shut = !is_open;
         self.is_stuck = batch.sent < batch.frames.len();
         if self.is_stuck {
-            let later = mem::replace(&mut self.frames, batch.frames);
-            self.sent = batch.sent;
-            self.frames.extend_from_slice(&later)?;
+            return self.put_back(batch);
         }
         Ok(())
+    }
+
+    // Puts what wasn't sent before what waits. Without memory for that the peer ends: a part of a frame was sent.
+    fn put_back(&mut self, batch: Batch) -> Result<(), AllocError>
+        requires { batch.sent < length batch.frames.items }
+        ensures back { OnOk result ((self.old.sent ≡ 0 → unsent self.new ≡ left batch ++ unsent self.old)
+            × (self.new ≡ record self.old { frames = self.new.frames; sent = self.new.sent })) }
+        ensures ends { OnErr result (IsSome self.new.end) }
+    {
+        let mut frames = batch.frames;
+        let kept = frames.extend_from_slice(&self.frames);
+        if kept.is_err() {
+            self.end_by(Err(Fault::NoMemory));
+            return kept;
+        }
+        self.frames = frames;
+        self.sent = batch.sent;
+        kept
     }
 }

@@ -1,13 +1,14 @@
 //! The state of a peer.
 
-ghost use Rattle.std.specs.Prelude.{◌≡◌, []};
+ghost use Rattle.std.specs.Prelude.{◌≡◌, ◌↔◌, ◌++◌, [], false, true, IsSome, IsTrue, OnOk};
+ghost use Rattle.attach_proto.specs.Spelling.{spelling};
 ghost use Rattle.draw_check.specs.Places.{place_after};
 ghost use Rattle.client_peer.specs.Showing.{BeginsAnew};
 
 use crate::looking::Times;
 use crate::notice::Notice;
 use crate::typing::Typing;
-use attach_proto::Why;
+use attach_proto::{Message, Why};
 use client_page::KeptPage;
 use client_words::{Fault, Size, Way, Words};
 use draw_check::DrawCheck;
@@ -166,7 +167,11 @@ impl Peer {
     }
 
     /// Notes how the connection ended. Only the first call counts.
-    pub fn end_by(&mut self, end: Result<Why, Fault>) {
+    pub fn end_by(&mut self, end: Result<Why, Fault>)
+        ensures ends { IsSome self.new.end }
+        ensures first { IsSome self.old.end → self.new ≡ self.old }
+        ensures same { self.new ≡ record self.old { end = self.new.end } }
+    {
         if self.end.is_none() {
             self.end = Some(end);
         }
@@ -182,12 +187,18 @@ impl Peer {
     }
 
     /// Whether the server is gone, and another one is waited for.
-    pub fn is_lost(&self) -> bool {
+    pub fn is_lost(&self) -> bool
+        ensures { IsTrue result ↔ IsSome self.now.loss }
+    {
         self.loss.is_some()
     }
 
     /// Takes a new size of the terminal, even if it is the old one: then all is drawn anew.
-    pub fn resize(&mut self, size: Size) -> Result<(), Fault> {
+    pub fn resize(&mut self, size: Size) -> Result<(), Fault>
+        ensures size { (self.new.rows ≡ size.rows) × (self.new.columns ≡ size.columns) }
+        ensures asks { OnOk result (self.new.frames.items ≡ self.old.frames.items
+            ++ spelling (Message.Resize size.rows size.columns)) }
+    {
         let is_new = size.rows != self.rows || size.columns != self.columns;
         self.rows = size.rows;
         self.columns = size.columns;
@@ -197,12 +208,22 @@ impl Peer {
     }
 
     /// Whether something waits for standard output or for the sizes' file.
-    pub fn has_output(&self) -> bool {
+    pub fn has_output(&self) -> bool
+        ensures { result ≡ false → (self.now.bytes.items ≡ []) × (self.now.sizes.items ≡ []) }
+    {
         !self.bytes.is_empty() || !self.sizes.is_empty()
     }
 
     /// Takes what waits for standard output and for the sizes' file.
-    pub fn begin_writing(&mut self) -> (Vec<u8>, Vec<u8>) {
+    pub fn begin_writing(&mut self) -> (Vec<u8>, Vec<u8>)
+        ensures all { (result.0.items ≡ self.old.bytes.items) × (result.1.items ≡ self.old.sizes.items) }
+        ensures none { (self.new.bytes.items ≡ []) × (self.new.sizes.items ≡ []) }
+        ensures same { self.new ≡ record self.old {
+          bytes = self.new.bytes;
+          sizes = self.new.sizes;
+          is_writing = true;
+        } }
+    {
         self.is_writing = true;
         (
             mem::replace(&mut self.bytes, Vec::new(self.alloc)),

@@ -26,6 +26,7 @@ impl Peer {
     fn put(&mut self, bytes: &[u8]) -> Result<(), Fault>
         ensures ok { OnOk result (Adds self.old self.new bytes.now) }
         ensures err { OnErr result (Keeps self.old self.new) }
+        ensures same { self.new ≡ record self.old { bytes = self.new.bytes } }
     {
         self.bytes.extend_from_slice(bytes)?;
         Ok(())
@@ -37,6 +38,7 @@ impl Peer {
         ensures ok { OnOk result (PassesOn self.old self.new) }
         ensures err { OnErr result (StopsAt self.old self.new) }
         ensures added { OnOk result (self.new.bytes.items ≡ self.old.bytes.items ++ bytes.now) }
+        ensures same { self.new ≡ record self.old { bytes = self.new.bytes; draws = self.new.draws } }
     {
         if !self.draws.feed(bytes) {
             return Err(Fault::NoDraw);

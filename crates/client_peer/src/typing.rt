@@ -1,9 +1,14 @@
 //! What is typed or printed, on its way to the server.
 
+ghost use Rattle.std.specs.Prelude.{◌≡◌, ◌↔◌, ℕ, [], ◌∷◌, ◌++◌, IsTrue, OnOk};
+ghost use Rattle.keys.specs.Grammar.{rest_step, nothing};
+ghost use Rattle.keys.specs.Kept.{StandsFor, rest_of};
+ghost use Rattle.client_peer.specs.Fitting.{given_keys, fit_keys, awaits_key};
+
 use crate::notice::NoticeStage;
 use crate::peer::Peer;
 use client_words::{Fault, InputStage, LeaveReader, Words};
-use keys::{KeyItem, KeyReader};
+use keys::KeyReader;
 use std::alloc::AllocError;
 use std::io::Write;
 
@@ -19,6 +24,7 @@ pub struct Typing {
     keys: KeyReader,
     /// The command key was typed, and the key after it is still to come.
     is_begun: bool,
+    ghost begun: { is_begun ≡ awaits_key (rest_of keys) },
     /// Whether the client has keys of its own. Then the command key is sent with the one after it.
     pub assists: bool,
     /// How many lines the view was moved back by the client's own keys.
@@ -46,6 +52,8 @@ fn scroll_keys(bytes: &[u8]) -> Option<(usize, bool)> {
 }
 
 impl Typing {
+    ghost use Rattle.client_peer.specs.Typing.{LetsThrough, Follows, StaysBeside};
+
     pub fn new(words: &Words<'_>) -> Typing {
         let leave = match words.leave {
             Some(byte) => Some(LeaveReader::new(byte)),
@@ -63,7 +71,9 @@ impl Typing {
     }
 
     /// Begins with another session, which has read no key.
-    pub fn begin(&mut self) {
+    pub fn begin(&mut self)
+        ensures { StandsFor self.new.keys [] }
+    {
         self.keys = KeyReader::new();
         self.is_begun = false;
         self.back = 0;
@@ -90,40 +100,69 @@ impl Typing {
     }
 
     /// Whether the session waits for no key: no prompt is open, and the command key wasn't typed last.
-    pub fn is_at_rest(&self) -> bool {
+    pub fn is_at_rest(&self) -> bool
+        ensures { IsTrue result ↔ (rest_of self.now.keys ≡ nothing) }
+    {
         !self.is_begun && self.keys.prompt().is_none()
     }
 
     // Reads a key along with the session.
-    fn follow(&mut self, key: u8) -> Option<KeyItem> {
-        let item = self.keys.push(key);
-        self.is_begun = item.is_none();
-        item
+    fn follow(&mut self, key: u8)
+        ensures next { (rest_step (rest_of self.old.keys) key).1 ≡ rest_of self.new.keys }
+        ensures follows { Follows self.old.keys (key ∷ []) self.new.keys }
+        ensures same { StaysBeside self.old self.new }
+    {
+        let begins = self.begins(key);
+        self.keys.push(key);
+        self.is_begun = begins;
     }
 
-    fn follow_all(&mut self, keys: &[u8]) {
-        for key in keys {
+    // Whether a key is the command key, with another one to come.
+    fn begins(&self, key: u8) -> bool
+        ensures { result ≡ awaits_key (rest_step (rest_of self.now.keys) key).1 }
+    {
+        if key != 1 {
+            return false;
+        }
+        self.is_at_rest()
+    }
+
+    fn follow_all(&mut self, keys: &[u8])
+        ensures follows { Follows self.old.keys keys.now self.new.keys }
+        ensures same { StaysBeside self.old self.new }
+    {
+        'keys: for key in keys {
             self.follow(*key);
         }
     }
 
     // Gives a command by the prompt, between two keys.
-    fn give(&mut self, line: &[u8], out: &mut Vec<u8>) -> Result<(), AllocError> {
-        let from = out.len();
+    fn give(&mut self, line: &[u8], out: &mut Vec<u8>) -> Result<(), AllocError>
+        ensures given { OnOk result (out.new.items ≡ out.old.items ++ given_keys line.now) }
+        ensures follows { OnOk result (Follows self.old.keys (given_keys line.now) self.new.keys) }
+        ensures same { StaysBeside self.old self.new }
+    {
         out.extend_from_slice(b"\x01:")?;
         out.extend_from_slice(line)?;
         out.push(b'\r')?;
-        self.follow_all(out.get(from..).unwrap_or(&[]));
+        self.follow_all(b"\x01:");
+        self.follow_all(line);
+        self.follow_all(b"\r");
         Ok(())
     }
 
     /// Gives the window its region's size, between two keys.
-    pub fn fit(&mut self, out: &mut Vec<u8>) -> Result<(), AllocError> {
+    pub fn fit(&mut self, out: &mut Vec<u8>) -> Result<(), AllocError>
+        ensures given { OnOk result (out.new.items ≡ out.old.items ++ fit_keys) }
+        ensures follows { OnOk result (Follows self.old.keys fit_keys self.new.keys) }
+    {
         self.give(b"fit", out)
     }
 
     // Moves the view this many lines back.
-    fn scroll(&mut self, back: u16, out: &mut Vec<u8>) -> Result<(), Fault> {
+    fn scroll(&mut self, back: u16, out: &mut Vec<u8>) -> Result<(), Fault>
+        ensures { self.new.leave ≡ self.old.leave }
+    {
         let mut line = Vec::new(*out.allocator());
         write!(line, "scrollview {back}")?;
         self.give(&line, out)?;
@@ -132,7 +171,9 @@ impl Typing {
     }
 
     // Moves the view by a page.
-    fn turn(&mut self, is_up: bool, page: u16, out: &mut Vec<u8>) -> Result<(), Fault> {
+    fn turn(&mut self, is_up: bool, page: u16, out: &mut Vec<u8>) -> Result<(), Fault>
+        ensures { self.new.leave ≡ self.old.leave }
+    {
         let back = if is_up {
             self.back.saturating_add(page).min(MOST_BACK)
         } else {
@@ -141,30 +182,43 @@ impl Typing {
         self.scroll(back, out)
     }
 
-    // Takes a key that isn't the client's own. The command key waits for the one after it, which may ask
-    // for the help; the session drops that one.
-    fn press(&mut self, key: u8, is_last: bool, out: &mut Vec<u8>) -> Result<(), Fault> {
+    // Takes a key that isn't the client's own. Lines that were moved back come to the end first.
+    fn press(&mut self, key: u8, is_last: bool, out: &mut Vec<u8>) -> Result<(), Fault>
+        ensures { self.new.leave ≡ self.old.leave }
+    {
         if self.back > 0 && self.is_at_rest() {
             self.scroll(0, out)?;
         }
+        self.pass(key, is_last, out)
+    }
+
+    // Passes a key on. The command key waits for the one after it, which may ask for the help: that pair isn't sent.
+    fn pass(&mut self, key: u8, is_last: bool, out: &mut Vec<u8>) -> Result<(), Fault>
+        ensures { self.new.leave ≡ self.old.leave }
+    {
         let is_second = self.is_begun;
-        match self.follow(key) {
-            None => {}
-            Some(KeyItem::Command(b'?')) => self.asks_help = is_last,
-            Some(_) => {
-                if is_second {
-                    out.push(1)?;
-                }
-                out.push(key)?;
-            }
+        self.follow(key);
+        if self.is_begun {
+            return Ok(());
         }
+        if !is_second {
+            out.push(key)?;
+            return Ok(());
+        }
+        if key == b'?' {
+            self.asks_help = is_last;
+            return Ok(());
+        }
+        out.extend_from_slice(&[1, key])?;
         Ok(())
     }
 
     // Appends what is to be sent of some keys.
-    fn assist(&mut self, keys: &[u8], page: u16, out: &mut Vec<u8>) -> Result<(), Fault> {
+    fn assist(&mut self, keys: &[u8], page: u16, out: &mut Vec<u8>) -> Result<(), Fault>
+        ensures { self.new.leave ≡ self.old.leave }
+    {
         let mut skip = 0usize;
-        for at in 0..keys.len() {
+        'keys: for at in 0..keys.len() {
             let rest = keys.get(at..).unwrap_or(&[]);
             if skip > 0 {
                 skip -= 1;
@@ -181,7 +235,11 @@ impl Typing {
     }
 
     // Appends the input without the byte that leaves.
-    fn read(&mut self, input: &[u8], out: &mut Vec<u8>) -> Result<(), AllocError> {
+    fn read(&mut self, input: &[u8], out: &mut Vec<u8>) -> Result<(), AllocError>
+        ensures through { out.old.items ≡ []
+            → OnOk result (LetsThrough self.old.leave input.now out.new.items self.new.leave) }
+        ensures same { self.new ≡ record self.old { leave = self.new.leave; reads = self.new.reads } }
+    {
         self.reads = self.reads.wrapping_add(1);
         match &mut self.leave {
             Some(leave) => leave.feed(input, out),
@@ -191,8 +249,12 @@ impl Typing {
 }
 
 impl Peer {
+    ghost use Rattle.client_peer.specs.Typing.{TypesIn, Presses};
+
     /// Takes what was read of standard input.
-    pub fn type_in(&mut self, input: &[u8]) -> Result<(), Fault> {
+    pub fn type_in(&mut self, input: &[u8]) -> Result<(), Fault>
+        ensures { OnOk result (TypesIn self.old self.new input.now) }
+    {
         let mut bytes = Vec::new(self.alloc);
         self.typing.read(input, &mut bytes)?;
         if self.way.is_window() {
@@ -203,11 +265,15 @@ impl Peer {
             return Ok(());
         }
         self.times.has_typed = true;
-        self.press(&bytes)
+        self.press(&bytes)?;
+        Ok(())
     }
 
     // Takes keys. They are dropped while no server is there, and one takes the help away.
-    fn press(&mut self, keys: &[u8]) -> Result<(), Fault> {
+    fn press(&mut self, keys: &[u8]) -> Result<(), Fault>
+        ensures presses { OnOk result (Presses self.old self.new keys.now) }
+        ensures leave { self.new.typing.leave ≡ self.old.typing.leave }
+    {
         if self.is_lost() {
             if keys.contains(&ETX) {
                 self.is_final = true;
@@ -218,7 +284,8 @@ impl Peer {
         if self.is_helping {
             self.is_helping = false;
             self.is_covered = self.is_cut;
-            return self.redraw();
+            self.redraw()?;
+            return Ok(());
         }
         if !self.typing.assists {
             if self.fits {
@@ -227,11 +294,14 @@ impl Peer {
             self.put_keys(keys)?;
             return Ok(());
         }
-        self.assist(keys)
+        self.assist(keys)?;
+        Ok(())
     }
 
     // Takes keys of a client that has its own.
-    fn assist(&mut self, keys: &[u8]) -> Result<(), Fault> {
+    fn assist(&mut self, keys: &[u8]) -> Result<(), Fault>
+        ensures { self.new.typing.leave ≡ self.old.typing.leave }
+    {
         let mut out = Vec::new(self.alloc);
         let page = self.rows.saturating_sub(3);
         let before = self.typing.back;
@@ -248,7 +318,9 @@ impl Peer {
     }
 
     // Says how to come back.
-    fn tell_scrolled(&mut self) -> Result<(), Fault> {
+    fn tell_scrolled(&mut self) -> Result<(), Fault>
+        ensures { self.new.typing ≡ self.old.typing }
+    {
         let back = self.typing.back;
         if back == 0 {
             self.notice.stage = NoticeStage::Nothing;

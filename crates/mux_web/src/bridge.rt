@@ -1,5 +1,10 @@
 //! The loop of a bridge: one thread, and all connections.
 
+ghost use Rattle.std.specs.Prelude.{◌≡◌, ◌≢◌, ◌≤◌, ℕ, [], true, false, None, IfOk};
+ghost use Rattle.std.specs.Duration.{as_nanos};
+ghost use Rattle.slab.specs.Slab.{get, Updates};
+ghost use Rattle.web_relay.specs.Places.{Comes, IsOver, changed_at, heeds_browser, heeds_server};
+
 use crate::log::WebLog;
 use crate::showing::{enter_hall, redeem, tell};
 use mio::{Events, Poll, Registry};
@@ -13,8 +18,8 @@ use std::time::Duration;
 use web_client::Site;
 use web_options::WebOptions;
 use web_relay::{
-    Around, Browser, Halls, Relay, WebListener, Woken, browser_token, is_full, listener_token,
-    mark, oldest_silent, server_token, woken_by,
+    Around, Browser, Halls, Relay, WebListener, Woken, browser_token, is_full, let_go,
+    listener_token, make_room, mark, server_token, woken_by,
 };
 
 /// The size of a read.
@@ -64,7 +69,10 @@ impl<'a> Bridge<'a> {
         site: Site,
         options: WebOptions<'a>,
         log: Option<Arc<WebLog>>,
-    ) -> io::Result<Bridge<'a>> {
+    ) -> io::Result<Bridge<'a>>
+        ensures nobody { IfOk result (λ bridge. (bridge.relays.slots ≡ []) × (bridge.halls.list.slots ≡ [])) }
+        ensures comers { IfOk result (λ bridge. bridge.has_comers ≡ true) }
+    {
         Ok(Bridge {
             alloc,
             site,
@@ -83,13 +91,12 @@ impl<'a> Bridge<'a> {
 
     // Lets a browser in, if there is memory and the system watches its connection. If there are too many, the oldest
     // one goes that hasn't said who it is.
-    fn let_in(&mut self, browser: Browser, registry: &Registry, now: Duration) -> io::Result<()> {
+    fn let_in(&mut self, browser: Browser, registry: &Registry, now: Duration) -> io::Result<()>
+        ensures comes { (place : ℕ) → Comes (get self.old.relays place) (get self.new.relays place) }
+        ensures same { self.new ≡ record self.old { relays = self.new.relays } }
+    {
         let mut browser = browser;
-        if self.relays.len() >= self.most.saturating_add(SPARE) {
-            if let Some(place) = oldest_silent(&self.relays) {
-                let _ = self.relays.try_remove(place);
-            }
-        }
+        make_room(&mut self.relays, self.most.saturating_add(SPARE));
         let place = self.relays.vacant_key();
         browser.register(registry, browser_token(place))?;
         match self.relays.insert(Relay::new(self.alloc, browser, now)) {
@@ -100,8 +107,12 @@ impl<'a> Bridge<'a> {
 
     // Takes browsers that wait at a listener. Returns whether more may be taken at once. If the system refuses to
     // hand one over, it is asked again soon.
-    fn accept(&mut self, listener: &WebListener, registry: &Registry, now: Duration) -> bool {
-        for _ in 0..COMERS {
+    fn accept(&mut self, listener: &WebListener, registry: &Registry, now: Duration) -> bool
+        ensures comes { (place : ℕ) → Comes (get self.old.relays place) (get self.new.relays place) }
+        ensures same { self.new ≡ record self.old { relays = self.new.relays; has_comers = self.new.has_comers } }
+        ensures more { result ≡ true → self.new.has_comers ≡ true }
+    {
+        'comers: for _ in 0..COMERS {
             match listener.accept() {
                 Ok(browser) => {
                     // (one that can't be let in is closed)
@@ -123,11 +134,15 @@ impl<'a> Bridge<'a> {
         listeners: &[WebListener],
         registry: &Registry,
         now: Duration,
-    ) -> bool {
+    ) -> bool
+        ensures comes { (place : ℕ) → Comes (get self.old.relays place) (get self.new.relays place) }
+        ensures same { self.new ≡ record self.old { relays = self.new.relays; has_comers = self.new.has_comers } }
+        ensures none { self.old.has_comers ≡ false → self.new ≡ self.old }
+    {
         let mut has_more = false;
         if self.has_comers {
             self.has_comers = false;
-            for listener in listeners {
+            'listeners: for listener in listeners {
                 has_more |= self.accept(listener, registry, now);
             }
         }
@@ -135,7 +150,11 @@ impl<'a> Bridge<'a> {
     }
 
     // How long it may sleep without an event.
-    fn longest(&self, is_busy: bool) -> Duration {
+    fn longest(&self, is_busy: bool) -> Duration
+        ensures busy { is_busy ≡ true → as_nanos result ≡ 0 }
+        ensures soon { self.now.has_comers ≡ true → as_nanos result ≤ 100000000 }
+        ensures bound { as_nanos result ≤ 2000000000 }
+    {
         if is_busy {
             Duration::ZERO
         } else if self.has_comers || self.refused > 0 {
@@ -160,7 +179,16 @@ impl<'a> Bridge<'a> {
     }
 
     // Notes what an event is for.
-    fn wake(&mut self, woken: Woken) {
+    fn wake(&mut self, woken: Woken)
+        ensures listener { (number : ℕ) → woken ≡ Woken.Listener number
+            → self.new ≡ record self.old { has_comers = true } }
+        ensures browser { (place : ℕ) → woken ≡ Woken.Browser place
+            → self.new ≡ record self.old { relays = changed_at self.old.relays place heeds_browser } }
+        ensures server { (place : ℕ) → woken ≡ Woken.Server place
+            → self.new ≡ record self.old { relays = changed_at self.old.relays place heeds_server } }
+        ensures hall { (place : ℕ) → woken ≡ Woken.Hall place
+            → self.new ≡ record self.old { halls = self.new.halls } }
+    {
         match woken {
             Woken::Listener(_) => self.has_comers = true,
             _ => mark(woken, &mut self.relays, &mut self.halls),
@@ -170,7 +198,10 @@ impl<'a> Bridge<'a> {
 
 impl Bridge<'_> {
     // Reads one browser. A page that is one too many is turned away: when it opens, or when it says who it is.
-    fn read(&mut self, registry: &Registry, place: usize, now: Duration) {
+    fn read(&mut self, registry: &Registry, place: usize, now: Duration)
+        ensures others { (other : ℕ) → other ≢ place → get self.new.relays other ≡ get self.old.relays other }
+        ensures halls { self.new.halls ≡ self.old.halls }
+    {
         let Some(relay) = self.relays.get_mut(place) else {
             return;
         };
@@ -196,7 +227,9 @@ impl Bridge<'_> {
         registry: &Registry,
         place: usize,
         now: Duration,
-    ) -> bool {
+    ) -> bool
+        ensures others { (other : ℕ) → other ≢ place → get self.new.relays other ≡ get self.old.relays other }
+    {
         let Some(relay) = self.relays.get_mut(place) else {
             return false;
         };
@@ -221,12 +254,14 @@ impl Bridge<'_> {
     }
 
     // Lets a relay go that is over, with its own client.
-    fn let_go<R: Wait>(&mut self, rt: &R, place: usize) {
-        let (is_told, is_refused) = match self.relays.get(place) {
-            Some(relay) if relay.is_over() => (relay.is_told(), relay.is_refused()),
-            _ => return,
+    fn let_go<R: Wait>(&mut self, rt: &R, place: usize)
+        ensures goes { IsOver (get self.old.relays place) → Updates self.old.relays self.new.relays place None }
+        ensures stays { (IsOver (get self.old.relays place) → ⊥) → self.new.relays ≡ self.old.relays }
+        ensures halls { self.new.halls ≡ self.old.halls }
+    {
+        let Some((is_told, is_refused)) = let_go(&mut self.relays, place) else {
+            return;
         };
-        drop(self.relays.try_remove(place));
         self.refused = self.refused.saturating_add(u64::from(is_refused));
         if let (true, Some(log)) = (is_told, &self.log) {
             log.put(rt, &format_args!("{place} ends"));

@@ -1,9 +1,13 @@
 -- Browsers at their places.
-use Rattle.std.specs.Prelude.{◌≡◌, ◌&&◌, ℕ, Bool, true, false, Option, Some, None}
-use Rattle.slab.specs.Slab.{Slab, get, with_value}
+use Rattle.std.specs.Prelude.{◌≡◌, ◌≢◌, ◌⊎◌, ◌&&◌, ◌==◌, ◌-◌, ◌/◌, ◌≤◌, ℕ, Bool, not, true, false}
+use Rattle.std.specs.Prelude.{List, [], Option, Some, None, bytes_eq, count_by, IsTrue, ◌↔◌}
+use Rattle.slab.specs.Slab.{Slab, get, with_value, entries}
 use Rattle.web_client.specs.declared.wire.Phase.{Phase}
 use Rattle.web_client.specs.declared.wire.Phase.TheVariants.{Request, Socket, Last}
+use Rattle.web_client.specs.Frames.{page, begun}
 use Rattle.web_relay.specs.declared.relay.Relay.{Relay}
+use Rattle.web_relay.specs.declared.relay.Upstream.TheVariants.{Unasked}
+use Rattle.web_relay.specs.Relaying.{IsRefused}
 
 -- ---- what an event changes
 
@@ -46,3 +50,48 @@ is_socket Last = false
 -- a page that has said who it is, and is open
 abbrev pub has_page : Relay → Bool
 has_page r = r.has_begun && is_socket r.visitor.wire.phase
+
+-- ---- whether there is room
+
+-- the open page of another browser
+abbrev pub is_other : ℕ → (ℕ × Relay) → Bool
+is_other place at = not (at.0 == place) && has_page at.1
+
+-- and of this address
+abbrev pub is_neighbour : ℕ → List ℕ → (ℕ × Relay) → Bool
+is_neighbour place address at = is_other place at && bytes_eq at.1.visitor.address.items address
+
+-- As many open pages as there may be are others', or three quarters of them are others' of its address.
+abbrev pub IsTooMany : Slab Relay → ℕ → Relay → ℕ → Type 0
+IsTooMany relays place relay most =
+    (most ≤ count_by (is_other place) (entries relays))
+    ⊎ ((relay.visitor.address.items ≢ [])
+    × (most - most / 4 ≤ count_by (is_neighbour place relay.visitor.address.items) (entries relays)))
+
+-- ---- who comes and goes
+
+-- who is there stays, or goes if such a one may
+abbrev pub MayGo : (Option Relay → Type 0) → Option Relay → Option Relay → Type 0
+MayGo P old new = (new ≡ old) ⊎ ((new ≡ None) × P old)
+
+-- it is over, and this is said of it: whether it was logged, and whether it was refused
+abbrev pub LeavesAs : (Bool × Bool) → Option Relay → Type 0
+LeavesAs said None = ⊥
+LeavesAs said (Some relay) =
+    (relay.is_over ≡ true) × (said.0 ≡ relay.is_told) × (IsTrue said.1 ↔ IsRefused relay)
+
+-- nobody, or a stranger: one who was told nothing and has said nothing
+abbrev pub IsStranger : Option Relay → Type 0
+IsStranger None = Unit {0}
+IsStranger (Some relay) =
+    (page relay.visitor ≡ begun) × (relay.has_begun ≡ false) × (relay.is_told ≡ false) × (relay.hall ≡ None)
+    × (relay.server ≡ Unasked)
+
+-- nobody, or one who hasn't said who it is
+abbrev pub MayBeReplaced : Option Relay → Type 0
+MayBeReplaced None = Unit {0}
+MayBeReplaced (Some relay) = relay.has_begun ≡ false
+
+-- who is there stays, or a stranger or nobody comes for one who hasn't said who it is
+abbrev pub Comes : Option Relay → Option Relay → Type 0
+Comes old new = (new ≡ old) ⊎ (MayBeReplaced old × IsStranger new)

@@ -1,5 +1,5 @@
 -- What a relay passes on: from a browser to its own client, and what the server sent this client to the browser.
-use Rattle.std.specs.Prelude.{◌≡◌, ℕ, List, IsSome}
+use Rattle.std.specs.Prelude.{◌≡◌, ◌⊎◌, ℕ, List, false, IsSome}
 use Rattle.web_client.specs.declared.identity.Identity.{Identity}
 use Rattle.web_client.specs.declared.identity.Identity.TheVariants.{Nobody, Own, Watching, Link, Unknown, Left}
 use Rattle.web_client.specs.declared.visitor.Visitor.{Visitor}
@@ -47,3 +47,7 @@ AsksOnly Left after = after ≡ Left
 -- which hall it watches, whether it has said who it is, and whether that was logged
 abbrev pub Stays : Relay → Relay → Type 0
 Stays old new = (new.hall ≡ old.hall) × (new.has_begun ≡ old.has_begun) × (new.is_told ≡ old.is_told)
+
+-- the server has let its client go before anybody was told that it is there, or its name is nobody's
+abbrev pub IsRefused : Relay → Type 0
+IsRefused r = (HasGone r.visitor.identity × (r.is_told ≡ false)) ⊎ (r.visitor.identity ≡ Unknown)

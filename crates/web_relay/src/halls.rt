@@ -1,8 +1,8 @@
 //! Pages that several watchers share: one client of the server for each size.
 
-ghost use Rattle.std.specs.Prelude.{◌≡◌, ◌≢◌, ◌↔◌, ◌⊎◌, ◌≤◌, ◌<◌, ℕ, [], Some, None, IsTrue, IsSome, IfSome, IfNone, true};
+ghost use Rattle.std.specs.Prelude.{◌≡◌, ◌≢◌, ◌↔◌, ◌⊎◌, ◌≤◌, ◌<◌, ℕ, [], Some, None, IsTrue, IsSome, IfSome, IfNone};
 ghost use Rattle.slab.specs.Slab.{get, slab_len, Updates};
-ghost use Rattle.web_relay.specs.Halls.{hall_of, HasSize};
+ghost use Rattle.web_relay.specs.Halls.{hall_of, HasSize, AreSame, noted, IsOver, Closes, Renews};
 
 use crate::streams::{Around, ReadOutcome, hall_token, outcome_of};
 use mio::net::UnixStream;
@@ -53,7 +53,8 @@ pub struct Hall {
 impl Hall {
     // Reads what the server has sent, and writes what waits for it.
     fn turn(&mut self, buffer: &mut [u8])
-        ensures { self.new.serial ≡ self.old.serial }
+        ensures same { (self.new.serial ≡ self.old.serial) × (self.new.size ≡ self.old.size) }
+        ensures audience { self.new.audience ≡ 0 }
     {
         self.audience = 0;
         'reads: for _ in 0..READS {
@@ -73,7 +74,7 @@ impl Hall {
 
     // Notes whether somebody watches it.
     fn note_audience(&mut self, now: Duration)
-        ensures { self.new ≡ record self.old { watched = self.new.watched } }
+        ensures { self.new ≡ noted now self.old }
     {
         if self.audience > 0 {
             self.watched = now;
@@ -82,8 +83,7 @@ impl Hall {
 
     // Whether it ended, or nobody has watched it for a while.
     fn is_over(&self, now: Duration) -> bool
-        ensures lost { self.now.is_lost ≡ true → result ≡ true }
-        ensures gone { IsSome self.now.client.client.display.told.gone → result ≡ true }
+        ensures { IsTrue result ↔ IsOver now self.now }
     {
         let alone = now.saturating_sub(self.watched);
         self.is_lost || self.client.display().gone().is_some() || alone >= Duration::from_secs(STAY)
@@ -91,7 +91,7 @@ impl Hall {
 
     // Sends its client to the chosen window: at first, and again now and then, since the window may open later.
     fn choose(&mut self, choice: &str, now: Duration)
-        ensures { self.new.serial ≡ self.old.serial }
+        ensures { (self.new.serial ≡ self.old.serial) × (self.new.size ≡ self.old.size) }
     {
         let is_due = match self.chosen {
             Some(chosen) => now.saturating_sub(chosen) >= Duration::from_secs(PAUSE),
@@ -107,6 +107,24 @@ impl Hall {
     fn is_stuck(&self, now: Duration) -> bool {
         now.saturating_sub(self.opened) >= Duration::from_secs(PAUSE)
             && self.client.display().is_vacant()
+    }
+}
+
+// Sends the client of the hall at this place to the chosen window.
+fn choose_at(halls: &mut Slab<Hall>, place: usize, choice: &str, now: Duration)
+    ensures { AreSame halls.old halls.new }
+{
+    if let Some(hall) = halls.get_mut(place) {
+        hall.choose(choice, now);
+    }
+}
+
+// Reads and writes for the hall at this place.
+fn turn_at(halls: &mut Slab<Hall>, place: usize, buffer: &mut [u8])
+    ensures { AreSame halls.old halls.new }
+{
+    if let Some(hall) = halls.get_mut(place) {
+        hall.turn(buffer);
     }
 }
 
@@ -207,7 +225,9 @@ impl Halls {
         size: (u16, u16),
         place: usize,
     ) -> Option<Hall>
-        ensures { self.new.list ≡ self.old.list }
+        ensures list { self.new.list ≡ self.old.list }
+        ensures next { self.old.next ≤ self.new.next }
+        ensures made { IfSome result (λ hall. (hall.serial ≡ self.old.next) × (hall.size ≡ size)) }
     {
         let watcher = around.site.watcher.as_ref()?;
         let client = SharedClient::attach(self.alloc, size.0, size.1, watcher).ok()?;
@@ -259,62 +279,86 @@ impl Halls {
     }
 
     // The size of the hall at this place, and when it was watched last, if its client is to attach again.
-    fn stuck(&self, place: usize, now: Duration) -> Option<((u16, u16), Duration)> {
+    fn stuck(&self, place: usize, now: Duration) -> Option<((u16, u16), Duration)>
+        ensures { IfSome result (λ stuck. HasSize stuck.0 (get self.now.list place)) }
+    {
         match self.list.get(place) {
             Some(hall) if hall.is_stuck(now) => Some((hall.size, hall.watched)),
             _ => None,
         }
     }
 
+    // Attaches the client of this place again, if it sees no window.
+    fn renew_at<R: Net>(&mut self, rt: &R, around: Around<'_>, place: usize)
+        ensures renews { Renews self.old.next (get self.old.list place) (get self.new.list place) }
+        ensures others { (other : ℕ) → other ≢ place → get self.new.list other ≡ get self.old.list other }
+        ensures next { self.old.next ≤ self.new.next }
+    {
+        let Some((size, watched)) = self.stuck(place, around.now) else {
+            return;
+        };
+        // The old client leaves first: the user may have a bound of clients.
+        let _ = self.list.try_remove(place);
+        if let Some(mut hall) = self.made(rt, around, size, place) {
+            hall.watched = watched;
+            let _ = self.list.insert(hall);
+        }
+    }
+
     /// Attaches the clients again whose window has closed. They then see the first window that there
     /// is.
-    pub fn renew<R: Net>(&mut self, rt: &R, around: Around<'_>) {
-        for place in 0..self.list.capacity() {
-            if let Some((size, watched)) = self.stuck(place, around.now) {
-                // The old client leaves first: the user may have a bound of clients.
-                let _ = self.list.try_remove(place);
-                if let Some(mut hall) = self.made(rt, around, size, place) {
-                    hall.watched = watched;
-                    let _ = self.list.insert(hall);
-                }
-            }
+    pub fn renew<R: Net>(&mut self, rt: &R, around: Around<'_>)
+        ensures { (place : ℕ) → Renews self.old.next (get self.old.list place) (get self.new.list place) }
+    {
+        'places: for place in 0..self.list.capacity() {
+            self.renew_at(rt, around, place);
         }
     }
 
     /// Sends their clients to the chosen window.
-    pub fn choose(&mut self, now: Duration) {
+    pub fn choose(&mut self, now: Duration)
+        ensures { AreSame self.old.list self.new.list }
+    {
         let Some(choice) = &self.choice else {
             return;
         };
-        for place in 0..self.list.capacity() {
-            if let Some(hall) = self.list.get_mut(place) {
-                hall.choose(choice.as_str(), now);
-            }
+        'places: for place in 0..self.list.capacity() {
+            choose_at(&mut self.list, place, choice.as_str(), now);
         }
     }
 
     /// Reads and writes for all halls. Nobody counts as their audience yet.
-    pub fn turn(&mut self, buffer: &mut [u8]) {
-        for place in 0..self.list.capacity() {
-            if let Some(hall) = self.list.get_mut(place) {
-                hall.turn(buffer);
+    pub fn turn(&mut self, buffer: &mut [u8])
+        ensures { AreSame self.old.list self.new.list }
+    {
+        'places: for place in 0..self.list.capacity() {
+            turn_at(&mut self.list, place, buffer);
+        }
+    }
+
+    // Closes the hall at this place if it is over.
+    fn close_at(&mut self, place: usize, now: Duration)
+        ensures closes { Closes now (get self.old.list place) (get self.new.list place) }
+        ensures others { (other : ℕ) → other ≢ place → get self.new.list other ≡ get self.old.list other }
+    {
+        let is_over = match self.list.get_mut(place) {
+            Some(hall) => {
+                hall.note_audience(now);
+                hall.is_over(now)
             }
+            None => false,
+        };
+        if is_over {
+            let _ = self.list.try_remove(place);
         }
     }
 
     /// Closes the halls that ended, and those that nobody has watched for a while.
-    pub fn close(&mut self, now: Duration) {
-        for place in 0..self.list.capacity() {
-            let is_over = match self.list.get_mut(place) {
-                Some(hall) => {
-                    hall.note_audience(now);
-                    hall.is_over(now)
-                }
-                None => false,
-            };
-            if is_over {
-                let _ = self.list.try_remove(place);
-            }
+    pub fn close(&mut self, now: Duration)
+        ensures { (place : ℕ) → Closes now (get self.old.list place) (get self.new.list place) }
+    {
+        'places: for place in 0..self.list.capacity() {
+            self.close_at(place, now);
         }
     }
 }

@@ -1,8 +1,9 @@
 //! The places of browsers: who is woken, who goes for another, and whether there is room.
 
-ghost use Rattle.std.specs.Prelude.{◌≡◌, ℕ, IfSome};
-ghost use Rattle.slab.specs.Slab.{get};
-ghost use Rattle.web_relay.specs.Places.{changed_at, heeds_browser, heeds_server, IsSilent};
+ghost use Rattle.std.specs.Prelude.{◌≡◌, ◌↔◌, ℕ, None, IfSome, IsSome, IsTrue};
+ghost use Rattle.slab.specs.Slab.{get, Updates};
+ghost use Rattle.web_relay.specs.Places.{changed_at, heeds_browser, heeds_server, IsSilent, IsOver, IsTooMany};
+ghost use Rattle.web_relay.specs.Places.{MayGo, LeavesAs};
 
 use crate::halls::Halls;
 use crate::relay::Relay;
@@ -58,8 +59,37 @@ pub fn oldest_silent(relays: &Slab<Relay>) -> Option<usize>
     }
 }
 
+/// Makes room for one who comes: if that many are there, the oldest goes that hasn't said who it is.
+pub fn make_room(relays: &mut Slab<Relay>, most: usize)
+    ensures { (place : ℕ) → MayGo IsSilent (get relays.old place) (get relays.new place) }
+{
+    if relays.len() >= most {
+        if let Some(place) = oldest_silent(relays) {
+            let _ = relays.try_remove(place);
+        }
+    }
+}
+
+/// Lets the browser at this place go if it is over, with its own client. Returns whether it was logged that it was
+/// there, and whether it was refused.
+pub fn let_go(relays: &mut Slab<Relay>, place: usize) -> Option<(bool, bool)>
+    ensures gone { IfSome result (λ said. LeavesAs said (get relays.old place)) }
+    ensures goes { IsOver (get relays.old place) → IsSome result }
+    ensures updates { IsSome result → Updates relays.old relays.new place None }
+    ensures none { result ≡ None → relays.new ≡ relays.old }
+{
+    let said = match relays.get(place) {
+        Some(relay) if relay.is_over() => (relay.is_told(), relay.is_refused()),
+        _ => return None,
+    };
+    let _ = relays.try_remove(place);
+    Some(said)
+}
+
 /// Whether the page at this place is one too many: of all, or of its address.
-pub fn is_full(relays: &Slab<Relay>, place: usize, most: usize) -> bool {
+pub fn is_full(relays: &Slab<Relay>, place: usize, most: usize) -> bool
+    ensures { IfSome (get relays.now place) (λ relay. IsTrue result ↔ IsTooMany relays.now place relay most) }
+{
     let Some(relay) = relays.get(place) else {
         return false;
     };

@@ -5,7 +5,7 @@ ghost use Rattle.web_client.specs.Frames.{page, begun};
 ghost use Rattle.web_client.specs.Asking.{Asks, Keeps, IsOwn};
 ghost use Rattle.web_client.specs.Rows.{TellsLast, Refuses, handed};
 ghost use Rattle.web_relay.specs.Places.{has_page};
-ghost use Rattle.web_relay.specs.Relaying.{IsOpen, HasClient, HasPage, HasGone, Loses, Stays};
+ghost use Rattle.web_relay.specs.Relaying.{IsOpen, HasClient, HasPage, HasGone, Loses, Stays, IsRefused};
 ghost use Rattle.web_client.specs.declared.wire.Phase.TheVariants as phase;
 
 use crate::halls::HallNumber;
@@ -268,7 +268,9 @@ impl Relay {
     }
 
     /// Whether it gave a name and a token with which nobody is let in.
-    pub fn is_refused(&self) -> bool {
+    pub fn is_refused(&self) -> bool
+        ensures { IsTrue result ↔ IsRefused self.now }
+    {
         match self.visitor.identity() {
             Identity::Own(_) => !self.is_told && self.has_gone(),
             Identity::Unknown => true,
@@ -328,6 +330,7 @@ impl Relay {
     /// Tells its page why it ends.
     pub fn lose(&mut self, reason: &str)
         ensures loses { self.new.is_over ≡ false → Loses reason.now self.old.visitor self.new.visitor }
+        ensures over { self.old.is_over ≡ true → self.new.is_over ≡ true }
         ensures identity { self.new.visitor.identity ≡ self.old.visitor.identity }
         ensures same { self.new ≡ record self.old { visitor = self.new.visitor; is_over = self.new.is_over } }
     {

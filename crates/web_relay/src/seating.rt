@@ -1,6 +1,6 @@
 //! Which page a browser is shown: of a hall if it watches, and else of its own client.
 
-ghost use Rattle.std.specs.Prelude.{◌≡◌, ◌≢◌, ℕ, Some, None, true, false, IsSome, IfSome, OnSome};
+ghost use Rattle.std.specs.Prelude.{◌≡◌, ◌≢◌, ℕ, Some, None, true, false, IsSome, IsSomeAnd, IfSome};
 ghost use Rattle.slab.specs.Slab.{get};
 ghost use Rattle.web_client.specs.Asking.{IsWatcher, Keeps};
 ghost use Rattle.web_relay.specs.Halls.{hall_of};
@@ -65,6 +65,9 @@ impl Halls {
         requires { IsWatcher relay.old.visitor.identity }
         ensures none { hall_of self.old.list number ≡ None → relay.new.is_over ≡ false
             → Loses ENDED.now relay.old.visitor relay.new.visitor }
+        ensures hall { (hall : Hall) → hall_of self.old.list number ≡ Some hall → relay.new.is_over ≡ false
+            → IsSomeAnd (get self.new.list number.place) (λ after.
+            Watches hall after relay.old.visitor relay.new.visitor) }
         ensures others { (other : ℕ) → other ≢ number.place → get self.new.list other ≡ get self.old.list other }
         ensures identity { relay.new.visitor.identity ≡ relay.old.visitor.identity }
     {
@@ -85,6 +88,15 @@ impl Halls {
             × (relay.new.is_over ≡ false → SeesOwn relay.old.visitor relay.new.visitor) }
         ensures none { IsWatcher relay.old.visitor.identity → relay.old.hall ≡ None → (self.new ≡ self.old)
             × (relay.new.is_over ≡ false → Loses ENDED.now relay.old.visitor relay.new.visitor) }
+        ensures hall { IsWatcher relay.old.visitor.identity → (number : HallNumber) (hall : Hall)
+            → relay.old.hall ≡ Some number → hall_of self.old.list number ≡ Some hall → relay.new.is_over ≡ false
+            → IsSomeAnd (get self.new.list number.place) (λ after.
+            Watches hall after relay.old.visitor relay.new.visitor) }
+        ensures gone { IsWatcher relay.old.visitor.identity → (number : HallNumber)
+            → relay.old.hall ≡ Some number → hall_of self.old.list number ≡ None → relay.new.is_over ≡ false
+            → Loses ENDED.now relay.old.visitor relay.new.visitor }
+        ensures others { (number : HallNumber) (other : ℕ) → relay.old.hall ≡ Some number → other ≢ number.place
+            → get self.new.list other ≡ get self.old.list other }
         ensures keeps { Keeps relay.old.visitor.identity relay.new.visitor.identity }
     {
         if !relay.visitor.is_watcher() {

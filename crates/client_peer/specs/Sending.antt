@@ -1,0 +1,70 @@
+-- What a peer has for its server, and what is on its way there.
+use Rattle.std.specs.Prelude.{◌≡◌, ◌≢◌, ℕ, ◌≤◌, ◌-◌, Bool, true, false, not, List, [], ◌++◌, ◌⊎◌, length, drop}
+use Rattle.attach_proto.specs.declared.kind.Kind.{Kind}
+use Rattle.attach_proto.specs.declared.kind.Kind.TheVariants.{Output}
+use Rattle.client_peer.specs.declared.outgoing.Batch.{Batch}
+use Rattle.client_peer.specs.declared.peer.Peer.{Peer}
+use Rattle.client_peer.specs.Reopening.{Sends}
+
+-- the bytes that wait and weren't sent
+abbrev pub unsent : Peer → List ℕ
+unsent p = drop p.sent p.frames.items
+
+-- the bytes that were handed out and weren't sent
+abbrev pub left : Batch → List ℕ
+left b = drop b.sent b.frames.items
+
+-- these bytes come after those that waited, and nothing else changes
+pub record Puts (old new : Peer) (bytes : List ℕ) : Type 0 where
+  pub added : new.frames.items ≡ old.frames.items ++ bytes
+  pub rest : new ≡ record old { frames = new.frames }
+
+-- whole frames with the first of these bytes were added, before memory was refused
+pub record SendsFirst (old new : List ℕ) (kind : Kind) (bytes : List ℕ) : Type 0 where
+  pub first : List ℕ
+  pub later : List ℕ
+  pub whole : first ++ later ≡ bytes
+  pub sends : Sends old new kind first
+
+-- the server has let the peer in and takes frames, no thread sends any, and some wait
+abbrev pub MaySend : Peer → Type 0
+MaySend p =
+    (p.is_welcome ≡ true) × (p.is_sending ≡ false) × (p.is_shut ≡ false) × (p.frames.items ≢ [])
+
+-- All that waits is handed out, for this connection, and none of it waits any more.
+pub record HandsOut (old : Peer) (batch : Batch) (new : Peer) : Type 0 where
+  pub all : left batch ≡ unsent old
+  pub connection : batch.connection ≡ old.connection
+  pub none : new.frames.items ≡ []
+  pub rest : new ≡ record old { frames = new.frames; sent = 0; is_sending = true }
+
+-- What wasn't sent comes first again, before what was put down meanwhile, of which nothing was sent. Of another
+-- connection's frames nothing comes back.
+pub record HasBack (old : Peer) (batch : Batch) (is_open : Bool) (new : Peer) : Type 0 where
+  pub back : batch.connection ≡ old.connection → old.sent ≡ 0 → unsent new ≡ left batch ++ unsent old
+  pub shut : batch.connection ≡ old.connection → new.is_shut ≡ not is_open
+  pub stuck : batch.connection ≡ old.connection → new.is_stuck ≡ false → left batch ≡ []
+  pub other : (batch.connection ≡ old.connection → ⊥) → new ≡ record old { is_sending = false }
+  pub rest : new ≡ record old {
+    frames = new.frames;
+    sent = new.sent;
+    is_sending = false;
+    is_shut = new.is_shut;
+    is_stuck = new.is_stuck;
+  }
+
+-- these are the last bytes of all: the last 262,144 at least, and no more than twice as many
+pub record KeepsNewest (all kept : List ℕ) : Type 0 where
+  pub newest : (kept ≡ all) ⊎ (kept ≡ drop (length all - 262144) all)
+  pub few : length kept ≤ 524288
+
+-- a server has the window
+abbrev pub HasServer : Peer → Type 0
+HasServer p = (p.is_welcome ≡ true) × (p.is_reopening ≡ false)
+
+-- What a window's program printed is put down, or held while no server has the window.
+pub record Prints (old new : Peer) (bytes : List ℕ) : Type 0 where
+  pub sent : HasServer old
+      → Sends old.frames.items new.frames.items Output bytes × (new.held ≡ old.held)
+  pub held : (HasServer old → ⊥)
+      → KeepsNewest (old.held.items ++ bytes) new.held.items × (new.frames ≡ old.frames)

@@ -1,0 +1,65 @@
+-- What of the input is sent.
+use Rattle.std.specs.Prelude.{◌≡◌, ℕ, true, false, List, [], ◌++◌, ◌⊎◌, Option, Some, None, IsSome}
+use Rattle.attach_proto.specs.declared.kind.Kind.TheVariants.{Keys}
+use Rattle.attach_proto.specs.declared.message.Message.TheVariants.{Resize}
+use Rattle.attach_proto.specs.Spelling.{spelling}
+use Rattle.client_words.specs.declared.leaving.LeaveReader.{LeaveReader}
+use Rattle.client_words.specs.declared.words.Way.TheVariants.{Window}
+use Rattle.client_words.specs.Leaving.{sent}
+use Rattle.client_words.specs.Stands.{HasRead}
+use Rattle.keys.specs.Grammar.{nothing}
+use Rattle.keys.specs.Kept.{Keeping, StandsFor, rest_of}
+use Rattle.client_peer.specs.declared.peer.Peer.{Peer}
+use Rattle.client_peer.specs.declared.typing.Typing.{Typing}
+use Rattle.client_peer.specs.Fitting.{fit_keys}
+use Rattle.client_peer.specs.Reopening.{Sends}
+use Rattle.client_peer.specs.Sending.{Prints, SendsFirst}
+
+-- `typed` is what is to be sent of this input: all of it, or the input without the byte that leaves
+abbrev pub LetsThrough : Option LeaveReader → List ℕ → List ℕ → Option LeaveReader → Type 0
+LetsThrough None input typed None = typed ≡ input
+LetsThrough None input typed (Some after) = ⊥
+LetsThrough (Some reader) input typed None = ⊥
+LetsThrough (Some reader) input typed (Some after) =
+    (before : List ℕ) → HasRead reader before
+    → HasRead after (before ++ input) × (sent reader.byte (before ++ input) ≡ sent reader.byte before ++ typed)
+
+-- the reader has read these keys too
+abbrev pub Follows : Keeping → List ℕ → Keeping → Type 0
+Follows old keys new = (before : List ℕ) → StandsFor old before → StandsFor new (before ++ keys)
+
+-- but for the keys that it has read
+abbrev pub StaysBeside : Typing → Typing → Type 0
+StaysBeside old new =
+    (new.leave ≡ old.leave) × (new.assists ≡ old.assists) × (new.back ≡ old.back) × (new.asks_help ≡ old.asks_help)
+
+-- a client that knows a server, and shows no help
+pub record IsSeated (p : Peer) : Type 0 where
+  pub client : p.way ≡ Window → ⊥
+  pub here : p.loss ≡ None
+  pub shown : p.is_helping ≡ false
+
+-- What a client's user types is put down whole and in order. With --fit it is followed, so that `fit` comes between two
+-- keys. While no server is there, it is dropped; while the help is shown, the page is asked for instead.
+pub record Presses (old new : Peer) (typed : List ℕ) : Type 0 where
+  pub sends : IsSeated old → old.typing.assists ≡ false → Sends old.frames.items new.frames.items Keys typed
+  pub follows : IsSeated old → old.typing.assists ≡ false → old.fits ≡ true
+      → Follows old.typing.keys typed new.typing.keys
+  pub lost : IsSome old.loss → new.frames ≡ old.frames
+  pub helped : old.loss ≡ None → old.is_helping ≡ true
+      → (new.is_helping ≡ false) × (new.frames.items ≡ old.frames.items ++ spelling (Resize old.rows old.columns))
+
+-- What is read of standard input: what a client's user typed, or what a window's program printed.
+pub record TypesIn (old new : Peer) (input : List ℕ) : Type 0 where
+  pub typed : List ℕ
+  pub through : LetsThrough old.typing.leave input typed new.typing.leave
+  pub prints : old.way ≡ Window → Prints (record old { typing = new.typing }) new typed
+  pub none : (old.way ≡ Window → ⊥) → typed ≡ [] → new.frames ≡ old.frames
+  pub presses : (old.way ≡ Window → ⊥) → (typed ≡ [] → ⊥) → Presses old new typed
+
+-- `fit` is put down only while the session waits for no key, or nothing is.
+abbrev pub Fits : Peer → Peer → Type 0
+Fits old new =
+    (new.frames ≡ old.frames) ⊎ ((rest_of old.typing.keys ≡ nothing)
+    × SendsFirst old.frames.items new.frames.items Keys fit_keys
+    × Follows old.typing.keys fit_keys new.typing.keys)

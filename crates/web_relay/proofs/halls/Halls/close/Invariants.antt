@@ -1,0 +1,11 @@
+use Rattle.std.proofs.Common.{◌≡◌, ℕ, ◌<◌, ◌≤◌, length}
+use Rattle.slab.specs.Slab.{get}
+use Rattle.web_relay.specs.Halls.{Closes}
+use Rattle.web_relay.proofs.halls.Halls.close.Given as goal
+
+abbrev pub invariant-places : goal.invariant-places
+invariant-places l = record {
+  closed : (q : ℕ) → q < l.place → Closes l.now (get l.fn.self.list q) (get l.self.list q);
+  rest : (q : ℕ) → l.place ≤ q → get l.self.list q ≡ get l.fn.self.list q;
+  all : length l.fn.self.list.slots ≤ l.place-end;
+}
