@@ -1,12 +1,11 @@
 -- What a window that stays sends first when a server has it again.
-use Rattle.std.specs.Prelude.{◌≡◌, ℕ, ◌≤◌, Bool, true, false, List, [], ◌++◌, length, take, drop, Option, Some, None}
+use Rattle.std.specs.Prelude.{◌≡◌, ℕ, ◌≤◌, Bool, true, false, List, [], ◌++◌, length, drop, Option}
 use Rattle.std.specs.List.{AllByRecursion, flat_map}
 use Rattle.attach_proto.specs.declared.kind.Kind.{Kind}
 use Rattle.attach_proto.specs.declared.kind.Kind.TheVariants.{Output}
 use Rattle.attach_proto.specs.Spelling.{frame}
-use Rattle.terminal_model.specs.Reading.{Terminal, reads}
-use Rattle.emulator.specs.Standing.{Parts, StandsFor}
-use Rattle.rebuild.specs.Rebuilt.{BringsBack}
+use Rattle.emulator.specs.Standing.{Parts}
+use Rattle.client_page.specs.Kept.{Settles, TellsPage}
 use Rattle.client_peer.specs.declared.peer.Peer.{Peer}
 
 -- these bytes were added to the frames for the server, in pieces that fit in a frame: none is lost or doubled
@@ -15,19 +14,6 @@ pub record Sends (old new : List ℕ) (kind : Kind) (bytes : List ℕ) : Type 0 
   pub whole : flat_map (λ piece. piece) pieces ≡ bytes
   pub fit : AllByRecursion (λ piece. length piece ≤ 8192) pieces
   pub added : new ≡ old ++ flat_map (frame kind) pieces
-
--- a kept terminal has read the first bytes, from whatever terminal it stood for before
-abbrev pub Settles : Option Parts → List ℕ → ℕ → Option Parts → Type 0
-Settles None bytes count new = (count ≡ 0) × (new ≡ None)
-Settles (Some e) bytes count None = ⊥
-Settles (Some e) bytes count (Some e') =
-    (t : Terminal) → StandsFor e t → StandsFor e' (reads t (take count bytes)).terminal
-
--- these bytes bring a kept terminal back, which isn't hidden
-abbrev pub TellsPage : Option Parts → Bool → List ℕ → Type 0
-TellsPage None is_hidden bytes = ⊥
-TellsPage (Some e) true bytes = ⊥
-TellsPage (Some e) false bytes = BringsBack e bytes
 
 -- the page is told, or no byte is
 abbrev pub TellsIf : Bool → Option Parts → Bool → List ℕ → Type 0

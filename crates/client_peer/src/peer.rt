@@ -6,9 +6,9 @@ ghost use Rattle.client_peer.specs.Showing.{BeginsAnew};
 
 use crate::looking::Times;
 use crate::notice::Notice;
-use crate::page::KeptPage;
 use crate::typing::Typing;
 use attach_proto::Why;
+use client_page::KeptPage;
 use client_words::{Fault, Size, Way, Words};
 use draw_check::DrawCheck;
 use std::alloc::Global;

@@ -3,9 +3,11 @@
 use crate::calling::{NO_CALL, Stage, answer, write_file};
 use crate::line::has;
 use std::io::{Read, Write};
+use std::net::Shutdown;
 use std::os::unix::net::{UnixListener, UnixStream};
 use std::sync::Wait;
 use std::thread::Threads;
+use std::time::Duration;
 use std::{fs, io, thread};
 
 const SOCKET: &str = "client_tests.socket";
@@ -255,20 +257,34 @@ fn awaits(stream: &mut UnixStream, came: &mut Vec<u8>, bytes: &[u8]) -> io::Resu
     Ok(false)
 }
 
+// Says no more, and reads until the peer has gone: what nobody reads would be a fault of its connection, and no end.
+fn leave(stream: &mut UnixStream) -> io::Result<()> {
+    let mut buffer = [0; 1024];
+    stream.set_read_timeout(Some(Duration::from_secs(1)))?;
+    stream.shutdown(Shutdown::Write)?;
+    for _ in 0..1000 {
+        if stream.read(&mut buffer)? == 0 {
+            break;
+        }
+    }
+    Ok(())
+}
+
 // Serves the first connection of a peer that comes back, and goes.
 fn serve_first<R: Stage>(rt: &R, listener: &UnixListener, talk: Talk) -> io::Result<()> {
     let (mut stream, _) = listener.accept()?;
     let mut came = Vec::new(rt.alloc());
     stream.write_all(talk.first)?;
-    match talk.peer {
-        Peer::Again => stream.write_all(b"d\0\x03\x1b[?")?,
-        Peer::Telling => {
-            awaits(&mut stream, &mut came, b"O\0\x07printed")?;
-        }
-        _ => {
-            awaits(&mut stream, &mut came, talk.awaited)?;
-        }
+    let awaited = match talk.peer {
+        Peer::Telling => b"O\0\x07printed",
+        _ => talk.awaited,
+    };
+    awaits(&mut stream, &mut came, awaited)?;
+    if matches!(talk.peer, Peer::Again) {
+        stream.write_all(b"d\0\x03\x1b[?")?;
     }
+    // The peer may have gone.
+    let _ = leave(&mut stream);
     Ok(())
 }
 

@@ -25,12 +25,12 @@ pub enum Fault {
     Ended,
     Gone(Why),
     NoMemory,
-    Refused(Part, io::Error),
+    Refused(RefusedPart, io::Error),
 }
 
 /// What the system refused.
 #[derive(Clone, Copy)]
-pub enum Part {
+pub enum RefusedPart {
     /// To read the token's file.
     Token,
     /// To open the sizes' file.
@@ -46,27 +46,32 @@ pub enum Part {
     Other,
 }
 
-impl Part {
+impl RefusedPart {
     // What could not be done, with the path that it was done to.
     fn write<W: fmt::Write>(self, words: &Words<'_>, f: &mut fmt::Formatter<W>) -> fmt::Result {
         match self {
-            Part::Token => write!(f, "can't read token file {}: ", words.token),
-            Part::Sizes => write!(f, "can't open sizes file {}: ", words.sizes.unwrap_or("")),
-            Part::Socket => write!(f, "can't connect to {}: ", words.socket),
-            Part::Input => f.write_str("can't read standard input: "),
-            Part::Output => f.write_str("can't write to standard output: "),
-            Part::Stream => write!(f, "lost the server at {}: ", words.socket),
-            Part::Other => write!(f, "{}: ", words.place()),
+            RefusedPart::Token => write!(f, "can't read token file {}: ", words.token),
+            RefusedPart::Sizes => write!(
+                f,
+                "can't open sizes file {}: ",
+                words.sizes.unwrap_or("")
+            ),
+            RefusedPart::Socket => write!(f, "can't connect to {}: ", words.socket),
+            RefusedPart::Input => f.write_str("can't read standard input: "),
+            RefusedPart::Output => f.write_str("can't write to standard output: "),
+            RefusedPart::Stream => write!(f, "lost the server at {}: ", words.socket),
+            RefusedPart::Other => write!(f, "{}: ", words.place()),
         }
     }
 
     // What to do about it.
     fn advice(self) -> &'static str {
         match self {
-            Part::Token => " (set --token or MUX_TOKEN)",
-            Part::Sizes => " (set --sizes)",
-            Part::Socket => " (see the modes of the socket and its folder)",
-            Part::Input | Part::Output | Part::Stream | Part::Other => "",
+            RefusedPart::Token => " (set --token or MUX_TOKEN)",
+            RefusedPart::Sizes => " (set --sizes)",
+            RefusedPart::Socket => " (see the modes of the socket and its folder)",
+            RefusedPart::Input | RefusedPart::Output | RefusedPart::Stream | RefusedPart::Other =>
+                "",
         }
     }
 }
@@ -106,12 +111,12 @@ impl Fault {
 
 /// A fault of a peer with these arguments, as a message.
 #[derive(Clone, Copy)]
-pub struct Told<'a> {
+pub struct ToldFault<'a> {
     pub fault: Fault,
     pub words: &'a Words<'a>,
 }
 
-impl Told<'_> {
+impl ToldFault<'_> {
     // A fault of the server at the socket.
     fn server<W: fmt::Write>(&self, f: &mut fmt::Formatter<W>) -> fmt::Result {
         let socket = self.words.socket;
@@ -169,7 +174,7 @@ impl Told<'_> {
     }
 }
 
-impl fmt::Display for Told<'_> {
+impl fmt::Display for ToldFault<'_> {
     fn fmt<W: fmt::Write>(&self, f: &mut fmt::Formatter<W>) -> fmt::Result {
         match self.fault {
             Fault::TooLong => write!(
@@ -206,7 +211,7 @@ impl From<WriteFault> for Fault {
 
 impl From<io::Error> for Fault {
     fn from(error: io::Error) -> Fault {
-        Fault::Refused(Part::Other, error)
+        Fault::Refused(RefusedPart::Other, error)
     }
 }
 

@@ -10,7 +10,7 @@ mod size_lines;
 mod visible;
 mod words;
 
-pub use fault::{Fault, Part, Told, gone};
+pub use fault::{Fault, RefusedPart, ToldFault, gone};
 pub use leaving::{InputStage, LeaveReader};
 pub use refusals::explain;
 pub use size_lines::{Size, SizeLines};

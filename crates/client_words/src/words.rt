@@ -156,8 +156,8 @@ impl<'a> Words<'a> {
     }
 
     /// The user and the socket.
-    pub fn place(&self) -> Place<'a> {
-        Place {
+    pub fn place(&self) -> PeerPlace<'a> {
+        PeerPlace {
             user: self.user,
             socket: self.socket,
         }
@@ -187,14 +187,14 @@ impl<'a> Words<'a> {
 
 /// Where a peer is, as messages name it: `USER at SOCKET`, or the socket alone for a ping.
 #[derive(Clone, Copy)]
-pub struct Place<'a> {
+pub struct PeerPlace<'a> {
     user: &'a str,
     socket: &'a str,
 }
 
-impl fmt::Display for Place<'_> {
+impl fmt::Display for PeerPlace<'_> {
     fn fmt<W: fmt::Write>(&self, f: &mut fmt::Formatter<W>) -> fmt::Result {
-        let Place { user, socket } = *self;
+        let PeerPlace { user, socket } = *self;
         if user.is_empty() {
             return f.write_str(socket);
         }

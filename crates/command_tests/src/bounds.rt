@@ -1,6 +1,6 @@
 //! How many acts of list commands one step may do.
 
-use crate::stage::{Name, Stage, Want, user};
+use crate::stage::{ListStage, TestUser, Want, user};
 use AclFault::NoMemory;
 use acl::{AclFault, Bit, BitChange, Edition, Object, RightsChange};
 use std::alloc::Global;
@@ -9,13 +9,13 @@ const WINDOW: Object = Object::Window(0);
 
 /// Sets bob's r on window 0 this many times, by a line of 1,024 changes for each of its objects.
 /// Tries again if memory is refused.
-fn set_often(stage: &mut Stage, value: bool, objects: &[Object]) -> Result<(), AclFault> {
+fn set_often(stage: &mut ListStage, value: bool, objects: &[Object]) -> Result<(), AclFault> {
     let changes = [BitChange {
         bit: Bit::Read,
         value,
     }; 1024];
     let change = RightsChange {
-        names: &[user(Name::Bob)],
+        names: &[user(TestUser::Bob)],
         changes: &changes,
         objects,
     };
@@ -31,16 +31,16 @@ fn set_often(stage: &mut Stage, value: bool, objects: &[Object]) -> Result<(), A
 }
 
 /// Whether a line of this many acts is refused and leaves bob's right as it was.
-fn is_refused(stage: &mut Stage, value: bool, objects: &[Object], want: Want) -> bool {
+fn is_refused(stage: &mut ListStage, value: bool, objects: &[Object], want: Want) -> bool {
     let count = stage.acts.len();
     set_often(stage, value, objects) == Err(NoMemory)
         && stage.acts.len() == count
-        && stage.answers(Name::Bob, Bit::Read, WINDOW, want)
+        && stage.answers(TestUser::Bob, Bit::Read, WINDOW, want)
 }
 
 /// Whether a step does at most 65,536 acts of list commands.
 fn is_bounded(alloc: Global) -> bool {
-    let Some(mut stage) = Stage::new(alloc, Edition::Second) else {
+    let Some(mut stage) = ListStage::new(alloc, Edition::Second) else {
         return false;
     };
     stage.acts.clear();

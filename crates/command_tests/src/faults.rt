@@ -4,7 +4,7 @@ use attach_proto::{ProtoFault, Reader, Side, WriteFault};
 use std::alloc::{AllocError, Global};
 
 /// The side that reads some bytes, the bytes, how many messages come before their fault, and the fault.
-type Row = (Side, &'static [u8], usize, ProtoFault);
+type FaultRow = (Side, &'static [u8], usize, ProtoFault);
 
 // A token has no digit in upper case.
 const UPPER_CASE: &[u8] =
@@ -14,7 +14,7 @@ const UPPER_CASE: &[u8] =
 const LATIN: &[u8] =
     b"\x41\x00\x47\x00\x18\x00\x500123456789abcdef0123456789abcdef0123456789abcdef0123456789abcdefbo\xE9";
 
-static FAULTS: [Row; 12] = [
+static FAULTS: [FaultRow; 12] = [
     (Side::Server, b"\x79", 0, ProtoFault::WrongSide),
     (Side::Server, b"\x00", 0, ProtoFault::BadKind),
     (Side::Server, b"\x4B\x00\x00", 0, ProtoFault::BadPayload),
@@ -41,7 +41,7 @@ static FAULTS: [Row; 12] = [
 
 /// Whether the last byte of a row shows the fault, and later bytes get the same answer. The bytes before
 /// the last one come in two pieces.
-fn is_faulty(alloc: Global, row: &Row, cut: usize) -> bool {
+fn is_faulty(alloc: Global, row: &FaultRow, cut: usize) -> bool {
     let (side, bytes, count, fault) = *row;
     let (before, last) = bytes.split_at(bytes.len().saturating_sub(1));
     let (first, second) = before.split_at(cut.min(before.len()));
@@ -55,7 +55,7 @@ fn is_faulty(alloc: Global, row: &Row, cut: usize) -> bool {
 }
 
 /// Whether a row's last byte shows its fault, wherever the bytes before it are cut in two.
-fn is_faulty_at_each_cut(alloc: Global, row: &Row) -> bool {
+fn is_faulty_at_each_cut(alloc: Global, row: &FaultRow) -> bool {
     for cut in 0..row.1.len() {
         if !is_faulty(alloc, row, cut) {
             return false;

@@ -4,10 +4,10 @@ use attach_proto::{Message, Reader, Side, write_message};
 use std::alloc::Global;
 
 /// The side that reads a frame, the frame, and the list of its message.
-type Row = (Side, &'static [u8], &'static str);
+type FrameRow = (Side, &'static [u8], &'static str);
 
 /// The last two are a `kill` without a window, and an empty line on the last window.
-static FRAMES: [Row; 16] = [
+static FRAMES: [FrameRow; 16] = [
     (
         Side::Server,
         b"\x41\x00\x47\x00\x18\x00\x500123456789abcdef0123456789abcdef0123456789abcdef0123456789abcdefbob",
@@ -92,7 +92,7 @@ fn are_written(alloc: Global, messages: &[Message], frame: &[u8]) -> bool {
 
 /// Whether a frame that comes in two pieces is read as its message, and the message is written as the
 /// frame. The first piece is only a beginning, and gives no message and no fault.
-fn is_so(alloc: Global, row: &Row, cut: usize) -> bool {
+fn is_so(alloc: Global, row: &FrameRow, cut: usize) -> bool {
     let (side, frame, message) = *row;
     let (first, second) = frame.split_at(cut.min(frame.len()));
     let mut reader = Reader::new(alloc, side);
@@ -105,7 +105,7 @@ fn is_so(alloc: Global, row: &Row, cut: usize) -> bool {
 }
 
 /// Whether a frame is read and written so, wherever it is cut in two, and in one piece.
-fn is_so_at_each_cut(alloc: Global, row: &Row) -> bool {
+fn is_so_at_each_cut(alloc: Global, row: &FrameRow) -> bool {
     for cut in 0..row.1.len() {
         if !is_so(alloc, row, cut) {
             return false;

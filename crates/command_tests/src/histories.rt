@@ -1,18 +1,18 @@
 //! Histories of calls, with the answer of a check after each call.
 
-use crate::stage::{Call, Name, Stage, Want};
+use crate::stage::{ListCall, ListStage, TestUser, Want};
 use Bit::{Execute, Read, Write};
-use Call::{
+use ListCall::{
     Add, Change, Close, Default, Enter, Group, Leave, Lock, Mask, Nothing, Open, Part, Preset,
     Remove, TakeAndGive,
 };
-use Name::{Ann, Bob, Eve, Own, Zed};
+use TestUser::{Ann, Bob, Eve, Own, Zed};
 use Want::{Leader, Leaders, Locked, NoEntry, Passes};
 use acl::{Bit, CommandName, Edition, LockMode, Object, PresetKind};
 use std::alloc::Global;
 
 /// A call, and then a check of a user's bit on an object.
-type Row = (Call, Name, Bit, Object, Want);
+type HistoryRow = (ListCall, TestUser, Bit, Object, Want);
 
 const KILL: Object = Object::Command(CommandName::Kill);
 
@@ -25,7 +25,7 @@ const TWO: Object = Object::Window(2);
 const THREE: Object = Object::Window(3);
 
 /// A user loses a right, still has it by a leader, and then the leader loses it, too.
-const LED: [Row; 12] = [
+const LED: [HistoryRow; 12] = [
     (Nothing, Bob, Write, TWO, Passes),
     (Change(Bob, Write, false, TWO), Bob, Write, TWO, NoEntry),
     (Nothing, Bob, Write, ONE, Passes),
@@ -42,7 +42,7 @@ const LED: [Row; 12] = [
 ];
 
 /// A leader goes, and the group loses the leader's rights.
-const LEADER_GONE: [Row; 4] = [
+const LEADER_GONE: [HistoryRow; 4] = [
     (Change(Bob, Write, false, TWO), Bob, Write, TWO, NoEntry),
     (Group(Bob, Some(Ann)), Bob, Write, TWO, Passes),
     (Remove(Ann), Bob, Write, TWO, NoEntry),
@@ -50,7 +50,7 @@ const LEADER_GONE: [Row; 4] = [
 ];
 
 /// In the first edition a new leader replaces the former one.
-const ONE_GROUP: [Row; 5] = [
+const ONE_GROUP: [HistoryRow; 5] = [
     (Change(Bob, Write, false, TWO), Bob, Write, TWO, NoEntry),
     (Change(Ann, Write, false, TWO), Bob, Write, TWO, NoEntry),
     (Group(Bob, Some(Ann)), Bob, Write, TWO, Leader(Ann)),
@@ -59,7 +59,7 @@ const ONE_GROUP: [Row; 5] = [
 ];
 
 /// In the second edition a new leader comes last, and one who already leads keeps that place.
-const TWO_GROUPS: [Row; 11] = [
+const TWO_GROUPS: [HistoryRow; 11] = [
     (Change(Bob, Write, false, TWO), Bob, Write, TWO, NoEntry),
     (Change(Ann, Write, false, TWO), Bob, Write, TWO, NoEntry),
     (Group(Bob, Some(Ann)), Bob, Write, TWO, Leader(Ann)),
@@ -83,7 +83,7 @@ const TWO_GROUPS: [Row; 11] = [
 
 /// A lock is freed when the leader by whom its holder may write loses the right, whichever leader that
 /// is.
-const LOCKED_BY_GROUP: [Row; 6] = [
+const LOCKED_BY_GROUP: [HistoryRow; 6] = [
     (Change(Bob, Write, false, TWO), Bob, Write, TWO, NoEntry),
     (Group(Bob, Some(Ann)), Bob, Write, TWO, Passes),
     (Group(Bob, Some(Eve)), Bob, Write, TWO, Passes),
@@ -93,7 +93,7 @@ const LOCKED_BY_GROUP: [Row; 6] = [
 ];
 
 /// After a window closed, one that is opened later has none of its entries, only those of the mask.
-const MASKED: [Row; 9] = [
+const MASKED: [HistoryRow; 9] = [
     (Change(Bob, Read, false, TWO), Bob, Read, TWO, NoEntry),
     (Mask(Bob, Write, false), Bob, Write, TWO, Passes),
     (Close(2), Bob, Write, ONE, Passes),
@@ -107,7 +107,7 @@ const MASKED: [Row; 9] = [
 ];
 
 /// A name that comes back has neither its old entries nor its old masks, only those of the presets.
-const RETURNED: [Row; 9] = [
+const RETURNED: [HistoryRow; 9] = [
     (Change(Bob, Read, false, ZERO), Bob, Read, ZERO, NoEntry),
     (Mask(Bob, Write, false), Bob, Write, ONE, Passes),
     (
@@ -127,7 +127,7 @@ const RETURNED: [Row; 9] = [
 
 /// A new name gets the preset on each command, and an entry of one command doesn't count for a window
 /// or for another command.
-const COMMANDS: [Row; 7] = [
+const COMMANDS: [HistoryRow; 7] = [
     (
         Change(Bob, Execute, false, KILL),
         Bob,
@@ -156,7 +156,7 @@ const COMMANDS: [Row; 7] = [
 ];
 
 /// A holder stops every other user, the owner too, until -w names the holder.
-const HELD: [Row; 6] = [
+const HELD: [HistoryRow; 6] = [
     (Lock(Eve, 2, LockMode::Auto), Bob, Write, TWO, Locked(Eve)),
     (Nothing, Own, Write, TWO, Locked(Eve)),
     (Nothing, Eve, Write, TWO, Passes),
@@ -167,7 +167,7 @@ const HELD: [Row; 6] = [
 
 /// A lock is freed when its holder or the holder's leader loses the right, when the holder is gone, and
 /// when the holder's last client goes.
-const RELEASED: [Row; 10] = [
+const RELEASED: [HistoryRow; 10] = [
     (Lock(Eve, 2, LockMode::On), Bob, Write, TWO, Locked(Eve)),
     (Group(Eve, Some(Ann)), Bob, Write, TWO, Locked(Eve)),
     (Change(Eve, Read, false, TWO), Bob, Write, TWO, Locked(Eve)),
@@ -181,7 +181,7 @@ const RELEASED: [Row; 10] = [
 ];
 
 /// In auto entering takes a lock and leaving frees it; in on neither does.
-const ENTERED: [Row; 10] = [
+const ENTERED: [HistoryRow; 10] = [
     (Enter(Bob, 2), Eve, Write, TWO, Passes),
     (Lock(Eve, 2, LockMode::Auto), Bob, Write, TWO, Locked(Eve)),
     (Enter(Bob, 2), Bob, Write, TWO, Locked(Eve)),
@@ -196,7 +196,7 @@ const ENTERED: [Row; 10] = [
 
 /// The default mode counts for windows that are opened later: in on the opener holds the lock, in auto
 /// nobody does yet.
-const DEFAULTS: [Row; 7] = [
+const DEFAULTS: [HistoryRow; 7] = [
     (Default(LockMode::On), Ann, Write, TWO, Passes),
     (Open(Ann, 3), Own, Write, THREE, Locked(Ann)),
     (Default(LockMode::Auto), Own, Write, THREE, Locked(Ann)),
@@ -207,7 +207,7 @@ const DEFAULTS: [Row; 7] = [
 ];
 
 /// The histories, each with its edition.
-static HISTORIES: [(Edition, &[Row]); 14] = [
+static HISTORIES: [(Edition, &[HistoryRow]); 14] = [
     (Edition::First, &LED),
     (Edition::First, &LEADER_GONE),
     (Edition::Second, &LEADER_GONE),
@@ -225,8 +225,8 @@ static HISTORIES: [(Edition, &[Row]); 14] = [
 ];
 
 /// Whether each call of a history is done, and the check after it has the answer of the row.
-fn is_so(alloc: Global, edition: Edition, rows: &[Row]) -> bool {
-    let Some(mut stage) = Stage::new(alloc, edition) else {
+fn is_so(alloc: Global, edition: Edition, rows: &[HistoryRow]) -> bool {
+    let Some(mut stage) = ListStage::new(alloc, edition) else {
         return false;
     };
     for (call, name, bit, object, want) in rows {

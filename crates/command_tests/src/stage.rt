@@ -9,7 +9,7 @@ use writelock::Locks;
 
 /// The users of the tests. own is the owner; ann, bob and eve are known, yan and zed are not.
 #[derive(Clone, Copy)]
-pub enum Name {
+pub enum TestUser {
     Own,
     Ann,
     Bob,
@@ -20,26 +20,26 @@ pub enum Name {
 
 /// A call that changes lists or locks.
 #[derive(Clone, Copy)]
-pub enum Call {
+pub enum ListCall {
     Nothing,
-    Add(Name, u32),
-    AddAll(Name, Name, Name),
-    Change(Name, Bit, bool, Object),
+    Add(TestUser, u32),
+    AddAll(TestUser, TestUser, TestUser),
+    Change(TestUser, Bit, bool, Object),
     /// Takes w on a window and gives it back in one call.
-    TakeAndGive(Name, u32),
-    Remove(Name),
-    Group(Name, Option<Name>),
+    TakeAndGive(TestUser, u32),
+    Remove(TestUser),
+    Group(TestUser, Option<TestUser>),
     /// Sets the owner's mask for a user.
-    Mask(Name, Bit, bool),
+    Mask(TestUser, Bit, bool),
     Preset(PresetKind, Bit, bool),
-    Open(Name, u32),
+    Open(TestUser, u32),
     Close(u32),
-    Lock(Name, u32, LockMode),
+    Lock(TestUser, u32, LockMode),
     Default(LockMode),
-    Enter(Name, u32),
-    Leave(Name, u32),
+    Enter(TestUser, u32),
+    Leave(TestUser, u32),
     /// The user's last client goes.
-    Part(Name),
+    Part(TestUser),
 }
 
 /// The answer that a check must give.
@@ -49,30 +49,30 @@ pub enum Want {
     /// Denied, and the user has no leader.
     NoEntry,
     /// Denied, and this leader doesn't have the bit either.
-    Leader(Name),
+    Leader(TestUser),
     /// Denied, and these two lead the user, in this order.
-    Leaders(Name, Name),
+    Leaders(TestUser, TestUser),
     /// Denied, since this other user holds the lock.
-    Locked(Name),
+    Locked(TestUser),
 }
 
 /// The access lists and locks of a session, and the acts of its list commands.
 #[derive(Drop)]
-pub struct Stage {
+pub struct ListStage {
     pub acl: Acl,
     pub locks: Locks,
     pub acts: Vec<Act>,
 }
 
 /// The user with this name.
-pub fn user(name: Name) -> Option<UserId> {
+pub fn user(name: TestUser) -> Option<UserId> {
     match name {
-        Name::Own => UserId::of(b"own"),
-        Name::Ann => UserId::of(b"ann"),
-        Name::Bob => UserId::of(b"bob"),
-        Name::Eve => UserId::of(b"eve"),
-        Name::Yan => UserId::of(b"yan"),
-        Name::Zed => UserId::of(b"zed"),
+        TestUser::Own => UserId::of(b"own"),
+        TestUser::Ann => UserId::of(b"ann"),
+        TestUser::Bob => UserId::of(b"bob"),
+        TestUser::Eve => UserId::of(b"eve"),
+        TestUser::Yan => UserId::of(b"yan"),
+        TestUser::Zed => UserId::of(b"zed"),
     }
 }
 
@@ -85,18 +85,18 @@ fn new_acl(alloc: Global, owner: UserId, edition: Edition) -> Option<Acl> {
 }
 
 /// The calls by which own adds ann, bob and eve, and opens the windows 0, 1 and 2.
-static BEGINNING: [Call; 4] = [
-    Call::AddAll(Name::Ann, Name::Bob, Name::Eve),
-    Call::Open(Name::Own, 0),
-    Call::Open(Name::Own, 1),
-    Call::Open(Name::Own, 2),
+static BEGINNING: [ListCall; 4] = [
+    ListCall::AddAll(TestUser::Ann, TestUser::Bob, TestUser::Eve),
+    ListCall::Open(TestUser::Own, 0),
+    ListCall::Open(TestUser::Own, 1),
+    ListCall::Open(TestUser::Own, 2),
 ];
 
-impl Stage {
+impl ListStage {
     /// A session with own, ann, bob and eve, and three windows.
-    pub fn new(alloc: Global, edition: Edition) -> Option<Stage> {
-        let mut stage = Stage {
-            acl: new_acl(alloc, user(Name::Own)?, edition)?,
+    pub fn new(alloc: Global, edition: Edition) -> Option<ListStage> {
+        let mut stage = ListStage {
+            acl: new_acl(alloc, user(TestUser::Own)?, edition)?,
             locks: Locks::new(),
             acts: Vec::new(alloc),
         };
@@ -109,16 +109,16 @@ impl Stage {
     }
 
     /// Does a call. Tries again if memory is refused, since at most one allocation of a run is.
-    pub fn play(&mut self, call: Call) -> Result<(), AclFault> {
+    pub fn play(&mut self, call: ListCall) -> Result<(), AclFault> {
         match self.call(call) {
             Err(AclFault::NoMemory) => self.call(call),
             answer => answer,
         }
     }
 
-    fn call(&mut self, call: Call) -> Result<(), AclFault> {
+    fn call(&mut self, call: ListCall) -> Result<(), AclFault> {
         match call {
-            Call::Add(name, window) => self.acl.add(
+            ListCall::Add(name, window) => self.acl.add(
                 NewUsers {
                     names: &[user(name)],
                     objects: &[Object::Window(window)],
@@ -127,7 +127,7 @@ impl Stage {
                 0,
                 &mut self.locks,
             ),
-            Call::AddAll(first, second, third) => self.acl.add(
+            ListCall::AddAll(first, second, third) => self.acl.add(
                 NewUsers {
                     names: &[user(first), user(second), user(third)],
                     objects: &[Object::Command(CommandName::Kill)],
@@ -136,17 +136,17 @@ impl Stage {
                 0,
                 &mut self.locks,
             ),
-            Call::Change(name, bit, value, object) => {
+            ListCall::Change(name, bit, value, object) => {
                 self.change(name, &[BitChange { bit, value }], object)
             }
-            Call::TakeAndGive(name, window) => self.take_and_give(name, window),
-            Call::Remove(name) => {
+            ListCall::TakeAndGive(name, window) => self.take_and_give(name, window),
+            ListCall::Remove(name) => {
                 self.acl
                     .remove(user(name), &mut self.acts, 0, &mut self.locks)
             }
-            Call::Group(name, leader) => self.group(name, leader),
-            Call::Mask(name, bit, value) => self.mask(MaskScope::User(user(name)), bit, value),
-            Call::Preset(kind, bit, value) => self.mask(MaskScope::Preset(kind), bit, value),
+            ListCall::Group(name, leader) => self.group(name, leader),
+            ListCall::Mask(name, bit, value) => self.mask(MaskScope::User(user(name)), bit, value),
+            ListCall::Preset(kind, bit, value) => self.mask(MaskScope::Preset(kind), bit, value),
             _ => {
                 self.act(call);
                 Ok(())
@@ -156,7 +156,7 @@ impl Stage {
 
     fn change(
         &mut self,
-        name: Name,
+        name: TestUser,
         changes: &[BitChange],
         object: Object,
     ) -> Result<(), AclFault> {
@@ -172,7 +172,7 @@ impl Stage {
         )
     }
 
-    fn take_and_give(&mut self, name: Name, window: u32) -> Result<(), AclFault> {
+    fn take_and_give(&mut self, name: TestUser, window: u32) -> Result<(), AclFault> {
         let take = BitChange {
             bit: Bit::Write,
             value: false,
@@ -184,7 +184,7 @@ impl Stage {
         self.change(name, &[take, give], Object::Window(window))
     }
 
-    fn group(&mut self, name: Name, leader: Option<Name>) -> Result<(), AclFault> {
+    fn group(&mut self, name: TestUser, leader: Option<TestUser>) -> Result<(), AclFault> {
         let leader = match leader {
             Some(leader) => NewLeader::Named(user(leader)),
             None => NewLeader::Nobody,
@@ -210,7 +210,7 @@ impl Stage {
     }
 
     /// The user with this name; each name has one.
-    fn known(&self, name: Name) -> UserId {
+    fn known(&self, name: TestUser) -> UserId {
         match user(name) {
             Some(user) => user,
             None => self.acl.owner(),
@@ -218,40 +218,40 @@ impl Stage {
     }
 
     /// Does a call that takes no memory.
-    fn act(&mut self, call: Call) {
+    fn act(&mut self, call: ListCall) {
         match call {
-            Call::Open(name, window) => {
+            ListCall::Open(name, window) => {
                 let by = self.known(name);
                 self.acl.window_opened(by, window);
                 self.locks.opened(by, window);
             }
-            Call::Close(window) => {
+            ListCall::Close(window) => {
                 self.acl.window_closed(window);
                 self.locks.closed(window);
             }
-            Call::Lock(name, window, mode) => {
+            ListCall::Lock(name, window, mode) => {
                 let by = self.known(name);
                 self.locks.set_mode(by, window, mode);
             }
-            Call::Default(mode) => self.locks.set_default(mode),
-            Call::Enter(name, window) => {
+            ListCall::Default(mode) => self.locks.set_default(mode),
+            ListCall::Enter(name, window) => {
                 let user = self.known(name);
                 let object = Object::Window(window);
                 let may_write = self.acl.may(user, Bit::Write, object).is_ok();
                 self.locks.entered(user, window, may_write);
             }
-            Call::Leave(name, window) => {
+            ListCall::Leave(name, window) => {
                 let user = self.known(name);
                 self.locks.left(user, window);
             }
-            Call::Part(name) => self.locks.parted(user(name)),
+            ListCall::Part(name) => self.locks.parted(user(name)),
             _ => {}
         }
     }
 
     /// Whether the check of a user's bit on an object has this answer. For w on a window it checks the
     /// lock, too.
-    pub fn answers(&self, name: Name, bit: Bit, object: Object, want: Want) -> bool {
+    pub fn answers(&self, name: TestUser, bit: Bit, object: Object, want: Want) -> bool {
         let asker = self.known(name);
         match self.acl.may(asker, bit, object) {
             Err(denial) => are_named(denial.leaders.as_slice(), want),

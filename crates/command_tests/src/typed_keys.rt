@@ -6,10 +6,10 @@ use keys::{KeyItem, KeyReader, bound_to, is_bound};
 use std::alloc::{AllocError, Global};
 
 /// Keys, the items that they complete, and the lines of the prompt that they end.
-type Row = (&'static [u8], &'static [KeyItem], &'static [u8]);
+type KeyRow = (&'static [u8], &'static [KeyItem], &'static [u8]);
 
 /// Rows of keys after the command key, and of the prompt.
-static ROWS: [Row; 7] = [
+static ROWS: [KeyRow; 7] = [
     (b"a\x01nb", &[Typed(b'a'), Command(b'n'), Typed(b'b')], b""),
     (
         b"\x01\x01\x01 \x019",
@@ -40,7 +40,7 @@ static ROWS: [Row; 7] = [
 ];
 
 /// Whether a row's keys complete exactly its items, with its lines.
-fn are_completed(row: &Row) -> bool {
+fn are_completed(row: &KeyRow) -> bool {
     let (keys, items, line) = *row;
     let mut reader = KeyReader::new();
     let mut count = 0usize;

@@ -9,7 +9,7 @@ use std::{io, str};
 /// Arguments and input, and the status, standard output and standard error that must follow; `..`
 /// matches anything.
 #[derive(Clone, Copy)]
-struct Run<'a> {
+struct ProgramRun<'a> {
     words: &'a [&'a str],
     setup: &'a [u8],
     script: &'a [u8],
@@ -39,7 +39,7 @@ fn is_wanted(want: &str, bytes: &[u8]) -> bool {
     }
 }
 
-fn is_so<H: Files + AllocGlobal>(rt: &H, run: &Run<'_>) -> bool {
+fn is_so<H: Files + AllocGlobal>(rt: &H, run: &ProgramRun<'_>) -> bool {
     let alloc = rt.alloc();
     let Ok(words) = arguments(alloc, run.words) else {
         return false;
@@ -70,7 +70,7 @@ static NO_WORDS: [&[&str]; 8] = [
     &["--edition", "one", "own"],
 ];
 
-const UNREAD: Run<'static> = Run {
+const UNREAD: ProgramRun<'static> = ProgramRun {
     words: &["--edition", "3", "own"],
     setup: b"",
     script: b"",
@@ -79,7 +79,7 @@ const UNREAD: Run<'static> = Run {
     errors: "error: invalid value '3' for '--edition <N>'..",
 };
 
-const HELP: Run<'static> = Run {
+const HELP: ProgramRun<'static> = ProgramRun {
     words: &["--help"],
     status: 0,
     output: "..",
@@ -89,7 +89,7 @@ const HELP: Run<'static> = Run {
 
 fn are_words_understood<H: Files + AllocGlobal>(rt: &H) -> bool {
     for words in &NO_WORDS {
-        let run = Run {
+        let run = ProgramRun {
             words,
             errors: "..",
             ..UNREAD
@@ -113,7 +113,7 @@ open own 12345 5 0 sh|open own 2 x 0 sh|open own 2 +5 0 sh|open own 2 5 0 \ff|at
 attach own 4 20 |attach own 4 20 9|draw|draw x|keys 0|output 0 \1|output 0 \zz|detach|
 detach 0 0|command own|command own 12345 windows|resize 0 4|closed -";
 
-const REFUSED: Run<'static> = Run {
+const REFUSED: ProgramRun<'static> = ProgramRun {
     words: &["--show", "own"],
     setup: b"",
     script: b"",
@@ -127,7 +127,7 @@ fn is_refused<H: Files + AllocGlobal>(rt: &H, line: &str) -> bool {
     let Ok(script) = format!(in rt.alloc(); "open own 2 5 0 sh\n\n{line}\nattach own 4 20\n") else {
         return false;
     };
-    let run = Run {
+    let run = ProgramRun {
         script: script.as_bytes(),
         ..REFUSED
     };
@@ -156,19 +156,19 @@ fn put_text(count: usize, script: &mut Vec<u8>) -> Result<(), AllocError> {
 }
 
 /// Whether a script with a text of this many bytes ends in this way.
-fn ends<H: Files + AllocGlobal>(rt: &H, count: usize, run: Run<'_>) -> bool {
+fn ends<H: Files + AllocGlobal>(rt: &H, count: usize, run: ProgramRun<'_>) -> bool {
     let mut script = Vec::new(rt.alloc());
     if put_text(count, &mut script).is_err() {
         return false;
     }
-    let run = Run {
+    let run = ProgramRun {
         script: &script,
         ..run
     };
     is_so(rt, &run)
 }
 
-const READ: Run<'static> = Run {
+const READ: ProgramRun<'static> = ProgramRun {
     status: 0,
     output: "opened 0 0\nok\n",
     errors: "",
@@ -205,7 +205,7 @@ static SETUPS: [(&[u8], &str); 4] = [
 
 fn are_setups_refused<H: Files + AllocGlobal>(rt: &H) -> bool {
     for (setup, errors) in &SETUPS {
-        let run = Run {
+        let run = ProgramRun {
             words: &["--setup", "there", "own"],
             setup,
             script: SCRIPT,
@@ -242,9 +242,9 @@ impl Read for Torn<'_> {
 
 /// A writer that takes nothing.
 #[derive(Drop)]
-struct Full;
+struct FullWriter;
 
-impl Write for Full {
+impl Write for FullWriter {
     fn write(&mut self, _bytes: &[u8]) -> io::Result<usize> {
         Err(io::Error::from(io::ErrorKind::StorageFull))
     }
@@ -267,7 +267,8 @@ fn is_torn<H: Files + AllocGlobal>(rt: &H, words: &[String]) -> bool {
 /// Whether a writer that fails is reported.
 fn is_full<H: Files + AllocGlobal>(rt: &H, words: &[String]) -> bool {
     let mut errors = Vec::new(rt.alloc());
-    simulate(rt, words, SCRIPT, &mut Full, &mut errors) == 1 && errors.starts_with(b"muxsim: ")
+    simulate(rt, words, SCRIPT, &mut FullWriter, &mut errors) == 1
+        && errors.starts_with(b"muxsim: ")
 }
 
 fn are_failures_told<H: Files + AllocGlobal>(rt: &H) -> bool {

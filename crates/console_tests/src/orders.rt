@@ -1,7 +1,7 @@
 //! Plays five things in every order.
 
-use crate::scripts::{Form, Thing, begin, happens};
-use crate::stage::Stage;
+use crate::scripts::{ScriptForm, Thing, begin, happens};
+use crate::stage::ConsoleStage;
 use crate::typing::all_reach_their_own;
 use std::alloc::{AllocError, Global};
 
@@ -85,8 +85,13 @@ fn count(orders: &mut usize, is_one: bool) {
     }
 }
 
-fn play(alloc: Global, form: Form, number: usize, found: &mut Found) -> Result<(), AllocError> {
-    let mut stage = Stage::new(alloc)?;
+fn play(
+    alloc: Global,
+    form: ScriptForm,
+    number: usize,
+    found: &mut Found,
+) -> Result<(), AllocError> {
+    let mut stage = ConsoleStage::new(alloc)?;
     begin(&mut stage, form)?;
     for thing in &order_of(number) {
         happens(&mut stage, form, *thing)?;
@@ -101,7 +106,7 @@ fn play(alloc: Global, form: Form, number: usize, found: &mut Found) -> Result<(
 }
 
 /// The mistakes in the 24 orders that begin with the thing at this place.
-fn found_in(alloc: Global, form: Form, first: usize) -> Result<Found, AllocError> {
+fn found_in(alloc: Global, form: ScriptForm, first: usize) -> Result<Found, AllocError> {
     let mut found = NONE;
     for number in 0..ALIKE {
         play(alloc, form, beginning_with(first, number), &mut found)?;
@@ -143,27 +148,27 @@ fn orders_differ(rt: HostRuntime) {
 
 #[test]
 fn rights_are_the_files_if_web1_reopens_first(rt: HostRuntime) {
-    assert_eq!(rt; found_in(rt.alloc(), Form::Whole, FIRST), Ok(NONE));
+    assert_eq!(rt; found_in(rt.alloc(), ScriptForm::Whole, FIRST), Ok(NONE));
 }
 
 #[test]
 fn rights_are_the_files_if_web2_reopens_first(rt: HostRuntime) {
-    assert_eq!(rt; found_in(rt.alloc(), Form::Whole, SECOND), Ok(NONE));
+    assert_eq!(rt; found_in(rt.alloc(), ScriptForm::Whole, SECOND), Ok(NONE));
 }
 
 #[test]
 fn rights_are_the_files_if_a_guest_is_stuck_first(rt: HostRuntime) {
-    assert_eq!(rt; found_in(rt.alloc(), Form::Whole, KILLED), Ok(NONE));
+    assert_eq!(rt; found_in(rt.alloc(), ScriptForm::Whole, KILLED), Ok(NONE));
 }
 
 #[test]
 fn rights_are_the_files_if_a_guest_comes_first(rt: HostRuntime) {
-    assert_eq!(rt; found_in(rt.alloc(), Form::Whole, COMES), Ok(NONE));
+    assert_eq!(rt; found_in(rt.alloc(), ScriptForm::Whole, COMES), Ok(NONE));
 }
 
 #[test]
 fn rights_are_the_files_if_ann_returns_first(rt: HostRuntime) {
-    assert_eq!(rt; found_in(rt.alloc(), Form::Whole, RETURNS), Ok(NONE));
+    assert_eq!(rt; found_in(rt.alloc(), ScriptForm::Whole, RETURNS), Ok(NONE));
 }
 
 /// Without the mask before an opening, the guest of a killed `mux-guest` has rwx on a console that
@@ -171,7 +176,7 @@ fn rights_are_the_files_if_ann_returns_first(rt: HostRuntime) {
 /// Killed before Comes, and in 6 of these one follows the other directly.
 #[test]
 fn a_missing_mask_is_seen(rt: HostRuntime) {
-    let found = found_in(rt.alloc(), Form::WithoutMask, RETURNS);
+    let found = found_in(rt.alloc(), ScriptForm::WithoutMask, RETURNS);
     assert_eq!(rt;
         found,
         Ok(Found {
@@ -185,7 +190,7 @@ fn a_missing_mask_is_seen(rt: HostRuntime) {
 /// she got her rights when she returned, but web1 is opened after that.
 #[test]
 fn missing_grants_are_seen(rt: HostRuntime) {
-    let found = found_in(rt.alloc(), Form::WithoutGrants, RETURNS);
+    let found = found_in(rt.alloc(), ScriptForm::WithoutGrants, RETURNS);
     assert_eq!(rt;
         found,
         Ok(Found {

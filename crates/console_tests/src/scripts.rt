@@ -2,13 +2,13 @@
 //! played as a whole, since a lock keeps them apart.
 
 use crate::rights::{COMMANDS, GRANTS, GUEST, Grant, TITLES};
-use crate::stage::Stage;
+use crate::stage::ConsoleStage;
 use session::Event;
 use std::alloc::AllocError;
 
 /// Commands to leave out, to show that the comparison notices it.
 #[derive(Clone, Copy, PartialEq, Eq)]
-pub enum Form {
+pub enum ScriptForm {
     Whole,
     /// Without the mask before an opening.
     WithoutMask,
@@ -32,7 +32,7 @@ pub enum Thing {
 }
 
 /// Plays `mux-rights FILE setup`, and then opens both consoles.
-pub fn begin(stage: &mut Stage, form: Form) -> Result<(), AllocError> {
+pub fn begin(stage: &mut ConsoleStage, form: ScriptForm) -> Result<(), AllocError> {
     stage.own(&["multiuser on"])?;
     stage.own(&["aclumask ?-rwx"])?;
     stage.own(&["aclumask ??-rwx"])?;
@@ -48,20 +48,20 @@ pub fn begin(stage: &mut Stage, form: Form) -> Result<(), AllocError> {
 }
 
 /// Plays `mux-console`: closes the console at this place, if it is open, and opens it again.
-fn reopen(stage: &mut Stage, form: Form, place: usize) -> Result<(), AllocError> {
+fn reopen(stage: &mut ConsoleStage, form: ScriptForm, place: usize) -> Result<(), AllocError> {
     let Some(title) = TITLES.get(place) else {
         return Ok(());
     };
     if let Some(window) = stage.closed(place) {
         stage.step(Event::Closed { window })?;
     }
-    if form != Form::WithoutMask {
+    if form != ScriptForm::WithoutMask {
         stage.own(&["aclumask -rwx"])?;
     }
     stage.open(place, title)?;
     stage.own(&["aclumask -rwx"])?;
     stage.own(&["aclchg * -rwx ", title])?;
-    if form == Form::WithoutGrants {
+    if form == ScriptForm::WithoutGrants {
         return Ok(());
     }
     give_on(stage, title, "")
@@ -69,7 +69,7 @@ fn reopen(stage: &mut Stage, form: Form, place: usize) -> Result<(), AllocError>
 
 /// Gives one line of the file. A user who isn't known is passed over, since aclchg would make the name
 /// known.
-fn give(stage: &mut Stage, grant: &'static Grant) -> Result<(), AllocError> {
+fn give(stage: &mut ConsoleStage, grant: &'static Grant) -> Result<(), AllocError> {
     let is_known = stage.own(&["aclumask ", grant.user, "-rwx"])?;
     if is_known {
         stage.own(&["aclchg ", grant.user, " ", grant.word, " ", grant.title])?;
@@ -78,7 +78,7 @@ fn give(stage: &mut Stage, grant: &'static Grant) -> Result<(), AllocError> {
 }
 
 /// Gives the file's lines for a console, to one user or, without a name, to all.
-fn give_on(stage: &mut Stage, title: &str, name: &str) -> Result<(), AllocError> {
+fn give_on(stage: &mut ConsoleStage, title: &str, name: &str) -> Result<(), AllocError> {
     for grant in &GRANTS {
         let is_users = name.is_empty() || grant.user.as_bytes() == name.as_bytes();
         if is_users && grant.title.as_bytes() == title.as_bytes() {
@@ -89,7 +89,7 @@ fn give_on(stage: &mut Stage, title: &str, name: &str) -> Result<(), AllocError>
 }
 
 /// Makes a name known without any right, masks it, and gives it commands.
-fn admit(stage: &mut Stage, name: &str, commands: &str) -> Result<(), AllocError> {
+fn admit(stage: &mut ConsoleStage, name: &str, commands: &str) -> Result<(), AllocError> {
     stage.own(&["aclchg ", name, " -rwx #?"])?;
     stage.own(&["aclumask ", name, "-rwx"])?;
     stage.own(&["aclchg ", name, " -rwx #"])?;
@@ -99,7 +99,7 @@ fn admit(stage: &mut Stage, name: &str, commands: &str) -> Result<(), AllocError
 }
 
 /// Plays `mux-guest --read web1 guest1`.
-fn comes(stage: &mut Stage) -> Result<(), AllocError> {
+fn comes(stage: &mut ConsoleStage) -> Result<(), AllocError> {
     if stage.knows(GUEST)? {
         stage.read = None;
         stage.own(&["acldel ", GUEST])?;
@@ -111,7 +111,7 @@ fn comes(stage: &mut Stage) -> Result<(), AllocError> {
 }
 
 /// Plays `acldel ann`, and `mux-rights FILE user ann`.
-fn returns(stage: &mut Stage) -> Result<(), AllocError> {
+fn returns(stage: &mut ConsoleStage) -> Result<(), AllocError> {
     stage.own(&["acldel ann"])?;
     admit(stage, "ann", "detach,select,next,prev")?;
     for title in &TITLES {
@@ -121,7 +121,7 @@ fn returns(stage: &mut Stage) -> Result<(), AllocError> {
 }
 
 /// Plays `mux-guest`, which refuses a known guest, and is killed after its first command.
-fn is_killed(stage: &mut Stage) -> Result<(), AllocError> {
+fn is_killed(stage: &mut ConsoleStage) -> Result<(), AllocError> {
     if !stage.knows(GUEST)? {
         stage.own(&["aclchg ", GUEST, " -rwx #?"])?;
     }
@@ -129,7 +129,7 @@ fn is_killed(stage: &mut Stage) -> Result<(), AllocError> {
 }
 
 /// Plays one thing.
-pub fn happens(stage: &mut Stage, form: Form, thing: Thing) -> Result<(), AllocError> {
+pub fn happens(stage: &mut ConsoleStage, form: ScriptForm, thing: Thing) -> Result<(), AllocError> {
     match thing {
         Thing::First => reopen(stage, form, 0),
         Thing::Second => reopen(stage, form, 1),

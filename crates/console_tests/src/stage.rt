@@ -8,7 +8,7 @@ use std::alloc::{AllocError, Global};
 
 /// A session, and the rights after its acts.
 #[derive(Drop)]
-pub struct Stage {
+pub struct ConsoleStage {
     pub alloc: Global,
     owner: UserId,
     pub session: Session,
@@ -26,10 +26,10 @@ pub fn user(name: &str) -> Result<UserId, AllocError> {
     UserId::of(name.as_bytes()).ok_or(AllocError)
 }
 
-impl Stage {
-    pub fn new(alloc: Global) -> Result<Stage, AllocError> {
+impl ConsoleStage {
+    pub fn new(alloc: Global) -> Result<ConsoleStage, AllocError> {
         let owner = user("own")?;
-        Ok(Stage {
+        Ok(ConsoleStage {
             alloc,
             owner,
             session: Session::new(alloc, owner).map_err(|_refusal| AllocError)?,

@@ -23,7 +23,7 @@ const OWNERS: [CommandName; 6] = [
 /// A known user: bits on windows, by serials, x on the owner's commands, and the owner's mask for the
 /// user.
 #[derive(Clone, Copy)]
-struct Row {
+struct UserRow {
     user: UserId,
     windows: [u8; WINDOWS],
     commands: [bool; 6],
@@ -33,7 +33,7 @@ struct Row {
 /// The bits of all known users.
 #[derive(Clone, Copy)]
 pub struct Table {
-    rows: [Option<Row>; USERS],
+    rows: [Option<UserRow>; USERS],
     open: [bool; WINDOWS],
     preset: u8,
     commands: bool,
@@ -55,15 +55,15 @@ fn with(bits: u8, bit: Bit, value: bool) -> u8 {
     }
 }
 
-impl Row {
-    fn new(table: &Table, user: UserId) -> Row {
+impl UserRow {
+    fn new(table: &Table, user: UserId) -> UserRow {
         let mut windows = [0; WINDOWS];
         for (bits, is_open) in windows.iter_mut().zip(&table.open) {
             if *is_open {
                 *bits = table.preset;
             }
         }
-        Row {
+        UserRow {
             user,
             windows,
             commands: [table.commands; 6],
@@ -111,7 +111,7 @@ impl Table {
         }
     }
 
-    fn row(&mut self, user: UserId) -> Option<&mut Row> {
+    fn row(&mut self, user: UserId) -> Option<&mut UserRow> {
         for row in &mut self.rows {
             if let Some(row) = row {
                 if row.user == user {
@@ -123,7 +123,7 @@ impl Table {
     }
 
     fn know(&mut self, user: UserId) {
-        let new = Row::new(self, user);
+        let new = UserRow::new(self, user);
         for row in &mut self.rows {
             if row.is_none() {
                 *row = Some(new);

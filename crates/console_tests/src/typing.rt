@@ -1,7 +1,7 @@
 //! Tests at the end which consoles each user's keys reach, whatever the access lists say.
 
 use crate::rights::{COMMANDS, GUEST, TITLES, given};
-use crate::stage::{Stage, user};
+use crate::stage::{ConsoleStage, user};
 use acl::UserId;
 use session::{Effect, Event};
 use std::alloc::AllocError;
@@ -15,7 +15,11 @@ static KEYS: [&[u8]; 4] = [
 ];
 
 /// Attaches a client of the user, which types, and appends its effects.
-fn types(stage: &mut Stage, user: UserId, effects: &mut Vec<Effect>) -> Result<(), AllocError> {
+fn types(
+    stage: &mut ConsoleStage,
+    user: UserId,
+    effects: &mut Vec<Effect>,
+) -> Result<(), AllocError> {
     let attached = stage.step(Event::Attach {
         user,
         rows: 4,
@@ -48,7 +52,7 @@ fn is_typed(effects: &[Effect], window: u32) -> bool {
 }
 
 /// Whether a user's typing reaches exactly the consoles on which the file gives w.
-fn reaches_its_own(stage: &mut Stage, name: &str) -> Result<bool, AllocError> {
+fn reaches_its_own(stage: &mut ConsoleStage, name: &str) -> Result<bool, AllocError> {
     let mut effects = Vec::new(stage.alloc);
     types(stage, user(name)?, &mut effects)?;
     for (place, title) in TITLES.iter().enumerate() {
@@ -66,7 +70,7 @@ fn reaches_its_own(stage: &mut Stage, name: &str) -> Result<bool, AllocError> {
 
 /// Whether the typing of each user of the file and of the guest reaches exactly the consoles on which
 /// the file gives w.
-pub fn all_reach_their_own(stage: &mut Stage) -> Result<bool, AllocError> {
+pub fn all_reach_their_own(stage: &mut ConsoleStage) -> Result<bool, AllocError> {
     for (name, _) in &COMMANDS {
         if !reaches_its_own(stage, name)? {
             return Ok(false);

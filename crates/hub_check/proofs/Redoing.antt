@@ -1,5 +1,6 @@
 -- What a list command of one name, bit and object gives.
-use Rattle.std.proofs.Common.{◌≡◌, ◌∙◌, ◌∷◌, ◌++◌, [], List, Bool, true, false, not, ◌&&◌, ◌||◌, Option, Some, None, Ok, refl}
+use Rattle.std.proofs.Common.{◌≡◌, ◌∙◌, ◌∷◌, ◌++◌, [], List, Bool, true, false, not, ◌&&◌, ◌||◌, refl}
+use Rattle.std.proofs.Common.{Option, Some, None, Ok}
 use Rattle.std.proofs.Common.{ap, sym, subst, is_none, if◌then◌else◌}
 use Rattle.std.specs.Prelude.{Result, OnOk}
 use Rattle.std.specs.Option.{option_or}
@@ -82,7 +83,8 @@ set_done owner h u bit object value e = ap
 
 pub sets_done : (owner : UserId) (h : History) (u : UserId) (changes : List BitChange) (objects : List Object)
     → among (users_of owner h) u ≡ true
-    → followed_by h (change_acts (users_of owner h) (Some u ∷ []) changes objects) ≡ followed_by h (sets u changes objects)
+    → followed_by h (change_acts (users_of owner h) (Some u ∷ []) changes objects)
+    ≡ followed_by h (sets u changes objects)
 sets_done owner h u changes objects e =
     ap (λ b. followed_by h (user_acts b u changes objects ++ [])) e
     ∙ ap (followed_by h) (append_none (sets u changes objects))

@@ -30,7 +30,8 @@ sets_more u changes (p ∷ objects) o =
     ap (λ xs. sets_on u changes p ++ xs) (sets_more u changes objects o)
     ∙ sym (append_assoc (sets_on u changes p) (sets u changes objects) (sets_on u changes o))
 
-pub read_more : (u : UserId) (changes : List BitChange) (objects : List Object) (o : Object) (acts rest behind : List Act)
+pub read_more : (u : UserId) (changes : List BitChange) (objects : List Object) (o : Object)
+    (acts rest behind : List Act)
     → acts ≡ sets u changes objects ++ rest → rest ≡ sets_on u changes o ++ behind
     → acts ≡ sets u changes (objects ++ o ∷ []) ++ behind
 read_more u changes objects o acts rest behind all next =

@@ -4,7 +4,7 @@ use session::{Bytes, Effect, Peer, Reason, Reply};
 
 /// What an effect is.
 #[derive(Clone, Copy)]
-pub(crate) struct Parts<'a> {
+pub(crate) struct EffectParts<'a> {
     /// Its kind, a bit for each of the six.
     pub kind: u8,
     /// The serial of the peer that it is for.
@@ -14,7 +14,7 @@ pub(crate) struct Parts<'a> {
     why: Option<Reason>,
 }
 
-const NONE: Parts<'static> = Parts {
+const NONE: EffectParts<'static> = EffectParts {
     kind: 0,
     peer: 0,
     bytes: &[],
@@ -22,8 +22,8 @@ const NONE: Parts<'static> = Parts {
     why: None,
 };
 
-fn with_bytes(kind: u8, peer: u32, bytes: &Bytes) -> Parts<'_> {
-    Parts {
+fn with_bytes(kind: u8, peer: u32, bytes: &Bytes) -> EffectParts<'_> {
+    EffectParts {
         kind,
         peer,
         bytes: bytes.as_slice(),
@@ -31,8 +31,8 @@ fn with_bytes(kind: u8, peer: u32, bytes: &Bytes) -> Parts<'_> {
     }
 }
 
-fn with_why(kind: u8, peer: u32, why: Reason) -> Parts<'static> {
-    Parts {
+fn with_why(kind: u8, peer: u32, why: Reason) -> EffectParts<'static> {
+    EffectParts {
         kind,
         peer,
         why: Some(why),
@@ -40,12 +40,12 @@ fn with_why(kind: u8, peer: u32, why: Reason) -> Parts<'static> {
     }
 }
 
-pub(crate) fn parts_of(effect: &Effect) -> Parts<'_> {
+pub(crate) fn parts_of(effect: &Effect) -> EffectParts<'_> {
     match effect {
         Effect::Input(window, bytes) => with_bytes(1, *window, bytes),
         Effect::Deliver(client, bytes) => with_bytes(2, *client, bytes),
         Effect::Say(client, text) => with_bytes(4, *client, text),
-        Effect::Size(window, rows, columns) => Parts {
+        Effect::Size(window, rows, columns) => EffectParts {
             kind: 8,
             peer: *window,
             size: (*rows, *columns),
@@ -57,7 +57,7 @@ pub(crate) fn parts_of(effect: &Effect) -> Parts<'_> {
 }
 
 /// Whether two effects are the same.
-pub(crate) fn are_same(effect: Parts<'_>, other: Parts<'_>) -> bool {
+pub(crate) fn are_same(effect: EffectParts<'_>, other: EffectParts<'_>) -> bool {
     effect.kind == other.kind
         && effect.peer == other.peer
         && effect.bytes == other.bytes

@@ -8,7 +8,7 @@ use std::time::{Clock, Duration};
 
 /// A file in memory.
 #[derive(Drop)]
-pub struct Disk<'r, R: Clock> {
+pub struct MemoryFile<'r, R: Clock> {
     rt: &'r R,
     pub text: Vec<u8>,
     /// How many bytes a write takes at most.
@@ -22,9 +22,9 @@ pub struct Disk<'r, R: Clock> {
     pub syncs: u32,
 }
 
-impl<'r, R: Clock> Disk<'r, R> {
-    pub fn new(rt: &'r R, alloc: Global) -> Disk<'r, R> {
-        Disk {
+impl<'r, R: Clock> MemoryFile<'r, R> {
+    pub fn new(rt: &'r R, alloc: Global) -> MemoryFile<'r, R> {
+        MemoryFile {
             rt,
             text: Vec::new(alloc),
             most: usize::MAX,
@@ -36,7 +36,7 @@ impl<'r, R: Clock> Disk<'r, R> {
     }
 }
 
-impl<'r, R: Clock> Write for Disk<'r, R> {
+impl<'r, R: Clock> Write for MemoryFile<'r, R> {
     fn write(&mut self, buf: &[u8]) -> io::Result<usize> {
         thread::sleep(self.rt, Duration::from_millis(self.pause));
         if self.refused > 0 && self.has_taken {
@@ -55,7 +55,7 @@ impl<'r, R: Clock> Write for Disk<'r, R> {
     }
 }
 
-impl<'r, R: Clock> TrailFile for Disk<'r, R> {
+impl<'r, R: Clock> TrailFile for MemoryFile<'r, R> {
     fn sync(&mut self) -> io::Result<()> {
         self.syncs = self.syncs.saturating_add(1);
         Ok(())

@@ -53,14 +53,14 @@ fn events(owner: UserId, bob: UserId) -> [Event<'static>; 9] {
 
 /// The owner of a session, its edition, and the users who type in it.
 #[derive(Clone, Copy)]
-struct Beginning {
+struct SessionStart {
     edition: Edition,
     owner: UserId,
     bob: UserId,
 }
 
 /// A session that begins so.
-fn session_of(alloc: Global, whose: Beginning) -> Result<Session, Refusal>
+fn session_of(alloc: Global, whose: SessionStart) -> Result<Session, Refusal>
     ensures { IfOk result (λ session. StandsFor (begun whose.edition whose.owner) session) }
 {
     match whose.edition {
@@ -75,7 +75,7 @@ fn trail_of<L: Begun, R: Wait>(
     alloc: Global,
     blank: Blank,
     session: Session,
-    whose: Beginning,
+    whose: SessionStart,
 ) -> Option<Trail>
     requires blank { (blank.name ≡ L.name) × (blank.parts ≡ L.parts) × (blank.parts ≡ 1) }
     requires fresh { StandsFor (begun L.edition L.owner) session }
@@ -151,7 +151,7 @@ fn is_right(alloc: Global, trail: &Trail, bob: UserId, number: u8, may_type: boo
 
 fn judge<R: Wait>(rt: &R, alloc: Global, edition: Edition) -> Option<bool> {
     let (owner, bob) = (UserId::of(b"root")?, UserId::of(b"bob")?);
-    let whose = Beginning {
+    let whose = SessionStart {
         edition,
         owner,
         bob,

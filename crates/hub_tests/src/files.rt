@@ -1,6 +1,6 @@
 //! Lines of several loops, a slow file and one that refuses, read back; and other files.
 
-use crate::disk::Disk;
+use crate::disk::MemoryFile;
 use crate::entries::{entry, keys, trail};
 use acl::{Edition, UserId};
 use server_trail::{Recorder, begin, header_of, is_trail};
@@ -35,7 +35,7 @@ fn record<R: Threads + Wait + Clock + Sync>(
     rt: &R,
     alloc: Global,
     recorder: &Recorder,
-    disk: &mut Disk<'_, R>,
+    disk: &mut MemoryFile<'_, R>,
 ) -> bool {
     thread::scope(thread::scope_env(), rt, |scope| {
         for first in 0..LOOPS {
@@ -59,7 +59,7 @@ fn is_of(alloc: Global, file: &[u8], header: &Header, count: usize) -> Option<bo
 fn is_recorded<R: Threads + Wait + Clock + Sync>(
     rt: &R,
     alloc: Global,
-    mut disk: Disk<'_, R>,
+    mut disk: MemoryFile<'_, R>,
     refused: u32,
 ) -> Option<bool> {
     let owner = UserId::of(b"own")?;
@@ -77,7 +77,7 @@ static DISKS: [(u64, usize, u32); 2] = [(20, 1000, 0), (0, 500, 3)];
 // The first disk that hasn't every line once.
 fn wrong_disk<R: Threads + Wait + Clock + Sync>(rt: &R, alloc: Global) -> Option<usize> {
     for (row, (pause, most, refused)) in DISKS.iter().enumerate() {
-        let mut disk = Disk::new(rt, alloc);
+        let mut disk = MemoryFile::new(rt, alloc);
         disk.pause = *pause;
         disk.most = *most;
         if is_recorded(rt, alloc, disk, *refused) != Some(true) {

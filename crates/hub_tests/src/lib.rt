@@ -1,6 +1,4 @@
-//! Tests of the hub and of a trail's file: threads that share a hub, what a seat is answered and
-//! takes, whether its trail is legal, and the stored forms of its entries; a file that is slow, one
-//! that refuses writes, how much may wait, and files that aren't the trail's.
+//! Tests of a hub that threads share, of what its seats are answered and take, and of the file of a trail.
 #![tactic(auto)]
 
 #[cfg(test)]

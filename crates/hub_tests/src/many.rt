@@ -7,7 +7,7 @@ ghost use Rattle.session.specs.Trace.{begun};
 ghost use Rattle.hub.specs.Seats.{StandsFor};
 
 use crate::compare::{are_same, is_same_reply, parts_of};
-use crate::turns::{STEPS, Turn, seat_of};
+use crate::turns::{STEPS, StepTurn, seat_of};
 use acl::UserId;
 use hub::{Begun, Hub, Seat, Sent, Session};
 use session::{Effect, Event, Reply};
@@ -163,7 +163,7 @@ fn all_steps<L: Begun, R: Wait>(
     };
     for turn in 0..TURNS {
         for place in 0..STEPS {
-            let event = Turn::new(turn, owner, bob).event(place);
+            let event = StepTurn::new(turn, owner, bob).event(place);
             let more = step(rt, alloc, pair, event, seat_of(turn, place))?;
             counted.entries = counted.entries.checked_add(more.entries)?;
             counted.kinds |= more.kinds;

@@ -7,7 +7,7 @@ ghost use Rattle.session.specs.Trace.{begun};
 ghost use Rattle.hub.specs.Seats.{StandsFor};
 
 use crate::compare::{are_same, parts_of};
-use crate::turns::{STEPS, Turn, seat_of};
+use crate::turns::{STEPS, StepTurn, seat_of};
 use acl::UserId;
 use hub::{Begun, HubFault, Ledger, Seat, Sent, Session};
 use session::Event;
@@ -21,7 +21,7 @@ const TRIES: u32 = 40;
 /// How many times effects are taken: of both seats after each step.
 const TAKES: usize = 46;
 
-type Taken = Vec<Vec<Sent>>;
+type Takes = Vec<Vec<Sent>>;
 
 /// How many bytes of an event a step took; none if it was refused.
 fn taken_of<L: Begun>(
@@ -61,7 +61,7 @@ fn is_taken<L: Begun>(ledger: &mut Ledger<L>, seat: &mut Seat<L>, event: Event<'
     false
 }
 
-fn take_all<L: Begun>(ledger: &mut Ledger<L>, seats: &mut [Seat<L>], taken: &mut Taken) -> bool {
+fn take_all<L: Begun>(ledger: &mut Ledger<L>, seats: &mut [Seat<L>], taken: &mut Takes) -> bool {
     for seat in seats.iter_mut() {
         let (effects, _mark) = ledger.take(seat);
         if taken.push(effects.into_items()).is_err() {
@@ -75,8 +75,8 @@ fn take_all<L: Begun>(ledger: &mut Ledger<L>, seats: &mut [Seat<L>], taken: &mut
 fn is_played<L: Begun>(
     ledger: &mut Ledger<L>,
     seats: &mut Vec<Seat<L>>,
-    turn: &Turn,
-    taken: &mut Taken,
+    turn: &StepTurn,
+    taken: &mut Takes,
 ) -> bool {
     for step in 0..STEPS {
         let Some(seat) = seats.get_mut(seat_of(0, step)) else {
@@ -97,7 +97,7 @@ fn played<L: Begun>(
     session: Session,
     owner: UserId,
     bob: UserId,
-) -> Result<Option<Taken>, HubFault>
+) -> Result<Option<Takes>, HubFault>
     requires blank { (blank.name ≡ L.name) × (blank.parts ≡ L.parts) × (blank.parts ≡ 2) }
     requires fresh { StandsFor (begun L.edition L.owner) session }
 {
@@ -106,7 +106,7 @@ fn played<L: Begun>(
     if taken.reserve(TAKES).is_err() {
         taken.reserve(TAKES)?;
     }
-    let turn = Turn::new(0, owner, bob);
+    let turn = StepTurn::new(0, owner, bob);
     let is_done = is_played(&mut ledger, &mut seats, &turn, &mut taken);
     let (_trail, wrong) = ledger.close(seats);
     Ok(if is_done && wrong.is_none() {
@@ -116,7 +116,7 @@ fn played<L: Begun>(
     })
 }
 
-fn play(alloc: Global, owner: UserId, bob: UserId) -> Result<Option<Taken>, HubFault> {
+fn play(alloc: Global, owner: UserId, bob: UserId) -> Result<Option<Takes>, HubFault> {
     let Ok(session) = Session::new(alloc, owner) else {
         return Err(HubFault::NoMemory);
     };
@@ -124,7 +124,7 @@ fn play(alloc: Global, owner: UserId, bob: UserId) -> Result<Option<Taken>, HubF
 }
 
 /// Plays a turn, once more if there was no memory for its ledger.
-fn play_twice(alloc: Global, owner: UserId, bob: UserId) -> Option<Taken> {
+fn play_twice(alloc: Global, owner: UserId, bob: UserId) -> Option<Takes> {
     match play(alloc, owner, bob) {
         Ok(taken) => taken,
         Err(_) => play(alloc, owner, bob).ok()?,

@@ -1,6 +1,6 @@
 //! What stops a file.
 
-use crate::disk::Disk;
+use crate::disk::MemoryFile;
 use crate::entries::{entry, keys};
 use acl::UserId;
 use hub::TrailEntry;
@@ -42,7 +42,7 @@ fn lines_wait_up_to_sixteen_mebibytes(rt: HostRuntime) {
 }
 
 // The lines of two entries, when memory is refused for the third.
-fn stopped<R: Wait + Clock>(rt: &R, alloc: Global, disk: &mut Disk<'_, R>) -> Option<bool> {
+fn stopped<R: Wait + Clock>(rt: &R, alloc: Global, disk: &mut MemoryFile<'_, R>) -> Option<bool> {
     let recorder = Recorder::new(alloc, 1);
     for place in [1, 0, 3] {
         recorder.put(rt, place, Some(&entry(alloc, keys(place)).ok()?));
@@ -57,7 +57,7 @@ fn stopped<R: Wait + Clock>(rt: &R, alloc: Global, disk: &mut Disk<'_, R>) -> Op
 
 // Whether nothing is taken after a refusal: two lines and the last one are written.
 fn is_stopped<R: Wait + Clock>(rt: &R, alloc: Global) -> Option<bool> {
-    let mut disk = Disk::new(rt, alloc);
+    let mut disk = MemoryFile::new(rt, alloc);
     let is_two = stopped(rt, alloc, &mut disk)?;
     let mut lines = 0u32;
     for byte in &disk.text {

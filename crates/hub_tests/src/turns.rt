@@ -10,7 +10,7 @@ pub(crate) const STEPS: u32 = 23;
 
 /// The users of a turn, and the serials of its window and of its two clients.
 #[derive(Clone, Copy)]
-pub(crate) struct Turn {
+pub(crate) struct StepTurn {
     owner: UserId,
     bob: UserId,
     window: u32,
@@ -34,13 +34,13 @@ fn output(window: u32, bytes: &'static [u8]) -> Event<'static> {
     Event::Output { window, bytes }
 }
 
-impl Turn {
+impl StepTurn {
     /// The turn of a number: its window has the number as its serial, and its clients have twice
     /// that and one more.
-    pub(crate) fn new(number: u32, owner: UserId, bob: UserId) -> Turn
+    pub(crate) fn new(number: u32, owner: UserId, bob: UserId) -> StepTurn
         requires { number ≤ 50 }
     {
-        Turn {
+        StepTurn {
             owner,
             bob,
             window: number,

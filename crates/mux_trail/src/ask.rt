@@ -1,6 +1,6 @@
 //! Answers who may do what, and which acts decide it.
 
-use crate::reading::{Reading, reading_of};
+use crate::reading::{TrailReading, reading_of};
 use crate::words::{TrailArgs, users_named};
 use acl::{Object, UserId};
 use client_words::put_visible;
@@ -9,11 +9,11 @@ use std::io::{self, BufRead, Write};
 use trail_confined::{
     Question, failing_of, power_deciders, push_confinement, push_reasons, write_rights,
 };
-use trail_files::{Fault, ILLEGAL, LEGAL, UNCONFINED, tell_finish};
+use trail_files::{ILLEGAL, LEGAL, TrailFault, UNCONFINED, tell_finish};
 use trail_rights::{Decider, settings_of, users_of};
 
 /// The known users, and then the others of these users.
-fn users_with(reading: &Reading, others: &[UserId]) -> Result<Vec<UserId>, AllocError> {
+fn users_with(reading: &TrailReading, others: &[UserId]) -> Result<Vec<UserId>, AllocError> {
     let mut users = users_of(reading.alloc, reading.watch.replay())?;
     for user in others {
         if !users.as_slice().contains(user) {
@@ -24,7 +24,7 @@ fn users_with(reading: &Reading, others: &[UserId]) -> Result<Vec<UserId>, Alloc
 }
 
 /// Writes the title of each open window that has one. Control characters are escaped.
-fn write_titles<W: Write>(reading: &Reading, output: &mut W) -> io::Result<()> {
+fn write_titles<W: Write>(reading: &TrailReading, output: &mut W) -> io::Result<()> {
     for titled in reading.names.titles() {
         let mut visible = Vec::new(reading.alloc);
         put_visible(titled.title(), &mut visible)?;
@@ -36,7 +36,7 @@ fn write_titles<W: Write>(reading: &Reading, output: &mut W) -> io::Result<()> {
 }
 
 /// Writes who may do what.
-fn write_who<W: Write>(reading: &Reading, output: &mut W) -> io::Result<u8> {
+fn write_who<W: Write>(reading: &TrailReading, output: &mut W) -> io::Result<u8> {
     let (alloc, watch) = (reading.alloc, &reading.watch);
     let users = users_with(reading, &[])?;
     let settlers = settings_of(alloc, users.as_slice())?;
@@ -48,10 +48,10 @@ fn write_who<W: Write>(reading: &Reading, output: &mut W) -> io::Result<u8> {
 
 /// Writes whether users are confined, and gives the status to exit with.
 fn write_confined<W: Write>(
-    reading: &Reading,
+    reading: &TrailReading,
     confined: &[UserId],
     output: &mut W,
-) -> Result<u8, Fault> {
+) -> Result<u8, TrailFault> {
     let (alloc, owner, replay) = (reading.alloc, reading.owner, reading.watch.replay());
     let users = users_with(reading, confined).map_err(io::Error::from)?;
     let deciders = power_deciders(alloc, owner, users.as_slice()).map_err(io::Error::from)?;
@@ -62,7 +62,7 @@ fn write_confined<W: Write>(
         .map_err(io::Error::from)?;
     let failing = failing_of(alloc, replay, &sight, confined).map_err(io::Error::from)?;
     let Some(failing) = failing else {
-        return Err(Fault::NotSought);
+        return Err(TrailFault::NotSought);
     };
     let mut text = Vec::new(alloc);
     push_confinement(owner, replay, &sight, failing.as_slice(), &mut text).map_err(
@@ -77,7 +77,7 @@ fn write_confined<W: Write>(
 }
 
 /// What decides a bit of a user and of their leaders, before the first act.
-fn deciders_of(reading: &Reading, question: Question) -> Result<Vec<Decider>, AllocError> {
+fn deciders_of(reading: &TrailReading, question: Question) -> Result<Vec<Decider>, AllocError> {
     let Question { user, bit, object } = question;
     let mut deciders = Vec::new(reading.alloc);
     deciders.push(Decider::new(reading.owner, user, bit, object))?;
@@ -88,7 +88,11 @@ fn deciders_of(reading: &Reading, question: Question) -> Result<Vec<Decider>, Al
 }
 
 /// Writes which acts decide a bit.
-fn write_why<W: Write>(reading: &Reading, question: Question, output: &mut W) -> io::Result<u8> {
+fn write_why<W: Write>(
+    reading: &TrailReading,
+    question: Question,
+    output: &mut W,
+) -> io::Result<u8> {
     let (alloc, watch) = (reading.alloc, &reading.watch);
     let deciders = deciders_of(reading, question)?;
     let sight = watch.sight(deciders, Vec::new(alloc))?;
@@ -103,7 +107,7 @@ fn write_why<W: Write>(reading: &Reading, question: Question, output: &mut W) ->
 
 /// Writes which window has a title, and which acts decide the bit on it; or that none has it.
 fn write_titled<W: Write>(
-    reading: &Reading,
+    reading: &TrailReading,
     question: Option<Question>,
     output: &mut W,
 ) -> io::Result<u8> {
@@ -119,7 +123,11 @@ fn write_titled<W: Write>(
 }
 
 /// Writes the answer, and gives the status to exit with.
-fn answer<W: Write>(asked: TrailArgs<'_>, reading: &Reading, output: &mut W) -> Result<u8, Fault> {
+fn answer<W: Write>(
+    asked: TrailArgs<'_>,
+    reading: &TrailReading,
+    output: &mut W,
+) -> Result<u8, TrailFault> {
     if let Some(titled) = asked.titled {
         let question = reading.question_of(titled);
         return Ok(write_titled(reading, question, output)?);
@@ -143,7 +151,7 @@ pub fn ask<R: BufRead, W: Write>(
     asked: TrailArgs<'_>,
     reader: &mut R,
     output: &mut W,
-) -> Result<u8, Fault> {
+) -> Result<u8, TrailFault> {
     let (reading, finish) = reading_of(alloc, asked, reader)?;
     let count = reading.watch.count();
     if finish.is_bad() {
@@ -153,7 +161,7 @@ pub fn ask<R: BufRead, W: Write>(
     if let Some(place) = asked.place
         && place >= count
     {
-        return Err(Fault::NoPlace(place, count));
+        return Err(TrailFault::NoPlace(place, count));
     }
     answer(asked, &reading, output)
 }

@@ -7,7 +7,7 @@ use line_fields::push_day;
 use session::Bytes;
 use std::alloc::{AllocError, Global};
 use std::io::{self, BufRead, Write};
-use trail_files::{Fault, Finish, LEGAL, finish_at, finish_of, heading_of, tell_finish};
+use trail_files::{Finish, LEGAL, TrailFault, finish_at, finish_of, heading_of, tell_finish};
 use trail_lines::{Halt, Wrong, next_entry};
 use trail_log::{Choice, LogWriter, Wanted, push_end};
 
@@ -187,12 +187,12 @@ pub fn tell_log<R: BufRead, W: Write>(
     asked: TrailArgs<'_>,
     reader: &mut R,
     output: &mut W,
-) -> Result<u8, Fault> {
+) -> Result<u8, TrailFault> {
     let heading = heading_of(alloc, reader)?;
     let owner = asked.owner.unwrap_or(heading.owner);
     let diary = diary_of(alloc, asked, heading.edition, owner)?;
     match write_diary(diary, owner, reader, output) {
         Ok(status) => Ok(status),
-        Err(error) => Err(Fault::Io(error)),
+        Err(error) => Err(TrailFault::Io(error)),
     }
 }

@@ -20,7 +20,7 @@ pub enum BitAsked<'a> {
 
 /// A change of a bit by an entry.
 #[derive(Clone, Copy)]
-struct Change {
+struct HistoryChange {
     has: bool,
     place: u64,
     ms: u64,
@@ -30,7 +30,7 @@ struct Change {
 /// The changes of a bit, the first one first.
 #[derive(Drop)]
 pub struct History {
-    changes: Vec<Change>,
+    changes: Vec<HistoryChange>,
 }
 
 /// The open window that was given a title last, if one has it.
@@ -86,7 +86,7 @@ impl History {
         if has == self.has() {
             return Ok(());
         }
-        self.changes.push(Change {
+        self.changes.push(HistoryChange {
             has,
             place: said.place,
             ms: said.ms,

@@ -3,7 +3,7 @@
 ghost use Rattle.std.specs.Io.{WritesAtMost};
 
 use std::io::{self, Write};
-use trail_files::Fault;
+use trail_files::TrailFault;
 
 /// Standard output, and whether a write to it failed.
 #[derive(Drop)]
@@ -21,9 +21,9 @@ impl<'a, W: Write> Outlet<'a, W> {
     }
 
     /// The fault that stopped the program, which is one of standard output if that failed.
-    pub fn fault_of(&self, fault: Fault) -> Fault {
+    pub fn fault_of(&self, fault: TrailFault) -> TrailFault {
         match fault {
-            Fault::Io(error) if self.has_failed => Fault::NotWritten(error),
+            TrailFault::Io(error) if self.has_failed => TrailFault::NotWritten(error),
             fault => fault,
         }
     }

@@ -5,7 +5,7 @@ use crate::diary::tell_log;
 use crate::following::Following;
 use crate::outlet::Outlet;
 use crate::setup::tell_setup;
-use crate::words::{Given, Mistake, TrailArgs, Verb, asked_of, given_in};
+use crate::words::{GivenArgs, Mistake, TrailArgs, Verb, asked_of, given_in};
 use acl::{Edition, UserId};
 use clap::Error;
 use client_words::put_visible;
@@ -15,11 +15,11 @@ use std::io::{self, BufRead, BufReader, Read, Write};
 use std::rt::Files;
 use std::time::Clock;
 use trail_files::{
-    Fault, Heading, ILLEGAL, LEGAL, TROUBLE, check_lines, heading_of, place_at, tell_back,
+    Heading, ILLEGAL, LEGAL, TROUBLE, TrailFault, check_lines, heading_of, place_at, tell_back,
     tell_finish, tell_heading,
 };
 use trail_lines::Audit;
-use trail_rights::{Form, show_lines};
+use trail_rights::{LineFormat, show_lines};
 
 /// Judges the entries of a reader.
 fn judge<R: BufRead, W: Write>(
@@ -44,12 +44,12 @@ fn check<R: BufRead, W: Write>(
     owner: Option<UserId>,
     reader: &mut R,
     output: &mut W,
-) -> Result<u8, Fault> {
+) -> Result<u8, TrailFault> {
     let heading = heading_of(alloc, reader)?;
     let owner = owner.unwrap_or(heading.owner);
     match judge(alloc, heading.edition, owner, reader, output) {
         Ok(status) => Ok(status),
-        Err(error) => Err(Fault::Io(error)),
+        Err(error) => Err(TrailFault::Io(error)),
     }
 }
 
@@ -57,14 +57,14 @@ fn check<R: BufRead, W: Write>(
 /// that isn't a line of a trail, if there is one.
 fn show_all<R: BufRead, W: Write>(
     alloc: Global,
-    form: Form,
+    form: LineFormat,
     heading: Heading,
     reader: &mut R,
     output: &mut W,
 ) -> io::Result<Option<u64>> {
     match form {
-        Form::Plain => tell_heading(alloc, heading, output)?,
-        Form::Json => {}
+        LineFormat::Plain => tell_heading(alloc, heading, output)?,
+        LineFormat::Json => {}
     }
     show_lines(alloc, form, reader, output)
 }
@@ -72,15 +72,15 @@ fn show_all<R: BufRead, W: Write>(
 /// Shows what a reader has.
 fn show<R: BufRead, W: Write>(
     alloc: Global,
-    form: Form,
+    form: LineFormat,
     reader: &mut R,
     output: &mut W,
-) -> Result<u8, Fault> {
+) -> Result<u8, TrailFault> {
     let heading = heading_of(alloc, reader)?;
     match show_all(alloc, form, heading, reader, output) {
         Ok(None) => Ok(LEGAL),
-        Ok(Some(number)) => Err(Fault::NoLine(number)),
-        Err(error) => Err(Fault::Io(error)),
+        Ok(Some(number)) => Err(TrailFault::NoLine(number)),
+        Err(error) => Err(TrailFault::Io(error)),
     }
 }
 
@@ -90,7 +90,7 @@ fn read_file<F: Read + Drop, W: Write>(
     asked: TrailArgs<'_>,
     file: F,
     output: &mut W,
-) -> Result<u8, Fault> {
+) -> Result<u8, TrailFault> {
     let mut reader = BufReader::new(alloc, file)?;
     match asked.way {
         Verb::Check => check(alloc, asked.owner, &mut reader, output),
@@ -106,11 +106,11 @@ fn read_file<F: Read + Drop, W: Write>(
 fn placed<'a, R: Files + AllocGlobal>(
     rt: &R,
     asked: TrailArgs<'a>,
-) -> Result<TrailArgs<'a>, Fault> {
+) -> Result<TrailArgs<'a>, TrailFault> {
     let Some(ms) = asked.time else {
         return Ok(asked);
     };
-    let file = fs::open(rt, asked.path).map_err(Fault::NotOpened)?;
+    let file = fs::open(rt, asked.path).map_err(TrailFault::NotOpened)?;
     let mut reader = BufReader::new(rt.alloc(), file)?;
     let place = place_at(rt.alloc(), ms, &mut reader)?;
     Ok(TrailArgs {
@@ -124,9 +124,9 @@ fn run<R: Clock + Files + AllocGlobal, W: Write>(
     rt: &R,
     asked: TrailArgs<'_>,
     output: &mut W,
-) -> Result<u8, Fault> {
+) -> Result<u8, TrailFault> {
     let asked = placed(rt, asked)?;
-    let file = fs::open(rt, asked.path).map_err(Fault::NotOpened)?;
+    let file = fs::open(rt, asked.path).map_err(TrailFault::NotOpened)?;
     if asked.follows {
         return read_file(rt.alloc(), asked, Following { rt, file }, output);
     }
@@ -158,7 +158,7 @@ fn tell_mistake<E: Write>(alloc: Global, mistake: Mistake<'_>, errors: &mut E) -
 /// What words ask. If a word isn't understood, writes which one, and gives the status to exit with.
 fn understand<'a, E: Write>(
     alloc: Global,
-    given: Given<'a>,
+    given: GivenArgs<'a>,
     errors: &mut E,
 ) -> Result<TrailArgs<'a>, u8> {
     match asked_of(given) {
@@ -185,10 +185,10 @@ fn asked_by<'a, W: Write, E: Write>(
 }
 
 /// Writes why a file isn't read to its end, and gives the status to exit with.
-fn tell_fault<E: Write>(fault: Fault, path: &str, errors: &mut E) -> u8 {
+fn tell_fault<E: Write>(fault: TrailFault, path: &str, errors: &mut E) -> u8 {
     let _ = fault.write(path, errors);
     match fault {
-        Fault::NoHeader(_) | Fault::NoLine(_) => ILLEGAL,
+        TrailFault::NoHeader(_) | TrailFault::NoLine(_) => ILLEGAL,
         _ => TROUBLE,
     }
 }

@@ -6,14 +6,14 @@ use acl::{Object, UserId};
 use std::alloc::{AllocError, Global};
 use std::io::{self, BufRead};
 use trail_confined::Question;
-use trail_files::{Fault, Finish, finish_of, heading_of};
+use trail_files::{Finish, TrailFault, finish_of, heading_of};
 use trail_lines::{EntryLine, Halt, next_entry};
 use trail_log::{Names, giver};
 use trail_rights::Watch;
 
 /// What was read of a file's entries.
 #[derive(Drop)]
-pub struct Reading {
+pub struct TrailReading {
     pub alloc: Global,
     pub owner: UserId,
     pub watch: Watch,
@@ -30,7 +30,7 @@ fn bit_asked(asked: TrailArgs<'_>) -> BitAsked<'_> {
     }
 }
 
-impl Reading {
+impl TrailReading {
     /// The question about the open window that was given a title last, if one has it.
     pub fn question_of(&self, titled: TitledBit<'_>) -> Option<Question> {
         let TitledBit { user, bit, title } = titled;
@@ -80,10 +80,10 @@ pub fn reading_of<R: BufRead>(
     alloc: Global,
     asked: TrailArgs<'_>,
     reader: &mut R,
-) -> Result<(Reading, Finish), Fault> {
+) -> Result<(TrailReading, Finish), TrailFault> {
     let heading = heading_of(alloc, reader)?;
     let owner = asked.owner.unwrap_or(heading.owner);
-    let mut reading = Reading {
+    let mut reading = TrailReading {
         alloc,
         owner,
         watch: Watch::new(alloc, heading.edition, owner).map_err(io::Error::from)?,

@@ -3,7 +3,7 @@
 use crate::words::TrailArgs;
 use std::alloc::Global;
 use std::io::{self, BufRead, Write};
-use trail_files::{Fault, ILLEGAL, LEGAL, finish_of, heading_of, tell_finish};
+use trail_files::{ILLEGAL, LEGAL, TrailFault, finish_of, heading_of, tell_finish};
 use trail_rights::{Watch, watch_entries};
 use trail_setup::{SetupState, push_setup};
 
@@ -13,7 +13,7 @@ pub fn tell_setup<R: BufRead, W: Write>(
     asked: TrailArgs<'_>,
     reader: &mut R,
     output: &mut W,
-) -> Result<u8, Fault> {
+) -> Result<u8, TrailFault> {
     let heading = heading_of(alloc, reader)?;
     let (edition, owner) = (heading.edition, asked.owner.unwrap_or(heading.owner));
     let mut watch = Watch::new(alloc, edition, owner).map_err(io::Error::from)?;
@@ -35,7 +35,7 @@ pub fn tell_setup<R: BufRead, W: Write>(
     if let Some(place) = asked.place
         && place >= watch.count()
     {
-        return Err(Fault::NoPlace(place, watch.count()));
+        return Err(TrailFault::NoPlace(place, watch.count()));
     }
     let mut text = Vec::new(alloc);
     push_setup(alloc, &watch, &state, &mut text).map_err(io::Error::from)?;

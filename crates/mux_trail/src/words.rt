@@ -7,7 +7,7 @@ use line_fields::{read_u32, read_u64};
 use program_words::of_trail;
 use std::alloc::{AllocError, Global};
 use trail_confined::{Question, bit_of};
-use trail_rights::Form;
+use trail_rights::LineFormat;
 
 /// What the program does with a file.
 #[derive(Clone, Copy)]
@@ -55,7 +55,7 @@ pub struct TrailArgs<'a> {
     pub titled: Option<TitledBit<'a>>,
     /// The names of the users of `who --confined`.
     pub confined: Option<&'a str>,
-    pub form: Form,
+    pub form: LineFormat,
     /// Whether more is waited for at the file's end, until the trail ends.
     pub follows: bool,
     /// The user whose entries are asked for.
@@ -69,7 +69,7 @@ pub struct TrailArgs<'a> {
 
 /// The words of a way as they were given.
 #[derive(Clone, Copy)]
-pub struct Given<'a> {
+pub struct GivenArgs<'a> {
     way: &'a str,
     pub path: &'a str,
     owner: Option<&'a str>,
@@ -85,9 +85,9 @@ pub struct Given<'a> {
     follows: bool,
 }
 
-impl<'a> Given<'a> {
-    fn of(way: &'a str, matches: &ArgMatches<'a>) -> Given<'a> {
-        Given {
+impl<'a> GivenArgs<'a> {
+    fn of(way: &'a str, matches: &ArgMatches<'a>) -> GivenArgs<'a> {
+        GivenArgs {
             way,
             path: matches.get_str("file").unwrap_or(""),
             owner: matches.get_str("owner"),
@@ -106,10 +106,10 @@ impl<'a> Given<'a> {
 }
 
 /// The words of a way, the program's name first.
-pub fn given_in<'a>(alloc: Global, words: &'a [String]) -> Result<Option<Given<'a>>, Error> {
+pub fn given_in<'a>(alloc: Global, words: &'a [String]) -> Result<Option<GivenArgs<'a>>, Error> {
     let matches = of_trail(alloc, words)?;
     match matches.subcommand() {
-        Some((way, words)) => Ok(Some(Given::of(way, words))),
+        Some((way, words)) => Ok(Some(GivenArgs::of(way, words))),
         None => Ok(None),
     }
 }
@@ -209,7 +209,7 @@ pub fn users_named(alloc: Global, names: &str) -> Result<Vec<UserId>, AllocError
 }
 
 /// The question of `why`, if it names a window's serial or a command.
-fn question_of(given: Given<'_>) -> Option<Question> {
+fn question_of(given: GivenArgs<'_>) -> Option<Question> {
     if given.way != "why" {
         return None;
     }
@@ -234,7 +234,7 @@ fn bit_named(word: &str) -> Result<Bit, Mistake<'_>> {
 }
 
 /// The question of `why`, if it names a window's title. Other ways have none.
-fn titled_of<'a>(given: Given<'a>) -> Result<Option<TitledBit<'a>>, Mistake<'a>> {
+fn titled_of<'a>(given: GivenArgs<'a>) -> Result<Option<TitledBit<'a>>, Mistake<'a>> {
     if given.way != "why" || question_of(given).is_some() {
         return Ok(None);
     }
@@ -246,7 +246,7 @@ fn titled_of<'a>(given: Given<'a>) -> Result<Option<TitledBit<'a>>, Mistake<'a>>
 }
 
 /// The user of `log`. Other ways have none.
-fn user_of<'a>(given: Given<'a>) -> Result<Option<UserId>, Mistake<'a>> {
+fn user_of<'a>(given: GivenArgs<'a>) -> Result<Option<UserId>, Mistake<'a>> {
     let name = if given.way == "log" { given.user } else { None };
     user_in(name, "--user names no user")
 }
@@ -295,12 +295,16 @@ fn way_of(name: &str) -> Verb {
     }
 }
 
-fn form_of(is_json: bool) -> Form {
-    if is_json { Form::Json } else { Form::Plain }
+fn form_of(is_json: bool) -> LineFormat {
+    if is_json {
+        LineFormat::Json
+    } else {
+        LineFormat::Plain
+    }
 }
 
 /// What the words of a way ask, or the word that isn't understood.
-pub fn asked_of<'a>(given: Given<'a>) -> Result<TrailArgs<'a>, Mistake<'a>> {
+pub fn asked_of<'a>(given: GivenArgs<'a>) -> Result<TrailArgs<'a>, Mistake<'a>> {
     let owner = user_in(given.owner, "--owner names no user")?;
     let last = last_of(given.place)?;
     let titled = titled_of(given)?;

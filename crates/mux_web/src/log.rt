@@ -15,7 +15,7 @@ const LOOK: u64 = 3_600;
 
 // Lines that weren't written yet.
 #[derive(Drop)]
-struct WaitingLines {
+struct PendingLines {
     text: String,
     left_out: u64,
 }
@@ -24,7 +24,7 @@ struct WaitingLines {
 #[derive(Drop)]
 pub struct WebLog {
     alloc: Global,
-    waiting: Mutex<WaitingLines>,
+    waiting: Mutex<PendingLines>,
     news: Condvar,
 }
 
@@ -33,7 +33,7 @@ impl WebLog {
     pub fn new(alloc: Global) -> WebLog {
         WebLog {
             alloc,
-            waiting: Mutex::new(WaitingLines {
+            waiting: Mutex::new(PendingLines {
                 text: String::new(alloc),
                 left_out: 0,
             }),

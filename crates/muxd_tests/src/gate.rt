@@ -10,16 +10,16 @@ const MOST: usize = 10_000;
 
 /// What the gate has seen of the calls of a server's loops.
 #[derive(Drop)]
-pub struct Calls {
+pub struct GateCalls {
     /// How many calls began.
     pub begun: AtomicU64,
     /// The loops of the first six calls that were answered: a 1, and then a digit for each.
     answered: AtomicU64,
 }
 
-impl Calls {
-    pub fn new() -> Calls {
-        Calls {
+impl GateCalls {
+    pub fn new() -> GateCalls {
+        GateCalls {
             begun: AtomicU64::new(0),
             answered: AtomicU64::new(1),
         }
@@ -44,13 +44,13 @@ pub fn wait<R: Clock>(rt: &R, number: &AtomicU64, same: u64) -> bool {
 
 /// Holds the first call, before it is submitted, until another call was answered.
 #[derive(Clone, Copy)]
-pub struct Latch<'a> {
+pub struct FirstCallGate<'a> {
     pub runtime: HostRuntime,
-    pub calls: &'a Calls,
+    pub calls: &'a GateCalls,
     pub digit: u64,
 }
 
-impl Gate for Latch<'_> {
+impl Gate for FirstCallGate<'_> {
     fn stand_at(&mut self, number: usize) {
         self.digit = number as u64;
     }

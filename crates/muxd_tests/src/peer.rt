@@ -12,7 +12,7 @@ const TRIES: usize = 1000;
 
 /// A peer's connection, and all bytes that it got.
 #[derive(Drop)]
-pub struct Peer {
+pub struct PeerStream {
     stream: UnixStream,
     pub came: Vec<u8>,
 }
@@ -28,14 +28,14 @@ pub fn has(text: &[u8], bytes: &[u8]) -> bool {
     bytes.is_empty()
 }
 
-impl Peer {
+impl PeerStream {
     /// Connects to a server at this socket, which may not listen yet.
-    pub fn new<R: Net + Clock + AllocGlobal>(rt: &R, socket: &str) -> io::Result<Peer> {
+    pub fn new<R: Net + Clock + AllocGlobal>(rt: &R, socket: &str) -> io::Result<PeerStream> {
         for _ in 0..TRIES {
             if let Ok(stream) = UnixStream::connect(rt, socket) {
                 stream.set_read_timeout(Some(Duration::from_secs(10)))?;
                 let came = Vec::new(rt.alloc());
-                return Ok(Peer { stream, came });
+                return Ok(PeerStream { stream, came });
             }
             thread::sleep(rt, Duration::from_millis(10));
         }
@@ -94,7 +94,7 @@ impl Peer {
 
 /// Ends the server at this socket. Returns whether it did.
 pub fn quit<R: Net + Clock + AllocGlobal>(rt: &R, socket: &str) -> io::Result<bool> {
-    let mut peer = Peer::new(rt, socket)?;
+    let mut peer = PeerStream::new(rt, socket)?;
     peer.send(QUIT)?;
     peer.is_over()
 }

@@ -2,7 +2,7 @@
 
 use crate::frames::{DONE, WALL};
 use crate::gate::wait;
-use crate::peer::{Peer, quit};
+use crate::peer::{PeerStream, quit};
 use crate::served::{Paths, serve};
 use server::{Gate, Handles, Host};
 use std::io::Write;
@@ -47,12 +47,12 @@ impl Gate for Counter<'_> {
 
 /// What a server printed.
 #[derive(Drop)]
-struct Output<'a> {
+struct ServerOutput<'a> {
     text: Vec<u8>,
     signs: &'a Signs,
 }
 
-impl Write for Output<'_> {
+impl Write for ServerOutput<'_> {
     fn write(&mut self, buf: &[u8]) -> io::Result<usize> {
         let loops = self.signs.loops.load(Ordering::SeqCst);
         self.text.extend_from_slice(buf)?;
@@ -75,8 +75,8 @@ fn serve_counted<'a, R: Host + Threads + Wait>(
     runtime: HostRuntime,
     words: &[String],
     signs: &'a Signs,
-) -> (u8, Output<'a>) {
-    let mut output = Output {
+) -> (u8, ServerOutput<'a>) {
+    let mut output = ServerOutput {
         text: Vec::new(rt.alloc()),
         signs,
     };
@@ -91,7 +91,7 @@ fn serve_counted<'a, R: Host + Threads + Wait>(
 // Connects once the server has said a line, and gives a command. Returns whether it was done.
 fn is_answered<R: Net + Clock + AllocGlobal>(rt: &R, signs: &Signs) -> io::Result<bool> {
     let has_said = wait(rt, &signs.said, 0);
-    let mut peer = Peer::new(rt, PATHS.socket)?;
+    let mut peer = PeerStream::new(rt, PATHS.socket)?;
     peer.send(WALL)?;
     Ok(has_said && peer.is_sent(DONE)?)
 }

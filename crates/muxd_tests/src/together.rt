@@ -1,6 +1,6 @@
 //! A server of three loops, an owner, a second user and a window.
 
-use crate::gate::{Calls, Latch};
+use crate::gate::{FirstCallGate, GateCalls};
 use crate::peer::has;
 use crate::served::{Paths, serve};
 use crate::turns::first_wrong;
@@ -21,10 +21,10 @@ fn serve_calls<R: Host + Threads + Wait>(
     rt: &R,
     runtime: HostRuntime,
     words: &[String],
-    calls: &Calls,
+    calls: &GateCalls,
 ) -> u8 {
     let mut output: Vec<u8> = Vec::new(rt.alloc());
-    let gate = Latch {
+    let gate = FirstCallGate {
         runtime,
         calls,
         digit: 9,
@@ -53,7 +53,7 @@ fn a_server_and_its_peers(rt: HostRuntime) {
     let (Ok(words), Ok(())) = (PATHS.words(alloc), PATHS.write_users(&rt)) else {
         panic!(rt; "the server can't begin")
     };
-    let calls = Calls::new();
+    let calls = GateCalls::new();
     let (shared, given, seen) = (&rt, words.as_slice(), &calls);
     let (status, wrong) = thread::join(
         shared,

@@ -4,8 +4,8 @@ use crate::frames::{
     ADD_BOB, ALL_INPUT, ALL_INPUT_1, ATTACH, ATTACH_BOB, BOTH, DENIED, DONE, FREE, GONE_QUIT, HIDE,
     LOCK, MULTIUSER, QUIT, WALL, WELCOME, WELCOME_1, WINDOW, WINDOW_1,
 };
-use crate::gate::{Calls, wait};
-use crate::peer::{Peer, has, quit};
+use crate::gate::{GateCalls, wait};
+use crate::peer::{PeerStream, has, quit};
 use std::io;
 use std::net::Net;
 use std::time::Clock;
@@ -23,7 +23,7 @@ enum Until {
 
 /// A turn: a peer, by the number of its connection, the bytes that it sends, and the event to wait
 /// for then. A peer connects in its first turn.
-type Turn = (usize, &'static [u8], Until);
+type PeerTurn = (usize, &'static [u8], Until);
 
 // The numbers of the connections of a window and two clients; the others are commands.
 const SHELL: usize = 6;
@@ -36,7 +36,7 @@ const EDITOR: usize = 12;
 
 // The second loop's call is the one that is held: if it were the first loop's, no loop would accept
 // the third connection.
-static TURNS: [Turn; 25] = [
+static TURNS: [PeerTurn; 25] = [
     (0, b"", Until::Sent(0, b"")),
     (1, ADD_BOB, Until::Held),
     (0, MULTIUSER, Until::Sent(0, DONE)),
@@ -65,7 +65,7 @@ static TURNS: [Turn; 25] = [
 ];
 
 // Whether a peer gets these bytes.
-fn is_sent(peers: &mut [Peer], place: usize, bytes: &[u8]) -> io::Result<bool> {
+fn is_sent(peers: &mut [PeerStream], place: usize, bytes: &[u8]) -> io::Result<bool> {
     match peers.get_mut(place) {
         Some(peer) => peer.is_sent(bytes),
         None => Ok(false),
@@ -76,12 +76,12 @@ fn is_sent(peers: &mut [Peer], place: usize, bytes: &[u8]) -> io::Result<bool> {
 fn take<R: Net + Clock + AllocGlobal>(
     rt: &R,
     socket: &str,
-    calls: &Calls,
-    peers: &mut Vec<Peer>,
-    (place, bytes, until): Turn,
+    calls: &GateCalls,
+    peers: &mut Vec<PeerStream>,
+    (place, bytes, until): PeerTurn,
 ) -> io::Result<bool> {
     if place == peers.len() {
-        peers.push(Peer::new(rt, socket)?)?;
+        peers.push(PeerStream::new(rt, socket)?)?;
     }
     if let Some(peer) = peers.get_mut(place) {
         peer.send(bytes)?;
@@ -100,8 +100,8 @@ fn take<R: Net + Clock + AllocGlobal>(
 fn wrong_turn<R: Net + Clock + AllocGlobal>(
     rt: &R,
     socket: &str,
-    calls: &Calls,
-    peers: &mut Vec<Peer>,
+    calls: &GateCalls,
+    peers: &mut Vec<PeerStream>,
 ) -> Option<usize> {
     for (place, turn) in TURNS.iter().enumerate() {
         match take(rt, socket, calls, peers, *turn) {
@@ -114,7 +114,7 @@ fn wrong_turn<R: Net + Clock + AllocGlobal>(
 
 // Whether after `quit` a peer got all bytes that it must get. Without r bob must get nothing that the
 // window prints.
-fn is_right(place: usize, peer: &mut Peer) -> io::Result<bool> {
+fn is_right(place: usize, peer: &mut PeerStream) -> io::Result<bool> {
     let is_over = peer.is_over()?;
     let came = peer.came.as_slice();
     let is_client = came.starts_with(WELCOME) && came.ends_with(GONE_QUIT);
@@ -129,7 +129,7 @@ fn is_right(place: usize, peer: &mut Peer) -> io::Result<bool> {
 }
 
 // The first peer that didn't get all bytes that it must get.
-fn wrong_peer(peers: &mut [Peer]) -> Option<usize> {
+fn wrong_peer(peers: &mut [PeerStream]) -> Option<usize> {
     for (place, peer) in peers.iter_mut().enumerate() {
         match is_right(place, peer) {
             Ok(true) => {}
@@ -144,7 +144,7 @@ fn wrong_peer(peers: &mut [Peer]) -> Option<usize> {
 pub fn first_wrong<R: Net + Clock + AllocGlobal>(
     rt: &R,
     socket: &str,
-    calls: &Calls,
+    calls: &GateCalls,
 ) -> Option<usize> {
     let mut peers = Vec::new(rt.alloc());
     if let Some(turn) = wrong_turn(rt, socket, calls, &mut peers) {

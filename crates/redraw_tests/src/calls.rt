@@ -4,7 +4,7 @@
 
 ghost use Rattle.std.specs.Prelude.{◌≡◌};
 
-use crate::drawing::{Page, put, view_of};
+use crate::drawing::{PageLines, put, view_of};
 use cells::{Attribute, Cell, Rendition};
 use redraw::{Shadow, frame_keeping, frame_sparing};
 use std::alloc::{AllocError, Global};
@@ -36,14 +36,18 @@ fn second() -> ([Cell; 3], [Cell; 1]) {
     ([Cell::BLANK, LETTER, bold_letter()], [bold_letter()])
 }
 
-fn page_of<'a>(lines: &'a [&'a [Cell]]) -> Page<'a> {
-    Page {
+fn page_of<'a>(lines: &'a [&'a [Cell]]) -> PageLines<'a> {
+    PageLines {
         lines,
         cursor: (0, 1),
     }
 }
 
-fn keep(alloc: Global, shadow: &mut Shadow, page: Page<'_>) -> Result<Option<Vec<u8>>, AllocError>
+fn keep(
+    alloc: Global,
+    shadow: &mut Shadow,
+    page: PageLines<'_>,
+) -> Result<Option<Vec<u8>>, AllocError>
     requires rows { shadow.old.rows ≡ 24 }
     requires columns { shadow.old.columns ≡ 80 }
     ensures rows { shadow.new.rows ≡ 24 }
@@ -53,7 +57,11 @@ fn keep(alloc: Global, shadow: &mut Shadow, page: Page<'_>) -> Result<Option<Vec
     frame_keeping(alloc, shadow, view)
 }
 
-fn spare(alloc: Global, shadow: &mut Shadow, page: Page<'_>) -> Result<Option<Vec<u8>>, AllocError>
+fn spare(
+    alloc: Global,
+    shadow: &mut Shadow,
+    page: PageLines<'_>,
+) -> Result<Option<Vec<u8>>, AllocError>
     requires rows { shadow.old.rows ≡ 24 }
     requires columns { shadow.old.columns ≡ 80 }
     ensures rows { shadow.new.rows ≡ 24 }
@@ -70,7 +78,7 @@ fn draw(
     alloc: Global,
     call: Call,
     shadow: &mut Shadow,
-    page: Page<'_>,
+    page: PageLines<'_>,
     out: &mut Vec<u8>,
 ) -> Result<(), AllocError>
     requires rows { shadow.old.rows ≡ 24 }
@@ -94,7 +102,7 @@ fn is_drawn(
     alloc: Global,
     call: Call,
     shadow: &mut Shadow,
-    page: Page<'_>,
+    page: PageLines<'_>,
     out: &mut Vec<u8>,
 ) -> bool
     requires rows { shadow.old.rows ≡ 24 }

@@ -1,6 +1,6 @@
 //! A frame changes only the colours that differ, in few bytes.
 
-use crate::drawing::{Page, put};
+use crate::drawing::{PageLines, put};
 use cells::{Attribute, Cell, Colour, Rendition};
 use redraw::Shadow;
 use std::alloc::Global;
@@ -33,7 +33,7 @@ fn bold_red() -> Rendition {
 /// Two letters, the letters that replace them, and a part that the frame must have once. A frame must
 /// not have an `x`.
 #[derive(Drop)]
-struct Row {
+struct ColourRow {
     old: [Cell; 2],
     new: [Cell; 2],
     part: &'static str,
@@ -44,15 +44,15 @@ fn letter(character: char, rendition: Rendition) -> Cell {
 }
 
 /// A row in which `a` and `b` with these renditions replace two bold letters.
-fn replacing(first: Rendition, second: Rendition, part: &'static str) -> Row {
-    Row {
+fn replacing(first: Rendition, second: Rendition, part: &'static str) -> ColourRow {
+    ColourRow {
         old: [letter('x', bold()), letter('y', bold())],
         new: [letter('a', first), letter('b', second)],
         part,
     }
 }
 
-fn rows() -> [Row; 11] {
+fn rows() -> [ColourRow; 11] {
     [
         replacing(Rendition::PLAIN, red(), "a\x1b[31mb"),
         replacing(red(), green(), "a\x1b[32mb"),
@@ -64,7 +64,7 @@ fn rows() -> [Row; 11] {
         replacing(bold_red(), bold(), "a\x1b[39mb"),
         replacing(red(), bold_red(), "a\x1b[1mb"),
         replacing(red(), red(), "ab"),
-        Row {
+        ColourRow {
             old: [letter('x', red()), letter('y', red())],
             new: [letter('x', red()), letter('y', red_on_blue())],
             part: "y",
@@ -82,10 +82,10 @@ fn has_once(frame: &[u8], part: &str) -> bool {
     }
 }
 
-fn is_so(alloc: Global, row: &Row) -> bool {
+fn is_so(alloc: Global, row: &ColourRow) -> bool {
     let mut shadow = Shadow::unknown(24, 80);
     let mut out = Vec::new(alloc);
-    let before = Page {
+    let before = PageLines {
         lines: &[&row.old],
         cursor: (0, 1),
     };
@@ -93,7 +93,7 @@ fn is_so(alloc: Global, row: &Row) -> bool {
         return false;
     }
     out.clear();
-    let behind = Page {
+    let behind = PageLines {
         lines: &[&row.new],
         ..before
     };

@@ -11,14 +11,14 @@ use view::{Contents, KeyModes, Pane, View, compose_over};
 
 /// The cells in the first lines of a page, and its cursor.
 #[derive(Clone, Copy)]
-pub struct Page<'a> {
+pub struct PageLines<'a> {
     pub lines: &'a [&'a [Cell]],
     pub cursor: (usize, usize),
 }
 
 /// A page as a view, composed over a spare one if there is one. It has one region of 24 lines, whose
 /// caption is under the blank status line.
-pub fn view_of(alloc: Global, spare: Option<View>, page: Page<'_>) -> Result<View, AllocError>
+pub fn view_of(alloc: Global, spare: Option<View>, page: PageLines<'_>) -> Result<View, AllocError>
     ensures { IfOk result (HasSize 24 80) }
 {
     let mut boxes = Vec::new(alloc);
@@ -50,7 +50,7 @@ pub fn view_of(alloc: Global, spare: Option<View>, page: Page<'_>) -> Result<Vie
 pub fn put(
     alloc: Global,
     shadow: &mut Shadow,
-    page: Page<'_>,
+    page: PageLines<'_>,
     out: &mut Vec<u8>,
 ) -> Result<(), AllocError>
     requires rows { shadow.old.rows ≡ 24 }

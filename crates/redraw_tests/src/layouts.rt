@@ -5,7 +5,7 @@ use std::alloc::Global;
 
 /// A call on a layout.
 #[derive(Clone, Copy)]
-enum Step {
+enum LayoutCall {
     /// Splits on a page of 24 lines by 80 columns.
     Split(Way),
     Next,
@@ -17,14 +17,14 @@ enum Step {
 }
 
 /// The first line and column, counted from 0, and the number of lines and columns.
-type Place = (u16, u16, u16, u16);
+type PlacedBox = (u16, u16, u16, u16);
 
 /// Steps, and the layout after them on a page of this size.
-struct Row {
-    steps: &'static [Step],
+struct LayoutRow {
+    steps: &'static [LayoutCall],
     size: (u16, u16),
-    boxes: &'static [Place],
-    separators: &'static [Place],
+    boxes: &'static [PlacedBox],
+    separators: &'static [PlacedBox],
     shown: &'static [Shown],
     focus: usize,
 }
@@ -45,15 +45,15 @@ const SECOND: Shown = Shown {
     back: 9,
 };
 
-const BELOW: Step = Step::Split(Way::Below);
+const BELOW: LayoutCall = LayoutCall::Split(Way::Below);
 
-const RIGHT: Step = Step::Split(Way::Right);
+const RIGHT: LayoutCall = LayoutCall::Split(Way::Right);
 
 /// Each row continues from the layout of the row before; the first one from a region with window 7.
-static ROWS: [Row; 13] = [
+static ROWS: [LayoutRow; 13] = [
     // Halves above each other. Two: regions in rows 0 to 10 and 12 to 21, captions in rows 11 and
     // 22. Three: rows 0 to 4, 6 to 10, 12 to 21; captions 5, 11, 22.
-    Row {
+    LayoutRow {
         steps: &[BELOW],
         size: (24, 80),
         boxes: &[(0, 0, 12, 80), (12, 0, 11, 80)],
@@ -61,7 +61,7 @@ static ROWS: [Row; 13] = [
         shown: &[SEVENTH, Shown::EMPTY],
         focus: 0,
     },
-    Row {
+    LayoutRow {
         steps: &[BELOW],
         size: (24, 80),
         boxes: &[(0, 0, 6, 80), (6, 0, 6, 80), (12, 0, 11, 80)],
@@ -69,8 +69,8 @@ static ROWS: [Row; 13] = [
         shown: &[SEVENTH, Shown::EMPTY, Shown::EMPTY],
         focus: 0,
     },
-    Row {
-        steps: &[Step::Only],
+    LayoutRow {
+        steps: &[LayoutCall::Only],
         size: (24, 80),
         boxes: &[(0, 0, 23, 80)],
         separators: &[],
@@ -78,7 +78,7 @@ static ROWS: [Row; 13] = [
         focus: 0,
     },
     // Two halves side by side, with a column between over all their rows, on pages of two sizes.
-    Row {
+    LayoutRow {
         steps: &[RIGHT],
         size: (24, 80),
         boxes: &[(0, 0, 23, 39), (0, 40, 23, 40)],
@@ -86,7 +86,7 @@ static ROWS: [Row; 13] = [
         shown: &[SEVENTH, Shown::EMPTY],
         focus: 0,
     },
-    Row {
+    LayoutRow {
         steps: &[],
         size: (10, 41),
         boxes: &[(0, 0, 9, 20), (0, 21, 9, 20)],
@@ -95,8 +95,8 @@ static ROWS: [Row; 13] = [
         focus: 0,
     },
     // Seven regions.
-    Row {
-        steps: &[Step::Only, BELOW, BELOW, BELOW, RIGHT, RIGHT, RIGHT],
+    LayoutRow {
+        steps: &[LayoutCall::Only, BELOW, BELOW, BELOW, RIGHT, RIGHT, RIGHT],
         size: (24, 80),
         boxes: &[
             (0, 0, 3, 9),
@@ -122,56 +122,66 @@ static ROWS: [Row; 13] = [
     // The focus follows the order of the splits: from 7 (upper), to 2 (lower left), to the new one
     // (lower right), and back to 7. When the upper one is removed, its sibling, in two halves, gets
     // its room. When the page gets too small, only the focused region stays.
-    Row {
-        steps: &[Step::Only, BELOW, Step::Next, Step::Show(SECOND), RIGHT],
+    LayoutRow {
+        steps: &[
+            LayoutCall::Only,
+            BELOW,
+            LayoutCall::Next,
+            LayoutCall::Show(SECOND),
+            RIGHT,
+        ],
         size: (24, 80),
         boxes: &[(0, 0, 12, 80), (12, 0, 11, 39), (12, 40, 11, 40)],
         separators: &[(12, 39, 11, 1)],
         shown: &[SEVENTH, SECOND, Shown::EMPTY],
         focus: 1,
     },
-    Row {
-        steps: &[Step::Next],
+    LayoutRow {
+        steps: &[LayoutCall::Next],
         size: (24, 80),
         boxes: &[(0, 0, 12, 80), (12, 0, 11, 39), (12, 40, 11, 40)],
         separators: &[(12, 39, 11, 1)],
         shown: &[SEVENTH, SECOND, Shown::EMPTY],
         focus: 2,
     },
-    Row {
-        steps: &[Step::Next],
+    LayoutRow {
+        steps: &[LayoutCall::Next],
         size: (24, 80),
         boxes: &[(0, 0, 12, 80), (12, 0, 11, 39), (12, 40, 11, 40)],
         separators: &[(12, 39, 11, 1)],
         shown: &[SEVENTH, SECOND, Shown::EMPTY],
         focus: 0,
     },
-    Row {
-        steps: &[Step::Remove],
+    LayoutRow {
+        steps: &[LayoutCall::Remove],
         size: (24, 80),
         boxes: &[(0, 0, 23, 39), (0, 40, 23, 40)],
         separators: &[(0, 39, 23, 1)],
         shown: &[SECOND, Shown::EMPTY],
         focus: 0,
     },
-    Row {
-        steps: &[Step::Close(7), Step::Resized(24, 80)],
+    LayoutRow {
+        steps: &[LayoutCall::Close(7), LayoutCall::Resized(24, 80)],
         size: (24, 80),
         boxes: &[(0, 0, 23, 39), (0, 40, 23, 40)],
         separators: &[(0, 39, 23, 1)],
         shown: &[SECOND, Shown::EMPTY],
         focus: 0,
     },
-    Row {
-        steps: &[Step::Next, Step::Show(THIRD), Step::Resized(4, 4)],
+    LayoutRow {
+        steps: &[
+            LayoutCall::Next,
+            LayoutCall::Show(THIRD),
+            LayoutCall::Resized(4, 4),
+        ],
         size: (4, 20),
         boxes: &[(0, 0, 3, 20)],
         separators: &[],
         shown: &[THIRD],
         focus: 0,
     },
-    Row {
-        steps: &[Step::Close(3)],
+    LayoutRow {
+        steps: &[LayoutCall::Close(3)],
         size: (4, 20),
         boxes: &[(0, 0, 3, 20)],
         separators: &[],
@@ -181,23 +191,23 @@ static ROWS: [Row; 13] = [
 ];
 
 /// Whether a step is taken. Tries again if memory is refused.
-fn is_taken(alloc: Global, layout: &mut Layout, step: Step) -> bool {
+fn is_taken(alloc: Global, layout: &mut Layout, step: LayoutCall) -> bool {
     match step {
-        Step::Split(way) => {
+        LayoutCall::Split(way) => {
             return layout.split(alloc, way, 24, 80).is_ok()
                 || layout.split(alloc, way, 24, 80).is_ok();
         }
-        Step::Next => layout.focus_next(),
-        Step::Show(shown) => layout.set_shown(shown),
-        Step::Remove => return layout.remove().is_ok(),
-        Step::Only => layout.only(),
-        Step::Close(serial) => layout.close_window(serial),
-        Step::Resized(rows, columns) => layout.resized(rows, columns),
+        LayoutCall::Next => layout.focus_next(),
+        LayoutCall::Show(shown) => layout.set_shown(shown),
+        LayoutCall::Remove => return layout.remove().is_ok(),
+        LayoutCall::Only => layout.only(),
+        LayoutCall::Close(serial) => layout.close_window(serial),
+        LayoutCall::Resized(rows, columns) => layout.resized(rows, columns),
     }
     true
 }
 
-fn are(rects: &[Rect], places: &[Place]) -> bool {
+fn are(rects: &[Rect], places: &[PlacedBox]) -> bool {
     for (place, rect) in rects.iter().enumerate() {
         let found = (rect.line, rect.column, rect.rows, rect.columns);
         if places.get(place) != Some(&found) {
@@ -207,7 +217,7 @@ fn are(rects: &[Rect], places: &[Place]) -> bool {
     rects.len() == places.len()
 }
 
-fn are_placed(rects: &Rects, row: &Row) -> bool {
+fn are_placed(rects: &Rects, row: &LayoutRow) -> bool {
     let (rows, columns) = row.size;
     let status = Rect {
         line: rows.saturating_sub(1),
@@ -221,14 +231,14 @@ fn are_placed(rects: &Rects, row: &Row) -> bool {
         && rects.status == status
 }
 
-fn shows(alloc: Global, layout: &Layout, row: &Row) -> Result<bool, RegionFault> {
+fn shows(alloc: Global, layout: &Layout, row: &LayoutRow) -> Result<bool, RegionFault> {
     let (rows, columns) = row.size;
     let rects = layout.rects(alloc, rows, columns)?;
     Ok(are_placed(&rects, row) && layout.shown() == row.shown && layout.focus() == row.focus)
 }
 
 /// Whether a layout after a row's steps is exactly that of the row.
-fn gives(alloc: Global, layout: &mut Layout, row: &Row) -> bool {
+fn gives(alloc: Global, layout: &mut Layout, row: &LayoutRow) -> bool {
     for step in row.steps {
         if !is_taken(alloc, layout, *step) {
             return false;

@@ -2,15 +2,15 @@
 
 ghost use Rattle.std.specs.Prelude.{◌≡◌};
 
-use crate::drawing::{Page, put};
-use Text::{Blank, Letters, Scattered};
+use crate::drawing::{PageLines, put};
+use PageText::{Blank, Letters, Scattered};
 use cells::{Cell, Rendition};
 use redraw::Shadow;
 use std::alloc::{AllocError, Global};
 
 /// The text in the first 23 lines.
 #[derive(Clone, Copy)]
-enum Text {
+enum PageText {
     Blank,
     /// 79 letters a line, from this one of the alphabet on.
     Letters(u8),
@@ -20,8 +20,8 @@ enum Text {
 
 /// A page and its cursor.
 #[derive(Clone, Copy)]
-struct Sheet {
-    text: Text,
+struct TextPage {
+    text: PageText,
     /// A place with another character.
     changed: Option<(usize, usize)>,
     cursor: (usize, usize),
@@ -29,33 +29,33 @@ struct Sheet {
 
 /// A frame to a page, from another page or from an unknown one, and its most bytes.
 struct Draw {
-    from: Option<Sheet>,
-    to: Sheet,
+    from: Option<TextPage>,
+    to: TextPage,
     most: usize,
 }
 
 const LINES: usize = 23;
 
-const BLANKS: Sheet = Sheet {
+const BLANKS: TextPage = TextPage {
     text: Blank,
     changed: None,
     cursor: (0, 0),
 };
 
-const FULL: Sheet = Sheet {
+const FULL: TextPage = TextPage {
     text: Letters(0),
     changed: None,
     cursor: (22, 79),
 };
 
 /// The page with another letter, and the cursor after it.
-const TYPED: Sheet = Sheet {
+const TYPED: TextPage = TextPage {
     changed: Some((5, 40)),
     cursor: (5, 41),
     ..FULL
 };
 
-const BEFORE_TYPING: Sheet = Sheet {
+const BEFORE_TYPING: TextPage = TextPage {
     cursor: (5, 40),
     ..FULL
 };
@@ -70,7 +70,7 @@ static DRAWS: [Draw; 7] = [
     // a letter away from the cursor
     Draw {
         from: Some(BEFORE_TYPING),
-        to: Sheet {
+        to: TextPage {
             changed: Some((8, 7)),
             cursor: (8, 8),
             ..FULL
@@ -92,7 +92,7 @@ static DRAWS: [Draw; 7] = [
     // scattered letters
     Draw {
         from: Some(BLANKS),
-        to: Sheet {
+        to: TextPage {
             text: Scattered,
             ..BLANKS
         },
@@ -101,7 +101,7 @@ static DRAWS: [Draw; 7] = [
     // other text
     Draw {
         from: Some(FULL),
-        to: Sheet {
+        to: TextPage {
             text: Letters(7),
             ..FULL
         },
@@ -120,7 +120,7 @@ fn letter(steps: usize) -> char {
     (b'a' + (steps % 26) as u8) as char
 }
 
-fn character(sheet: &Sheet, line: usize, column: usize) -> char {
+fn character(sheet: &TextPage, line: usize, column: usize) -> char {
     if sheet.changed == Some((line, column)) {
         return '#';
     }
@@ -132,7 +132,7 @@ fn character(sheet: &Sheet, line: usize, column: usize) -> char {
 }
 
 /// The cells of all lines, line by line.
-fn cells_of(alloc: Global, sheet: &Sheet) -> Result<Vec<Cell>, AllocError> {
+fn cells_of(alloc: Global, sheet: &TextPage) -> Result<Vec<Cell>, AllocError> {
     let mut cells = Vec::new(alloc);
     for place in 0..LINES * 80 {
         let character = character(sheet, place / 80, place % 80);
@@ -153,7 +153,7 @@ fn lines_of(alloc: Global, cells: &[Cell]) -> Result<Vec<&[Cell]>, AllocError> {
 fn put_sheet(
     alloc: Global,
     shadow: &mut Shadow,
-    sheet: &Sheet,
+    sheet: &TextPage,
     out: &mut Vec<u8>,
 ) -> Result<(), AllocError>
     requires rows { shadow.old.rows ≡ 24 }
@@ -163,7 +163,7 @@ fn put_sheet(
 {
     let cells = cells_of(alloc, sheet)?;
     let lines = lines_of(alloc, &cells)?;
-    let page = Page {
+    let page = PageLines {
         lines: &lines,
         cursor: sheet.cursor,
     };

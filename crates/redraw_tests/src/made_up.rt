@@ -103,7 +103,7 @@ impl Dice {
 
 /// The owner's session with two clients of bob, and their terminals.
 #[derive(Drop)]
-struct Stage {
+struct DrawStage {
     alloc: Global,
     own: UserId,
     session: Session,
@@ -144,10 +144,10 @@ fn are_alike(one: &Emulator, other: &Emulator) -> bool {
         && modes.has_application_keypad == others.has_application_keypad
 }
 
-impl Stage {
-    fn new(alloc: Global) -> Option<Stage> {
+impl DrawStage {
+    fn new(alloc: Global) -> Option<DrawStage> {
         let own = UserId::of(b"own")?;
-        Some(Stage {
+        Some(DrawStage {
             alloc,
             own,
             session: Session::new(alloc, own).ok()?,
@@ -276,7 +276,7 @@ impl Stage {
 /// The first step after which the two terminals differ. If no step does, but at most a quarter of the
 /// steps made a draw, it is the number of all steps.
 fn first_wrong(alloc: Global) -> Option<u32> {
-    let Some(mut stage) = Stage::new(alloc) else {
+    let Some(mut stage) = DrawStage::new(alloc) else {
         return Some(0);
     };
     let mut dice = Dice { state: 1 };

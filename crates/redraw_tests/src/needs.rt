@@ -2,7 +2,7 @@
 
 ghost use Rattle.std.specs.Prelude.{◌≡◌};
 
-use crate::drawing::{Page, put, view_of};
+use crate::drawing::{PageLines, put, view_of};
 use cells::Cell;
 use redraw::{Shadow, needs_draw};
 use std::alloc::Global;
@@ -13,7 +13,7 @@ const LETTER: Cell = Cell {
 };
 
 /// Draws a page. Whether it had to be drawn before, and hasn't to be after it.
-fn is_due(alloc: Global, shadow: &mut Shadow, page: Page<'_>) -> Option<(bool, bool)>
+fn is_due(alloc: Global, shadow: &mut Shadow, page: PageLines<'_>) -> Option<(bool, bool)>
     requires rows { shadow.old.rows ≡ 24 }
     requires columns { shadow.old.columns ≡ 80 }
     ensures rows { shadow.new.rows ≡ 24 }
@@ -32,15 +32,15 @@ fn are_due(alloc: Global) -> Option<[(bool, bool); 5]> {
     let mut shadow = Shadow::unknown(24, 80);
     let line = [LETTER];
     let lines: [&[Cell]; 1] = [&line];
-    let blank = Page {
+    let blank = PageLines {
         lines: &[],
         cursor: (0, 1),
     };
-    let lettered = Page {
+    let lettered = PageLines {
         lines: &lines,
         cursor: (0, 1),
     };
-    let moved = Page {
+    let moved = PageLines {
         lines: &lines,
         cursor: (0, 2),
     };

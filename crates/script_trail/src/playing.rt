@@ -12,7 +12,7 @@ use thiserror::Error;
 
 /// Why a script isn't played, or its trail isn't written.
 #[derive(Debug, Drop, Error)]
-enum Fault<'a> {
+enum ScriptFault<'a> {
     #[error("{0}")]
     Io(io::Error),
     #[error("{0}")]
@@ -21,21 +21,21 @@ enum Fault<'a> {
     Trail(&'a str, io::Error),
 }
 
-impl From<AllocError> for Fault<'_> {
+impl From<AllocError> for ScriptFault<'_> {
     fn from(error: AllocError) -> Self {
-        Fault::Io(io::Error::from(error))
+        ScriptFault::Io(io::Error::from(error))
     }
 }
 
-impl From<io::Error> for Fault<'_> {
+impl From<io::Error> for ScriptFault<'_> {
     fn from(error: io::Error) -> Self {
-        Fault::Io(error)
+        ScriptFault::Io(error)
     }
 }
 
-impl<'a> From<SetupUnread<'a>> for Fault<'a> {
+impl<'a> From<SetupUnread<'a>> for ScriptFault<'a> {
     fn from(error: SetupUnread<'a>) -> Self {
-        Fault::Setup(error)
+        ScriptFault::Setup(error)
     }
 }
 
@@ -53,7 +53,7 @@ fn begin<'a, H: Files<File = File> + AllocGlobal>(
     rt: &H,
     words: &'a [String],
     path: &'a str,
-) -> Result<Recording<'a>, Fault<'a>> {
+) -> Result<Recording<'a>, ScriptFault<'a>> {
     let setup = setup_of(rt, words)?;
     let mut options = OpenOptions::new();
     match options
@@ -68,7 +68,7 @@ fn begin<'a, H: Files<File = File> + AllocGlobal>(
             setup,
             file,
         }),
-        Err(error) => Err(Fault::Trail(path, error)),
+        Err(error) => Err(ScriptFault::Trail(path, error)),
     }
 }
 
@@ -102,7 +102,7 @@ impl Recording<'_> {
 }
 
 /// Writes what went wrong, and returns the exit status.
-fn report<E: Write>(fault: &Fault, errors: &mut E) -> u8
+fn report<E: Write>(fault: &ScriptFault, errors: &mut E) -> u8
     ensures { result ≡ 1 }
 {
     let _ = writeln!(errors, "muxsim: {fault}");
@@ -127,7 +127,7 @@ where
     let path = match path_of(rt.alloc(), words, "trail") {
         Ok(Some(path)) => path,
         Ok(None) => return simulate(rt, words, reader, writer, errors),
-        Err(error) => return report(&Fault::from(error), errors),
+        Err(error) => return report(&ScriptFault::from(error), errors),
     };
     let recording = match begin(rt, words, path) {
         Ok(recording) => recording,
@@ -135,6 +135,6 @@ where
     };
     match recording.play(reader, writer, errors) {
         Ok(status) => status,
-        Err(error) => report(&Fault::from(error), errors),
+        Err(error) => report(&ScriptFault::from(error), errors),
     }
 }

@@ -1,6 +1,6 @@
 //! How connections are taken in.
 
-use crate::loop_handle::{Handed, LoopHandle};
+use crate::loop_handle::{HandedStream, LoopHandle};
 use mio::Registry;
 use mio::net::{UnixListener, UnixStream};
 use std::alloc::{AllocError, Global};
@@ -95,7 +95,7 @@ impl Acceptor {
             return Ok(());
         };
         self.count += 1;
-        let handed = Handed { stream, is_extra };
+        let handed = HandedStream { stream, is_extra };
         if loop_handle.handed.lock(rt).push_back(handed).is_ok() {
             loop_handle.wake()?;
         }

@@ -16,7 +16,7 @@ use std::{io, thread};
 
 /// A connection on its way to its loop.
 #[derive(Drop)]
-pub struct Handed {
+pub struct HandedStream {
     pub stream: UnixStream,
     /// It was taken in though no more are to stay.
     pub is_extra: bool,
@@ -26,7 +26,7 @@ pub struct Handed {
 #[derive(Drop)]
 pub struct LoopHandle {
     waker: Waker,
-    pub handed: Mutex<VecDeque<Handed>>,
+    pub handed: Mutex<VecDeque<HandedStream>>,
     is_asleep: AtomicBool,
     has_news: AtomicBool,
     // It has connections.
@@ -36,7 +36,7 @@ pub struct LoopHandle {
 }
 
 impl LoopHandle {
-    pub fn new(waker: Waker, handed: VecDeque<Handed>) -> LoopHandle {
+    pub fn new(waker: Waker, handed: VecDeque<HandedStream>) -> LoopHandle {
         LoopHandle {
             waker,
             handed: Mutex::new(handed),

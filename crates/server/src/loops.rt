@@ -3,7 +3,7 @@
 use crate::disk_line::DiskLog;
 use crate::latch::Unready;
 use crate::loop_handle::{LoopStart, Shared};
-use crate::ready::Ready;
+use crate::ready::ReadyLine;
 use crate::turns::run_loop;
 use server_loop::{End, Gate};
 use server_session::{
@@ -36,7 +36,7 @@ fn cause_of(end: End) -> Option<Cause> {
 pub struct Server<'a, G, O> {
     pub shared: Shared,
     /// Where it says that it is ready.
-    pub ready: Ready<'a, O>,
+    pub ready: ReadyLine<'a, O>,
     /// Is called around each event that a loop submits.
     pub gate: G,
     pub files: HostRuntime,

@@ -13,14 +13,14 @@ struct Output<'a, O> {
 
 /// Where a server says that it is ready.
 #[derive(Drop)]
-pub struct Ready<'a, O> {
+pub struct ReadyLine<'a, O> {
     output: Mutex<Output<'a, O>>,
 }
 
-impl<'a, O: Write> Ready<'a, O> {
+impl<'a, O: Write> ReadyLine<'a, O> {
     /// It writes to this output, and has said nothing yet.
-    pub fn new(output: &'a mut O) -> Ready<'a, O> {
-        Ready {
+    pub fn new(output: &'a mut O) -> ReadyLine<'a, O> {
+        ReadyLine {
             output: Mutex::new(Output { output, said: None }),
         }
     }

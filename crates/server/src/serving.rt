@@ -4,7 +4,7 @@ use crate::latch::Latch;
 use crate::loop_handle::{LoopHandle, Shared, start_watching};
 use crate::loops::Server;
 use crate::places::places;
-use crate::ready::Ready;
+use crate::ready::ReadyLine;
 use acl::UserId;
 use clap::{ArgMatches, Error};
 use mio::net::UnixListener;
@@ -139,7 +139,7 @@ fn shared<R: Host + Threads + Wait>(
 
 // What a server begins with: its users and their file as it was read, the setup, and its socket.
 #[derive(Drop)]
-struct Beginning<'a> {
+struct ServerStart<'a> {
     users: Users,
     seen: Stamp,
     setup: Setup<'a>,
@@ -152,7 +152,7 @@ fn begin<R, G, O>(
     rt: &R,
     options: &Options,
     handles: Handles<G>,
-    beginning: Beginning,
+    beginning: ServerStart,
     output: &mut O,
 ) -> Result<(), ServeFault>
 where
@@ -163,7 +163,7 @@ where
     let alloc = rt.alloc();
     let files = handles.files;
     let loops = usize::from(options.loops.clamp(1, 8));
-    let Beginning {
+    let ServerStart {
         users,
         seen,
         setup,
@@ -176,7 +176,7 @@ where
     let journal = journal(files, alloc, options.trail, users.owner())?;
     let server = Server {
         shared,
-        ready: Ready::new(output),
+        ready: ReadyLine::new(output),
         gate: handles.gate,
         files,
         place,
@@ -225,7 +225,7 @@ where
         );
     }
     let files = handles.files;
-    let beginning = Beginning {
+    let beginning = ServerStart {
         users,
         seen,
         setup,

@@ -3,7 +3,7 @@
 use crate::ending::{PeerEnding, tell_end, tell_fault, tell_unseen};
 use crate::host::{PeerHost, Sink, Source};
 use crate::opening::{prepare, warn_of_token};
-use crate::shared::{Shared, start_thread};
+use crate::shared::{SharedPeer, start_thread};
 use crate::typing::{resize, type_out};
 use crate::waiting::{start, wait};
 use crate::writing::write_out;
@@ -27,7 +27,7 @@ impl<I: Source> Sources<I> {
     pub fn start<R: PeerHost + Threads + Wait>(
         &mut self,
         rt: &R,
-        shared: &Arc<Shared, Global>,
+        shared: &Arc<SharedPeer, Global>,
     ) -> Result<(), AllocError> {
         if let Some(mut file) = self.asked.take() {
             start_thread(rt, shared, move |rt, shared| {
@@ -55,7 +55,7 @@ fn run<R: PeerHost + Threads + Wait + Files<File = File> + AllocGlobal, I: Sourc
     let alloc = rt.alloc();
     let mut kept = Vec::new(alloc);
     let (door, files) = prepare(rt, words, &mut kept)?;
-    let shared = Arc::new(alloc, Shared::new(alloc, words))?;
+    let shared = Arc::new(alloc, SharedPeer::new(alloc, words))?;
     let (mut output, mut told) = (output, files.told);
     start_thread(
         rt,

@@ -2,7 +2,7 @@
 
 use attach_proto::Why;
 use client_peer::Peer;
-use client_words::{Fault, Told, Words, explain, gone, put_visible};
+use client_words::{Fault, ToldFault, Words, explain, gone, put_visible};
 use std::alloc::Global;
 use std::io::Write;
 
@@ -43,7 +43,7 @@ fn tell_said<E: Write>(alloc: Global, said: &str, words: &Words<'_>, errors: &mu
 
 /// Prints a fault. Returns the exit status.
 pub fn tell_fault<E: Write>(fault: Fault, words: &Words<'_>, errors: &mut E) -> u8 {
-    let _ = writeln!(errors, "mux: {}", Told { fault, words });
+    let _ = writeln!(errors, "mux: {}", ToldFault { fault, words });
     fault.status()
 }
 

@@ -2,7 +2,7 @@
 
 use crate::host::PeerHost;
 use attach_proto::Token;
-use client_words::{Fault, Part, Way, Words};
+use client_words::{Fault, RefusedPart, Way, Words};
 use std::alloc::Global;
 use std::fs::{File, OpenOptions};
 use std::io::{ErrorKind, Write};
@@ -66,7 +66,7 @@ fn read_token<R: fs::Files<File = File> + AllocGlobal>(rt: &R, path: &str) -> Re
     }
     match fs::read(rt, path) {
         Ok(file) => token_of(&file),
-        Err(error) => Err(Fault::Refused(Part::Token, error)),
+        Err(error) => Err(Fault::Refused(RefusedPart::Token, error)),
     }
 }
 
@@ -99,7 +99,7 @@ fn sizes_of<R: fs::Files<File = File>>(rt: &R, words: &Words<'_>) -> Result<Size
     if let Some(path) = words.sizes {
         let file = match open_sizes(rt, words.way, path) {
             Ok(file) => file,
-            Err(error) => return Err(Fault::Refused(Part::Sizes, error)),
+            Err(error) => return Err(Fault::Refused(RefusedPart::Sizes, error)),
         };
         match words.way {
             Way::Attach => files.asked = Some(file),
@@ -141,12 +141,12 @@ impl Door {
                 thread::sleep(rt, Duration::from_millis(self.grace));
                 match self.begin(&stream) {
                     Ok(()) => Ok(stream),
-                    Err(error) => Err(Fault::Refused(Part::Stream, error)),
+                    Err(error) => Err(Fault::Refused(RefusedPart::Stream, error)),
                 }
             }
             Err(error) => Err(match error.kind() {
                 ErrorKind::NotFound | ErrorKind::ConnectionRefused => Fault::NoServer,
-                _ => Fault::Refused(Part::Socket, error),
+                _ => Fault::Refused(RefusedPart::Socket, error),
             }),
         }
     }

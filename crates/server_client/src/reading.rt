@@ -2,9 +2,9 @@
 
 use crate::host::PeerHost;
 use crate::opening::Door;
-use crate::shared::{Seat, Shared};
+use crate::shared::{PeerSeat, SharedPeer};
 use attach_proto::{LONGEST, Why};
-use client_words::{Fault, Part};
+use client_words::{Fault, RefusedPart};
 use std::alloc::Global;
 use std::io::{ErrorKind, Read, Write};
 use std::os::unix::net::UnixStream;
@@ -17,7 +17,7 @@ const LOOK: u64 = 250;
 // Connects, and lends the connection to the other threads.
 fn connect<R: PeerHost + Wait>(
     rt: &R,
-    shared: &Shared,
+    shared: &SharedPeer,
     door: &Door,
 ) -> Result<Arc<UnixStream, Global>, Fault> {
     let stream = Arc::new(shared.alloc, door.open(rt)?)?;
@@ -29,11 +29,11 @@ fn connect<R: PeerHost + Wait>(
 // Sorts the bytes of a read. Returns how the connection ended, if it did.
 fn take<R: Wait>(
     rt: &R,
-    shared: &Shared,
+    shared: &SharedPeer,
     bytes: &[u8],
 ) -> Result<Option<Result<Why, Fault>>, Fault> {
     let mut guard = shared.seat.lock(rt);
-    let Seat { peer, reader, .. } = &mut *guard;
+    let PeerSeat { peer, reader, .. } = &mut *guard;
     let was_welcome = peer.is_welcome;
     let end = peer.take_read(shared.alloc, reader, bytes)?;
     let is_news = peer.is_welcome != was_welcome || peer.has_notice();
@@ -47,7 +47,7 @@ fn take<R: Wait>(
 
 // Waits while too much waits for standard output. Returns whether the server has hung up, which a write of no
 // bytes tells: then the rest is read, so that the cause is known although nobody takes the output.
-fn wait_for_room<R: PeerHost + Wait>(rt: &R, shared: &Shared, stream: &UnixStream) -> bool {
+fn wait_for_room<R: PeerHost + Wait>(rt: &R, shared: &SharedPeer, stream: &UnixStream) -> bool {
     let mut stream = stream;
     for _ in rt.forever() {
         let seat = shared.seat.lock(rt);
@@ -69,7 +69,7 @@ fn wait_for_room<R: PeerHost + Wait>(rt: &R, shared: &Shared, stream: &UnixStrea
 }
 
 // Reads until the connection ends. Returns how it did.
-fn read_all<R: PeerHost + Wait>(rt: &R, shared: &Shared, door: &Door) -> Result<Why, Fault> {
+fn read_all<R: PeerHost + Wait>(rt: &R, shared: &SharedPeer, door: &Door) -> Result<Why, Fault> {
     let stream = connect(rt, shared, door)?;
     let mut stream: &UnixStream = &stream;
     let mut buffer = vec![in shared.alloc; 0; LONGEST]?;
@@ -79,7 +79,7 @@ fn read_all<R: PeerHost + Wait>(rt: &R, shared: &Shared, door: &Door) -> Result<
         let end = match stream.read(buffer.as_mut_slice()) {
             Ok(count) => take(rt, shared, &buffer[..count])?,
             Err(error) if error.kind() == ErrorKind::Interrupted => None,
-            Err(error) => return Err(Fault::Refused(Part::Stream, error)),
+            Err(error) => return Err(Fault::Refused(RefusedPart::Stream, error)),
         };
         if let Some(end) = end {
             return end;
@@ -89,7 +89,7 @@ fn read_all<R: PeerHost + Wait>(rt: &R, shared: &Shared, door: &Door) -> Result<
 }
 
 /// Serves one connection, until it ends.
-pub fn serve<R: PeerHost + Wait>(rt: &R, shared: &Shared, door: &Door) {
+pub fn serve<R: PeerHost + Wait>(rt: &R, shared: &SharedPeer, door: &Door) {
     let end = read_all(rt, shared, door);
     shared.seat.lock(rt).peer.end_by(end);
     shared.tell();

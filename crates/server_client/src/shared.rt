@@ -12,7 +12,7 @@ use std::thread::Threads;
 
 /// A peer with its present connection.
 #[derive(Drop)]
-pub struct Seat {
+pub struct PeerSeat {
     pub peer: Peer,
     /// Cuts what comes on the connection into messages.
     pub reader: Reader,
@@ -21,20 +21,20 @@ pub struct Seat {
 
 /// A peer, for all of its threads.
 #[derive(Drop)]
-pub struct Shared {
+pub struct SharedPeer {
     pub alloc: Global,
-    pub seat: Mutex<Seat>,
+    pub seat: Mutex<PeerSeat>,
     /// Signals that the peer's next step may be another one.
     pub news: Condvar,
     /// Signals that something waits for standard output, or that there is room for more.
     pub work: Condvar,
 }
 
-impl Shared {
-    pub fn new(alloc: Global, words: &Words<'_>) -> Shared {
-        Shared {
+impl SharedPeer {
+    pub fn new(alloc: Global, words: &Words<'_>) -> SharedPeer {
+        SharedPeer {
             alloc,
-            seat: Mutex::new(Seat {
+            seat: Mutex::new(PeerSeat {
                 peer: Peer::new(alloc, words),
                 reader: Reader::new(alloc, Side::Peer),
                 stream: None,
@@ -61,10 +61,14 @@ impl Shared {
 
 /// Starts a thread for a peer. Nobody joins it: it may wait for its source for ever, and the program
 /// ends without it.
-pub fn start_thread<R, F>(rt: &R, shared: &Arc<Shared, Global>, run: F) -> Result<(), AllocError>
+pub fn start_thread<R, F>(
+    rt: &R,
+    shared: &Arc<SharedPeer, Global>,
+    run: F,
+) -> Result<(), AllocError>
 where
     R: PeerHost + Threads + Wait,
-    F: FnOnce(&R, &Arc<Shared, Global>) + Send + Drop + 'static,
+    F: FnOnce(&R, &Arc<SharedPeer, Global>) + Send + Drop + 'static,
     requires { F.IsAlwaysCallable run }
 {
     let theirs = Arc::try_clone(shared)?;

@@ -3,10 +3,10 @@
 ghost use Rattle.std.specs.Io.{ReadsAtMost};
 
 use crate::host::{PeerHost, Source};
-use crate::shared::Shared;
+use crate::shared::SharedPeer;
 use crate::writing::send;
 use attach_proto::LONGEST;
-use client_words::{Fault, InputStage, Part, SizeLines};
+use client_words::{Fault, InputStage, RefusedPart, SizeLines};
 use std::alloc::AllocError;
 use std::fs::File;
 use std::io;
@@ -27,7 +27,7 @@ fn read_input<I: Read>(input: &mut I, buffer: &mut [u8]) -> io::Result<usize>
 }
 
 // Sends input that was read. Returns whether to go on.
-fn take<R: Wait>(rt: &R, shared: &Shared, input: &[u8]) -> Result<bool, Fault> {
+fn take<R: Wait>(rt: &R, shared: &SharedPeer, input: &[u8]) -> Result<bool, Fault> {
     let mut seat = shared.seat.lock(rt);
     seat.peer.type_in(input)?;
     let goes_on = !matches!(seat.peer.typing.stage(), InputStage::Left);
@@ -44,14 +44,14 @@ fn take<R: Wait>(rt: &R, shared: &Shared, input: &[u8]) -> Result<bool, Fault> {
 }
 
 // Reads and sends the input. Returns whether it came to its end, or why it can't be read any more.
-fn take_all<R: Wait, I: Source>(rt: &R, shared: &Shared, input: &mut I) -> Result<bool, Fault> {
+fn take_all<R: Wait, I: Source>(rt: &R, shared: &SharedPeer, input: &mut I) -> Result<bool, Fault> {
     let mut buffer = vec![in shared.alloc; 0; LONGEST]?;
     for _ in 0..u64::MAX {
         let goes_on = match read_input(input, buffer.as_mut_slice()) {
             Ok(0) => return Ok(true),
             Ok(count) => take(rt, shared, &buffer[..count])?,
             Err(error) if error.kind() == ErrorKind::Interrupted => true,
-            Err(error) => return Err(Fault::Refused(Part::Input, error)),
+            Err(error) => return Err(Fault::Refused(RefusedPart::Input, error)),
         };
         if !goes_on {
             return Ok(false);
@@ -61,7 +61,7 @@ fn take_all<R: Wait, I: Source>(rt: &R, shared: &Shared, input: &mut I) -> Resul
 }
 
 /// Reads and sends the input, and DETACH at its end.
-pub fn type_out<R: PeerHost + Wait, I: Source>(rt: &R, shared: &Shared, input: &mut I) {
+pub fn type_out<R: PeerHost + Wait, I: Source>(rt: &R, shared: &SharedPeer, input: &mut I) {
     let fault = match take_all(rt, shared, input) {
         Ok(true) => None,
         Ok(false) => return shared.tell(),
@@ -72,7 +72,7 @@ pub fn type_out<R: PeerHost + Wait, I: Source>(rt: &R, shared: &Shared, input: &
 }
 
 // Sends the last of the sizes whose lines these bytes complete. Returns whether to go on.
-fn take_sizes<R: Wait>(rt: &R, shared: &Shared, lines: &mut SizeLines, bytes: &[u8]) -> bool {
+fn take_sizes<R: Wait>(rt: &R, shared: &SharedPeer, lines: &mut SizeLines, bytes: &[u8]) -> bool {
     let Ok(size) = lines.feed(bytes) else {
         return false;
     };
@@ -90,7 +90,7 @@ fn take_sizes<R: Wait>(rt: &R, shared: &Shared, lines: &mut SizeLines, bytes: &[
 /// Sends sizes until the file ends; of several that came at once only the last.
 pub fn resize<R: PeerHost + Wait>(
     rt: &R,
-    shared: &Shared,
+    shared: &SharedPeer,
     file: &mut File,
 ) -> Result<(), AllocError> {
     let mut lines = SizeLines::new(shared.alloc);

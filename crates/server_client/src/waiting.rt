@@ -5,7 +5,7 @@ use crate::ending::PeerEnding;
 use crate::host::{PeerHost, Source};
 use crate::opening::{Door, another_door};
 use crate::reading::serve;
-use crate::shared::{Shared, start_thread};
+use crate::shared::{SharedPeer, start_thread};
 use crate::writing::send;
 use client_peer::Step;
 use client_words::{Fault, Words};
@@ -37,7 +37,7 @@ fn now<R: PeerHost>(rt: &R, began: Option<Instant>) -> u64 {
 }
 
 // Looks at the time. Waits if there is nothing to do.
-fn look<R: PeerHost + Wait>(rt: &R, shared: &Shared, began: Option<Instant>) -> Step {
+fn look<R: PeerHost + Wait>(rt: &R, shared: &SharedPeer, began: Option<Instant>) -> Step {
     let mut seat = shared.seat.lock(rt);
     let step = seat.peer.look(now(rt, began));
     if seat.peer.has_output() {
@@ -84,7 +84,7 @@ fn has_place<R: Files<File = File>>(rt: &R, words: &Words<'_>) -> bool {
 /// Connects in a thread of its own, since that may take long.
 pub fn start<R: PeerHost + Threads + Wait>(
     rt: &R,
-    shared: &Arc<Shared, Global>,
+    shared: &Arc<SharedPeer, Global>,
     door: Door,
 ) -> Result<(), Fault> {
     start_thread(rt, shared, move |rt, shared| serve(rt, shared, &door))?;
@@ -150,7 +150,7 @@ impl Comeback {
     fn reopen<R: PeerHost + Wait + Files<File = File> + AllocGlobal>(
         &self,
         rt: &R,
-        shared: &Shared,
+        shared: &SharedPeer,
         words: &Words<'_>,
     ) {
         let is_another = self.is_another(rt, words);
@@ -172,7 +172,7 @@ impl Comeback {
 // Comes back to a server of the same session.
 fn come_back<R: PeerHost + Threads + Wait + Files<File = File> + AllocGlobal>(
     rt: &R,
-    shared: &Arc<Shared, Global>,
+    shared: &Arc<SharedPeer, Global>,
     words: &Words<'_>,
     comeback: &mut Comeback,
 ) -> Result<(), Fault> {
@@ -193,7 +193,7 @@ fn come_back<R: PeerHost + Threads + Wait + Files<File = File> + AllocGlobal>(
 // Asks whether the peer comes back after its connection has ended, and lets it.
 fn ask<R: PeerHost + Threads + Wait + Files<File = File> + AllocGlobal>(
     rt: &R,
-    shared: &Arc<Shared, Global>,
+    shared: &Arc<SharedPeer, Global>,
     words: &Words<'_>,
     time: u64,
     comeback: &mut Comeback,
@@ -214,7 +214,7 @@ fn ask<R: PeerHost + Threads + Wait + Files<File = File> + AllocGlobal>(
 /// Waits for the peer's end.
 pub fn wait<R: PeerHost + Threads + Wait + Files<File = File> + AllocGlobal, I: Source>(
     rt: &R,
-    shared: &Arc<Shared, Global>,
+    shared: &Arc<SharedPeer, Global>,
     words: &Words<'_>,
     sources: Sources<I>,
 ) -> PeerEnding {

@@ -1,9 +1,9 @@
 //! Writes to standard output and the sizes' file, and sends frames to the server.
 
 use crate::host::{PeerHost, Sink};
-use crate::shared::Shared;
+use crate::shared::SharedPeer;
 use client_peer::Batch;
-use client_words::{Fault, Part};
+use client_words::{Fault, RefusedPart};
 use std::alloc::Global;
 use std::fs::File;
 use std::io;
@@ -27,7 +27,7 @@ fn write<O: Write>(
 /// Writes what waits for standard output and for the sizes' file, again and again.
 pub fn write_out<R: PeerHost + Wait, O: Sink>(
     rt: &R,
-    shared: &Shared,
+    shared: &SharedPeer,
     output: &mut O,
     sizes: &mut Option<File>,
 ) {
@@ -40,7 +40,7 @@ pub fn write_out<R: PeerHost + Wait, O: Sink>(
         drop(seat);
         let fault = match write(output, sizes, taken) {
             Ok(()) => None,
-            Err(error) => Some(Fault::Refused(Part::Output, error)),
+            Err(error) => Some(Fault::Refused(RefusedPart::Output, error)),
         };
         let mut seat = shared.seat.lock(rt);
         seat.peer.end_writing(fault);
@@ -74,7 +74,7 @@ fn send_some(stream: &UnixStream, batch: &mut Batch) -> bool {
 }
 
 // Takes the frames that wait, with their connection.
-fn begin<R: Wait>(rt: &R, shared: &Shared) -> Option<(Batch, Arc<UnixStream, Global>)> {
+fn begin<R: Wait>(rt: &R, shared: &SharedPeer) -> Option<(Batch, Arc<UnixStream, Global>)> {
     let mut seat = shared.seat.lock(rt);
     let Some(stream) = &seat.stream else {
         return None;
@@ -90,7 +90,7 @@ fn begin<R: Wait>(rt: &R, shared: &Shared) -> Option<(Batch, Arc<UnixStream, Glo
 
 /// Sends the frames that wait, unless another thread does. Some may be left if the socket has a time
 /// limit.
-pub fn send<R: Wait>(rt: &R, shared: &Shared) {
+pub fn send<R: Wait>(rt: &R, shared: &SharedPeer) {
     for _ in rt.forever() {
         let Some((mut batch, stream)) = begin(rt, shared) else {
             break;

@@ -2,8 +2,8 @@
 //! told so. What was refused of the others is done later. `tools/refusals` refuses each in turn.
 
 use server_stage::{
-    ACLADD, ATTACH, ATTACH_BOB, Act, GONE_FAULT, Habit, MULTIUSER, Received, Seen, Stop, System,
-    WINDOW, perform, shows,
+    ACLADD, ATTACH, ATTACH_BOB, GONE_FAULT, Habit, MULTIUSER, Received, Seen, StageAct, Stop,
+    System, WINDOW, perform, shows,
 };
 use std::alloc::Global;
 
@@ -13,15 +13,15 @@ const WALL: &[u8] =
 
 // Each command is given twice. At most one allocation is refused in a run, so one of the two is
 // done.
-static BEGINNING: [Act; 8] = [
-    Act::Connect(Habit::Whole, MULTIUSER),
-    Act::Turns(2),
-    Act::Connect(Habit::Whole, MULTIUSER),
-    Act::Turns(2),
-    Act::Connect(Habit::Whole, ACLADD),
-    Act::Turns(2),
-    Act::Connect(Habit::Whole, ACLADD),
-    Act::Turns(2),
+static BEGINNING: [StageAct; 8] = [
+    StageAct::Connect(Habit::Whole, MULTIUSER),
+    StageAct::Turns(2),
+    StageAct::Connect(Habit::Whole, MULTIUSER),
+    StageAct::Turns(2),
+    StageAct::Connect(Habit::Whole, ACLADD),
+    StageAct::Turns(2),
+    StageAct::Connect(Habit::Whole, ACLADD),
+    StageAct::Turns(2),
 ];
 
 // The numbers of the windows' connections of the first scene and of the second. After each come the
@@ -32,43 +32,43 @@ const OTHER: usize = 9;
 
 // A window whose program writes, the owner's client and bob's, which type, and a command. Then all
 // peers end. The connections have numbers from this one on.
-fn scene(window: usize) -> [Act<'static>; 22] {
+fn scene(window: usize) -> [StageAct<'static>; 22] {
     let (client, bob) = (window.saturating_add(1), window.saturating_add(2));
     [
-        Act::Connect(Habit::Whole, WINDOW),
-        Act::Send(window, b"O\0\x02hi"),
-        Act::Turns(3),
-        Act::Connect(Habit::Whole, ATTACH),
-        Act::Send(client, b"K\0\x02xy"),
-        Act::Turns(3),
-        Act::Connect(Habit::Whole, ATTACH_BOB),
-        Act::Send(bob, b"R\0\x04\0\x04\0\x14"),
-        Act::Send(bob, b"K\0\x01z"),
-        Act::Turns(3),
-        Act::Send(window, b"O\0\x09there\x1b[6n"),
-        Act::Turns(3),
-        Act::Connect(Habit::Whole, WALL),
-        Act::Turns(2),
-        Act::Connect(Habit::Whole, WALL),
-        Act::Turns(5),
-        Act::Note(0),
-        Act::End(window),
-        Act::End(client),
-        Act::End(bob),
-        Act::Turns(3),
-        Act::Note(0),
+        StageAct::Connect(Habit::Whole, WINDOW),
+        StageAct::Send(window, b"O\0\x02hi"),
+        StageAct::Turns(3),
+        StageAct::Connect(Habit::Whole, ATTACH),
+        StageAct::Send(client, b"K\0\x02xy"),
+        StageAct::Turns(3),
+        StageAct::Connect(Habit::Whole, ATTACH_BOB),
+        StageAct::Send(bob, b"R\0\x04\0\x04\0\x14"),
+        StageAct::Send(bob, b"K\0\x01z"),
+        StageAct::Turns(3),
+        StageAct::Send(window, b"O\0\x09there\x1b[6n"),
+        StageAct::Turns(3),
+        StageAct::Connect(Habit::Whole, WALL),
+        StageAct::Turns(2),
+        StageAct::Connect(Habit::Whole, WALL),
+        StageAct::Turns(5),
+        StageAct::Note(0),
+        StageAct::End(window),
+        StageAct::End(client),
+        StageAct::End(bob),
+        StageAct::Turns(3),
+        StageAct::Note(0),
     ]
 }
 
 /// What a scene left: whether the window, the owner's client and bob's stayed, and whether each was
 /// sent all that it should be.
 #[derive(Clone, Copy, Debug, PartialEq, Eq)]
-struct Left {
+struct SceneLeft {
     stayed: [bool; 3],
     is_whole: [bool; 3],
 }
 
-const ALL: Left = Left {
+const ALL: SceneLeft = SceneLeft {
     stayed: [true, true, true],
     is_whole: [true, true, true],
 };
@@ -125,11 +125,11 @@ fn have_left(entries: &[u8]) -> bool {
 }
 
 // What the scene left at this note; its window is that connection.
-fn left_by(alloc: Global, seen: &Seen, note: usize, window: usize) -> Result<Left, Stop> {
+fn left_by(alloc: Global, seen: &Seen, note: usize, window: usize) -> Result<SceneLeft, Stop> {
     let typed = seen.bytes(note, window);
     let client = seen.bytes(note, window.saturating_add(1));
     let bob = seen.bytes(note, window.saturating_add(2));
-    Ok(Left {
+    Ok(SceneLeft {
         stayed: [has_stayed(typed), has_stayed(client), has_stayed(bob)],
         is_whole: [
             is_typed(alloc, typed)?,
@@ -141,7 +141,7 @@ fn left_by(alloc: Global, seen: &Seen, note: usize, window: usize) -> Result<Lef
 
 // If all stayed, each has all. If one was let go, the others stayed, and clients that stayed have all
 // of a window that stayed.
-fn is_as_due(left: Left) -> bool {
+fn is_as_due(left: SceneLeft) -> bool {
     let [window, client, bob] = left.stayed;
     let [_, client_has, bob_has] = left.is_whole;
     match (window, client, bob) {
@@ -168,7 +168,7 @@ fn is_over(seen: &Seen, note: usize) -> bool {
     }
 }
 
-fn acts(alloc: Global) -> Result<Vec<Act<'static>>, Stop> {
+fn acts(alloc: Global) -> Result<Vec<StageAct<'static>>, Stop> {
     let mut acts = Vec::from_slice(alloc, &BEGINNING)?;
     acts.extend_from_slice(&scene(ONE))?;
     acts.extend_from_slice(&scene(OTHER))?;

@@ -9,27 +9,28 @@ use Rattle.std.proofs.lemmas.List.{append-nil, drop_all, take_all, length-take-l
 use Rattle.std.proofs.lemmas.List.Edits.{take-paste, drop-paste}
 use Rattle.acl.specs.declared.user_id.UserId.{UserId}
 use Rattle.acl.specs.Same.{same_user}
-use Rattle.server_sending.specs.declared.typists.Frame.{Frame}
+use Rattle.server_sending.specs.declared.typists.TypedFrame.{TypedFrame}
 use Rattle.server_sending.specs.Written.{AreWithin, unbegun, stays_to, without_frames, frames_of_others}
 
-pub within_more : (at : ℕ) (fs : List Frame) (end more : ℕ) → AreWithin at fs end → end ≤ more → AreWithin at fs more
+pub within_more : (at : ℕ) (fs : List TypedFrame) (end more : ℕ) → AreWithin at fs end → end ≤ more
+    → AreWithin at fs more
 within_more at [] end more w l = omega (arith, w, l)
 within_more at (f ∷ fs) end more w l = (w.0, within_more (f.from + f.len) fs end more w.1 l)
 
-pub within_push : (at : ℕ) (fs : List Frame) (f : Frame) (end : ℕ) → AreWithin at fs end → end ≤ f.from
+pub within_push : (at : ℕ) (fs : List TypedFrame) (f : TypedFrame) (end : ℕ) → AreWithin at fs end → end ≤ f.from
     → AreWithin at (fs ++ f ∷ []) (f.from + f.len)
 within_push at [] f end w l = (omega (arith, w, l), omega arith)
 within_push at (g ∷ fs) f end w l = (w.0, within_push (g.from + g.len) fs f end w.1 l)
 
-pub within_end : (at : ℕ) (fs : List Frame) (end : ℕ) → AreWithin at fs end → at ≤ end
+pub within_end : (at : ℕ) (fs : List TypedFrame) (end : ℕ) → AreWithin at fs end → at ≤ end
 within_end at [] end w = w
 within_end at (f ∷ fs) end w = omega (arith, w.0, within_end (f.from + f.len) fs end w.1)
 
-within_from : (low at : ℕ) (fs : List Frame) (end : ℕ) → low ≤ at → AreWithin at fs end → AreWithin low fs end
+within_from : (low at : ℕ) (fs : List TypedFrame) (end : ℕ) → low ≤ at → AreWithin at fs end → AreWithin low fs end
 within_from low at [] end l w = omega (arith, l, w)
 within_from low at (f ∷ fs) end l w = (omega (arith, l, w.0), w.1)
 
-pub within_after : (n at : ℕ) (fs : List Frame) (end : ℕ) → AreWithin at fs end
+pub within_after : (n at : ℕ) (fs : List TypedFrame) (end : ℕ) → AreWithin at fs end
     → AreWithin (at - n) (unbegun n fs) (end - n)
 within_after n at [] end w = omega (arith, w)
 within_after n at (f ∷ fs) end w = on (nat_le n f.from) refl (within_after n (f.from + f.len) fs end w.1) where
@@ -40,7 +41,7 @@ within_after n at (f ∷ fs) end w = on (nat_le n f.from) refl (within_after n (
       rw is (omega (arith, w.0), within_from _ _ (unbegun n fs) _ (omega (arith, below)) rest)
   on false is rest = rw is (within_from _ _ (unbegun n fs) _ (omega (arith, w.0)) rest)
 
-pub within_sent : (fs : List Frame) (sent n len : ℕ) → AreWithin 0 fs (len - sent)
+pub within_sent : (fs : List TypedFrame) (sent n len : ℕ) → AreWithin 0 fs (len - sent)
     → AreWithin 0 (unbegun n fs) (len - (sent + n))
 within_sent fs sent n len w =
     let left : (len - sent) - n ≡ len - (sent + n) = omega arith in
@@ -51,8 +52,8 @@ within_sent fs sent n len w =
 front : (n at : ℕ) (rest : List ℕ) → n ≤ at + length rest → length (take (n - at) rest) ≡ n - at
 front n at rest l = length-take-le (n - at) rest (omega (arith, l))
 
-pub within_others : (user : UserId) (at gone : ℕ) (fs : List Frame) (rest : List ℕ) → AreWithin at fs (at + length rest)
-    → gone ≤ at
+pub within_others : (user : UserId) (at gone : ℕ) (fs : List TypedFrame) (rest : List ℕ)
+    → AreWithin at fs (at + length rest) → gone ≤ at
     → AreWithin (at - gone) (frames_of_others user gone fs) ((at - gone) + length (without_frames user at fs rest))
 within_others user at gone [] rest w l = omega arith
 within_others user at gone (f ∷ fs) rest w l = on (same_user f.user user) refl
@@ -92,7 +93,7 @@ within_others user at gone (f ∷ fs) rest w l = on (same_user f.user user) refl
             (omega (arith, w.0, l, size end (omega arith))) (next gone (omega (arith, w.0, l)))),
       )
 
-pub within_left : (user : UserId) (fs : List Frame) (bytes : List ℕ) (end : ℕ) → AreWithin 0 fs (length bytes)
+pub within_left : (user : UserId) (fs : List TypedFrame) (bytes : List ℕ) (end : ℕ) → AreWithin 0 fs (length bytes)
     → end ≡ length (without_frames user 0 fs bytes) → AreWithin 0 (frames_of_others user 0 fs) (end - 0)
 within_left user fs bytes end w is =
     subst (AreWithin 0 (frames_of_others user 0 fs)) (omega (arith, is))
@@ -107,9 +108,10 @@ written new old n is same =
 
 -- ---- one frame more
 
-pub frame_next : (at : ℕ) (fs : List Frame) (i : ℕ) (d : Frame) (end : ℕ) → i < length fs → AreWithin at (drop i fs) end
+pub frame_next : (at : ℕ) (fs : List TypedFrame) (i : ℕ) (d : TypedFrame) (end : ℕ) → i < length fs
+    → AreWithin at (drop i fs) end
     → (at ≤ (get_or fs i d).from) × AreWithin ((get_or fs i d).from + (get_or fs i d).len) (drop (i + 1) fs) end
-frame_next at fs i d end lt w = subst (λ (l : List Frame). AreWithin at l end) (drop_more fs i d lt) w
+frame_next at fs i d end lt w = subst (λ (l : List TypedFrame). AreWithin at l end) (drop_more fs i d lt) w
 
 further : (m n : ℕ) (xs ys : List ℕ) → drop m xs ≡ drop m ys → m ≤ n → drop n xs ≡ drop n ys
 further m n xs ys same less =
@@ -118,8 +120,8 @@ further m n xs ys same less =
     (sym (drop-drop (n - m) m xs) ∙ ap (drop (n - m)) same ∙ drop-drop (n - m) m ys)
 
 -- n bytes are moved to their place, up to where they stay
-pub bytes_next : (user : UserId) (at to n to_next : ℕ) (f : Frame) (fs : List Frame) (b made : List ℕ) → to ≤ at
-    → at + n ≡ stays_to user f → stays_to user f ≤ f.from + f.len → f.from + f.len ≤ length b
+pub bytes_next : (user : UserId) (at to n to_next : ℕ) (f : TypedFrame) (fs : List TypedFrame) (b made : List ℕ)
+    → to ≤ at → at + n ≡ stays_to user f → stays_to user f ≤ f.from + f.len → f.from + f.len ≤ length b
     → made ≡ paste b to (drop at b) n → to_next ≡ to + n
     → take to_next made ++ without_frames user (f.from + f.len) fs (drop (f.from + f.len) made)
     ≡ take to b ++ without_frames user at (f ∷ fs) (drop at b)
@@ -148,7 +150,7 @@ bytes_last at to left b made less most is long =
     ∙ take-paste b to (drop at b) (length b - at) (omega (arith, less, most)) (omega (arith, most, length-drop at b))
     ∙ ap (λ (l : List ℕ). take to b ++ l) (take_rest b at)
 
-pub his_goes : (user : UserId) (gone i : ℕ) (fs : List Frame) (d : Frame) → i < length fs
+pub his_goes : (user : UserId) (gone i : ℕ) (fs : List TypedFrame) (d : TypedFrame) → i < length fs
     → same_user (get_or fs i d).user user ≡ true
     → frames_of_others user (gone + (get_or fs i d).len) (drop (i + 1) fs) ≡ frames_of_others user gone (drop i fs)
 his_goes user gone i fs d lt is =
@@ -156,21 +158,21 @@ his_goes user gone i fs d lt is =
     (λ (b : Bool). if b then frames_of_others user (gone + (get_or fs i d).len) (drop (i + 1) fs)
     else record (get_or fs i d) { from = (get_or fs i d).from - gone } ∷ frames_of_others user gone (drop (i + 1) fs)) is)
 
-pub other_stays : (user : UserId) (gone kept i : ℕ) (fs : List Frame) (d x : Frame) → i < length fs → kept ≤ i
+pub other_stays : (user : UserId) (gone kept i : ℕ) (fs : List TypedFrame) (d x : TypedFrame) → i < length fs → kept ≤ i
     → same_user (get_or fs i d).user user ≡ false → x ≡ record (get_or fs i d) { from = (get_or fs i d).from - gone }
     → take (kept + 1) (set fs kept x) ++ frames_of_others user gone (drop (i + 1) (set fs kept x))
     ≡ take kept fs ++ frames_of_others user gone (drop i fs)
 other_stays user gone kept i fs d x lt most is made =
-    let rest : List Frame = frames_of_others user gone (drop (i + 1) fs) in
+    let rest : List TypedFrame = frames_of_others user gone (drop (i + 1) fs) in
     let next : frames_of_others user gone (drop i fs) ≡ x ∷ rest = ap (frames_of_others user gone) (drop_more fs i d lt) ∙ ap
     (λ (b : Bool). if b then frames_of_others user (gone + (get_or fs i d).len) (drop (i + 1) fs)
     else record (get_or fs i d) { from = (get_or fs i d).from - gone } ∷ rest) is
-    ∙ ap (λ (y : Frame). y ∷ rest) (sym made) in
-    ap (λ (l : List Frame). take (kept + 1) (set fs kept x) ++ frames_of_others user gone l)
+    ∙ ap (λ (y : TypedFrame). y ∷ rest) (sym made) in
+    ap (λ (l : List TypedFrame). take (kept + 1) (set fs kept x) ++ frames_of_others user gone l)
     (drop-set-lt (i + 1) fs kept x (omega (arith, most)))
-    ∙ ap (λ (l : List Frame). l ++ rest) (take_more_set fs kept x (omega (arith, lt, most)))
+    ∙ ap (λ (l : List TypedFrame). l ++ rest) (take_more_set fs kept x (omega (arith, lt, most)))
     ∙ append_assoc (take kept fs) (x ∷ []) rest
-    ∙ ap (λ (l : List Frame). take kept fs ++ l) (sym next)
+    ∙ ap (λ (l : List TypedFrame). take kept fs ++ l) (sym next)
 
 -- ---- more bytes
 
@@ -179,7 +181,7 @@ grows true n more new is = (omega (arith, is), omega (arith, is))
 grows false n more new is = (omega (arith, is), omega (arith, is))
 
 -- they stay within the bytes from a place on, also if more were put
-pub within_put : (fs : List Frame) (sent n more new : ℕ) (b : Bool) → AreWithin 0 fs (n - sent)
+pub within_put : (fs : List TypedFrame) (sent n more new : ℕ) (b : Bool) → AreWithin 0 fs (n - sent)
     → new ≡ (if b then n + more else n) → AreWithin 0 fs (new - sent)
 within_put fs sent n more new b w is =
     within_more 0 fs (n - sent) (new - sent) w (omega (arith, (grows b n more new is).0))

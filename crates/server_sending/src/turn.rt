@@ -6,7 +6,7 @@ ghost use Rattle.std.specs.Prelude.{◌+◌, ◌-◌};
 ghost use Rattle.std.specs.Io.KnownBytes.{WriteAppends};
 ghost use Rattle.server_sending.specs.Written.{HasWritten, IsWritten, ended, unbegun, with_frame, without_typed};
 
-use crate::typists::{Frame, drop_frames, forget_begun, typist_after};
+use crate::typists::{TypedFrame, drop_frames, forget_begun, typist_after};
 use acl::UserId;
 use std::alloc::{AllocError, Global};
 use std::io;
@@ -28,7 +28,7 @@ pub struct Turn {
     told: bool,
     has_ended: bool,
     // The frames that users typed, by their places after what was written.
-    typed: Vec<Frame>,
+    typed: Vec<TypedFrame>,
 }
 
 impl Drop for Turn {
@@ -142,7 +142,7 @@ impl Turn {
         self.bytes.extend_from_slice(payload)?;
         if let Some(user) = typist {
             let len = self.bytes.len() - self.sent - from;
-            self.typed.push_reserved(Frame { user, from, len });
+            self.typed.push_reserved(TypedFrame { user, from, len });
         }
         Ok(())
     }

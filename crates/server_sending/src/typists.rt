@@ -7,7 +7,7 @@ use acl::UserId;
 
 /// A frame that a user typed, by its place among the bytes that wait.
 #[derive(Clone, Copy)]
-pub struct Frame {
+pub struct TypedFrame {
     pub user: UserId,
     pub from: usize,
     pub len: usize,
@@ -21,7 +21,7 @@ pub struct Left {
 }
 
 // The frames' places, after this many bytes were written.
-fn move_up(frames: &mut [Frame], written: usize)
+fn move_up(frames: &mut [TypedFrame], written: usize)
     ensures { frames.new ≡ map (moved_up written) frames.old }
 {
     for i in 0..frames.len() {
@@ -30,7 +30,7 @@ fn move_up(frames: &mut [Frame], written: usize)
 }
 
 /// This many bytes were written: frames that were begun aren't kept any more.
-pub fn forget_begun(frames: &mut Vec<Frame>, written: usize)
+pub fn forget_begun(frames: &mut Vec<TypedFrame>, written: usize)
     ensures { frames.new.items ≡ unbegun written frames.old.items }
 {
     frames.retain(|frame| frame.from >= written);
@@ -44,7 +44,7 @@ fn is_between(last: Option<UserId>, user: UserId, next: Option<UserId>) -> bool 
 }
 
 /// Of the users who typed frames, the one whose name follows this one's.
-pub fn typist_after(frames: &[Frame], last: Option<UserId>) -> Option<UserId> {
+pub fn typist_after(frames: &[TypedFrame], last: Option<UserId>) -> Option<UserId> {
     let mut next: Option<UserId> = None;
     for frame in frames {
         if is_between(last, frame.user, next) {
@@ -55,7 +55,7 @@ pub fn typist_after(frames: &[Frame], last: Option<UserId>) -> Option<UserId> {
 }
 
 /// Takes out the frames of a user: what stays is moved to the front.
-pub fn drop_frames(bytes: &mut [u8], frames: &mut [Frame], user: UserId) -> Left
+pub fn drop_frames(bytes: &mut [u8], frames: &mut [TypedFrame], user: UserId) -> Left
     requires { AreWithin 0 frames.old (length bytes.old) }
     ensures bytes { take result.bytes bytes.new ≡ without_frames user 0 frames.old bytes.old }
     ensures frames { take result.frames frames.new ≡ frames_of_others user 0 frames.old }
@@ -75,7 +75,7 @@ pub fn drop_frames(bytes: &mut [u8], frames: &mut [Frame], user: UserId) -> Left
             continue;
         }
         bytes.copy_within(at..end, at - gone);
-        frames[kept] = Frame {
+        frames[kept] = TypedFrame {
             from: frame.from - gone,
             ..frame
         };

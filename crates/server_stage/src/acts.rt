@@ -1,11 +1,11 @@
 //! What happens on a stage, and what is seen of it.
 
-use crate::streams::{Habit, Sent};
+use crate::streams::{Habit, StreamLog};
 use server_loop::End;
 
 /// What happens. Connections count from 0, in the order in which they came.
 #[derive(Clone, Copy)]
-pub enum Act<'a> {
+pub enum StageAct<'a> {
     /// A connection comes, and sends these bytes. Without memory the loop closes it.
     Connect(Habit, &'a [u8]),
     /// One that is taken in though no more are to stay.
@@ -49,7 +49,7 @@ pub struct Note {
     pub standing: LoopState,
     /// The first connection of which something was noted.
     pub first: usize,
-    pub sent: Vec<Sent>,
+    pub sent: Vec<StreamLog>,
 }
 
 /// What is seen of a play.
@@ -70,7 +70,7 @@ impl Seen {
     }
 
     /// What became of a connection's stream up to a note.
-    pub fn sent(&self, note: usize, connection: usize) -> Option<&Sent> {
+    pub fn sent(&self, note: usize, connection: usize) -> Option<&StreamLog> {
         let note = self.notes.get(note)?;
         note.sent.get(connection.checked_sub(note.first)?)
     }

@@ -32,13 +32,13 @@ impl Calls {
     }
 
     /// The gate of the first loop or of the second.
-    pub(crate) fn latch<'a, R>(&'a self, rt: &'a R, is_first: bool) -> Latch<'a, R> {
+    pub(crate) fn latch<'a, R>(&'a self, rt: &'a R, is_first: bool) -> LatchGate<'a, R> {
         let (mine, theirs) = if is_first {
             (&self.first, &self.second)
         } else {
             (&self.second, &self.first)
         };
-        Latch {
+        LatchGate {
             rt,
             begun: &self.begun,
             mine,
@@ -56,7 +56,7 @@ impl Calls {
 /// Holds the call that comes first, before it is submitted, until a call of the other loop was
 /// answered.
 #[derive(Drop)]
-pub(crate) struct Latch<'a, R> {
+pub(crate) struct LatchGate<'a, R> {
     rt: &'a R,
     begun: &'a AtomicU64,
     mine: &'a AtomicU64,
@@ -64,7 +64,7 @@ pub(crate) struct Latch<'a, R> {
     missed: &'a AtomicU64,
 }
 
-impl<R: Clock> Gate for Latch<'_, R> {
+impl<R: Clock> Gate for LatchGate<'_, R> {
     fn before(&mut self) {
         if self.begun.fetch_add(1, Ordering::SeqCst) != 0 {
             return;

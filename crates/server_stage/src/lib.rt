@@ -12,7 +12,7 @@ mod stage;
 mod stop;
 mod streams;
 
-pub use acts::{Act, LoopState, Note, Seen};
+pub use acts::{LoopState, Note, Seen, StageAct};
 pub use attach_proto::{Message, Why};
 pub use frames::{
     ACLADD, ATTACH, ATTACH_BOB, DETACH, GONE_FAULT, MULTIUSER, QUIT, Received, WALL, WELCOME,
@@ -22,4 +22,4 @@ pub use pages::{are_alike, shows};
 pub use server_loop::End;
 pub use stage::{System, perform};
 pub use stop::Stop;
-pub use streams::{Habit, Sent};
+pub use streams::{Habit, StreamLog};

@@ -1,6 +1,6 @@
 //! What is outside a loop: its peers, and the time.
 
-use crate::acts::{Act, LoopState, Note};
+use crate::acts::{LoopState, Note, StageAct};
 use crate::stop::Stop;
 use crate::streams::{Far, Habit, Near, ends};
 use std::alloc::Global;
@@ -34,12 +34,12 @@ impl Outside {
     }
 
     /// What a peer does by itself.
-    pub(crate) fn perform(&mut self, act: Act) -> Result<(), Stop> {
+    pub(crate) fn perform(&mut self, act: StageAct) -> Result<(), Stop> {
         match act {
-            Act::Send(place, bytes) => self.peer(place)?.send(bytes)?,
-            Act::End(place) => self.peer(place)?.end(),
-            Act::SetHabit(place, habit) => self.peer(place)?.set_habit(habit),
-            Act::Leave => {
+            StageAct::Send(place, bytes) => self.peer(place)?.send(bytes)?,
+            StageAct::End(place) => self.peer(place)?.end(),
+            StageAct::SetHabit(place, habit) => self.peer(place)?.set_habit(habit),
+            StageAct::Leave => {
                 if let Some(peer) = self.peers.pop() {
                     peer.end();
                 }

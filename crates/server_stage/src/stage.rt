@@ -1,8 +1,8 @@
 //! Loops over a new session, on which acts are played.
 
-use crate::acts::{Act, LoopState, Note, Seen};
+use crate::acts::{LoopState, Note, Seen, StageAct};
 use crate::frames::USERS;
-use crate::latch::{Calls, Latch};
+use crate::latch::{Calls, LatchGate};
 use crate::outside::Outside;
 use crate::stop::Stop;
 use crate::streams::{Habit, Near};
@@ -89,27 +89,27 @@ fn perform_one<G: Gate + Drop, J: SessionSeat + Drop>(
     rt: &impl Wait,
     own: &mut Loop<Near, G, J>,
     outside: &mut Outside,
-    act: Act,
+    act: StageAct,
 ) -> Result<(), Stop> {
     match act {
-        Act::Connect(habit, bytes) => {
+        StageAct::Connect(habit, bytes) => {
             let near = outside.connect(habit, bytes)?;
             let _ = own.connections.admit(near, false);
         }
-        Act::ConnectExtra(bytes) => {
+        StageAct::ConnectExtra(bytes) => {
             let near = outside.connect(Habit::Whole, bytes)?;
             let _ = own.connections.admit(near, true);
         }
-        Act::Turns(most) => take(rt, own, outside.tick, Turns::ready(most)),
-        Act::QuietTurns(most) => take(rt, own, outside.tick, Turns::quiet(most)),
-        Act::SetTime(second, millis) => {
+        StageAct::Turns(most) => take(rt, own, outside.tick, Turns::ready(most)),
+        StageAct::QuietTurns(most) => take(rt, own, outside.tick, Turns::quiet(most)),
+        StageAct::SetTime(second, millis) => {
             outside.tick = Duration::from_millis(millis);
             own.now = Duration::from_secs(second);
             own.expire();
         }
-        Act::LetOldestGo(most) => own.let_oldest_go(rt, most),
-        Act::Finish(end) => own.finish(rt, end),
-        Act::Note(first) => outside.note(standing(own), first)?,
+        StageAct::LetOldestGo(most) => own.let_oldest_go(rt, most),
+        StageAct::Finish(end) => own.finish(rt, end),
+        StageAct::Note(first) => outside.note(standing(own), first)?,
         _ => outside.perform(act)?,
     }
     Ok(())
@@ -119,7 +119,7 @@ fn perform_all<G: Gate + Drop, J: SessionSeat + Drop>(
     rt: &impl Wait,
     own: &mut Loop<Near, G, J>,
     outside: &mut Outside,
-    acts: &[Act],
+    acts: &[StageAct],
 ) -> Result<(), Stop> {
     for act in acts {
         perform_one(rt, own, outside, *act)?;
@@ -140,20 +140,20 @@ fn letter(entry: &TrailEntry) -> u8 {
 
 // What the loops left, and why one of them stopped short.
 #[derive(Drop)]
-struct Left {
+struct LoopsLeft {
     seen: Seen,
     // How many loops came to their end.
     ended: usize,
     stop: Option<Stop>,
 }
 
-impl Left {
-    fn new(alloc: Global) -> Left {
+impl LoopsLeft {
+    fn new(alloc: Global) -> LoopsLeft {
         let seen = Seen {
             notes: Vec::new(alloc),
             entries: Vec::new(alloc),
         };
-        Left {
+        LoopsLeft {
             seen,
             ended: 0,
             stop: None,
@@ -182,11 +182,11 @@ impl Left {
 #[derive(Drop)]
 struct Playing<'a> {
     alloc: Global,
-    acts: &'a [Act<'a>],
+    acts: &'a [StageAct<'a>],
     loops: usize,
     calls: Calls,
     accounts: Accounts,
-    left: Mutex<Left>,
+    left: Mutex<LoopsLeft>,
 }
 
 impl<R: Clock + Wait> LoopBody<usize, R> for Playing<'_> {
@@ -199,7 +199,7 @@ impl<R: Clock + Wait> LoopBody<usize, R> for Playing<'_> {
     ) -> Option<Seat<L>> {
         let latch = self.calls.latch(rt, place == 0);
         let seated = Seated::new(shared, &self.accounts, seat);
-        let mut own: Loop<Near, Latch<R>, Seated<L>> = Loop::new(
+        let mut own: Loop<Near, LatchGate<R>, Seated<L>> = Loop::new(
             self.alloc, seated, latch, self.loops,
         ).ok()?;
         let mut outside = Outside::new(self.alloc);
@@ -230,7 +230,7 @@ fn seen_of(playing: Playing, agrees: bool) -> Result<Seen, Stop> {
         left,
         ..
     } = playing;
-    let Left { seen, ended, stop } = left.into_inner();
+    let LoopsLeft { seen, ended, stop } = left.into_inner();
     if let Some(stop) = stop {
         return Err(stop);
     }
@@ -255,7 +255,7 @@ impl<R: AllocGlobal + Clock + Threads + Wait + Sync> System for R {}
 /// Performs the acts on a loop over a new session, or on each of two that run at once; then the call
 /// that comes first is held until one of the other loop was answered. Returns what is seen of the
 /// loop, or of both, one after the other.
-pub fn perform(rt: &impl System, loops: usize, acts: &[Act]) -> Result<Seen, Stop> {
+pub fn perform(rt: &impl System, loops: usize, acts: &[StageAct]) -> Result<Seen, Stop> {
     let alloc = rt.alloc();
     let mut places = Vec::new(alloc);
     for place in 0..loops {
@@ -274,7 +274,7 @@ pub fn perform(rt: &impl System, loops: usize, acts: &[Act]) -> Result<Seen, Sto
         loops,
         calls: Calls::new(loops),
         accounts,
-        left: Mutex::new(Left::new(alloc)),
+        left: Mutex::new(LoopsLeft::new(alloc)),
     };
     match keep(rt, start, &playing) {
         Ok(agrees) => seen_of(playing, agrees),

@@ -31,7 +31,7 @@ pub enum Habit {
 
 /// What became of a stream.
 #[derive(Drop)]
-pub struct Sent {
+pub struct StreamLog {
     /// What the loop wrote, as far as it was taken.
     pub bytes: Vec<u8>,
     /// How many calls the loop made.
@@ -108,7 +108,7 @@ impl Far {
     }
 
     /// What became of it.
-    pub fn sent(&self, alloc: Global) -> Result<Sent, Stop> {
+    pub fn sent(&self, alloc: Global) -> Result<StreamLog, Stop> {
         match self.passing.try_borrow() {
             Ok(passing) => Ok(passing.sent(alloc)?),
             Err(_) => Err(Stop::Other("a stream is in use")),
@@ -125,8 +125,8 @@ impl Passing {
         self.reads.saturating_add(self.writes)
     }
 
-    fn sent(&self, alloc: Global) -> Result<Sent, AllocError> {
-        Ok(Sent {
+    fn sent(&self, alloc: Global) -> Result<StreamLog, AllocError> {
+        Ok(StreamLog {
             bytes: Vec::from_slice(alloc, self.taken.as_slice())?,
             calls: self.calls(),
             read: self.read,

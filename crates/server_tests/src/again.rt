@@ -1,7 +1,9 @@
 //! A client whose writes stop inside its first draw, and the same user's next one.
 
 use crate::rows::play;
-use server_stage::{Act, Habit, Message, Received, Seen, Stop, System, WINDOW, are_alike, shows};
+use server_stage::{
+    Habit, Message, Received, Seen, StageAct, Stop, System, WINDOW, are_alike, shows,
+};
 use std::alloc::Global;
 
 /// The size of the clients' terminals.
@@ -12,16 +14,16 @@ const ATTACH: &[u8] =
     b"A\0G\0\x18\0P0000000000000000000000000000000000000000000000000000000000000000own";
 
 // Two clients of the owner, of which the first takes this many bytes.
-fn broken(most: usize) -> [Act<'static>; 8] {
+fn broken(most: usize) -> [StageAct<'static>; 8] {
     [
-        Act::Connect(Habit::Whole, WINDOW),
-        Act::Send(0, b"O\0\x02hi"),
-        Act::Turns(3),
-        Act::Connect(Habit::Takes(most), ATTACH),
-        Act::Turns(3),
-        Act::Connect(Habit::Whole, ATTACH),
-        Act::Turns(3),
-        Act::Note(0),
+        StageAct::Connect(Habit::Whole, WINDOW),
+        StageAct::Send(0, b"O\0\x02hi"),
+        StageAct::Turns(3),
+        StageAct::Connect(Habit::Takes(most), ATTACH),
+        StageAct::Turns(3),
+        StageAct::Connect(Habit::Whole, ATTACH),
+        StageAct::Turns(3),
+        StageAct::Note(0),
     ]
 }
 

@@ -1,7 +1,7 @@
 //! Connections that stop or end at each byte.
 
 use crate::rows::{play, typed};
-use server_stage::{ATTACH, Act, DETACH, Habit, Received, Seen, System, WALL, WINDOW, Why};
+use server_stage::{ATTACH, DETACH, Habit, Received, Seen, StageAct, System, WALL, WINDOW, Why};
 use std::alloc::{AllocError, Global};
 
 /// The frames that a connection sends, and the trail's entries for each number of frames that came
@@ -66,17 +66,21 @@ fn beginning(alloc: Global, frames: &[&[u8]], count: usize, ends: bool) -> Resul
 // at last.
 fn seen_of(rt: &impl System, cut: &Cut) -> Option<Seen> {
     let acts = [
-        Act::Connect(Habit::Whole, WINDOW),
-        Act::Turns(2),
-        Act::Connect(Habit::Whole, ATTACH),
-        Act::Turns(2),
-        Act::Connect(Habit::Whole, &cut.bytes),
-        if cut.ends { Act::End(2) } else { Act::Turns(0) },
-        Act::Turns(3),
-        Act::Note(0),
-        Act::Send(1, b"K\0\x01k"),
-        Act::Turns(3),
-        Act::Note(0),
+        StageAct::Connect(Habit::Whole, WINDOW),
+        StageAct::Turns(2),
+        StageAct::Connect(Habit::Whole, ATTACH),
+        StageAct::Turns(2),
+        StageAct::Connect(Habit::Whole, &cut.bytes),
+        if cut.ends {
+            StageAct::End(2)
+        } else {
+            StageAct::Turns(0)
+        },
+        StageAct::Turns(3),
+        StageAct::Note(0),
+        StageAct::Send(1, b"K\0\x01k"),
+        StageAct::Turns(3),
+        StageAct::Note(0),
     ];
     play(rt, &acts)
 }

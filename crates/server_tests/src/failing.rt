@@ -2,7 +2,8 @@
 
 use crate::rows::{play, typed};
 use server_stage::{
-    ACLADD, ATTACH, ATTACH_BOB, Act, Habit, MULTIUSER, Received, Seen, Sent, System, WINDOW, shows,
+    ACLADD, ATTACH, ATTACH_BOB, Habit, MULTIUSER, Received, Seen, StageAct, StreamLog, System,
+    WINDOW, shows,
 };
 use std::alloc::Global;
 use std::io::ErrorKind;
@@ -16,26 +17,26 @@ const CLIENT: usize = 4;
 
 // A client of the owner, which types `xy` and whose stream has the habit. Beside it the window's
 // program writes, and bob types `z` after this many turns.
-fn beside(habit: Habit, turns: usize) -> [Act<'static>; 18] {
+fn beside(habit: Habit, turns: usize) -> [StageAct<'static>; 18] {
     [
-        Act::Connect(Habit::Whole, MULTIUSER),
-        Act::Turns(2),
-        Act::Connect(Habit::Whole, ACLADD),
-        Act::Turns(2),
-        Act::Connect(Habit::Whole, WINDOW),
-        Act::Send(WINDOW_AT, b"O\0\x02hi"),
-        Act::Connect(Habit::Whole, ATTACH_BOB),
-        Act::Turns(4),
-        Act::SetHabit(WINDOW_AT, Habit::Slow),
-        Act::SetHabit(BOB, Habit::Slow),
-        Act::Connect(habit, ATTACH),
-        Act::Send(CLIENT, b"K\0\x02xy"),
-        Act::Send(WINDOW_AT, b"O\0\x05there"),
-        Act::Turns(turns),
-        Act::Note(0),
-        Act::Send(BOB, b"K\0\x01z"),
-        Act::Turns(20),
-        Act::Note(0),
+        StageAct::Connect(Habit::Whole, MULTIUSER),
+        StageAct::Turns(2),
+        StageAct::Connect(Habit::Whole, ACLADD),
+        StageAct::Turns(2),
+        StageAct::Connect(Habit::Whole, WINDOW),
+        StageAct::Send(WINDOW_AT, b"O\0\x02hi"),
+        StageAct::Connect(Habit::Whole, ATTACH_BOB),
+        StageAct::Turns(4),
+        StageAct::SetHabit(WINDOW_AT, Habit::Slow),
+        StageAct::SetHabit(BOB, Habit::Slow),
+        StageAct::Connect(habit, ATTACH),
+        StageAct::Send(CLIENT, b"K\0\x02xy"),
+        StageAct::Send(WINDOW_AT, b"O\0\x05there"),
+        StageAct::Turns(turns),
+        StageAct::Note(0),
+        StageAct::Send(BOB, b"K\0\x01z"),
+        StageAct::Turns(20),
+        StageAct::Note(0),
     ]
 }
 
@@ -56,7 +57,7 @@ fn typed_by(read: usize) -> &'static [u8] {
 }
 
 // Whether what was read was done, and a client that is lost was detached.
-fn is_done(alloc: Global, seen: &Seen, client: &Sent, is_lost: bool) -> bool {
+fn is_done(alloc: Global, seen: &Seen, client: &StreamLog, is_lost: bool) -> bool {
     let Some(typed) = typed(alloc, seen.bytes(1, WINDOW_AT)) else {
         return false;
     };

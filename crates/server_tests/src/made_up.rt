@@ -1,7 +1,7 @@
 //! Connections that send made-up bytes.
 
 use crate::rows::{play, typed};
-use server_stage::{ATTACH, Act, Habit, Received, Seen, System, WINDOW, Why};
+use server_stage::{ATTACH, Habit, Received, Seen, StageAct, System, WINDOW, Why};
 use std::alloc::{AllocError, Global};
 
 const LISTS: usize = 3_000;
@@ -124,31 +124,35 @@ fn lists(alloc: Global) -> Result<Vec<Vec<u8>>, AllocError> {
 
 // A window and its client, which types at last. Meanwhile connections send the lists, each list cut
 // at two places. A turn takes 200 milliseconds, so that no size has to wait for long.
-fn acts(alloc: Global, lists: &[Vec<u8>]) -> Result<Vec<Act<'_>>, AllocError> {
+fn acts(alloc: Global, lists: &[Vec<u8>]) -> Result<Vec<StageAct<'_>>, AllocError> {
     let mut acts = Vec::with_capacity(alloc, lists.len().saturating_mul(11).saturating_add(8))?;
     acts.extend_from_slice(&[
-        Act::SetTime(0, 200),
-        Act::Connect(Habit::Whole, WINDOW),
-        Act::Turns(2),
-        Act::Connect(Habit::Whole, ATTACH),
-        Act::Turns(2),
+        StageAct::SetTime(0, 200),
+        StageAct::Connect(Habit::Whole, WINDOW),
+        StageAct::Turns(2),
+        StageAct::Connect(Habit::Whole, ATTACH),
+        StageAct::Turns(2),
     ])?;
     for list in lists {
         acts.extend_from_slice(&[
-            Act::Connect(Habit::Whole, list),
-            Act::Turns(2),
-            Act::Note(2),
-            Act::Leave,
-            Act::Turns(1),
-            Act::Connect(Habit::Steady, list),
-            Act::Turns(12),
-            Act::Note(2),
-            Act::Leave,
-            Act::Turns(1),
-            Act::Note(2),
+            StageAct::Connect(Habit::Whole, list),
+            StageAct::Turns(2),
+            StageAct::Note(2),
+            StageAct::Leave,
+            StageAct::Turns(1),
+            StageAct::Connect(Habit::Steady, list),
+            StageAct::Turns(12),
+            StageAct::Note(2),
+            StageAct::Leave,
+            StageAct::Turns(1),
+            StageAct::Note(2),
         ])?;
     }
-    acts.extend_from_slice(&[Act::Send(1, b"K\0\x05still"), Act::Turns(2), Act::Note(0)])?;
+    acts.extend_from_slice(&[
+        StageAct::Send(1, b"K\0\x05still"),
+        StageAct::Turns(2),
+        StageAct::Note(0),
+    ])?;
     Ok(acts)
 }
 

@@ -1,7 +1,7 @@
 //! Much at once: a peer that reads too slowly, whose turn it is, and a crowd.
 
-use crate::rows::{Row, Wanted, first_wrong, is_played, play};
-use server_stage::{ATTACH, Act, Habit, Seen, System, WELCOME, WINDOW, Why};
+use crate::rows::{Expected, NoteRow, first_wrong, is_played, play};
+use server_stage::{ATTACH, Habit, Seen, StageAct, System, WELCOME, WINDOW, Why};
 use std::alloc::{AllocError, Global};
 
 // A beginning, and then this piece as many times.
@@ -25,16 +25,20 @@ fn full_frame(alloc: Global) -> Result<Vec<u8>, AllocError> {
 }
 
 // A window whose program takes nothing but its WELCOME asks in 127 frames; then the rest happens.
-fn flood<'a>(alloc: Global, frame: &'a [u8], rest: &[Act<'a>]) -> Result<Vec<Act<'a>>, AllocError> {
+fn flood<'a>(
+    alloc: Global,
+    frame: &'a [u8],
+    rest: &[StageAct<'a>],
+) -> Result<Vec<StageAct<'a>>, AllocError> {
     let first = [
-        Act::Connect(Habit::Takes(4), WINDOW),
-        Act::Turns(2),
-        Act::Connect(Habit::Whole, ATTACH),
-        Act::Turns(2),
+        StageAct::Connect(Habit::Takes(4), WINDOW),
+        StageAct::Turns(2),
+        StageAct::Connect(Habit::Whole, ATTACH),
+        StageAct::Turns(2),
     ];
     let mut acts = Vec::from_slice(alloc, &first)?;
     for _ in 0..127 {
-        acts.extend_from_slice(&[Act::Send(0, frame), Act::Turns(1)])?;
+        acts.extend_from_slice(&[StageAct::Send(0, frame), StageAct::Turns(1)])?;
     }
     acts.extend_from_slice(rest)?;
     Ok(acts)
@@ -42,22 +46,22 @@ fn flood<'a>(alloc: Global, frame: &'a [u8], rest: &[Act<'a>]) -> Result<Vec<Act
 
 // A frame of 8,192 bytes of input has 8,195 bytes: 127 of them have 1,040,765 bytes, and 128 have 1,048,960. Up
 // to 1,048,576 bytes may wait. With more, the peer is sent all and let go, and its window is closed.
-static TOO_FAR: [Row; 4] = [
-    (0, Wanted::Sent(0, WELCOME)),
-    (1, Wanted::TypedLen(0, 128 * 8_192)),
-    (1, Wanted::Gone(0, Some(Why::TooFarBehind))),
-    (1, Wanted::LastEntries(b"AX")),
+static TOO_FAR: [NoteRow; 4] = [
+    (0, Expected::Sent(0, WELCOME)),
+    (1, Expected::TypedLen(0, 128 * 8_192)),
+    (1, Expected::Gone(0, Some(Why::TooFarBehind))),
+    (1, Expected::LastEntries(b"AX")),
 ];
 
 // In the last frame's turn nothing is taken before the second write.
 fn goes_too_far(rt: &impl System) -> Result<bool, AllocError> {
     let frame = full_frame(rt.alloc())?;
     let rest = [
-        Act::Note(0),
-        Act::SetHabit(0, Habit::Later(1)),
-        Act::Send(0, &frame),
-        Act::Turns(1),
-        Act::Note(0),
+        StageAct::Note(0),
+        StageAct::SetHabit(0, Habit::Later(1)),
+        StageAct::Send(0, &frame),
+        StageAct::Turns(1),
+        StageAct::Note(0),
     ];
     let acts = flood(rt.alloc(), &frame, &rest)?;
     Ok(is_played(rt, &acts, &TOO_FAR))
@@ -65,11 +69,11 @@ fn goes_too_far(rt: &impl System) -> Result<bool, AllocError> {
 
 // After the turn in which the window is given up the loop has something to do, though nothing comes;
 // before that turn and after the next one it hasn't.
-static GIVEN_UP: [Row; 4] = [
-    (0, Wanted::IsDue(false)),
-    (1, Wanted::IsDue(true)),
-    (2, Wanted::IsDue(false)),
-    (2, Wanted::LastEntries(b"AX")),
+static GIVEN_UP: [NoteRow; 4] = [
+    (0, Expected::IsDue(false)),
+    (1, Expected::IsDue(true)),
+    (2, Expected::IsDue(false)),
+    (2, Expected::LastEntries(b"AX")),
 ];
 
 // Whether the client is drawn between the last two notes.
@@ -83,12 +87,12 @@ fn sees_its_last_step(rt: &impl System) -> Result<bool, AllocError> {
     let alloc = rt.alloc();
     let frame = full_frame(alloc)?;
     let rest = [
-        Act::Note(0),
-        Act::Send(0, &frame),
-        Act::Turns(1),
-        Act::Note(0),
-        Act::QuietTurns(1),
-        Act::Note(0),
+        StageAct::Note(0),
+        StageAct::Send(0, &frame),
+        StageAct::Turns(1),
+        StageAct::Note(0),
+        StageAct::QuietTurns(1),
+        StageAct::Note(0),
     ];
     let acts = flood(alloc, &frame, &rest)?;
     Ok(match play(rt, &acts) {
@@ -103,37 +107,37 @@ const ASK: &[u8] = b"O\0\x04\x1b[5n";
 // Keys are done before output, and of output what one read takes: the second question, behind 32,768
 // bytes, is read in the second turn. Eight steps of a client are done in a turn, so the first client's
 // letter, which comes after its commands, is done in turn 126. No more is sent after the first turn.
-static SHARES: [Row; 4] = [
-    (0, Wanted::Typed(0, b"b\x1b[0n")),
-    (1, Wanted::Typed(0, b"b\x1b[0n\x1b[0n")),
-    (2, Wanted::HasTyped(0, b'a', false)),
-    (3, Wanted::HasTyped(0, b'a', true)),
+static SHARES: [NoteRow; 4] = [
+    (0, Expected::Typed(0, b"b\x1b[0n")),
+    (1, Expected::Typed(0, b"b\x1b[0n\x1b[0n")),
+    (2, Expected::HasTyped(0, b'a', false)),
+    (3, Expected::HasTyped(0, b'a', true)),
 ];
 
 // A window prints this between two questions for its state, and a client types these commands in
 // one frame and then a letter; another client types a letter.
-fn busy<'a>(output: &'a [u8], commands: &'a [u8]) -> [Act<'a>; 20] {
+fn busy<'a>(output: &'a [u8], commands: &'a [u8]) -> [StageAct<'a>; 20] {
     [
-        Act::SetTime(0, 0),
-        Act::Connect(Habit::Whole, WINDOW),
-        Act::Turns(2),
-        Act::Connect(Habit::Whole, ATTACH),
-        Act::Connect(Habit::Whole, ATTACH),
-        Act::Turns(2),
-        Act::Send(0, ASK),
-        Act::Send(0, output),
-        Act::Send(0, ASK),
-        Act::Send(1, commands),
-        Act::Send(1, b"K\0\x01a"),
-        Act::Send(2, b"K\0\x01b"),
-        Act::Turns(1),
-        Act::Note(0),
-        Act::QuietTurns(1),
-        Act::Note(0),
-        Act::QuietTurns(123),
-        Act::Note(0),
-        Act::QuietTurns(1),
-        Act::Note(0),
+        StageAct::SetTime(0, 0),
+        StageAct::Connect(Habit::Whole, WINDOW),
+        StageAct::Turns(2),
+        StageAct::Connect(Habit::Whole, ATTACH),
+        StageAct::Connect(Habit::Whole, ATTACH),
+        StageAct::Turns(2),
+        StageAct::Send(0, ASK),
+        StageAct::Send(0, output),
+        StageAct::Send(0, ASK),
+        StageAct::Send(1, commands),
+        StageAct::Send(1, b"K\0\x01a"),
+        StageAct::Send(2, b"K\0\x01b"),
+        StageAct::Turns(1),
+        StageAct::Note(0),
+        StageAct::QuietTurns(1),
+        StageAct::Note(0),
+        StageAct::QuietTurns(123),
+        StageAct::Note(0),
+        StageAct::QuietTurns(1),
+        StageAct::Note(0),
     ]
 }
 
@@ -151,29 +155,29 @@ fn nobody_waits(rt: &impl System) -> Result<bool, AllocError> {
 // of the first window, since one read takes no fourth, and the second window's frame. The third window
 // waits. The next turn does the client's keys, and then begins with the third window, though the first
 // window has four more frames.
-static SHARED: [Row; 3] = [
-    (0, Wanted::TypedLen(0, 3 * 4)),
-    (0, Wanted::Typed(1, b"\x1b[0n")),
-    (1, Wanted::Typed(2, b"k\x1b[0n")),
+static SHARED: [NoteRow; 3] = [
+    (0, Expected::TypedLen(0, 3 * 4)),
+    (0, Expected::Typed(1, b"\x1b[0n")),
+    (1, Expected::Typed(2, b"k\x1b[0n")),
 ];
 
 // Three windows print at once. After a turn a client selects the third one and types a letter.
-fn shared<'a>(output: &'a [u8], frame: &'a [u8]) -> [Act<'a>; 14] {
+fn shared<'a>(output: &'a [u8], frame: &'a [u8]) -> [StageAct<'a>; 14] {
     [
-        Act::Connect(Habit::Whole, WINDOW),
-        Act::Connect(Habit::Whole, WINDOW),
-        Act::Connect(Habit::Whole, WINDOW),
-        Act::Turns(2),
-        Act::Connect(Habit::Whole, ATTACH),
-        Act::Turns(2),
-        Act::Send(0, output),
-        Act::Send(1, frame),
-        Act::Send(2, ASK),
-        Act::Turns(1),
-        Act::Note(0),
-        Act::Send(3, b"K\0\x03\x012k"),
-        Act::Turns(1),
-        Act::Note(0),
+        StageAct::Connect(Habit::Whole, WINDOW),
+        StageAct::Connect(Habit::Whole, WINDOW),
+        StageAct::Connect(Habit::Whole, WINDOW),
+        StageAct::Turns(2),
+        StageAct::Connect(Habit::Whole, ATTACH),
+        StageAct::Turns(2),
+        StageAct::Send(0, output),
+        StageAct::Send(1, frame),
+        StageAct::Send(2, ASK),
+        StageAct::Turns(1),
+        StageAct::Note(0),
+        StageAct::Send(3, b"K\0\x03\x012k"),
+        StageAct::Turns(1),
+        StageAct::Note(0),
     ]
 }
 
@@ -187,29 +191,29 @@ fn shares_a_turn(rt: &impl System) -> Result<bool, AllocError> {
 
 // 8,192 entries at once, and one more each millisecond. A second before, the attach and the window took
 // entries, which have come back. Between, the loop waits.
-static RATE: [Row; 4] = [
-    (0, Wanted::TypedLen(0, 8_193)),
-    (0, Wanted::IsDue(false)),
-    (0, Wanted::HasWaiting(true)),
-    (1, Wanted::TypedLen(0, 8_243)),
+static RATE: [NoteRow; 4] = [
+    (0, Expected::TypedLen(0, 8_193)),
+    (0, Expected::IsDue(false)),
+    (0, Expected::HasWaiting(true)),
+    (1, Expected::TypedLen(0, 8_243)),
 ];
 
 // A client types 10,000 letters, each with a command, within a second, and time goes on later.
 fn has_a_rate(rt: &impl System) -> Result<bool, AllocError> {
     let letters = often(rt.alloc(), b"", b"K\0\x03x\x01n", 10_000)?;
     let acts = [
-        Act::SetTime(0, 0),
-        Act::Connect(Habit::Whole, WINDOW),
-        Act::Turns(2),
-        Act::Connect(Habit::Whole, ATTACH),
-        Act::Turns(2),
-        Act::Send(1, &letters),
-        Act::SetTime(1, 0),
-        Act::Turns(1_400),
-        Act::Note(0),
-        Act::SetTime(1, 1),
-        Act::Turns(50),
-        Act::Note(0),
+        StageAct::SetTime(0, 0),
+        StageAct::Connect(Habit::Whole, WINDOW),
+        StageAct::Turns(2),
+        StageAct::Connect(Habit::Whole, ATTACH),
+        StageAct::Turns(2),
+        StageAct::Send(1, &letters),
+        StageAct::SetTime(1, 0),
+        StageAct::Turns(1_400),
+        StageAct::Note(0),
+        StageAct::SetTime(1, 1),
+        StageAct::Turns(50),
+        StageAct::Note(0),
     ];
     Ok(is_played(rt, &acts, &RATE))
 }
@@ -217,7 +221,7 @@ fn has_a_rate(rt: &impl System) -> Result<bool, AllocError> {
 // Whether twenty clients show all that the window printed.
 fn are_drawn(alloc: Global, seen: &Seen) -> bool {
     for client in 1..=20 {
-        if first_wrong(alloc, seen, &[(0, Wanted::Shows(client, "ab"))]).is_some() {
+        if first_wrong(alloc, seen, &[(0, Expected::Shows(client, "ab"))]).is_some() {
             return false;
         }
     }
@@ -228,18 +232,21 @@ fn are_drawn(alloc: Global, seen: &Seen) -> bool {
 // them show it once the loop has nothing to do.
 fn is_drawn_to_its_end(rt: &impl System) -> Result<bool, AllocError> {
     let alloc = rt.alloc();
-    let mut acts = Vec::from_slice(alloc, &[Act::Connect(Habit::Whole, WINDOW), Act::Turns(2)])?;
+    let mut acts = Vec::from_slice(
+        alloc,
+        &[StageAct::Connect(Habit::Whole, WINDOW), StageAct::Turns(2)],
+    )?;
     for _ in 0..20 {
-        acts.push(Act::Connect(Habit::Whole, ATTACH))?;
+        acts.push(StageAct::Connect(Habit::Whole, ATTACH))?;
     }
     acts.extend_from_slice(&[
-        Act::Turns(4),
-        Act::Send(0, b"O\0\x01a"),
-        Act::Turns(1),
-        Act::Send(0, b"O\0\x01b"),
-        Act::Turns(1),
-        Act::QuietTurns(10),
-        Act::Note(0),
+        StageAct::Turns(4),
+        StageAct::Send(0, b"O\0\x01a"),
+        StageAct::Turns(1),
+        StageAct::Send(0, b"O\0\x01b"),
+        StageAct::Turns(1),
+        StageAct::QuietTurns(10),
+        StageAct::Note(0),
     ])?;
     Ok(match play(rt, &acts) {
         Some(seen) => are_drawn(alloc, &seen),

@@ -2,7 +2,7 @@
 
 use crate::rows::{play, typed};
 use server_stage::{
-    ACLADD, ATTACH_BOB, Act, Habit, MULTIUSER, Message, Received, Seen, System, WINDOW,
+    ACLADD, ATTACH_BOB, Habit, MULTIUSER, Message, Received, Seen, StageAct, System, WINDOW,
 };
 use std::alloc::{AllocError, Global};
 
@@ -25,24 +25,24 @@ const LETTER: &[u8] = b"K\0\x01x";
 fn spend<'a>(
     alloc: Global,
     letter: &'a [u8],
-    rest: &[Act<'a>],
-) -> Result<Vec<Act<'a>>, AllocError> {
+    rest: &[StageAct<'a>],
+) -> Result<Vec<StageAct<'a>>, AllocError> {
     let first = [
-        Act::SetTime(0, 0),
-        Act::Connect(Habit::Whole, WINDOW),
-        Act::Turns(2),
-        Act::Connect(Habit::Whole, MULTIUSER),
-        Act::Turns(2),
-        Act::Connect(Habit::Whole, ACLADD),
-        Act::Turns(2),
-        Act::Connect(Habit::Whole, TAKE),
-        Act::Turns(2),
-        Act::Connect(Habit::Whole, ATTACH_BOB),
-        Act::Turns(2),
+        StageAct::SetTime(0, 0),
+        StageAct::Connect(Habit::Whole, WINDOW),
+        StageAct::Turns(2),
+        StageAct::Connect(Habit::Whole, MULTIUSER),
+        StageAct::Turns(2),
+        StageAct::Connect(Habit::Whole, ACLADD),
+        StageAct::Turns(2),
+        StageAct::Connect(Habit::Whole, TAKE),
+        StageAct::Turns(2),
+        StageAct::Connect(Habit::Whole, ATTACH_BOB),
+        StageAct::Turns(2),
     ];
     let mut acts = Vec::from_slice(alloc, &first)?;
     for _ in 0..DENIED {
-        acts.extend_from_slice(&[Act::Send(BOB, letter), Act::Turns(1)])?;
+        acts.extend_from_slice(&[StageAct::Send(BOB, letter), StageAct::Turns(1)])?;
     }
     acts.extend_from_slice(rest)?;
     Ok(acts)
@@ -65,19 +65,19 @@ fn told(alloc: Global, seen: &Seen, note: usize, connection: usize) -> Option<us
 fn are_dropped(rt: &impl System) -> Option<bool> {
     let alloc = rt.alloc();
     let rest = [
-        Act::Send(BOB, LETTER),
-        Act::Turns(1),
-        Act::Send(BOB, LETTER),
-        Act::Turns(1),
-        Act::Note(0),
-        Act::SetTime(1, 0),
-        Act::Turns(1),
-        Act::Note(0),
-        Act::Connect(Habit::Whole, GIVE),
-        Act::Turns(2),
-        Act::Send(BOB, b"K\0\x01z"),
-        Act::Turns(1),
-        Act::Note(0),
+        StageAct::Send(BOB, LETTER),
+        StageAct::Turns(1),
+        StageAct::Send(BOB, LETTER),
+        StageAct::Turns(1),
+        StageAct::Note(0),
+        StageAct::SetTime(1, 0),
+        StageAct::Turns(1),
+        StageAct::Note(0),
+        StageAct::Connect(Habit::Whole, GIVE),
+        StageAct::Turns(2),
+        StageAct::Send(BOB, b"K\0\x01z"),
+        StageAct::Turns(1),
+        StageAct::Note(0),
     ];
     let acts = spend(alloc, LETTER, &rest).ok()?;
     let seen = play(rt, &acts)?;
@@ -92,19 +92,19 @@ fn are_dropped(rt: &impl System) -> Option<bool> {
 fn are_joined(rt: &impl System) -> Option<bool> {
     let alloc = rt.alloc();
     let rest = [
-        Act::SetTime(0, 1),
-        Act::Send(BOB, LETTER),
-        Act::Turns(1),
-        Act::Note(0),
-        Act::Send(BOB, LETTER),
-        Act::Turns(1),
-        Act::Send(BOB, b"K\0\x02yz"),
-        Act::Turns(1),
-        Act::Connect(Habit::Whole, GIVE),
-        Act::Turns(990),
-        Act::Note(0),
-        Act::Turns(20),
-        Act::Note(0),
+        StageAct::SetTime(0, 1),
+        StageAct::Send(BOB, LETTER),
+        StageAct::Turns(1),
+        StageAct::Note(0),
+        StageAct::Send(BOB, LETTER),
+        StageAct::Turns(1),
+        StageAct::Send(BOB, b"K\0\x02yz"),
+        StageAct::Turns(1),
+        StageAct::Connect(Habit::Whole, GIVE),
+        StageAct::Turns(990),
+        StageAct::Note(0),
+        StageAct::Turns(20),
+        StageAct::Note(0),
     ];
     let acts = spend(alloc, LETTER, &rest).ok()?;
     let seen = play(rt, &acts)?;

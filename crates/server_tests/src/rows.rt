@@ -1,11 +1,11 @@
 //! Plays, and rows that say what is to be seen of them.
 
-use server_stage::{Act, End, LoopState, Received, Seen, System, Why, perform, shows};
+use server_stage::{End, LoopState, Received, Seen, StageAct, System, Why, perform, shows};
 use std::alloc::Global;
 
 /// What is to be seen at a note. Connections count from 0, in the order in which they came.
 #[derive(Clone, Copy)]
-pub enum Wanted {
+pub enum Expected {
     /// A connection was sent these bytes.
     Sent(usize, &'static [u8]),
     /// A window's program has these bytes.
@@ -33,7 +33,7 @@ pub enum Wanted {
 }
 
 /// A note's number, and what is to be seen at it.
-pub type Row = (usize, Wanted);
+pub type NoteRow = (usize, Expected);
 
 /// The bytes for a window's program, of these frames.
 pub fn typed(alloc: Global, bytes: &[u8]) -> Option<Vec<u8>> {
@@ -47,14 +47,14 @@ fn is_shown(alloc: Global, bytes: &[u8], text: &str) -> Option<bool> {
 }
 
 // Whether a window's program that was sent these frames has the wanted bytes.
-fn has_typed(alloc: Global, bytes: &[u8], wanted: Wanted) -> bool {
+fn has_typed(alloc: Global, bytes: &[u8], wanted: Expected) -> bool {
     let Some(typed) = typed(alloc, bytes) else {
         return false;
     };
     match wanted {
-        Wanted::Typed(_, bytes) => typed.as_slice() == bytes,
-        Wanted::TypedLen(_, len) => typed.len() == len,
-        Wanted::HasTyped(_, byte, has) => typed.contains(&byte) == has,
+        Expected::Typed(_, bytes) => typed.as_slice() == bytes,
+        Expected::TypedLen(_, len) => typed.len() == len,
+        Expected::HasTyped(_, byte, has) => typed.contains(&byte) == has,
         _ => false,
     }
 }
@@ -68,29 +68,29 @@ fn is_gone(alloc: Global, bytes: &[u8], why: Option<Why>) -> bool {
 }
 
 // Whether the loop stands as wanted.
-fn stands(standing: LoopState, wanted: Wanted) -> bool {
+fn stands(standing: LoopState, wanted: Expected) -> bool {
     match wanted {
-        Wanted::Len(len) => standing.len == len,
-        Wanted::IsDue(is_due) => standing.is_due == is_due,
-        Wanted::HasWaiting(has_waiting) => standing.has_waiting == has_waiting,
-        Wanted::End(end) => standing.end == end,
+        Expected::Len(len) => standing.len == len,
+        Expected::IsDue(is_due) => standing.is_due == is_due,
+        Expected::HasWaiting(has_waiting) => standing.has_waiting == has_waiting,
+        Expected::End(end) => standing.end == end,
         _ => false,
     }
 }
 
 // Whether what a row says is seen.
-fn is_so(alloc: Global, seen: &Seen, (note, wanted): Row) -> bool {
+fn is_so(alloc: Global, seen: &Seen, (note, wanted): NoteRow) -> bool {
     match wanted {
-        Wanted::Sent(place, bytes) => seen.bytes(note, place) == bytes,
-        Wanted::Typed(place, _) | Wanted::TypedLen(place, _) | Wanted::HasTyped(place, _, _) => {
-            has_typed(alloc, seen.bytes(note, place), wanted)
-        }
-        Wanted::Gone(place, why) => is_gone(alloc, seen.bytes(note, place), why),
-        Wanted::Shows(place, text) => {
+        Expected::Sent(place, bytes) => seen.bytes(note, place) == bytes,
+        Expected::Typed(place, _)
+        | Expected::TypedLen(place, _)
+        | Expected::HasTyped(place, _, _) => { has_typed(alloc, seen.bytes(note, place), wanted) }
+        Expected::Gone(place, why) => is_gone(alloc, seen.bytes(note, place), why),
+        Expected::Shows(place, text) => {
             is_shown(alloc, seen.bytes(note, place), text) == Some(true)
         }
-        Wanted::Entries(entries) => seen.entries.as_slice() == entries,
-        Wanted::LastEntries(entries) => seen.entries.ends_with(entries),
+        Expected::Entries(entries) => seen.entries.as_slice() == entries,
+        Expected::LastEntries(entries) => seen.entries.ends_with(entries),
         _ => match seen.standing(note) {
             Some(standing) => stands(standing, wanted),
             None => false,
@@ -99,7 +99,7 @@ fn is_so(alloc: Global, seen: &Seen, (note, wanted): Row) -> bool {
 }
 
 /// The first of the rows that says something else than what is seen.
-pub fn first_wrong(alloc: Global, seen: &Seen, rows: &[Row]) -> Option<usize> {
+pub fn first_wrong(alloc: Global, seen: &Seen, rows: &[NoteRow]) -> Option<usize> {
     for (place, row) in rows.iter().enumerate() {
         if !is_so(alloc, seen, *row) {
             return Some(place);
@@ -109,12 +109,12 @@ pub fn first_wrong(alloc: Global, seen: &Seen, rows: &[Row]) -> Option<usize> {
 }
 
 /// What is seen when a loop over a new session performs the acts.
-pub fn play(rt: &impl System, acts: &[Act]) -> Option<Seen> {
+pub fn play(rt: &impl System, acts: &[StageAct]) -> Option<Seen> {
     perform(rt, 1, acts).ok()
 }
 
 /// Whether all that the rows say is seen when a loop performs the acts.
-pub fn is_played(rt: &impl System, acts: &[Act], rows: &[Row]) -> bool {
+pub fn is_played(rt: &impl System, acts: &[StageAct], rows: &[NoteRow]) -> bool {
     match play(rt, acts) {
         Some(seen) => first_wrong(rt.alloc(), &seen, rows).is_none(),
         None => false,

@@ -1,13 +1,15 @@
 //! Lines on their way to a trail's file: several threads put them down, and one thread writes them.
 
-ghost use Rattle.std.specs.Prelude.{◌≡◌, ◌++◌, ◌∷◌, [], ℕ, List, IfOk, OnOk, OnErr};
+ghost use Rattle.std.specs.Prelude.{◌≡◌, ◌++◌, ◌∷◌, [], true, ℕ, List, IfOk, OnOk, OnErr};
+ghost use Rattle.std.specs.List.{list_any};
+ghost use Rattle.hub.specs.Legal.{asks_for_command};
 ghost use Rattle.server_trail.specs.Merging.{HasMerged, Placed};
 ghost use Rattle.trail_lines.specs.Entries.{line_of};
 
 use crate::file::time;
 use crate::merge::Merge;
 use crate::stop::StopCause;
-use hub::TrailEntry;
+use hub::{TrailEntry, asks_for_command};
 use std::alloc::{AllocError, Global};
 use std::sync::atomic::{AtomicU64, Ordering};
 use std::sync::{Condvar, Mutex, OnceLock, Wait};
@@ -51,6 +53,20 @@ fn line_of(alloc: Global, place: usize, ms: u64, entry: &TrailEntry) -> Result<V
     print_line(place as u64, ms, entry, &mut line)?;
     line.push(b'\n')?;
     Ok(line)
+}
+
+// Whether an entry tells of more than typed keys: of a change, or of a command.
+fn is_urgent(entry: &TrailEntry) -> bool
+    ensures changes { ¬ (entry.now.acts ≡ []) → result ≡ true }
+    ensures others { entry.now.acts ≡ [] → result ≡ list_any asks_for_command entry.now.verdicts }
+{
+    match entry.acts() {
+        [] => entry
+            .verdicts()
+            .iter()
+            .any(|verdict| asks_for_command(*verdict)),
+        _ => true,
+    }
 }
 
 // Whether the writer must be woken after a line, before which this many bytes were ready: the first
@@ -114,8 +130,7 @@ impl Recorder {
             Some(entry) => line_of(self.alloc, place, ms, entry),
             None => Err(AllocError),
         };
-        let is_urgent = entry.is_some_and(|entry| !entry.acts().is_empty());
-        self.put_line(rt, place, line, is_urgent);
+        self.put_line(rt, place, line, entry.is_some_and(|entry| is_urgent(entry)));
     }
 
     fn put_line(

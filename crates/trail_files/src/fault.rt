@@ -4,7 +4,7 @@ use std::io::{self, ErrorKind, Write};
 
 /// Why a file isn't read to its end.
 #[derive(Clone, Copy)]
-pub enum Fault {
+pub enum TrailFault {
     /// The file can't be opened.
     NotOpened(io::Error),
     /// Reading failed, or memory was refused.
@@ -33,35 +33,38 @@ fn write_unopened<W: Write>(error: io::Error, path: &str, output: &mut W) -> io:
     }
 }
 
-impl Fault {
+impl TrailFault {
     /// Writes what happened, the path, and what to do.
     pub fn write<W: Write>(self, path: &str, output: &mut W) -> io::Result<()> {
         output.write_all(b"mux-trail: ")?;
         match self {
-            Fault::NotOpened(error) => write_unopened(error, path, output),
-            Fault::Io(error) => writeln!(output, "can't go on: {path}: {error}"),
-            Fault::NotWritten(error) => writeln!(output, "can't write to standard output: {error}"),
-            Fault::NoHeader(line) => writeln!(
+            TrailFault::NotOpened(error) => write_unopened(error, path, output),
+            TrailFault::Io(error) => writeln!(output, "can't go on: {path}: {error}"),
+            TrailFault::NotWritten(error) => writeln!(
+                output,
+                "can't write to standard output: {error}"
+            ),
+            TrailFault::NoHeader(line) => writeln!(
                 output,
                 "line {line} isn't the first line of a trail: {path}: give a file that muxd --trail wrote"
             ),
-            Fault::NoLine(line) => writeln!(
+            TrailFault::NoLine(line) => writeln!(
                 output,
                 "line {line} isn't a line of a trail: {path}: mux-trail check says more"
             ),
-            Fault::NoPlace(place, 0) => writeln!(
+            TrailFault::NoPlace(place, 0) => writeln!(
                 output,
                 "--at names no entry: {place}: {path} has none yet: leave --at out"
             ),
-            Fault::NoPlace(place, count) => writeln!(
+            TrailFault::NoPlace(place, count) => writeln!(
                 output,
                 "--at names no entry: {place}: {path} has {count}: give a place below {count}"
             ),
-            Fault::NoEntryYet => writeln!(
+            TrailFault::NoEntryYet => writeln!(
                 output,
                 "--at is before the first entry: {path}: give a later time"
             ),
-            Fault::NotSought => writeln!(
+            TrailFault::NotSought => writeln!(
                 output,
                 "a mask wasn't looked for: {path}: this is a fault of mux-trail"
             ),
@@ -69,8 +72,8 @@ impl Fault {
     }
 }
 
-impl From<io::Error> for Fault {
-    fn from(error: io::Error) -> Fault {
-        Fault::Io(error)
+impl From<io::Error> for TrailFault {
+    fn from(error: io::Error) -> TrailFault {
+        TrailFault::Io(error)
     }
 }

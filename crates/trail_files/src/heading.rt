@@ -1,6 +1,6 @@
 //! The first line of a file.
 
-use crate::fault::Fault;
+use crate::fault::TrailFault;
 use acl::{Edition, UserId};
 use std::alloc::{AllocError, Global};
 use std::io::{self, BufRead};
@@ -16,23 +16,23 @@ pub struct Heading {
 }
 
 /// What a first line says.
-fn heading_in(alloc: Global, line: &[u8]) -> Result<Heading, Fault> {
+fn heading_in(alloc: Global, line: &[u8]) -> Result<Heading, TrailFault> {
     match read_header(alloc, line) {
         Ok(header) => Ok(Heading {
             edition: header.edition,
             owner: header.owner,
             ms: header.ms,
         }),
-        Err(UnreadLine::Malformed) => Err(Fault::NoHeader(1)),
-        Err(UnreadLine::NoMemory) => Err(Fault::Io(io::Error::from(AllocError))),
+        Err(UnreadLine::Malformed) => Err(TrailFault::NoHeader(1)),
+        Err(UnreadLine::NoMemory) => Err(TrailFault::Io(io::Error::from(AllocError))),
     }
 }
 
 /// What the first line of a reader says.
-pub fn heading_of<R: BufRead>(alloc: Global, reader: &mut R) -> Result<Heading, Fault> {
+pub fn heading_of<R: BufRead>(alloc: Global, reader: &mut R) -> Result<Heading, TrailFault> {
     let mut line = Vec::new(alloc);
     match next_line(reader, &mut line)? {
         NextLine::Whole => heading_in(alloc, line.as_slice()),
-        NextLine::Torn | NextLine::Nothing => Err(Fault::NoHeader(1)),
+        NextLine::Torn | NextLine::Nothing => Err(TrailFault::NoHeader(1)),
     }
 }

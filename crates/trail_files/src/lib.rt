@@ -8,7 +8,7 @@ mod moment;
 mod tell;
 
 pub use check::{Finish, check_lines, finish_at, finish_of};
-pub use fault::Fault;
+pub use fault::TrailFault;
 pub use heading::{Heading, heading_of};
 pub use moment::place_at;
 pub use tell::{ILLEGAL, LEGAL, TROUBLE, UNCONFINED, tell_back, tell_finish, tell_heading};

@@ -1,6 +1,6 @@
 //! The last entry at a time.
 
-use crate::fault::Fault;
+use crate::fault::TrailFault;
 use line_fields::u64_at;
 use std::alloc::Global;
 use std::io::{self, BufRead};
@@ -29,8 +29,8 @@ fn last_before<R: BufRead>(ms: u64, reader: &mut R, line: &mut Vec<u8>) -> io::R
 }
 
 /// The place of the last entry of a reader before the first one that is later than the time.
-pub fn place_at<R: BufRead>(alloc: Global, ms: u64, reader: &mut R) -> Result<u64, Fault> {
+pub fn place_at<R: BufRead>(alloc: Global, ms: u64, reader: &mut R) -> Result<u64, TrailFault> {
     let mut line = Vec::new(alloc);
     let _first = next_line(reader, &mut line)?;
-    last_before(ms, reader, &mut line)?.ok_or(Fault::NoEntryYet)
+    last_before(ms, reader, &mut line)?.ok_or(TrailFault::NoEntryYet)
 }

@@ -18,7 +18,7 @@ mod watch;
 
 pub use decider::{Decider, found_in};
 pub use laws::{latest_decides, latest_settles, open_are_listed};
-pub use lines::{Form, show_lines};
+pub use lines::{LineFormat, show_lines};
 pub use mark::Mark;
 pub use masks::{letter, push_mask_lines, settings_of};
 pub use rights::{holder, may, users_of};

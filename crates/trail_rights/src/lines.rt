@@ -22,7 +22,7 @@ pub struct Said {
 
 /// A line after the first one.
 #[derive(Drop)]
-enum Shown {
+enum ShownLine {
     Entry(Said),
     End(Ended),
     /// A line that isn't a line of a trail.
@@ -69,22 +69,22 @@ fn read_said(alloc: Global, text: &[u8]) -> Result<Said, UnreadLine> {
 }
 
 /// What a line is.
-fn read_told(alloc: Global, text: &[u8]) -> Result<Shown, AllocError> {
+fn read_told(alloc: Global, text: &[u8]) -> Result<ShownLine, AllocError> {
     match read_said(alloc, text) {
-        Ok(said) => return Ok(Shown::Entry(said)),
+        Ok(said) => return Ok(ShownLine::Entry(said)),
         Err(UnreadLine::NoMemory) => return Err(AllocError),
         Err(UnreadLine::Malformed) => {}
     }
     match read_end(alloc, text) {
-        Ok(ended) => Ok(Shown::End(ended)),
+        Ok(ended) => Ok(ShownLine::End(ended)),
         Err(UnreadLine::NoMemory) => Err(AllocError),
-        Err(UnreadLine::Malformed) => Ok(Shown::Nothing),
+        Err(UnreadLine::Malformed) => Ok(ShownLine::Nothing),
     }
 }
 
 /// How lines are shown.
 #[derive(Clone, Copy)]
-pub enum Form {
+pub enum LineFormat {
     /// As the file has them, but with times in the form of RFC 3339.
     Plain,
     /// As objects of JSON.
@@ -128,27 +128,27 @@ fn show_end<W: Write>(text: &[u8], output: &mut W) -> io::Result<()> {
 /// Writes a line, by what it is.
 fn show_told<W: Write>(
     alloc: Global,
-    form: Form,
-    told: &Shown,
+    form: LineFormat,
+    told: &ShownLine,
     text: &[u8],
     output: &mut W,
 ) -> io::Result<()> {
     match (told, form) {
-        (Shown::Entry(said), Form::Plain) => show_entry(alloc, said, text, output),
-        (Shown::Entry(said), Form::Json) => write_entry(alloc, said, text, output),
-        (Shown::End(_), Form::Plain) => show_end(text, output),
-        (Shown::End(ended), Form::Json) => write_end(alloc, *ended, output),
-        (Shown::Nothing, _) => Ok(()),
+        (ShownLine::Entry(said), LineFormat::Plain) => show_entry(alloc, said, text, output),
+        (ShownLine::Entry(said), LineFormat::Json) => write_entry(alloc, said, text, output),
+        (ShownLine::End(_), LineFormat::Plain) => show_end(text, output),
+        (ShownLine::End(ended), LineFormat::Json) => write_end(alloc, *ended, output),
+        (ShownLine::Nothing, _) => Ok(()),
     }
 }
 
 /// Writes a line at once, and gives what it is.
 fn show_text<W: Write>(
     alloc: Global,
-    form: Form,
+    form: LineFormat,
     text: &[u8],
     output: &mut W,
-) -> io::Result<Shown> {
+) -> io::Result<ShownLine> {
     let told = read_told(alloc, text)?;
     show_told(alloc, form, &told, text, output)?;
     output.flush()?;
@@ -159,7 +159,7 @@ fn show_text<W: Write>(
 /// answer is the number of the first line that isn't a line of a trail, if there is one.
 pub fn show_lines<R: BufRead, W: Write>(
     alloc: Global,
-    form: Form,
+    form: LineFormat,
     reader: &mut R,
     output: &mut W,
 ) -> io::Result<Option<u64>> {
@@ -169,9 +169,9 @@ pub fn show_lines<R: BufRead, W: Write>(
             break;
         };
         match show_text(alloc, form, text.as_slice(), output)? {
-            Shown::Entry(_) => {}
-            Shown::End(_) => break,
-            Shown::Nothing => return Ok(Some(number)),
+            ShownLine::Entry(_) => {}
+            ShownLine::End(_) => break,
+            ShownLine::Nothing => return Ok(Some(number)),
         }
     }
     Ok(None)

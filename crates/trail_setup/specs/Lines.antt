@@ -1,7 +1,7 @@
 -- Lines with one command each, on which as many words stand as fit.
 use Rattle.std.specs.Prelude.{◌≡◌, ◌||◌, ℕ, Bool, true, false, not, cond, List, [], ◌∷◌, ◌++◌, slice_index_or}
 use Rattle.std.specs.List.{flat_map}
-use Rattle.trail_setup.specs.declared.lines.Form.{Form}
+use Rattle.trail_setup.specs.declared.lines.LineForm.{LineForm}
 
 -- how a line begins, what stands between two words, and how it ends
 pub record Kind : Type 0 where
@@ -9,7 +9,7 @@ pub record Kind : Type 0 where
   pub between : ℕ
   pub tail : List ℕ
 
-abbrev pub kind_of : Form → Kind
+abbrev pub kind_of : LineForm → Kind
 kind_of f = record { head = f.head.now; between = f.between; tail = f.tail.now }
 
 -- a line with these words, before its end; nothing without words

@@ -1,7 +1,7 @@
 //! The lines of a setup that give users commands and leaders.
 
 use crate::entries::Entries;
-use crate::lines::{Form, Given, Lines, push_bits};
+use crate::lines::{Given, LineForm, Lines, push_bits};
 use acl::{Bit, CommandName, Object, UserId};
 use command_lang::name_text;
 use hub::Replay;
@@ -50,7 +50,7 @@ fn push_given(
     push_bits(given, &mut head)?;
     let mut lines = Lines::new(
         alloc,
-        Form {
+        LineForm {
             head: head.as_slice(),
             between: b',',
             tail: b"",

@@ -14,7 +14,7 @@ pub type Given = [bool; 3];
 
 /// Lines that begin and end alike, and have words between.
 #[derive(Clone, Copy)]
-pub struct Form<'a> {
+pub struct LineForm<'a> {
     /// The line begins with these.
     pub head: &'a [u8],
     /// Stands between two words.
@@ -26,13 +26,13 @@ pub struct Form<'a> {
 /// The lines of a form, with the words that were put on them.
 #[derive(Drop)]
 pub struct Lines<'a> {
-    form: Form<'a>,
+    form: LineForm<'a>,
     line: Vec<u8>,
 }
 
 impl<'a> Lines<'a> {
     /// Before the first word.
-    pub fn new(alloc: Global, form: Form<'a>) -> Lines<'a>
+    pub fn new(alloc: Global, form: LineForm<'a>) -> Lines<'a>
         ensures form { result.form ≡ form.entry }
         ensures begins { (out : List ℕ) → HoldWords (kind_of result.form) out [] out result.line.items }
     {

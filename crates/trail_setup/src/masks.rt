@@ -1,13 +1,13 @@
 //! The masks of a setup.
 
-use crate::lines::{Form, Given, Lines, push_bits};
+use crate::lines::{Given, LineForm, Lines, push_bits};
 use crate::state::SetupState;
 use acl::{Bit, CommandName, Object, UserId};
 use std::alloc::{AllocError, Global};
 
 /// What a setup knows of masks.
 #[derive(Clone, Copy)]
-pub struct Masks<'a> {
+pub struct SetupMasks<'a> {
     pub alloc: Global,
     pub state: &'a SetupState,
     /// The known users, the owner first.
@@ -19,7 +19,7 @@ fn leaves_all(given: Given) -> bool {
     given == [true, true, true]
 }
 
-impl Masks<'_> {
+impl SetupMasks<'_> {
     /// Whether the user is the owner.
     fn is_owner(&self, user: UserId) -> bool {
         match self.users {
@@ -79,7 +79,7 @@ impl Masks<'_> {
         head: &[u8],
         out: &mut Vec<u8>,
     ) -> Result<(), AllocError> {
-        let form = Form {
+        let form = LineForm {
             head,
             between: b' ',
             tail: b"",

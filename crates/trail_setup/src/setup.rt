@@ -1,8 +1,8 @@
 //! The lines of a setup.
 
 use crate::commands::{push_commands, push_leaders};
-use crate::lines::{Form, Lines, push_bits};
-use crate::masks::Masks;
+use crate::lines::{LineForm, Lines, push_bits};
+use crate::masks::SetupMasks;
 use crate::mode::ModeSeen;
 use crate::state::SetupState;
 use acl::{LockMode, PresetKind, UserId};
@@ -16,7 +16,7 @@ const LATER: &[u8] = b"# later: ";
 /// Appends the lines that make users known with nothing, in their order.
 fn push_users(alloc: Global, users: &[UserId], out: &mut Vec<u8>) -> Result<(), AllocError> {
     out.extend_from_slice(b"multiuser on\naclumask ?-rwx ??-rwx\n")?;
-    let form = Form {
+    let form = LineForm {
         head: b"aclchg",
         between: b',',
         tail: b" -rwx ?",
@@ -51,7 +51,7 @@ fn push_default(mode: LockMode, out: &mut Vec<u8>) -> Result<(), AllocError> {
 }
 
 /// Appends the lines for later: what masks are once all windows are back, and the mode.
-fn push_later(masks: Masks<'_>, out: &mut Vec<u8>) -> Result<(), AllocError> {
+fn push_later(masks: SetupMasks<'_>, out: &mut Vec<u8>) -> Result<(), AllocError> {
     masks.push(true, LATER, out)?;
     match masks.state.mode {
         ModeSeen::Multiuser => Ok(()),
@@ -72,7 +72,7 @@ pub fn push_setup(
 ) -> Result<(), AllocError> {
     let replay = watch.replay();
     let users = users_of(alloc, replay)?;
-    let masks = Masks {
+    let masks = SetupMasks {
         alloc,
         state,
         users: users.as_slice(),

@@ -9,7 +9,7 @@ use std::alloc::{AllocError, Global};
 
 /// A mask that was set: the opener, the user, and what it leaves to them.
 #[derive(Clone, Copy)]
-pub struct Mask {
+pub struct SetMask {
     by: UserId,
     user: UserId,
     left: Given,
@@ -25,7 +25,7 @@ pub struct SetupState {
     /// The serials of open windows, with the users who opened them.
     pub(crate) windows: Vec<(u32, UserId)>,
     /// One for each opener and user of whom a mask was set since both are known.
-    masks: Vec<Mask>,
+    masks: Vec<SetMask>,
     /// What the presets for windows and for commands give.
     on_windows: Given,
     on_commands: Given,
@@ -91,7 +91,7 @@ impl SetupState {
         }
         let mut left = [true, true, true];
         set(&mut left, bit, value);
-        self.masks.push(Mask { by, user, left })?;
+        self.masks.push(SetMask { by, user, left })?;
         Ok(())
     }
 

@@ -12,7 +12,7 @@ const CHUNK: usize = 65_536;
 
 /// Why no page was printed.
 #[derive(Clone, Copy)]
-enum Fault {
+enum CatFault {
     /// The lines, the columns and the kept lines that were asked for.
     BadSize(usize, usize, usize),
     NoMemory,
@@ -22,31 +22,34 @@ enum Fault {
     Output(io::Error),
 }
 
-impl From<AllocError> for Fault {
-    fn from(_e: AllocError) -> Fault {
-        Fault::NoMemory
+impl From<AllocError> for CatFault {
+    fn from(_e: AllocError) -> CatFault {
+        CatFault::NoMemory
     }
 }
 
-impl<T: Drop> From<AllocFailed<T>> for Fault {
-    fn from(_e: AllocFailed<T>) -> Fault {
-        Fault::NoMemory
+impl<T: Drop> From<AllocFailed<T>> for CatFault {
+    fn from(_e: AllocFailed<T>) -> CatFault {
+        CatFault::NoMemory
     }
 }
 
 // What happened, to what, and what to do about it.
-fn write_fault<E: Write>(fault: Fault, errors: &mut E) -> io::Result<()> {
+fn write_fault<E: Write>(fault: CatFault, errors: &mut E) -> io::Result<()> {
     match fault {
-        Fault::BadSize(rows, columns, keep) => writeln!(
+        CatFault::BadSize(rows, columns, keep) => writeln!(
             errors,
             "vtcat: bad size: --rows {rows} --cols {columns} --keep {keep} (set 2 to 200, 2 to 300, 0 to 2000)",
         ),
-        Fault::NoMemory => writeln!(
+        CatFault::NoMemory => writeln!(
             errors,
             "vtcat: out of memory: the page (set fewer rows, columns or kept lines)",
         ),
-        Fault::Input(error) => writeln!(errors, "vtcat: can't read standard input: {error}"),
-        Fault::Output(error) => writeln!(errors, "vtcat: can't write to standard output: {error}"),
+        CatFault::Input(error) => writeln!(errors, "vtcat: can't read standard input: {error}"),
+        CatFault::Output(error) => writeln!(
+            errors,
+            "vtcat: can't write to standard output: {error}"
+        ),
     }
 }
 
@@ -59,19 +62,19 @@ fn read_all<R: Read + Drop>(
     alloc: Global,
     mut reader: R,
     emulator: &mut Emulator,
-) -> Result<(), Fault> {
+) -> Result<(), CatFault> {
     let mut buffer = vec![in alloc; 0; CHUNK]?;
     let mut reports = Vec::new(alloc);
     for _ in 0..u64::MAX {
         let count = match reader.read(buffer.as_mut_slice()) {
             Ok(count) => count,
-            Err(error) => return Err(Fault::Input(error)),
+            Err(error) => return Err(CatFault::Input(error)),
         };
         if count == 0 {
             return Ok(());
         }
         if emulator.feed_all(&buffer[..count], &mut reports).is_err() {
-            return Err(Fault::NoMemory);
+            return Err(CatFault::NoMemory);
         }
         reports.clear();
     }
@@ -117,19 +120,19 @@ fn show<R: Read + Drop, W: Write>(
     found: &ArgMatches,
     reader: R,
     writer: &mut W,
-) -> Result<(), Fault> {
+) -> Result<(), CatFault> {
     let rows = number(found, "rows");
     let columns = number(found, "cols");
     let keep = number(found, "keep");
     let mut emulator = match Emulator::new(alloc, rows, columns, keep) {
         Ok(emulator) => emulator,
-        Err(GridFault::BadSize) => return Err(Fault::BadSize(rows, columns, keep)),
-        Err(GridFault::NoMemory) => return Err(Fault::NoMemory),
+        Err(GridFault::BadSize) => return Err(CatFault::BadSize(rows, columns, keep)),
+        Err(GridFault::NoMemory) => return Err(CatFault::NoMemory),
     };
     read_all(alloc, reader, &mut emulator)?;
     match write_screen(alloc, &emulator, writer) {
         Ok(()) => Ok(()),
-        Err(error) => Err(Fault::Output(error)),
+        Err(error) => Err(CatFault::Output(error)),
     }
 }
 

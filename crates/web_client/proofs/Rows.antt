@@ -13,7 +13,7 @@ use Rattle.websocket.specs.declared.protocol.frame.coding.Control.TheVariants.{P
 use Rattle.websocket.specs.Connection.{Connection, Effect, Outgoing, Sends}
 use Rattle.websocket.specs.View.{Leaves}
 use Rattle.web_client.specs.declared.wire.Wire.{Wire}
-use Rattle.web_page.specs.Hearing.{Display}
+use Rattle.web_page.specs.Hearing.{WebDisplay}
 use Rattle.web_page.specs.Updates.{spelled}
 use Rattle.attach_proto.specs.declared.told.Told.{Told}
 use Rattle.attach_proto.specs.declared.why.Why.{Why}
@@ -53,7 +53,7 @@ both_add a b c h k = (
 )
 
 -- rows that were sent between other bytes
-pub shows : {A E : Type 0} (result : Result A E) (old : Display) (since : ℕ) (before v w : Wire) (new : Display)
+pub shows : {A E : Type 0} (result : Result A E) (old : WebDisplay) (since : ℕ) (before v w : Wire) (new : WebDisplay)
     (later : ℕ) (after : Wire) → Adds before v → OnOk result (Adds w after)
     → ((t : Terminal) (b : Shown) → StandsFor old.sheet.terminal t → IsAsFar since old.sheet b
     → SendsPage t b v w × StandsFor new.sheet.terminal t × IsAsFar later new.sheet (page_of t.screen))

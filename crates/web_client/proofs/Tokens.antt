@@ -7,7 +7,7 @@ use Rattle.attach_proto.specs.Streams.{Reading}
 use Rattle.web_page.specs.Showing.{Sheet}
 use Rattle.web_page.proofs.Blank.{same-blank}
 use Rattle.web_client.specs.declared.client.WebClient.{WebClient}
-use Rattle.web_page.specs.Hearing.{Display, IsBlank}
+use Rattle.web_page.specs.Hearing.{WebDisplay, IsBlank}
 use Rattle.web_client.specs.Asking.{lines_in, columns_in, IsLogin}
 
 -- the first bytes decide a byte among them
@@ -29,7 +29,7 @@ same-columns : (p q : List ℕ) → take 4 p ≡ take 4 q → columns_in p ≡ c
 same-columns p q e = ap (λ (n : ℕ). max 20 (min n 300)) (same-number p q 2 3 e (lit< tt) (lit< tt))
 
 -- there is one blank display of each size and name
-one-blank : (rows columns : ℕ) (name : List ℕ) (a b : Display) → IsBlank rows columns name a
+one-blank : (rows columns : ℕ) (name : List ℕ) (a b : WebDisplay) → IsBlank rows columns name a
     → IsBlank rows columns name b → a ≡ b
 one-blank rows columns name a b p q =
     ap (λ (n : List ℕ). record a { name = n }) (p.called ∙ sym q.called)

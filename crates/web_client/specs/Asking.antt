@@ -9,7 +9,7 @@ use Rattle.attach_proto.specs.Spelling.{spelling}
 use Rattle.web_client.specs.declared.client.WebClient.{WebClient}
 use Rattle.web_client.specs.declared.identity.Identity.{Identity}
 use Rattle.web_client.specs.declared.identity.Identity.TheVariants.{Nobody, Own, Watching, Link, Unknown, Left}
-use Rattle.web_page.specs.Hearing.{Display, IsBlank, IsResized}
+use Rattle.web_page.specs.Hearing.{WebDisplay, IsBlank, IsResized}
 
 -- ---- messages
 
@@ -30,7 +30,7 @@ IsAskedBy message Detach = message ≡ 0x44 ∷ []
 IsAskedBy message _ = ⊥
 
 -- only a new size changes what the client shows
-abbrev pub Redraws : Message → Display → Display → Type 0
+abbrev pub Redraws : Message → WebDisplay → WebDisplay → Type 0
 Redraws (Resize rows columns) old new = IsResized rows columns old new
 Redraws _ old new = new ≡ old
 

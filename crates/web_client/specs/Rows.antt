@@ -13,7 +13,7 @@ use Rattle.web_page.specs.Updates.{Update, spelled}
 use Rattle.web_page.specs.Laying.{Shown, laid, page_of}
 use Rattle.web_page.specs.Showing.{Sheet, IsShown}
 use Rattle.web_client.specs.declared.wire.Wire.{Wire}
-use Rattle.web_page.specs.Hearing.{Display}
+use Rattle.web_page.specs.Hearing.{WebDisplay}
 use Rattle.web_page.specs.Json.{spelled_text}
 use Rattle.attach_proto.specs.Fields.{reason}
 use Rattle.attach_proto.specs.declared.why.Why.{Why}
@@ -63,7 +63,7 @@ abbrev pub HasRoom : Wire → Type 0
 HasRoom w = (w.output.items ≡ []) × (w.sent ≤ w.answered + 4096)
 
 -- Rows are sent if the server let the client in: when the browser has read the last ones, and at the end.
-abbrev pub IsDue : Display → Wire → Type 0
+abbrev pub IsDue : WebDisplay → Wire → Type 0
 IsDue d w = (d.told.is_welcome ≡ true) × (HasRoom w ⊎ IsSome d.told.gone)
 
 -- ---- texts that a browser is told: no character of them is markup
@@ -127,7 +127,7 @@ SendsAll told old new =
     (v : Wire) × (w : Wire) × MayTell welcomed old v × MaySendRows v w × Ends told.refusal told.gone w new
 
 -- What is sent makes the page of a terminal that has read all draws, of what the browser shows.
-abbrev pub Shows : (old : Display) (since : ℕ) (before : Wire) (new : Display) (later : ℕ) (after : Wire) → Type 0
+abbrev pub Shows : (old : WebDisplay) (since : ℕ) (before : Wire) (new : WebDisplay) (later : ℕ) (after : Wire) → Type 0
 Shows old since before new later after =
     (t : Terminal) (b : Shown) → StandsFor old.sheet.terminal t → IsAsFar since old.sheet b
     → (v : Wire) × (w : Wire) × Adds before v × SendsPage t b v w × Adds w after

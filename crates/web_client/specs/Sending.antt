@@ -1,7 +1,7 @@
 -- Bytes on their way to a writer, and from a reader.
 use Rattle.std.specs.Prelude.{◌≡◌, ℕ, List, ◌++◌, Option, Some, None}
 use Rattle.std.specs.Io.KnownBytes.{Consumes}
-use Rattle.web_page.specs.Hearing.{Display, Hears}
+use Rattle.web_page.specs.Hearing.{WebDisplay, Hears}
 
 -- of the bytes that were put, a writer holds those that were written, and the rest waits; what the
 -- writer holds is known
@@ -16,5 +16,5 @@ IsReceived sent None waiting = ⊥
 IsReceived sent (Some left) waiting = sent ≡ waiting ++ left
 
 -- a display heard the next bytes of a reader, and no others
-abbrev pub HearsNext : Option (List ℕ) → Display → Option (List ℕ) → Display → Type 0
+abbrev pub HearsNext : Option (List ℕ) → WebDisplay → Option (List ℕ) → WebDisplay → Type 0
 HearsNext left old later new = (bytes : List ℕ) × Consumes left later bytes × Hears old bytes new

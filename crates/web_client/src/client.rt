@@ -16,7 +16,7 @@ use attach_proto::{Bytes, Message, Text, Token, WriteFault, write_message};
 use std::alloc::Global;
 use std::io;
 use std::io::{ErrorKind, Read, Write};
-use web_page::{ClientFault, Display};
+use web_page::{ClientFault, WebDisplay};
 use web_requests::Watcher;
 
 /// A client of the server, over a connection of its own.
@@ -25,7 +25,7 @@ pub struct WebClient {
     alloc: Global,
     // The frames that wait for the server. The token is in them, and nowhere else.
     pub(crate) outgoing: Outgoing,
-    pub(crate) display: Display,
+    pub(crate) display: WebDisplay,
 }
 
 impl WebClient {
@@ -60,7 +60,7 @@ impl WebClient {
         let mut client = WebClient {
             alloc,
             outgoing: Outgoing::new(alloc),
-            display: Display::new(alloc, rows, columns, name)?,
+            display: WebDisplay::new(alloc, rows, columns, name)?,
         };
         let name = Text::of(alloc, name)?;
         // A token is 64 digits and a text is UTF-8, so a frame spells both: these calls ensure it.
@@ -76,7 +76,7 @@ impl WebClient {
     }
 
     /// What the server has told it.
-    pub fn display(&self) -> &Display
+    pub fn display(&self) -> &WebDisplay
         ensures { result.now ≡ self.now.display }
     {
         &self.display
@@ -177,7 +177,7 @@ impl SharedClient {
     }
 
     /// What the server has told it.
-    pub fn display(&self) -> &Display
+    pub fn display(&self) -> &WebDisplay
         ensures { result.now ≡ self.now.client.display }
     {
         &self.client.display

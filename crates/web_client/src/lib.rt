@@ -13,6 +13,6 @@ mod wire;
 pub use client::{SharedClient, WebClient, tokens_change_no_display};
 pub use identity::{Identity, fitted};
 pub use visitor::Visitor;
-pub use web_page::{ClientFault, Display};
+pub use web_page::{ClientFault, WebDisplay};
 pub use web_requests::{Site, SiteFile, Watcher, refusal};
 pub use wire::WireFault;

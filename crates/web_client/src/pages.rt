@@ -32,7 +32,8 @@ impl Visitor {
         ensures sent { IfOwn self.old.identity (λ old. IsOwn self.new.identity (λ new. (put : List ℕ)
             → IsSent put (S.contents server.old) old.outgoing → IsSent put (S.contents server.new) new.outgoing)) }
         ensures display { IfOwn self.old.identity (λ old. IsOwn self.new.identity (λ new. new.display ≡ old.display)) }
-        ensures apart { (IsOwn self.old.identity (λ _. Unit {0}) → ⊥) → (self.new ≡ self.old) × (server.new ≡ server.old) }
+        ensures apart { (IsOwn self.old.identity (λ _. Unit {0}) → ⊥)
+            → (self.new ≡ self.old) × (server.new ≡ server.old) }
         ensures same { self.new ≡ record self.old { identity = self.new.identity } }
     {
         match &mut self.identity {

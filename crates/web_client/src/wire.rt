@@ -16,7 +16,7 @@ ghost use Rattle.web_client.specs.declared.wire.WireFault.TheVariants as end;
 use crate::frame::{PageFrame, answered_for, said};
 use attach_proto::Why;
 use std::alloc::{AllocError, Global};
-use web_page::{Display, SheetFault, put_text};
+use web_page::{SheetFault, WebDisplay, put_text};
 use websocket::protocol::{
     CloseCode, CloseFrame, FrameStatus, Message, NoMask, Role, WebSocketConfig, WebSocketContext,
 };
@@ -228,7 +228,7 @@ impl Wire {
     }
 
     // Sends what is new of a page.
-    fn send_rows(&mut self, view: &mut SentPage, display: &mut Display) -> Result<(), WireFault>
+    fn send_rows(&mut self, view: &mut SentPage, display: &mut WebDisplay) -> Result<(), WireFault>
         // The browser then shows the page of a terminal that has read all draws.
         ensures rows { (t : Terminal) (b : Shown) → StandsFor display.old.sheet.terminal t
             → IsAsFar view.old.since display.old.sheet b
@@ -257,14 +257,14 @@ impl Wire {
     }
 
     // Whether rows are sent now.
-    fn is_due(&self, display: &Display) -> bool
+    fn is_due(&self, display: &WebDisplay) -> bool
         ensures { IsTrue result ↔ IsDue display.now self.now }
     {
         display.is_welcome() && (self.has_room() || display.gone().is_some())
     }
 
     // Tells once that the server let the browser's client in.
-    fn welcome(&mut self, view: &mut SentPage, display: &Display) -> Result<(), WireFault>
+    fn welcome(&mut self, view: &mut SentPage, display: &WebDisplay) -> Result<(), WireFault>
         ensures tells { OnOk result (MayTell welcomed self.old self.new) }
         ensures told { display.now.told.is_welcome ≡ true → view.old.is_welcomed ≡ false
             → OnOk result (SendsText welcomed self.old self.new) }
@@ -281,7 +281,7 @@ impl Wire {
     }
 
     // Tells why the server didn't let the client in, if it said so.
-    fn explain(&mut self, display: &Display) -> Result<(), WireFault>
+    fn explain(&mut self, display: &WebDisplay) -> Result<(), WireFault>
         ensures explains { OnOk result (Explains display.now.told.refusal self.old self.new) }
         ensures adds { OnOk result (Adds self.old self.new) }
         ensures sent { self.new.sent ≡ self.old.sent }
@@ -293,7 +293,7 @@ impl Wire {
     }
 
     // Ends if the server let the client go.
-    fn end(&mut self, display: &Display) -> Result<(), WireFault>
+    fn end(&mut self, display: &WebDisplay) -> Result<(), WireFault>
         ensures ends { OnOk result (Ends display.now.told.refusal display.now.told.gone self.old self.new) }
         ensures adds { OnOk result (Adds self.old self.new) }
         ensures gone { IfSome display.now.told.gone (λ _. OnOk result (self.new.phase ≡ Phase.Last)) }
@@ -310,7 +310,7 @@ impl Wire {
     }
 
     // Sends what is new of a display.
-    fn send_new(&mut self, view: &mut SentPage, display: &mut Display) -> Result<(), WireFault>
+    fn send_new(&mut self, view: &mut SentPage, display: &mut WebDisplay) -> Result<(), WireFault>
         ensures sends { OnOk result (SendsAll display.old.told self.old self.new) }
         // Nothing that is on its way is lost.
         ensures adds { OnOk result (Adds self.old self.new) }
@@ -341,7 +341,7 @@ impl Wire {
 
     /// Sends what is new of a display. Rows wait until the browser has answered for the last ones: what is
     /// sent then is what the page shows then.
-    pub fn show(&mut self, view: &mut SentPage, display: &mut Display) -> Result<(), WireFault>
+    pub fn show(&mut self, view: &mut SentPage, display: &mut WebDisplay) -> Result<(), WireFault>
         ensures sends { OnOk result (SendsAll display.old.told self.old self.new) }
         ensures adds { OnOk result (Adds self.old self.new) }
         ensures due { IsDue display.old self.old → OnOk result (Shows display.old view.old.since self.old

@@ -13,7 +13,7 @@ use Rattle.web_page.specs.declared.fault.ClientFault.TheVariants as client
 use Rattle.emulator.specs.Standing.{StandsFor}
 use Rattle.attach_proto.specs.declared.told.Told.{Told}
 use Rattle.attach_proto.specs.Table.{noted}
-use Rattle.web_page.specs.Hearing.{Display, drawn, all_drawn, all_noted, Hears, KeepsSent, heard_fault}
+use Rattle.web_page.specs.Hearing.{WebDisplay, drawn, all_drawn, all_noted, Hears, KeepsSent, heard_fault}
 
 pub one_more : (messages : List Message) (i : ℕ) (d : Message) (t : Terminal) → i < length messages
     → all_drawn t (drop i messages) ≡ all_drawn (drawn t (get_or messages i d)) (drop (i + 1) messages)
@@ -40,7 +40,7 @@ pub kept_on : (a b c : Sheet) → KeepsSent a b → KeepsSent b c → KeepsSent 
 kept_on a b c h k = (k.0 ∙ h.0, λ since s w. k.1 since s (h.1 since s w))
 
 -- the messages of a piece were heard
-pub heard : (old new : Display) (bytes : List ℕ) (read : Reading) (first out all : List Message)
+pub heard : (old new : WebDisplay) (bytes : List ℕ) (read : Reading) (first out all : List Message)
     → ((made : List Message) × (out ≡ first ++ made) × TakesPiece old.reading bytes made read) → first ≡ []
     → all ≡ out → new.reading ≡ read
     → ((t : Terminal) → StandsFor old.sheet.terminal t → StandsFor new.sheet.terminal (all_drawn t all))

@@ -17,14 +17,14 @@ use Rattle.web_page.specs.declared.fault.ClientFault.TheVariants as client
 
 -- the name that the client gave, what was read of the stream, the page that it draws, and whether
 -- and why the server lets the client in or go
-pub record Display : Type 0 where
+pub record WebDisplay : Type 0 where
   pub name : List ℕ
   pub reading : Reading
   pub sheet : Sheet
   pub told : Told
 
 -- the display of a client that has heard nothing: it has the size and the name, and no token
-pub record IsBlank (rows columns : ℕ) (name : List ℕ) (d : Display) : Type 0 where
+pub record IsBlank (rows columns : ℕ) (name : List ℕ) (d : WebDisplay) : Type 0 where
   pub called : d.name ≡ name
   pub unread : d.reading ≡ record { side = Peer; rest = []; fault = None }
   pub sheet : IsBlankSheet rows columns d.sheet
@@ -39,7 +39,7 @@ abbrev pub KeepsSent : (old new : Sheet) → Type 0
 KeepsSent old new = (new.moment ≡ old.moment) × AreAsFar old new
 
 -- its page has another size, and nothing else of the stream was read
-pub record IsResized (rows columns : ℕ) (old new : Display) : Type 0 where
+pub record IsResized (rows columns : ℕ) (old new : WebDisplay) : Type 0 where
   pub sheet : TakesWriting old.sheet.terminal (Size rows columns) new.sheet.terminal
   pub sent : KeepsSent old.sheet new.sheet
   pub name : new.name ≡ old.name
@@ -60,7 +60,7 @@ all_drawn t (m ∷ later) = all_drawn (drawn t m) later
 
 -- The client took bytes of a stream: its reader gave their messages, its page is that of a terminal that has
 -- read their draws, and it knows what they tell, whatever came before.
-abbrev pub Hears : Display → List ℕ → Display → Type 0
+abbrev pub Hears : WebDisplay → List ℕ → WebDisplay → Type 0
 Hears old bytes new =
     (messages : List Message) (stream : List ℕ) (t : Terminal) → HasRead old.reading messages stream
     → StandsFor old.sheet.terminal t

@@ -22,7 +22,7 @@ use std::alloc::Global;
 use std::marker::Model;
 
 /// What the server has told a client.
-pub struct Display {
+pub struct WebDisplay {
     alloc: Global,
     name: Text,
     reader: Reader,
@@ -30,9 +30,9 @@ pub struct Display {
     told: Told,
 }
 
-impl Drop for Display {
+impl Drop for WebDisplay {
     fn drop(self) {
-        let Display {
+        let WebDisplay {
             alloc: _,
             name: _,
             reader: _,
@@ -42,8 +42,8 @@ impl Drop for Display {
     }
 }
 
-impl Model for Display {
-    ghost use Rattle.web_page.specs.Hearing.{Display as Heard};
+impl Model for WebDisplay {
+    ghost use Rattle.web_page.specs.Hearing.{WebDisplay as Heard};
 
     ghost Value = { Heard };
 
@@ -55,9 +55,14 @@ impl Model for Display {
     } };
 }
 
-impl Display {
+impl WebDisplay {
     /// The display of a client that has heard nothing.
-    pub fn new(alloc: Global, rows: u16, columns: u16, name: &str) -> Result<Display, ClientFault>
+    pub fn new(
+        alloc: Global,
+        rows: u16,
+        columns: u16,
+        name: &str,
+    ) -> Result<WebDisplay, ClientFault>
         ensures ok { IfOk result (IsBlank rows columns name.now) }
         ensures fault { IfErr result (λ e. e ≡ ClientFault.NoMemory) }
     {
@@ -65,7 +70,7 @@ impl Display {
             return Err(ClientFault::NoMemory);
         };
         let name = Text::of(alloc, name)?;
-        Ok(Display {
+        Ok(WebDisplay {
             alloc,
             name,
             reader: Reader::new(alloc, Side::Peer),

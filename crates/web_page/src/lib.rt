@@ -14,7 +14,7 @@ mod style;
 mod vacant;
 
 pub use character::put_text;
-pub use display::Display;
+pub use display::WebDisplay;
 pub use fault::ClientFault;
 pub use laws::{blank_sheets_are_equal, texts_hold_no_markup};
 pub use sheet::{Sheet, SheetFault};

@@ -14,12 +14,12 @@ use std::marker::Model;
 
 /// A row, and the moment of its last change.
 #[derive(Drop)]
-pub struct Row {
+pub struct StampedRow {
     cells: Vec<Cell>,
     stamp: u64,
 }
 
-impl Model for Row {
+impl Model for StampedRow {
     ghost use Rattle.web_page.specs.Showing.{Kept};
 
     ghost Value = { Kept };
@@ -57,7 +57,7 @@ fn are_same(a: &[Cell], b: &[Cell]) -> bool
     true
 }
 
-impl Row {
+impl StampedRow {
     ghost use Rattle.std.specs.Prelude.{◌≡◌, true};
 
     // Whether it has these cells, unless the answer is false.
@@ -71,7 +71,7 @@ impl Row {
 /// Takes the cells of the row with this number, if they are new. Returns whether they are.
 pub fn look_at(
     alloc: Global,
-    rows: &mut Vec<Row>,
+    rows: &mut Vec<StampedRow>,
     number: usize,
     cells: &[Cell],
     stamp: u64,
@@ -83,19 +83,19 @@ pub fn look_at(
 {
     if number == rows.len() {
         let cells = cells.to_vec(alloc)?;
-        rows.push(Row { cells, stamp })?;
+        rows.push(StampedRow { cells, stamp })?;
         return Ok(true);
     }
     if rows[number].has(cells) {
         return Ok(false);
     }
     let cells = cells.to_vec(alloc)?;
-    rows[number] = Row { cells, stamp };
+    rows[number] = StampedRow { cells, stamp };
     Ok(true)
 }
 
 /// Appends a row with its number.
-fn put_row(out: &mut String, number: u64, row: &Row) -> Result<(), AllocError>
+fn put_row(out: &mut String, number: u64, row: &StampedRow) -> Result<(), AllocError>
     ensures { OnOk result (string_bytes out.new
         ≡ string_bytes out.old ++ spelled_row (number, runs row.now.cells)) }
 {
@@ -106,7 +106,7 @@ fn put_row(out: &mut String, number: u64, row: &Row) -> Result<(), AllocError>
 }
 
 /// Appends a row with its number if it changed at this moment or later.
-fn put_newer(out: &mut String, number: u64, row: &Row, since: u64) -> Result<(), AllocError>
+fn put_newer(out: &mut String, number: u64, row: &StampedRow, since: u64) -> Result<(), AllocError>
     ensures { OnOk result ((rs : List Kept) →
         string_bytes out.new ++ flat_map spelled_row (newer since (suc number) rs)
         ≡ string_bytes out.old ++ flat_map spelled_row (newer since number (row.now ∷ rs))) }
@@ -119,7 +119,7 @@ fn put_newer(out: &mut String, number: u64, row: &Row, since: u64) -> Result<(),
 }
 
 /// Appends the rows that changed at this moment or later.
-pub fn put_rows(out: &mut String, rows: &[Row], since: u64) -> Result<(), AllocError>
+pub fn put_rows(out: &mut String, rows: &[StampedRow], since: u64) -> Result<(), AllocError>
     ensures { OnOk result (string_bytes out.new
         ≡ string_bytes out.old ++ flat_map spelled_row (newer since 0 rows.now)) }
 {

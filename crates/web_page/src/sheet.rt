@@ -16,7 +16,7 @@ ghost use Rattle.web_page.specs.declared.sheet.SheetFault.TheVariants as sheet;
 
 use crate::head::Head;
 use crate::line::{put_number, put_numbers};
-use crate::row::{Row, look_at, put_rows};
+use crate::row::{StampedRow, look_at, put_rows};
 use crate::vacant::is_vacant;
 use cells::GridFault;
 use emulator::{Emulator, Stopped};
@@ -51,7 +51,7 @@ pub struct Sheet {
     reports: Vec<u8>,
     // The head and the rows as they were last looked at.
     head: Head,
-    rows: Vec<Row>,
+    rows: Vec<StampedRow>,
     // The moment of the next change, at least 1.
     moment: u64,
     // The terminal may have changed since the last look.
@@ -93,7 +93,7 @@ impl Model for Sheet {
 fn look_at_rows(
     alloc: Global,
     emulator: &Emulator,
-    rows: &mut Vec<Row>,
+    rows: &mut Vec<StampedRow>,
     moment: u64,
 ) -> Result<bool, AllocError>
     ensures { IfOk result (λ is_new. HasLooked (length emulator.now.screen.page)

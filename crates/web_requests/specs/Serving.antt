@@ -165,7 +165,8 @@ page_for site method path =
 
 abbrev pub AnswersRequest : Site → Request → Response → Type 0
 AnswersRequest site q answer =
-    MatchBool (bytes_eq q.path (codes "/rows")) (AnswersSocket site q answer) (IsPage (page_for site q.method q.path) answer)
+    MatchBool (bytes_eq q.path (codes "/rows")) (AnswersSocket site q answer)
+    (IsPage (page_for site q.method q.path) answer)
 
 -- The bytes begin with a request, or may still become one, or have no request's head of at most 64 fields.
 abbrev pub AnswersBytes : Site → List ℕ → Response → Type 0

@@ -1,7 +1,7 @@
 use Rattle.std.proofs.Common.{arith, drop, subst, sym, List, ◌≡◌, ◌+◌, ◌-◌, ◌∙◌, ap}
 use Rattle.std.proofs.lemmas.Grind.{common_steps}
 use Rattle.server_sending.specs.Written.{AreWithin, Waiting}
-use Rattle.server_sending.specs.declared.typists.Frame.{Frame}
+use Rattle.server_sending.specs.declared.typists.TypedFrame.{TypedFrame}
 use Rattle.server_sending.proofs.Typing.{within_sent}
 use Rattle.server_sending.proofs.Writing.{kept, moved}
 use Rattle.server_sending.proofs.turn.Turn.send.Goals as goal
@@ -27,6 +27,6 @@ invariant_of-self g c =
     let len = c.self.inside.bytes.len in (
       omega (arith, c.self.invariant.0, c.in_ok-taken.ensures.bound, c.split_at.ensures.back_len, c.as_slice.ensures.len),
       c.self.invariant.1,
-      subst (λ (l : List Frame). AreWithin 0 l (len - (sent + taken))) (sym c.forget_begun.ensures)
+      subst (λ (l : List TypedFrame). AreWithin 0 l (len - (sent + taken))) (sym c.forget_begun.ensures)
           (within_sent c.self.inside.typed.items sent taken len c.self.invariant.2),
     )

@@ -23,7 +23,8 @@ frames-preserved-in-Other c =
           c.frames.invariant.went (c.frames-test.ensures.0 refl) r c.read_frame.ensures.identity;
       within = omega (arith, c.read_frame.ensures.within, c.read_frame.new.self.input.ok);
       few = omega (arith, c.if-count-lt-FRAMES.true);
-      asks = then_same c.args.self.now.identity c.frames.self.identity c.read_frame.new.self.identity c.frames.invariant.asks
+      asks = then_same c.args.self.now.identity c.frames.self.identity c.read_frame.new.self.identity
+          c.frames.invariant.asks
           c.read_frame.ensures.identity;
     }
 
@@ -48,10 +49,12 @@ frames-preserved c =
           subst (λ (l : List ℕ). c.read_frame.new.taken ≤ length l) (sym c.take_message.ensures.input) before;
       few = omega (arith, c.if-count-lt-FRAMES.true);
       asks = then_more c.args.self.now.identity c.frames.self.identity c.read_frame.new.self.identity
-          c.take_message.new.self.identity c.frames.invariant.asks c.read_frame.ensures.identity c.take_message.ensures.asks;
+          c.take_message.new.self.identity c.frames.invariant.asks
+          c.read_frame.ensures.identity c.take_message.ensures.asks;
     }
 
 pub returns-in_err-take_message-in-Message-clause-asks : goal.returns-in_err-take_message-in-Message-clause-asks
 returns-in_err-take_message-in-Message-clause-asks c =
-    then_more c.args.self.now.identity c.frames.self.identity c.read_frame.new.self.identity c.take_message.new.self.identity
+    then_more c.args.self.now.identity c.frames.self.identity c.read_frame.new.self.identity
+    c.take_message.new.self.identity
     c.frames.invariant.asks c.read_frame.ensures.identity c.take_message.ensures.asks

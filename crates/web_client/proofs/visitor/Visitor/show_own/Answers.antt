@@ -1,5 +1,5 @@
 use Rattle.std.proofs.Common.{ap}
-use Rattle.web_page.specs.declared.display.Display.{Display}
+use Rattle.web_page.specs.declared.display.WebDisplay.{WebDisplay}
 use Rattle.web_client.proofs.visitor.Visitor.show_own.Goals as goal
 
 pub returns-in-Own-clause-shows : goal.returns-in-Own-clause-shows
@@ -9,4 +9,4 @@ pub returns-in-Own-clause-later : goal.returns-in-Own-clause-later
 returns-in-Own-clause-later c =
     rw c.in-Own.is (λ not_due.
     let kept = c.show.ensures.later not_due in
-    (kept.0, ap (λ (d : Display). record c.in-Own.client { display = d }) kept.1))
+    (kept.0, ap (λ (d : WebDisplay). record c.in-Own.client { display = d }) kept.1))

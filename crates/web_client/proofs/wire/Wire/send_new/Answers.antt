@@ -2,7 +2,7 @@ use Rattle.std.proofs.Common.{◌≡◌, ℕ, Option, IfSome, OnOk, inl, refl, s
 use Rattle.attach_proto.specs.declared.why.Why.{Why}
 use Rattle.web_client.specs.declared.wire.Phase.TheVariants.{Last}
 use Rattle.attach_proto.specs.declared.told.Told.{Told}
-use Rattle.web_page.specs.Hearing.{Display}
+use Rattle.web_page.specs.Hearing.{WebDisplay}
 use Rattle.web_client.specs.Rows.{IsAsFar, Ends, MaySendRows}
 use Rattle.web_client.proofs.Rows.{both_add, rows_add, shows, then_adds, then_all}
 use Rattle.web_client.proofs.wire.Wire.send_new.Goals as goal
@@ -24,8 +24,8 @@ pub returns-clause-sends : goal.returns-clause-sends
 returns-clause-sends c =
     let same : c.if-is_due.display.told ≡ c.args.display.now.told =
     elim c.if-is_due.branch [
-      | then-is_due+in_ok-send_rows w ↦ ap (λ (d : Display). d.told) w.display-is ∙ w.send_rows.ensures.told
-      | else-is_due w ↦ ap (λ (d : Display). d.told) w.display-is
+      | then-is_due+in_ok-send_rows w ↦ ap (λ (d : WebDisplay). d.told) w.display-is ∙ w.send_rows.ensures.told
+      | else-is_due w ↦ ap (λ (d : WebDisplay). d.told) w.display-is
     ] in
     let rows : MaySendRows c.welcome.new.self c.if-is_due.self =
     elim c.if-is_due.branch [
@@ -54,8 +54,8 @@ returns-clause-gone c =
     let same : c.if-is_due.display.told.gone ≡ c.args.display.now.told.gone =
     elim c.if-is_due.branch [
       | then-is_due+in_ok-send_rows w ↦
-          ap (λ (d : Display). d.told.gone) w.display-is ∙ ap (λ (t : Told). t.gone) w.send_rows.ensures.told
-      | else-is_due w ↦ ap (λ (d : Display). d.told.gone) w.display-is
+          ap (λ (d : WebDisplay). d.told.gone) w.display-is ∙ ap (λ (t : Told). t.gone) w.send_rows.ensures.told
+      | else-is_due w ↦ ap (λ (d : WebDisplay). d.told.gone) w.display-is
     ] in
     subst (λ (g : Option Why). IfSome g (λ _. OnOk c.end.result (c.end.new.self.phase ≡ Last))) same c.end.ensures.gone
 

@@ -4,7 +4,7 @@ ghost use Rattle.std.specs.Prelude.{◌≡◌, ◌≤◌, false, length, IfSome}
 ghost use Rattle.std.specs.Prelude.{take};
 ghost use Rattle.terminal_model.specs.Reading.{Terminal, reads};
 ghost use Rattle.emulator.specs.Standing.{StandsFor};
-ghost use Rattle.client_peer.specs.Reopening.{TellsPage, Settles};
+ghost use Rattle.client_page.specs.Kept.{TellsPage, Settles};
 
 use client_words::Words;
 use emulator::Emulator;

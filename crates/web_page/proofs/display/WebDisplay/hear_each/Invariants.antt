@@ -2,7 +2,7 @@ use Rattle.std.proofs.Common.{◌≡◌, drop}
 use Rattle.terminal_model.specs.Reading.{Terminal}
 use Rattle.emulator.specs.Standing.{StandsFor}
 use Rattle.web_page.specs.Hearing.{all_drawn, all_noted, KeepsSent}
-use Rattle.web_page.proofs.display.Display.hear_each.Given as goal
+use Rattle.web_page.proofs.display.WebDisplay.hear_each.Given as goal
 
 abbrev pub invariant-loop-message : goal.invariant-loop-message
 invariant-loop-message l = record {

@@ -1,11 +1,11 @@
 use Rattle.std.proofs.Common.{OnOk, subst, refl}
-use Rattle.web_page.specs.Hearing.{Display, IsResized}
-use Rattle.web_page.proofs.display.Display.resize.Goals as goal
-use Rattle.web_page.proofs.display.Display.resize.Goals.{in-Ok, in-Err}
+use Rattle.web_page.specs.Hearing.{WebDisplay, IsResized}
+use Rattle.web_page.proofs.display.WebDisplay.resize.Goals as goal
+use Rattle.web_page.proofs.display.WebDisplay.resize.Goals.{in-Ok, in-Err}
 
 pub returns-clause-ok : goal.returns-clause-ok
 returns-clause-ok c =
-    subst (λ (d : Display). OnOk c.match-resize.result (IsResized c.args.rows c.args.columns d (record {
+    subst (λ (d : WebDisplay). OnOk c.match-resize.result (IsResized c.args.rows c.args.columns d (record {
       name = c.self.inside.name;
       reading = c.self.inside.reader;
       sheet = c.resize.new.self;

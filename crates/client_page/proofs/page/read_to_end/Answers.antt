@@ -2,7 +2,7 @@ use Rattle.std.proofs.Common.{sym, subst, arith}
 use Rattle.terminal_model.specs.Reading.{Terminal, reads}
 use Rattle.emulator.specs.Standing.{StandsFor}
 use Rattle.emulator.proofs.Feeding.{reads-more}
-use Rattle.client_peer.proofs.page.read_to_end.Goals as goal
+use Rattle.client_page.proofs.page.read_to_end.Goals as goal
 
 pub bytes-init : goal.bytes-init
 unfolding reads

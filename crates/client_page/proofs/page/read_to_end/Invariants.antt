@@ -1,7 +1,7 @@
 use Rattle.std.proofs.Common.{length, ◌-◌, ◌≤◌, take}
 use Rattle.terminal_model.specs.Reading.{Terminal, reads}
 use Rattle.emulator.specs.Standing.{StandsFor}
-use Rattle.client_peer.proofs.page.read_to_end.Given as goal
+use Rattle.client_page.proofs.page.read_to_end.Given as goal
 
 abbrev pub invariant-bytes : goal.invariant-bytes
 invariant-bytes l = record {

@@ -6,7 +6,7 @@ use Rattle.attach_proto.specs.declared.told.Told.{Told}
 use Rattle.attach_proto.specs.Table.{noted}
 use Rattle.web_page.specs.Hearing.{drawn, all_drawn, all_noted}
 use Rattle.web_page.proofs.Hearing.{one_more, none_more, one_told, none_told, kept_on}
-use Rattle.web_page.proofs.display.Display.hear_each.Goals as goal
+use Rattle.web_page.proofs.display.WebDisplay.hear_each.Goals as goal
 
 pub loop-message-preserved : goal.loop-message-preserved
 loop-message-preserved c = record {

@@ -1,8 +1,0 @@
-use Rattle.std.proofs.Common.{subst}
-use Rattle.web_page.specs.Hearing.{Display, KeepsSent}
-use Rattle.web_page.proofs.display.Display.draw.Goals as goal
-
-pub returns-clause-sent : goal.returns-clause-sent
-returns-clause-sent c =
-    subst (λ (d : Display). KeepsSent d.sheet c.read.new.self) c.self.view_is
-    (c.read.ensures.moment, c.read.ensures.browsers)

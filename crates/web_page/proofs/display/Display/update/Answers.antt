@@ -1,9 +1,0 @@
-use Rattle.std.proofs.Common.{OnOk, subst}
-use Rattle.web_page.specs.Showing.{AreAsFar}
-use Rattle.web_page.specs.Hearing.{Display}
-use Rattle.web_page.proofs.display.Display.update.Goals as goal
-
-pub returns-clause-browsers : goal.returns-clause-browsers
-returns-clause-browsers c =
-    subst (λ (d : Display). OnOk c.update.result (AreAsFar d.sheet c.update.new.self)) c.self.view_is
-    c.update.ensures.browsers
