@@ -10,7 +10,7 @@ use Rattle.session.specs.Trace.{EventValue}
 use Rattle.session.specs.event.Effect.{Effect}
 use Rattle.session.specs.event.Effect.TheVariants as effect
 use Rattle.session.specs.event.Peer.TheVariants as peer
-use Rattle.server_connections.specs.Changing.{LetsGo}
+use Rattle.server_connections.specs.Changing.{IsPutInto, LetsGo, hears}
 use Rattle.server_connections.specs.Peers.{is_open}
 use Rattle.server_connections.specs.Putting.{IsPutAt, PutsFor}
 use Rattle.server_connections.specs.declared.connections.Connections.{Connections}
@@ -18,8 +18,7 @@ use Rattle.server_connections.specs.declared.peer.Peer.{Peer}
 use Rattle.server_connections.specs.declared.peer.Role.{Role}
 use Rattle.server_connections.specs.declared.peer.Role.TheVariants as role
 use Rattle.server_loop.specs.Leaving.{Expels, IfBool}
-use Rattle.server_loop.specs.Submitting.{Answer}
-use Rattle.server_loop.specs.declared.own.Loop.{Loop}
+use Rattle.server_loop.specs.Submitting.{Answer, State}
 use Rattle.server_sending.specs.Causes.{told_of}
 use Rattle.server_sending.specs.Frames.{PutsFrames, PutsFront, PutsMessage}
 use Rattle.server_sending.specs.Written.{Waiting}
@@ -34,22 +33,33 @@ module _ {S : Type 0} where
   is_open_at None = false
   is_open_at (Some p) = is_open p.stage
 
-module _ {S G J : Type 0} (submits : J → EventValue → Answer → J → Type 0) where
+module _ {S J : Type 0} where
+  -- its connection was told why it goes
+  abbrev pub Ends : Role → Why → State S J → State S J → Type 0
+  Ends role cause old new = LetsGo old.connections role cause new.connections × (new.seat ≡ old.seat)
+
+module _ {S J : Type 0} (submits : J → EventValue → Answer → J → Type 0) where
   -- Something was put for a role, into the first connection that has it and into no other. If only the front of it
   -- could be put, that connection was told to go.
   abbrev pub HandsFor : Role → (Waiting → Waiting → Type 0) → (Waiting → Waiting → Type 0)
-      → Loop S G J → Loop S G J → Type 0
+      → State S J → State S J → Type 0
   HandsFor role puts front old new =
       (PutsFor old.connections role puts new.connections × (new.seat ≡ old.seat))
       ⊎ ((key : ℕ) × (mid : Connections S) × IsPutAt old.connections role front mid key
       × Expels submits why.Fault key (record old { connections = mid }) new)
 
-  -- its connection was told why it goes
-  abbrev pub Ends : Role → Why → Loop S G J → Loop S G J → Type 0
-  Ends role cause old new = LetsGo old.connections role cause new.connections × (new.seat ≡ old.seat)
+  -- Something was put for the connection of a key and for no other, if that is sent what the session says. If only the
+  -- front of it could be put, the connection was told to go.
+  abbrev pub SendsTo : ℕ → (Waiting → Waiting → Type 0) → (Waiting → Waiting → Type 0)
+      → State S J → State S J → Type 0
+  SendsTo key puts front old new =
+      ((hears (get old.connections.peers key) ≡ false) × (new ≡ old))
+      ⊎ ((IsPutInto old.connections key puts new.connections × (new.seat ≡ old.seat))
+      ⊎ ((mid : Connections S) × IsPutInto old.connections key front mid
+      × Expels submits why.Fault key (record old { connections = mid }) new))
 
   -- an effect went to the connection of its client or window
-  abbrev pub Hands : Effect → Option UserId → Loop S G J → Loop S G J → Type 0
+  abbrev pub Hands : Effect → Option UserId → State S J → State S J → Type 0
   Hands (effect.Input window bytes) typist =
       HandsFor (role.Window window) (PutsFrames kind.Input typist bytes) (PutsFront kind.Input typist bytes)
   Hands (effect.Deliver client bytes) typist =
@@ -62,25 +72,22 @@ module _ {S G J : Type 0} (submits : J → EventValue → Answer → J → Type 
   Hands (effect.Gone (peer.Client client) reason) typist = Ends (role.Client client) (told_of reason)
 
   -- these effects did, in order and each once
-  abbrev pub HandsAll : List Sent → Loop S G J → Loop S G J → Type 0
+  abbrev pub HandsAll : List Sent → State S J → State S J → Type 0
   HandsAll [] old new = new ≡ old
-  HandsAll (sent ∷ rest) old new = (mid : Loop S G J) × Hands sent.0 sent.1 old mid × HandsAll rest mid new
+  HandsAll (sent ∷ rest) old new = (mid : State S J) × Hands sent.0 sent.1 old mid × HandsAll rest mid new
 
-  -- The effects that waited were taken once, and went to their connections, in order and each once. If a step other
-  -- than a draw was made, draws are to be asked for, and it is to be looked who may still type.
-  pub record HandsOut (takes : J → List Sent → Bool → J → Type 0) (old new : Loop S G J) : Type 0 where
+  -- The effects that waited were taken once, and went to their connections, in order and each once. It is said whether
+  -- a step other than a draw was made.
+  pub record HandsOut (takes : J → List Sent → Bool → J → Type 0) (old : State S J) (told : Bool) (new : State S J)
+      : Type 0 where
     pub effects : List Sent
-    pub told : Bool
-    pub first : Loop S G J
-    pub taken : takes old.seat effects told first.seat
-    pub same : first.connections ≡ old.connections
-    pub last : Loop S G J
-    pub handed : HandsAll effects first last
-    pub after : (new.seat ≡ last.seat) × (new.connections ≡ last.connections)
-    pub noted : told ≡ true → (new.draws.is_told ≡ true) × (new.may_have_lost ≡ true)
+    pub seat : J
+    pub taken : takes old.seat effects told seat
+    pub handed : HandsAll effects (record old { seat = seat }) new
 
   -- What it sent before was answered, and it was told to go, if it wasn't before.
-  pub record Faults (takes : J → List Sent → Bool → J → Type 0) (key : ℕ) (old new : Loop S G J) : Type 0 where
-    pub mid : Loop S G J
-    pub handed : HandsOut takes old mid
+  pub record Faults (takes : J → List Sent → Bool → J → Type 0) (key : ℕ) (old new : State S J) : Type 0 where
+    pub told : Bool
+    pub mid : State S J
+    pub handed : HandsOut takes old told mid
     pub goes : IfBool (is_open_at (get mid.connections.peers key)) (Expels submits why.Fault key mid new) (new ≡ mid)

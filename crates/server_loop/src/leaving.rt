@@ -7,7 +7,7 @@ ghost use Rattle.server_connections.specs.Changing.{changed, told_to_go};
 ghost use Rattle.server_loop.specs.Handing.{Faults, is_open_at};
 ghost use Rattle.server_loop.specs.Leaving.{Detaches, Expels, LeavesBy, Loses, TellsLeaving, leaving};
 ghost use Rattle.server_loop.specs.Naming.{NamesNobody};
-ghost use Rattle.server_loop.specs.Submitting.{IsSame};
+ghost use Rattle.server_loop.specs.Submitting.{state_of};
 
 use crate::gate::Gate;
 use crate::own::Loop;
@@ -33,7 +33,8 @@ impl<S: Read + Write + Drop, G: Gate + Drop, J: SessionSeat + Drop> Loop<S, G, J
     // Tells the session by this event that a connection left it.
     fn tell_by(&mut self, rt: &impl Wait, key: usize, event: Event) -> bool
         requires { NamesNobody (happening event) }
-        ensures { LeavesBy J.submits (happening event.entry) key self.old result self.new }
+        ensures { LeavesBy J.submits (happening event.entry) key
+            (state_of self.old) result (state_of self.new) }
     {
         match self.submit(rt, event) {
             Ok(_) => {
@@ -54,7 +55,7 @@ impl<S: Read + Write + Drop, G: Gate + Drop, J: SessionSeat + Drop> Loop<S, G, J
     // Tells the session that a connection left it, if it did. The answer is false if there is no memory: then
     // it is told in a later turn.
     pub(crate) fn tell_leaving(&mut self, rt: &impl Wait, key: usize) -> bool
-        ensures { TellsLeaving J.submits key self.old result self.new }
+        ensures { TellsLeaving J.submits key (state_of self.old) result (state_of self.new) }
     {
         match self.leaving(key) {
             Some(event) => self.tell_by(rt, key, event),
@@ -70,7 +71,7 @@ impl<S: Read + Write + Drop, G: Gate + Drop, J: SessionSeat + Drop> Loop<S, G, J
 
     // A connection is told to go, after all that was put for it.
     pub(crate) fn expel(&mut self, rt: &impl Wait, key: usize, why: Why)
-        ensures { Expels J.submits why key self.old self.new }
+        ensures { Expels J.submits why key (state_of self.old) (state_of self.new) }
     {
         self.connections.expel(key, why);
         let _ = self.tell_leaving(rt, key);
@@ -97,7 +98,7 @@ impl<S: Read + Write + Drop, G: Gate + Drop, J: SessionSeat + Drop> Loop<S, G, J
 
     // A connection that is no guest sent something else than a first message.
     fn note_misfit(&mut self, key: usize)
-        ensures { IsSame self.old self.new }
+        ensures { state_of self.new ≡ state_of self.old }
     {
         if self.role_of(key).is_stranger() {
             self.tell(News::Misfit);
@@ -107,28 +108,30 @@ impl<S: Read + Write + Drop, G: Gate + Drop, J: SessionSeat + Drop> Loop<S, G, J
     // A connection sent what it mustn't: it is told to go, after all that came of what it sent
     // before.
     pub(crate) fn fault(&mut self, rt: &impl Wait, key: usize)
-        ensures { Faults J.submits J.takes key self.old self.new }
+        ensures { Faults J.submits J.takes key (state_of self.old) (state_of self.new) }
     {
         self.hand_out(rt);
-        if self.is_open_at(key) {
-            self.note_misfit(key);
-            self.expel(rt, key, Why::Fault);
+        if !self.is_open_at(key) {
+            return;
         }
+        self.note_misfit(key);
+        self.expel(rt, key, Why::Fault);
     }
 
     // A connection asked to go. The session answers with the effect that ends it.
     pub(crate) fn detach(&mut self, rt: &impl Wait, key: usize)
-        ensures { Detaches J.submits key self.old self.new }
+        ensures { Detaches J.submits key (state_of self.old) (state_of self.new) }
     {
         self.connections.ask_to_go(key);
-        if !self.tell_leaving(rt, key) {
-            self.expel(rt, key, Why::Fault);
+        if self.tell_leaving(rt, key) {
+            return;
         }
+        self.expel(rt, key, Why::Fault);
     }
 
     // A connection ended or failed: what still waits for it is given up.
     pub(crate) fn lose(&mut self, rt: &impl Wait, key: usize)
-        ensures { Loses J.submits key self.old self.new }
+        ensures { Loses J.submits key (state_of self.old) (state_of self.new) }
     {
         self.connections.give_up(key);
         let _ = self.tell_leaving(rt, key);

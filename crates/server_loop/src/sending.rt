@@ -1,11 +1,12 @@
 //! What connections are sent, and when they are drawn.
 
-ghost use Rattle.std.specs.Prelude.{◌≡◌, ◌-◌};
+ghost use Rattle.std.specs.Prelude.{◌≡◌, ◌-◌, Bool, true};
 ghost use Rattle.slab.specs.Slab.{get};
 ghost use Rattle.server_sending.specs.Causes.{told_of};
 ghost use Rattle.server_sending.specs.Frames.{Sends, SendsFront};
 ghost use Rattle.server_loop.specs.Drawing.{Draws, DrawsFrom, wanting};
-ghost use Rattle.server_loop.specs.Handing.{Ends, Hands, HandsAll, HandsFor, HandsOut};
+ghost use Rattle.server_loop.specs.Handing.{Ends, Hands, HandsAll, HandsFor, HandsOut, SendsTo};
+ghost use Rattle.server_loop.specs.Submitting.{state_of};
 
 use crate::gate::Gate;
 use crate::own::Loop;
@@ -22,15 +23,19 @@ const DRAWS: usize = 16;
 
 impl<S: Read + Write + Drop, G: Gate + Drop, J: SessionSeat + Drop> Loop<S, G, J> {
     // Puts something after what waits for a connection, which is told to go if that can't be done.
-    pub(crate) fn send(&mut self, rt: &impl Wait, key: usize, sending: Sending) {
-        if !self.connections.put_into(key, sending) {
-            self.expel(rt, key, Why::Fault);
+    pub(crate) fn send(&mut self, rt: &impl Wait, key: usize, sending: Sending)
+        ensures { SendsTo J.submits key (Sends sending.entry) (SendsFront sending.entry)
+            (state_of self.old) (state_of self.new) }
+    {
+        if self.connections.put_into(key, sending) {
+            return;
         }
+        self.expel(rt, key, Why::Fault);
     }
 
     // The session ended a client or a window: its connection is told to go.
     fn let_go(&mut self, role: Role, reason: Reason)
-        ensures { Ends role (told_of reason) self.old self.new }
+        ensures { Ends role (told_of reason) (state_of self.old) (state_of self.new) }
     {
         if reason == Reason::Quit {
             self.end = Some(End::Quit);
@@ -41,7 +46,7 @@ impl<S: Read + Write + Drop, G: Gate + Drop, J: SessionSeat + Drop> Loop<S, G, J
     // Puts something for a client or a window. Its connection is told to go if that can't be done.
     fn hand(&mut self, rt: &impl Wait, role: Role, sending: Sending)
         ensures { HandsFor J.submits role (Sends sending.entry) (SendsFront sending.entry)
-            self.old self.new }
+            (state_of self.old) (state_of self.new) }
     {
         match self.connections.put_for(role, sending) {
             Ok(()) => {}
@@ -51,7 +56,7 @@ impl<S: Read + Write + Drop, G: Gate + Drop, J: SessionSeat + Drop> Loop<S, G, J
 
     // Puts an effect into the connection that it is for.
     fn hand_one(&mut self, rt: &impl Wait, effect: &Effect, typist: Option<UserId>)
-        ensures { Hands J.submits effect.now typist self.old self.new }
+        ensures { Hands J.submits effect.now typist (state_of self.old) (state_of self.new) }
     {
         match effect {
             Effect::Input(window, bytes) => self.hand(
@@ -88,7 +93,7 @@ impl<S: Read + Write + Drop, G: Gate + Drop, J: SessionSeat + Drop> Loop<S, G, J
 
     // Puts these effects into their connections.
     fn hand_all(&mut self, rt: &impl Wait, effects: &[(Effect, Option<UserId>)])
-        ensures { HandsAll J.submits effects.now self.old self.new }
+        ensures { HandsAll J.submits effects.now (state_of self.old) (state_of self.new) }
     {
         'effects: for sent in effects {
             self.hand_one(rt, &sent.0, sent.1);
@@ -97,7 +102,9 @@ impl<S: Read + Write + Drop, G: Gate + Drop, J: SessionSeat + Drop> Loop<S, G, J
 
     // Takes the effects that wait for the loop's peers, and puts them into their connections.
     pub(crate) fn hand_out(&mut self, rt: &impl Wait)
-        ensures { HandsOut J.submits J.takes self.old self.new }
+        ensures { (told : Bool)
+            × HandsOut J.submits J.takes (state_of self.old) told (state_of self.new)
+            × (told ≡ true → (self.new.draws.is_told ≡ true) × (self.new.may_have_lost ≡ true)) }
     {
         self.is_behind = false;
         let (effects, is_told) = self.seat.take(rt);
@@ -150,7 +157,7 @@ impl<S: Read + Write + Drop, G: Gate + Drop, J: SessionSeat + Drop> Loop<S, G, J
 
     // Asks for a client's draw. If there is no memory for it, it is asked for in a later turn.
     fn draw(&mut self, rt: &impl Wait, key: usize, client: u32)
-        ensures { Draws J.submits client key self.old self.new }
+        ensures { Draws J.submits client key (state_of self.old) (state_of self.new) }
     {
         match self.submit(rt, Event::Draw { client }) {
             Ok(_) => {
@@ -176,7 +183,7 @@ impl<S: Read + Write + Drop, G: Gate + Drop, J: SessionSeat + Drop> Loop<S, G, J
     // is to go on in the next turn, if some are left.
     fn draw_some(&mut self, rt: &impl Wait, from: usize) -> Option<usize>
         ensures { DrawsFrom J.submits (self.old.connections.peers.capacity - from) from 16
-            self.old result self.new }
+            (state_of self.old) result (state_of self.new) }
     {
         let mut left = DRAWS;
         'keys: for key in from..self.connections.end() {

@@ -1,8 +1,9 @@
 //! Events that a loop submits to the session which the loops share.
 
+ghost use Rattle.std.specs.Prelude.{◌≡◌};
 ghost use Rattle.session.specs.Trace.{happening};
 ghost use Rattle.server_loop.specs.Naming.{IsOf, NamesNobody};
-ghost use Rattle.server_loop.specs.Submitting.{IsSame, Submits, Tries};
+ghost use Rattle.server_loop.specs.Submitting.{Submits, Tries, state_of};
 
 use crate::gate::Gate;
 use crate::own::Loop;
@@ -63,7 +64,8 @@ impl<S: Drop, G: Gate + Drop, J: SessionSeat + Drop> Loop<S, G, J> {
         event: Event<'_>,
     ) -> Result<SeatAnswer, SeatFault>
         requires { NamesNobody (happening event) }
-        ensures { Submits J.submits (happening event.entry) self.old result self.new }
+        ensures { Submits J.submits (happening event.entry)
+            (state_of self.old) result (state_of self.new) }
     {
         self.submit_any(rt, event)
     }
@@ -71,7 +73,8 @@ impl<S: Drop, G: Gate + Drop, J: SessionSeat + Drop> Loop<S, G, J> {
     // Submits an event to the session that the loops share: one step, or none if it is refused. Notes how
     // the server ends, if it does.
     fn submit_any(&mut self, rt: &impl Wait, event: Event<'_>) -> Result<SeatAnswer, SeatFault>
-        ensures { Submits J.submits (happening event.entry) self.old result self.new }
+        ensures { Submits J.submits (happening event.entry)
+            (state_of self.old) result (state_of self.new) }
     {
         self.gate.before();
         let answer = self.seat.submit(rt, event);
@@ -84,7 +87,7 @@ impl<S: Drop, G: Gate + Drop, J: SessionSeat + Drop> Loop<S, G, J> {
 
     // Tells how full the trail is, if that is news, and notes how the server ends, if it does.
     fn note_answer(&mut self, answer: &Result<SeatAnswer, SeatFault>)
-        ensures { IsSame self.old self.new }
+        ensures { state_of self.new ≡ state_of self.old }
     {
         match answer {
             Ok(answer) => {
@@ -106,7 +109,8 @@ impl<S: Drop, G: Gate + Drop, J: SessionSeat + Drop> Loop<S, G, J> {
         event: Event<'_>,
     ) -> Result<Option<SeatAnswer>, SeatFault>
         requires { IsOf shown.user (happening event) }
-        ensures { Tries J.submits (happening event.entry) self.old result self.new }
+        ensures { Tries J.submits (happening event.entry)
+            (state_of self.old) result (state_of self.new) }
     {
         let user = shown.user();
         let entries = entries_of(event);
