@@ -1,7 +1,6 @@
 //! Why a terminal can't be told as bytes.
 
 use emulator::Stopped;
-use std::alloc::{AllocError, AllocFailed};
 use std::io;
 use thiserror::Error;
 
@@ -18,18 +17,6 @@ pub enum RebuildFault {
     /// of the last column.
     #[error("no bytes lead to this state")]
     NoWay,
-}
-
-impl From<AllocError> for RebuildFault {
-    fn from(_error: AllocError) -> RebuildFault {
-        RebuildFault::NoMemory
-    }
-}
-
-impl<T: Drop> From<AllocFailed<T>> for RebuildFault {
-    fn from(_error: AllocFailed<T>) -> RebuildFault {
-        RebuildFault::NoMemory
-    }
 }
 
 // Memory for the twin's answers was refused.

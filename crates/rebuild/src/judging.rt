@@ -40,7 +40,8 @@ fn judge(alloc: Global, of: &Emulator, bytes: &[u8]) -> Result<(), RebuildFault>
 }
 
 /// Bytes that lead a new terminal of the emulator's size to its state, and that ask for no answer. `Unfinished` if a
-/// character, sequence or string is incomplete, `NoWay` if no bytes lead to this state, `NoMemory` if memory is refused.
+/// character, sequence or string is incomplete, `NoWay` if no bytes lead to this state, `NoMemory` if memory is
+/// refused.
 pub fn rebuild(alloc: Global, of: &Emulator) -> Result<Vec<u8>, RebuildFault>
     ensures brings { IfOk result (λ bytes. BringsBack of.now bytes.items) }
     ensures between { IfOk result (λ _. IsBetween of.now.screen.state.coding of.now) }

@@ -8,7 +8,6 @@ mod laws;
 mod pen;
 mod sameness;
 mod settings;
-mod states;
 mod telling;
 
 pub use fault::RebuildFault;

@@ -1,9 +1,8 @@
 //! Prints lines of cells, from left to right.
 
-use crate::fault::RebuildFault;
 use cells::{Cell, Marks, Rendition};
 use control_parser::{Func, spell};
-use std::io::Write;
+use std::io::{self, Write};
 
 /// How the new terminal prints by now.
 #[derive(Clone, Copy)]
@@ -13,7 +12,7 @@ pub struct Pen {
 }
 
 /// SGR to a rendition, whatever the present one is.
-pub fn put_rendition(rendition: Rendition, out: &mut Vec<u8>) -> Result<(), RebuildFault> {
+pub fn put_rendition(rendition: Rendition, out: &mut Vec<u8>) -> io::Result<()> {
     out.extend_from_slice(b"\x1b[0")?;
     for (is_on, value) in [
         (rendition.is_bold(), b";1"),
@@ -36,7 +35,7 @@ pub fn put_rendition(rendition: Rendition, out: &mut Vec<u8>) -> Result<(), Rebu
 }
 
 /// DECSCA: what is printed later is protected, or isn't.
-pub fn put_protection(is_protecting: bool, out: &mut Vec<u8>) -> Result<(), RebuildFault> {
+pub fn put_protection(is_protecting: bool, out: &mut Vec<u8>) -> io::Result<()> {
     out.extend_from_slice(if is_protecting {
         b"\x1b[1\"q"
     } else {
@@ -46,13 +45,13 @@ pub fn put_protection(is_protecting: bool, out: &mut Vec<u8>) -> Result<(), Rebu
 }
 
 /// A character in UTF-8.
-pub fn put_character(character: char, out: &mut Vec<u8>) -> Result<(), RebuildFault> {
+pub fn put_character(character: char, out: &mut Vec<u8>) -> io::Result<()> {
     spell(&Func::Print(character), out)?;
     Ok(())
 }
 
 /// The marks of a cell.
-pub fn put_marks(marks: Marks, out: &mut Vec<u8>) -> Result<(), RebuildFault> {
+pub fn put_marks(marks: Marks, out: &mut Vec<u8>) -> io::Result<()> {
     match marks {
         Marks::Bare => {}
         Marks::One(mark) => put_character(mark, out)?,
@@ -74,7 +73,7 @@ impl Pen {
     }
 
     // Takes up what a cell was printed with.
-    fn take_up(&mut self, cell: &Cell, out: &mut Vec<u8>) -> Result<(), RebuildFault> {
+    fn take_up(&mut self, cell: &Cell, out: &mut Vec<u8>) -> io::Result<()> {
         if self.is_protecting != cell.is_protected {
             self.is_protecting = cell.is_protected;
             put_protection(cell.is_protected, out)?;
@@ -87,7 +86,7 @@ impl Pen {
     }
 
     /// Prints a line of a blank line's width, from the first column on.
-    pub fn put_line(&mut self, cells: &[Cell], out: &mut Vec<u8>) -> Result<(), RebuildFault> {
+    pub fn put_line(&mut self, cells: &[Cell], out: &mut Vec<u8>) -> io::Result<()> {
         let mut blanks = 0usize;
         for cell in cells {
             if cell.is_blank() {

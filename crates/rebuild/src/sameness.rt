@@ -3,7 +3,6 @@
 ghost use Rattle.std.specs.Prelude.{◌≡◌, ◌<◌, ℕ, IsTrue};
 ghost use Rattle.cells.specs.Page.{line_at};
 
-use crate::states::{has_same_saved, is_same_state};
 use cells::Cell;
 use emulator::Emulator;
 use vt_screen::Screen;
@@ -11,24 +10,7 @@ use vt_screen::Screen;
 fn is_same_line(a: &[Cell], b: &[Cell]) -> bool
     ensures { IsTrue result → a.now ≡ b.now }
 {
-    if a.len() != b.len() {
-        return false;
-    }
-    for column in 0..a.len() {
-        if !is_same_cell(&a[column], &b[column]) {
-            return false;
-        }
-    }
-    true
-}
-
-fn is_same_cell(a: &Cell, b: &Cell) -> bool
-    ensures { IsTrue result → a.now ≡ b.now }
-{
-    if a.is_protected != b.is_protected {
-        return false;
-    }
-    a.is_like(b)
+    a == b
 }
 
 // Whether two screens have the same page. They have the same number of lines.
@@ -73,29 +55,14 @@ fn has_same_kept(a: &Screen, b: &Screen) -> bool
     true
 }
 
-// Whether two screens have the same tab stops.
-fn has_same_stops(a: &[bool], b: &[bool]) -> bool
-    ensures { IsTrue result → a.now ≡ b.now }
-{
-    if a.len() != b.len() {
-        return false;
-    }
-    for column in 0..a.len() {
-        if a[column] != b[column] {
-            return false;
-        }
-    }
-    true
-}
-
 // Whether two screens are the same.
 fn is_same_screen(a: &Screen, b: &Screen) -> bool
     ensures { IsTrue result → a.now.screen ≡ b.now.screen }
 {
-    if !is_same_state(&a.state(), &b.state()) || a.keep() != b.keep() {
+    if a.state() != b.state() || a.keep() != b.keep() {
         return false;
     }
-    if !has_same_saved(a.saved(), b.saved()) || !has_same_stops(a.stops(), b.stops()) {
+    if a.saved() != b.saved() || a.stops() != b.stops() {
         return false;
     }
     if !has_same_page(a, b) {

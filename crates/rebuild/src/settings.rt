@@ -1,20 +1,19 @@
 //! Sets, tab stops, margins, modes, and the saved place.
 
-use crate::fault::RebuildFault;
 use crate::pen::{put_protection, put_rendition};
 use charsets::{CharacterSet, Coding, Place, Shifts};
-use std::io::Write;
+use std::io::{self, Write};
 use terminal_model::{Modes, Saved, State};
 
 /// CUP to a line and a column, from 0.
-pub fn put_place(line: usize, column: usize, out: &mut Vec<u8>) -> Result<(), RebuildFault> {
+pub fn put_place(line: usize, column: usize, out: &mut Vec<u8>) -> io::Result<()> {
     let (line, column) = (line.saturating_add(1), column.saturating_add(1));
     write!(out, "\x1b[{line};{column}H")?;
     Ok(())
 }
 
 /// Designates a set to the place of an intermediate byte.
-pub fn put_set(place: u8, set: CharacterSet, out: &mut Vec<u8>) -> Result<(), RebuildFault> {
+pub fn put_set(place: u8, set: CharacterSet, out: &mut Vec<u8>) -> io::Result<()> {
     let last = match set {
         CharacterSet::Ascii => b'B',
         CharacterSet::UnitedKingdom => b'A',
@@ -54,7 +53,7 @@ pub fn single_shift(place: Place) -> &'static [u8] {
 }
 
 /// Designates sets and shifts to them. Neither ends a pending wrap.
-pub fn put_shifts(shifts: &Shifts, out: &mut Vec<u8>) -> Result<(), RebuildFault> {
+pub fn put_shifts(shifts: &Shifts, out: &mut Vec<u8>) -> io::Result<()> {
     put_set(b'(', shifts.g0, out)?;
     put_set(b')', shifts.g1, out)?;
     put_set(b'*', shifts.g2, out)?;
@@ -69,7 +68,7 @@ pub fn put_shifts(shifts: &Shifts, out: &mut Vec<u8>) -> Result<(), RebuildFault
 
 /// Saves a place, by DECSC, on a page without margins. The page is blank and the cursor home afterwards. A pending wrap
 /// takes a character in the last column, and one more ends a pending single shift.
-pub fn put_saved(saved: &Saved, out: &mut Vec<u8>) -> Result<(), RebuildFault> {
+pub fn put_saved(saved: &Saved, out: &mut Vec<u8>) -> io::Result<()> {
     put_private(6, saved.counts_from_margin, out)?;
     put_protection(saved.is_protecting, out)?;
     put_place(saved.line, saved.column, out)?;
@@ -84,7 +83,7 @@ pub fn put_saved(saved: &Saved, out: &mut Vec<u8>) -> Result<(), RebuildFault> {
 }
 
 /// Sets the tab stops. The cursor is in the first line afterwards.
-pub fn put_stops(stops: &[bool], out: &mut Vec<u8>) -> Result<(), RebuildFault> {
+pub fn put_stops(stops: &[bool], out: &mut Vec<u8>) -> io::Result<()> {
     out.extend_from_slice(b"\x1b[3g")?;
     for (column, is_stop) in stops.iter().enumerate() {
         if *is_stop {
@@ -100,17 +99,17 @@ fn letter(is_set: bool) -> char {
 }
 
 // SM or RM of one mode, and DECSM or DECRM.
-fn put_mode(mode: u16, is_set: bool, out: &mut Vec<u8>) -> Result<(), RebuildFault> {
+fn put_mode(mode: u16, is_set: bool, out: &mut Vec<u8>) -> io::Result<()> {
     write!(out, "\x1b[{mode}{}", letter(is_set))?;
     Ok(())
 }
 
-fn put_private(mode: u16, is_set: bool, out: &mut Vec<u8>) -> Result<(), RebuildFault> {
+fn put_private(mode: u16, is_set: bool, out: &mut Vec<u8>) -> io::Result<()> {
     write!(out, "\x1b[?{mode}{}", letter(is_set))?;
     Ok(())
 }
 
-fn put_modes(modes: &Modes, out: &mut Vec<u8>) -> Result<(), RebuildFault> {
+fn put_modes(modes: &Modes, out: &mut Vec<u8>) -> io::Result<()> {
     put_mode(4, modes.inserts, out)?;
     put_mode(20, modes.starts_lines, out)?;
     put_private(1, modes.has_application_arrows, out)?;
@@ -127,7 +126,7 @@ fn put_modes(modes: &Modes, out: &mut Vec<u8>) -> Result<(), RebuildFault> {
 }
 
 /// Sets margins, modes, protection, the form of reports and the coding.
-pub fn put_settings(state: &State, out: &mut Vec<u8>) -> Result<(), RebuildFault> {
+pub fn put_settings(state: &State, out: &mut Vec<u8>) -> io::Result<()> {
     let (top, bottom) = (state.top.saturating_add(1), state.bottom.saturating_add(1));
     write!(out, "\x1b[{top};{bottom}r")?;
     put_modes(&state.modes, out)?;

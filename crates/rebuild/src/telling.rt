@@ -1,13 +1,12 @@
 //! Tells a screen as bytes.
 
-use crate::fault::RebuildFault;
 use crate::pen::{Pen, put_character, put_marks, put_rendition};
 use crate::settings::{
     put_place, put_saved, put_set, put_settings, put_shifts, put_stops, single_shift,
 };
 use cells::Cell;
 use charsets::{CharacterSet, Coding, Place, Shifts};
-use std::io::Write;
+use std::io;
 use terminal_model::{Position, Saved, State};
 use vt_screen::Screen;
 
@@ -23,7 +22,7 @@ const SETS: [CharacterSet; 4] = [
 ];
 
 // The kept lines and those of the page, one below the other: the kept ones leave the page at its top.
-fn put_lines(screen: &Screen, out: &mut Vec<u8>) -> Result<(), RebuildFault> {
+fn put_lines(screen: &Screen, out: &mut Vec<u8>) -> io::Result<()> {
     let mut pen = Pen::new();
     for n in (0..screen.kept_count()).rev() {
         if let Some(line) = screen.kept(n) {
@@ -61,7 +60,7 @@ fn set_at(shifts: &Shifts, place: Place) -> CharacterSet {
 
 // Prints a character that needs no set, in this coding. In ECMA-35 a sequence that is broken off prints U+FFFD. Returns
 // whether there is a way.
-fn put_as_it_is(coding: Coding, character: char, out: &mut Vec<u8>) -> Result<bool, RebuildFault> {
+fn put_as_it_is(coding: Coding, character: char, out: &mut Vec<u8>) -> io::Result<bool> {
     if character == ' ' || coding == Coding::Utf8 && !character.is_ascii() {
         put_character(character, out)?;
         return Ok(true);
@@ -74,7 +73,7 @@ fn put_as_it_is(coding: Coding, character: char, out: &mut Vec<u8>) -> Result<bo
 }
 
 // Prints a character through the sets as they are.
-fn put_through(state: &State, character: char, out: &mut Vec<u8>) -> Result<(), RebuildFault> {
+fn put_through(state: &State, character: char, out: &mut Vec<u8>) -> io::Result<()> {
     if put_as_it_is(state.coding, character, out)? {
         return Ok(());
     }
@@ -101,7 +100,7 @@ fn put_through(state: &State, character: char, out: &mut Vec<u8>) -> Result<(), 
 }
 
 // Prints a character through a set that has it, in this coding.
-fn put_by_a_set(coding: Coding, character: char, out: &mut Vec<u8>) -> Result<(), RebuildFault> {
+fn put_by_a_set(coding: Coding, character: char, out: &mut Vec<u8>) -> io::Result<()> {
     if put_as_it_is(coding, character, out)? {
         return Ok(());
     }
@@ -125,12 +124,7 @@ fn cell_at(screen: &Screen, line: usize, column: usize) -> Option<Cell> {
 }
 
 // Moves the cursor to a cell that is to be printed once more. If printing moves cells, the cell goes out first.
-fn go_to_cell(
-    state: &State,
-    at: Position,
-    cell: &Cell,
-    out: &mut Vec<u8>,
-) -> Result<(), RebuildFault> {
+fn go_to_cell(state: &State, at: Position, cell: &Cell, out: &mut Vec<u8>) -> io::Result<()> {
     put_cursor(state, at.line, at.column, out)?;
     if state.modes.inserts {
         out.extend_from_slice(if cell.is_left() {
@@ -143,12 +137,7 @@ fn go_to_cell(
 }
 
 // Moves the cursor to a place, counted from the margin if ?6 is set.
-fn put_cursor(
-    state: &State,
-    line: usize,
-    column: usize,
-    out: &mut Vec<u8>,
-) -> Result<(), RebuildFault> {
+fn put_cursor(state: &State, line: usize, column: usize, out: &mut Vec<u8>) -> io::Result<()> {
     let above = if state.modes.counts_from_margin {
         state.top
     } else {
@@ -157,11 +146,11 @@ fn put_cursor(
     put_place(line.saturating_sub(above), column, out)
 }
 
-// Prints the cell that marks may join once more, as the last thing.
-fn put_joined(screen: &Screen, at: Position, out: &mut Vec<u8>) -> Result<(), RebuildFault> {
+// Prints the cell that marks may join once more, as the last thing. A place off the page has no cell to print.
+fn put_joined(screen: &Screen, at: Position, out: &mut Vec<u8>) -> io::Result<()> {
     let state = screen.state();
     let Some(cell) = cell_at(screen, at.line, at.column) else {
-        return Err(RebuildFault::NoWay);
+        return Ok(());
     };
     go_to_cell(&state, at, &cell, out)?;
     put_rendition(state.rendition, out)?;
@@ -171,20 +160,20 @@ fn put_joined(screen: &Screen, at: Position, out: &mut Vec<u8>) -> Result<(), Re
 }
 
 // Prints the last character of the cursor's line once more, so that a wrap is pending.
-fn put_last(screen: &Screen, out: &mut Vec<u8>) -> Result<(), RebuildFault> {
+fn put_last(screen: &Screen, out: &mut Vec<u8>) -> io::Result<()> {
     let state = screen.state();
     let mut at = Position {
         line: state.line,
         column: state.column,
     };
     let Some(last) = cell_at(screen, at.line, at.column) else {
-        return Err(RebuildFault::NoWay);
+        return Ok(());
     };
     if last.is_right() {
         at.column = at.column.saturating_sub(1);
     }
     let Some(cell) = cell_at(screen, at.line, at.column) else {
-        return Err(RebuildFault::NoWay);
+        return Ok(());
     };
     go_to_cell(&state, at, &cell, out)?;
     put_rendition(cell.rendition, out)?;
@@ -207,7 +196,7 @@ fn is_restored(state: &State, saved: &Saved) -> bool {
 }
 
 // Makes a wrap pending at the cursor. One that DECRC made pending may stand at a cell that was never printed there.
-fn put_pending(screen: &Screen, out: &mut Vec<u8>) -> Result<(), RebuildFault> {
+fn put_pending(screen: &Screen, out: &mut Vec<u8>) -> io::Result<()> {
     let state = screen.state();
     match screen.saved() {
         Some(saved) if is_restored(&state, &saved) => out.extend_from_slice(b"\x1b8")?,
@@ -217,7 +206,7 @@ fn put_pending(screen: &Screen, out: &mut Vec<u8>) -> Result<(), RebuildFault> {
 }
 
 // The cursor, with a pending wrap or a cell that marks may join; rendition and sets.
-fn put_end(screen: &Screen, out: &mut Vec<u8>) -> Result<(), RebuildFault> {
+fn put_end(screen: &Screen, out: &mut Vec<u8>) -> io::Result<()> {
     let state = screen.state();
     if let Some(at) = state.joining {
         return put_joined(screen, at, out);
@@ -233,7 +222,7 @@ fn put_end(screen: &Screen, out: &mut Vec<u8>) -> Result<(), RebuildFault> {
 
 /// Appends bytes that lead a new terminal of this size to this screen. The saved place comes first, since it is made by
 /// printing; the cursor comes last, since all else moves it.
-pub fn put_screen(screen: &Screen, out: &mut Vec<u8>) -> Result<(), RebuildFault> {
+pub fn put_screen(screen: &Screen, out: &mut Vec<u8>) -> io::Result<()> {
     if let Some(saved) = screen.saved() {
         put_saved(&saved, out)?;
     }

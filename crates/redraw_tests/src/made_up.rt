@@ -3,6 +3,9 @@
 
 use acl::UserId;
 use emulator::{Emulator, MovedPage};
+use rand::seq::IndexedRandom;
+use rand::{RngExt, SeedableRng};
+use rand_pcg::Pcg32;
 use session::{Effect, Event, Session};
 use std::alloc::Global;
 
@@ -82,24 +85,6 @@ static COMMANDS: [(Option<u8>, &[u8]); 5] = [
 const STRANGE: &[u8] =
     b"x\xE6\xBC\xA2y\x1b[2;3r\x1b[?1;5;6h\x1b[4;20h\x1b[1;4;7m\x1b7\x1b[?25l\x1b=\x1b)0\x0e\x1b%@\
       \x1bPtext";
-
-/// Pseudorandom numbers (Knuth, The Art of Computer Programming, volume 2, 3.3.4).
-#[derive(Drop)]
-struct Dice {
-    state: u64,
-}
-
-impl Dice {
-    /// The next number below this one.
-    fn below(&mut self, count: usize) -> usize {
-        self.state = self
-            .state
-            .wrapping_mul(6_364_136_223_846_793_005)
-            .wrapping_add(1_442_695_040_888_963_407);
-        let number = (self.state >> 33) as usize;
-        number.checked_rem(count).unwrap_or(0)
-    }
-}
 
 /// The owner's session with two clients of bob, and their terminals.
 #[derive(Drop)]
@@ -210,14 +195,11 @@ impl DrawStage {
     }
 
     /// Prints some bytes in a window, and then a digit.
-    fn prints(&mut self, window: u32, bytes: &[u8], digit: usize) -> bool {
-        let digits = b"0123456789";
-        let digit = digits.get(digit..).unwrap_or(digits);
-        let first = digit.get(..1).unwrap_or(digit);
+    fn prints(&mut self, window: u32, bytes: &[u8], digit: u8) -> bool {
         self.takes(Event::Output { window, bytes })
             && self.takes(Event::Output {
                 window,
-                bytes: first,
+                bytes: &[digit],
             })
     }
 
@@ -242,18 +224,18 @@ impl DrawStage {
     }
 
     /// Takes one random step.
-    fn steps(&mut self, dice: &mut Dice) -> bool {
-        match dice.below(16) {
-            0 | 1 => match KEYS.get(dice.below(KEYS.len())) {
+    fn steps(&mut self, rng: &mut Pcg32) -> bool {
+        match rng.random_range(0..16) {
+            0 | 1 => match KEYS.choose(rng) {
                 Some(keys) => self.types(keys),
                 None => false,
             },
-            2 => match COMMANDS.get(dice.below(COMMANDS.len())) {
+            2 => match COMMANDS.choose(rng) {
                 Some((window, line)) => self.commands(*window, line),
                 None => false,
             },
-            kind => match PRINTED.get(dice.below(PRINTED.len())) {
-                Some(printed) => self.prints((kind % 2) as u32, printed, dice.below(10)),
+            kind => match PRINTED.choose(rng) {
+                Some(printed) => self.prints(kind % 2, printed, rng.random_range(b'0'..=b'9')),
                 None => false,
             },
         }
@@ -279,20 +261,16 @@ fn first_wrong(alloc: Global) -> Option<u32> {
     let Some(mut stage) = DrawStage::new(alloc) else {
         return Some(0);
     };
-    let mut dice = Dice { state: 1 };
+    let mut rng = Pcg32::seed_from_u64(1);
     if !stage.begins() {
         return Some(0);
     }
     for step in 0..STEPS {
-        if !stage.steps(&mut dice) || !stage.draws_alike() {
+        if !stage.steps(&mut rng) || !stage.draws_alike() {
             return Some(step);
         }
     }
-    if STEPS / 4 < stage.draws {
-        None
-    } else {
-        Some(STEPS)
-    }
+    (stage.draws <= STEPS / 4).then_some(STEPS)
 }
 
 #[test]

@@ -1,9 +1,12 @@
 //! Random bytes, read at once and in three pieces.
 
-ghost use Rattle.std.specs.Prelude.{◌<◌, ◌≤◌};
+ghost use Rattle.std.specs.Prelude.{◌≤◌};
 
 use crate::judging::{Size, modes_of, read};
 use emulator::{Emulator, MovedPage};
+use rand::seq::IndexedRandom;
+use rand::{RngExt, SeedableRng};
+use rand_pcg::Pcg32;
 use std::alloc::Global;
 
 const SIZE: Size = (3, 6, 2);
@@ -18,36 +21,13 @@ const BYTES: [u8; 64] =
     *b"\x1B\x1B\x1B\x1B\x1B[[[[[\xE6\xBC\xA2\xF0\x9F\x98\x80\xCC\x81\xC2\x9B0123679;;?\" \
        %()*+<>@ABCDHJKLMPXabclmnqrh\x18\x1A\r";
 
-/// Pseudorandom numbers (Knuth, The Art of Computer Programming, volume 2, 3.3.4).
-#[derive(Drop)]
-pub struct Numbers {
-    state: u64,
-}
-
-impl Numbers {
-    pub fn new(state: u64) -> Numbers {
-        Numbers { state }
-    }
-
-    /// The next number below 64.
-    pub fn next(&mut self) -> usize
-        ensures { result < 64 }
-    {
-        self.state = self
-            .state
-            .wrapping_mul(6_364_136_223_846_793_005)
-            .wrapping_add(1_442_695_040_888_963_407);
-        (self.state >> 58) as usize
-    }
-}
-
 /// The next list, of 1 to 31 bytes.
-fn next_list(numbers: &mut Numbers, list: &mut [u8; LONGEST]) -> usize
+fn next_list(rng: &mut Pcg32, list: &mut [u8; LONGEST]) -> usize
     ensures { result ≤ 31 }
 {
-    let count = numbers.next() % LONGEST + 1;
-    for place in 0..count {
-        list[place] = BYTES[numbers.next()];
+    let count = rng.random_range(1..=LONGEST);
+    for byte in &mut list[..count] {
+        *byte = *BYTES.choose(rng).unwrap();
     }
     count
 }
@@ -73,10 +53,10 @@ fn are_same(one: &Emulator, other: &Emulator) -> bool {
         && modes_of(one) == modes_of(other)
 }
 
-/// Whether the three pieces give the terminal and the answers that the whole list gives.
-fn is_whole(alloc: Global, bytes: &[u8], cut: usize, other_cut: usize) -> bool {
-    let (front, last) = bytes.split_at(cut.max(other_cut).min(bytes.len()));
-    let (first, middle) = front.split_at(cut.min(other_cut).min(front.len()));
+/// Whether three pieces of a list give the terminal and the answers that the whole list gives.
+fn is_whole(alloc: Global, rng: &mut Pcg32, bytes: &[u8]) -> bool {
+    let (front, last) = bytes.split_at(rng.random_range(0..=bytes.len()));
+    let (first, middle) = front.split_at(rng.random_range(0..=front.len()));
     let mut answers = Vec::new(alloc);
     let mut others = Vec::new(alloc);
     let whole = read(alloc, SIZE, &[bytes], &mut answers);
@@ -91,13 +71,11 @@ fn is_whole(alloc: Global, bytes: &[u8], cut: usize, other_cut: usize) -> bool {
 
 /// The first list whose pieces give another result.
 fn first_wrong(alloc: Global) -> Option<u32> {
-    let mut numbers = Numbers::new(20);
+    let mut rng = Pcg32::seed_from_u64(20);
     let mut list = [0; LONGEST];
     for number in 0..LISTS {
-        let count = next_list(&mut numbers, &mut list);
-        let cut = numbers.next();
-        let other_cut = numbers.next();
-        if !is_whole(alloc, &list[..count], cut, other_cut) {
+        let count = next_list(&mut rng, &mut list);
+        if !is_whole(alloc, &mut rng, &list[..count]) {
             return Some(number);
         }
     }

@@ -17,8 +17,6 @@ mod pages;
 #[cfg(test)]
 mod parts;
 #[cfg(test)]
-mod rebuilding;
-#[cfg(test)]
 mod runs;
 #[cfg(test)]
 mod sizes;

@@ -1,3 +1,4 @@
 pub mod Causes
 pub mod Frames
+pub mod Typists
 pub mod Written

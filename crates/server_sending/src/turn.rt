@@ -1,9 +1,10 @@
 //! What a connection has still to write.
 
-ghost use Rattle.std.specs.Prelude.{◌≡◌, ◌==◌, ◌&&◌, ◌≤◌, ◌++◌, ℕ, List, [], true, false};
-ghost use Rattle.std.specs.Prelude.{length, drop, take, vec_len, vec_capacity, IfOk, OnOk, OnErr, if◌then◌else◌};
+ghost use Rattle.std.specs.Prelude.{◌≡◌, ◌==◌, ◌&&◌, ◌≤◌, ◌++◌, ℕ, List, [], None, true, false};
+ghost use Rattle.std.specs.Prelude.{length, drop, take, vec_len, vec_capacity, IfOk, IfSome, OnOk, OnErr, if◌then◌else◌};
 ghost use Rattle.std.specs.Prelude.{◌+◌, ◌-◌};
 ghost use Rattle.std.specs.Io.KnownBytes.{WriteAppends};
+ghost use Rattle.server_sending.specs.Typists.{HasNoTypist, IsNextTypist};
 ghost use Rattle.server_sending.specs.Written.{HasWritten, IsWritten, ended, unbegun, with_frame, without_typed};
 
 use crate::typists::{TypedFrame, drop_frames, forget_begun, typist_after};
@@ -183,7 +184,10 @@ impl Turn {
     }
 
     /// Of the users who typed frames of which nothing was written, the one whose name follows this one's.
-    pub fn typist_after(&self, last: Option<UserId>) -> Option<UserId> {
+    pub fn typist_after(&self, last: Option<UserId>) -> Option<UserId>
+        ensures some { IfSome result (IsNextTypist last self.now.typed) }
+        ensures none { result ≡ None → HasNoTypist last self.now.typed }
+    {
         typist_after(self.typed.as_slice(), last)
     }
 

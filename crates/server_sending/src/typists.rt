@@ -1,6 +1,7 @@
 //! Who typed the frames that wait for a window.
 
-ghost use Rattle.std.specs.Prelude.{◌≡◌, ◌≤◌, length, map, take};
+ghost use Rattle.std.specs.Prelude.{◌≡◌, ◌≤◌, ◌&&◌, IfSome, None, length, map, take};
+ghost use Rattle.server_sending.specs.Typists.{HasNoTypist, IsNextTypist, comes_before, follows, leads};
 ghost use Rattle.server_sending.specs.Written.{AreWithin, frames_of_others, moved_up, unbegun, without_frames};
 
 use acl::UserId;
@@ -37,14 +38,45 @@ pub fn forget_begun(frames: &mut Vec<TypedFrame>, written: usize)
     move_up(frames.as_mut_slice(), written);
 }
 
-// Whether a user's name follows one name and precedes another, as far as these are given.
-fn is_between(last: Option<UserId>, user: UserId, next: Option<UserId>) -> bool {
-    last.is_none_or(|last| last.as_bytes() < user.as_bytes())
-        && next.is_none_or(|next| user.as_bytes() < next.as_bytes())
+// Whether the first user's name comes before the second one's.
+fn comes_before(first: UserId, second: UserId) -> bool
+    ensures { result ≡ comes_before first second }
+{
+    first.as_bytes().cmp(second.as_bytes()).is_lt()
+}
+
+// Whether a user's name follows this one's, if there is one.
+fn follows(last: Option<UserId>, user: UserId) -> bool
+    ensures { result ≡ follows last user }
+{
+    match last {
+        Some(last) => comes_before(last, user),
+        None => true,
+    }
+}
+
+// Whether a user's name comes before this one's, if there is one.
+fn leads(user: UserId, next: Option<UserId>) -> bool
+    ensures { result ≡ leads user next }
+{
+    match next {
+        Some(next) => comes_before(user, next),
+        None => true,
+    }
+}
+
+// Whether a user's name follows one name and comes before another one, as far as these are given.
+fn is_between(last: Option<UserId>, user: UserId, next: Option<UserId>) -> bool
+    ensures { result ≡ (follows last user && leads user next) }
+{
+    follows(last, user) && leads(user, next)
 }
 
 /// Of the users who typed frames, the one whose name follows this one's.
-pub fn typist_after(frames: &[TypedFrame], last: Option<UserId>) -> Option<UserId> {
+pub fn typist_after(frames: &[TypedFrame], last: Option<UserId>) -> Option<UserId>
+    ensures some { IfSome result (IsNextTypist last frames.now) }
+    ensures none { result ≡ None → HasNoTypist last frames.now }
+{
     let mut next: Option<UserId> = None;
     for frame in frames {
         if is_between(last, frame.user, next) {

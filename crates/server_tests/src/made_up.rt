@@ -1,6 +1,9 @@
 //! Connections that send made-up bytes.
 
 use crate::rows::{play, typed};
+use rand::seq::IndexedRandom;
+use rand::{RngExt, SeedableRng};
+use rand_pcg::Pcg32;
 use server_stage::{ATTACH, Habit, Received, Seen, StageAct, System, WINDOW, Why};
 use std::alloc::{AllocError, Global};
 
@@ -12,59 +15,40 @@ const KINDS: &[u8] = b"AWCKROD";
 // Kinds that the server sends, and codes of no kind.
 const OTHERS: &[u8] = b"ydiszg\0\xFF";
 
-// A number below 256 as a byte.
-fn byte_of(number: usize) -> u8 {
-    match u8::try_from(number) {
-        Ok(byte) => byte,
-        Err(_) => 0,
+// Appends something like a frame: its kind and its length may be wrong, and some bytes may be missing.
+// No byte is C-a, after which a client's keys would be commands.
+fn push_frame(rng: &mut Pcg32, out: &mut Vec<u8>) -> Result<(), AllocError> {
+    let kinds = if rng.random_ratio(1, 6) {
+        OTHERS
+    } else {
+        KINDS
+    };
+    out.push(*kinds.choose(rng).unwrap())?;
+    out.push(if rng.random_ratio(1, 12) { 0x20 } else { 0 })?;
+    let len = if rng.random_ratio(1, 3) {
+        4
+    } else {
+        rng.random_range(0..9u8)
+    };
+    out.push(len)?;
+    let lacking = if rng.random_ratio(1, 4) {
+        rng.random_range(0..3)
+    } else {
+        0
+    };
+    for _ in 0..len.saturating_sub(lacking) {
+        let byte = rng.random();
+        out.push(if byte == 1 { 0 } else { byte })?;
     }
+    Ok(())
 }
 
-/// Numbers of a linear congruence.
-#[derive(Drop)]
-struct Numbers {
-    state: u32,
-}
-
-impl Numbers {
-    // A number below this one.
-    fn below(&mut self, bound: usize) -> usize {
-        self.state = self
-            .state
-            .wrapping_mul(1_664_525)
-            .wrapping_add(1_013_904_223);
-        let number = (self.state >> 16) as usize;
-        number.checked_rem(bound).unwrap_or(0)
+fn list(alloc: Global, rng: &mut Pcg32, begin: &[u8]) -> Result<Vec<u8>, AllocError> {
+    let mut list = Vec::from_slice(alloc, begin)?;
+    for _ in 0..rng.random_range(0..4) {
+        push_frame(rng, &mut list)?;
     }
-
-    fn one_of(&mut self, bytes: &[u8]) -> u8 {
-        let place = self.below(bytes.len());
-        bytes.get(place).copied().unwrap_or(0)
-    }
-
-    // Something like a frame: its kind and its length may be wrong, and some bytes may be missing. No
-    // byte is C-a, after which a client's keys would be commands.
-    fn push_frame(&mut self, out: &mut Vec<u8>) -> Result<(), AllocError> {
-        let kinds = if self.below(6) == 0 { OTHERS } else { KINDS };
-        out.push(self.one_of(kinds))?;
-        out.push(if self.below(12) == 0 { 0x20 } else { 0 })?;
-        let len = if self.below(3) == 0 { 4 } else { self.below(9) };
-        out.push(byte_of(len))?;
-        let lacking = if self.below(4) == 0 { self.below(3) } else { 0 };
-        for _ in 0..len.saturating_sub(lacking) {
-            let byte = byte_of(self.below(256));
-            out.push(if byte == 1 { 0 } else { byte })?;
-        }
-        Ok(())
-    }
-
-    fn list(&mut self, alloc: Global, begin: &[u8]) -> Result<Vec<u8>, AllocError> {
-        let mut list = Vec::from_slice(alloc, begin)?;
-        for _ in 0..self.below(4) {
-            self.push_frame(&mut list)?;
-        }
-        Ok(list)
-    }
+    Ok(list)
 }
 
 // What the frame at the front of these bytes leads to: its length in bytes if the connection goes on
@@ -114,10 +98,10 @@ fn beginning(number: usize) -> &'static [u8] {
 }
 
 fn lists(alloc: Global) -> Result<Vec<Vec<u8>>, AllocError> {
-    let mut numbers = Numbers { state: 1 };
+    let mut rng = Pcg32::seed_from_u64(1);
     let mut lists = Vec::new(alloc);
     for number in 0..LISTS {
-        lists.push(numbers.list(alloc, beginning(number))?)?;
+        lists.push(list(alloc, &mut rng, beginning(number))?)?;
     }
     Ok(lists)
 }

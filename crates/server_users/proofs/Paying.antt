@@ -1,5 +1,5 @@
 -- An account that is changed at the place where it is found.
-use Rattle.std.proofs.Common.{◌≡◌, ℕ, zero, suc, ◌<◌, ◌≤◌, Bool, true, false, List, [], ◌∷◌, Some, None, set, get_or}
+use Rattle.std.proofs.Common.{◌≡◌, ℕ, Bool, true, false, List, Some, None, set, get_or}
 use Rattle.std.proofs.Common.{ap, sym, subst, ◌∙◌, arith, Option}
 use Rattle.std.specs.Prelude.{unwrap_or, option_map, IfSome, IsTrue}
 use Rattle.acl.specs.Same.{same_user}
@@ -7,13 +7,7 @@ use Rattle.acl.specs.declared.user_id.UserId.{UserId}
 use Rattle.server_users.specs.declared.allowances.Account.{Account}
 use Rattle.server_users.specs.Allowances.{MayPay, Purse, fresh, stands_at}
 use Rattle.server_users.specs.Accounts.{account_of, IsFirst}
-use Rattle.server_users.proofs.Places.{is_of, account_at, set_own, set_other}
-
-passes : {X : Type 0} (p : X → Bool) (xs : List X) (i : ℕ) (d : X) → IsFirst p xs i
-    → p (get_or xs i d) ≡ true
-passes p [] i d at = absurd at
-passes p (x ∷ xs) zero d at = at
-passes p (x ∷ xs) (suc i) d at = passes p xs i d at.1
+use Rattle.server_users.proofs.Places.{is_of, account_at, passes, set_own, set_other}
 
 module _ (accounts : List Account) (u : UserId) (i : ℕ) (a : Account)
     (first : IsFirst (is_of u) accounts i) (is : a ≡ get_or accounts i a) where

@@ -14,11 +14,11 @@ use Rattle.server_users.specs.declared.allowances.Account.{Account}
 use Rattle.server_users.specs.Allowances.{Purse, fresh}
 use Rattle.server_users.specs.Accounts.{account_of, IsFirst}
 
-if_true : {A : Type 0} (b : Bool) (x y : A) → b ≡ true → (if b then x else y) ≡ x
+pub if_true : {A : Type 0} (b : Bool) (x y : A) → b ≡ true → (if b then x else y) ≡ x
 if_true true x y is = refl
 if_true false x y is = absurd (cc (is))
 
-if_false : {A : Type 0} (b : Bool) (x y : A) → b ≡ false → (if b then x else y) ≡ y
+pub if_false : {A : Type 0} (b : Bool) (x y : A) → b ≡ false → (if b then x else y) ≡ y
 if_false true x y is = absurd (cc (is))
 if_false false x y is = refl
 
@@ -69,6 +69,11 @@ module _ {X : Type 0} (p : X → Bool) where
       → i ≡ length xs → p x ≡ true → IsFirst p new i
   pushed_is xs new x i none e f is = subst (λ l. IsFirst p l i) (sym e)
       (subst (λ n. IsFirst p (xs ++ x ∷ []) n) (sym f) (pushed xs x none is))
+
+  pub passes : (xs : List X) (i : ℕ) (d : X) → IsFirst p xs i → p (get_or xs i d) ≡ true
+  passes [] i d at = absurd at
+  passes (x ∷ xs) zero d at = at
+  passes (x ∷ xs) (suc i) d at = passes xs i d at.1
 
 -- ---- names
 

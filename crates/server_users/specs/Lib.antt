@@ -1,4 +1,5 @@
 pub mod Accounts
 pub mod Allowances
 pub mod Entries
+pub mod Rationed
 pub mod Stands

@@ -1,9 +1,6 @@
-use Rattle.std.proofs.Common.{arith}
-use Rattle.std.proofs.lemmas.List.{ext_get_or}
-use Rattle.cells.specs.Line.{blank}
+use Rattle.std.proofs.Common.{sym, ◌∙◌}
+use Rattle.rebuild.proofs.Equal.{lists, cells}
 use Rattle.rebuild.proofs.sameness.is_same_line.Goals as goal
 
 pub returns : goal.returns
-returns c = λ h.
-    ext_get_or blank c.args.a.now c.args.b.now (omega (arith, c.if-a-b.false))
-    (λ k l. c.loop-column.invariant k (omega (arith, c.loop-column-test.false)))
+returns c = λ h. lists cells _ _ (sym c.eq.ensures ∙ h)

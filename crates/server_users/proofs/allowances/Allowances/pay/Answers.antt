@@ -1,4 +1,4 @@
-use Rattle.std.proofs.Common.{◌<◌, Some, Option, ap, sym, subst, ◌∙◌, arith}
+use Rattle.std.proofs.Common.{Some, Option, ap, subst, ◌∙◌}
 use Rattle.std.specs.Prelude.{unwrap_or}
 use Rattle.server_users.specs.Allowances.{MayPay, Purse, fresh, paid, stands_at}
 use Rattle.server_users.proofs.Paying.{own_is, other_is, held_is, may_fresh, not_true, unpaid_is, waits_is}

@@ -1,7 +1,9 @@
-//! Terminals that are told as bytes: random ones, and one of each fault.
+//! Random terminals, told as bytes.
 
-use crate::cuts::Numbers;
 use emulator::Emulator;
+use rand::seq::IndexedRandom;
+use rand::{RngExt, SeedableRng};
+use rand_pcg::Pcg32;
 use rebuild::{RebuildFault, rebuild};
 use std::alloc::Global;
 
@@ -76,20 +78,14 @@ static PIECES: [&[u8]; 64] = [
 ];
 
 /// A terminal that has read random pieces, and perhaps got another size now and then.
-fn made_up(alloc: Global, numbers: &mut Numbers, answers: &mut Vec<u8>) -> Option<Emulator> {
-    let mut emulator = Emulator::new(
-        alloc,
-        2 + numbers.next() % 3,
-        7 + numbers.next() % 3,
-        numbers.next() % 8,
-    )
-    .ok()?;
-    for _ in 0..numbers.next() {
-        emulator.feed_all(PIECES[numbers.next()], answers).ok()?;
-        if numbers.next() == 0 {
-            emulator
-                .resized(2 + numbers.next() % 3, 6 + numbers.next() % 4)
-                .ok()?;
+fn made_up(alloc: Global, rng: &mut Pcg32, answers: &mut Vec<u8>) -> Option<Emulator> {
+    let (rows, columns) = (rng.random_range(2..5), rng.random_range(7..10));
+    let mut emulator = Emulator::new(alloc, rows, columns, rng.random_range(0..8)).ok()?;
+    for _ in 0..rng.random_range(0..64) {
+        emulator.feed_all(PIECES.choose(rng)?, answers).ok()?;
+        if rng.random_ratio(1, 64) {
+            let (rows, columns) = (rng.random_range(2..5), rng.random_range(6..10));
+            emulator.resized(rows, columns).ok()?;
         }
     }
     Some(emulator)
@@ -105,24 +101,25 @@ fn is_excepted(emulator: &Emulator, fault: RebuildFault) -> bool {
     }
 }
 
-/// The first random terminal that isn't told without a reason, or how many were told and how many weren't.
-fn told(alloc: Global) -> Result<(u32, u32), u32> {
-    let (mut numbers, mut answers) = (Numbers::new(20), Vec::new(alloc));
-    let (mut told, mut excepted) = (0u32, 0u32);
+/// The first random terminal that is neither told nor excepted. If there is none, but one in a hundred
+/// or more are excepted, it is the number of all.
+fn first_wrong(alloc: Global) -> Option<u32> {
+    let (mut rng, mut answers) = (Pcg32::seed_from_u64(20), Vec::new(alloc));
+    let mut excepted = 0u32;
     for number in 0..STATES {
-        let Some(emulator) = made_up(alloc, &mut numbers, &mut answers) else {
-            return Err(number);
+        let Some(emulator) = made_up(alloc, &mut rng, &mut answers) else {
+            return Some(number);
         };
         match rebuild(alloc, &emulator) {
-            Ok(_) => told = told.saturating_add(1),
+            Ok(_) => (),
             Err(fault) if is_excepted(&emulator, fault) => excepted = excepted.saturating_add(1),
-            Err(_) => return Err(number),
+            Err(_) => return Some(number),
         }
     }
-    Ok((told, excepted))
+    (STATES / 100 <= excepted).then_some(STATES)
 }
 
 #[test]
-fn random_terminals_are_told(rt: HostRuntime) {
-    assert_eq!(rt; told(rt.alloc()), Ok((3_998, 2)));
+fn random_terminals_are_told_save_few(rt: HostRuntime) {
+    assert_eq!(rt; first_wrong(rt.alloc()), None);
 }
