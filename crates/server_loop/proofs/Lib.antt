@@ -1,1 +1,2 @@
+mod Drawn
 mod Telling

@@ -26,13 +26,20 @@ module _ {S J : Type 0} (submits : J → EventValue → Answer → J → Type 0)
     pub step : submits old.seat (Draw client) answer new.seat
     pub noted : NotesDraw answer key old.connections new.connections
 
-  -- Of so many keys from this one on, the draws of those clients were asked for that want one, in order and each once,
-  -- of the first few of them. `next` is the key of the first one that is left.
+  -- The client of a key is drawn if it wants that and if more may be. The answer is how many more may be after it; None
+  -- if no more may be, and it waits on.
+  abbrev pub DrawsNext : ℕ → ℕ → State S J → Option ℕ → State S J → Type 0
+  DrawsNext key most old left new =
+      ((wanting (get old.connections.peers key) ≡ None) × (left ≡ Some most) × (new ≡ old))
+      ⊎ ((client : ℕ) × (wanting (get old.connections.peers key) ≡ Some client)
+      × (((most ≡ 0) × (left ≡ None) × (new ≡ old))
+      ⊎ ((0 < most) × (left ≡ Some (most - 1)) × Draws client key old new)))
+
+  -- Of so many keys from this one on, those clients were drawn that want it, in order and each once, but no more than
+  -- so many. It is said from which key on some are left.
   abbrev pub DrawsFrom : ℕ → ℕ → ℕ → State S J → Option ℕ → State S J → Type 0
   DrawsFrom zero key most old next new = (next ≡ None) × (new ≡ old)
   DrawsFrom (suc count) key most old next new =
-      ((wanting (get old.connections.peers key) ≡ None) × DrawsFrom count (key + 1) most old next new)
-      ⊎ ((client : ℕ) × (wanting (get old.connections.peers key) ≡ Some client)
-      × (((most ≡ 0) × (next ≡ Some key) × (new ≡ old))
-      ⊎ ((0 < most) × ((mid : State S J) × Draws client key old mid
-      × DrawsFrom count (key + 1) (most - 1) mid next new))))
+      (DrawsNext key most old None new × (next ≡ Some key))
+      ⊎ ((left : ℕ) × (mid : State S J) × DrawsNext key most old (Some left) mid
+      × DrawsFrom count (key + 1) left mid next new)

@@ -4,7 +4,7 @@ ghost use Rattle.std.specs.Prelude.{◌≡◌, ◌-◌, Bool, true};
 ghost use Rattle.slab.specs.Slab.{get};
 ghost use Rattle.server_sending.specs.Causes.{told_of};
 ghost use Rattle.server_sending.specs.Frames.{Sends, SendsFront};
-ghost use Rattle.server_loop.specs.Drawing.{Draws, DrawsFrom, wanting};
+ghost use Rattle.server_loop.specs.Drawing.{Draws, DrawsFrom, DrawsNext, wanting};
 ghost use Rattle.server_loop.specs.Handing.{Ends, Hands, HandsAll, HandsFor, HandsOut, SendsTo};
 ghost use Rattle.server_loop.specs.Submitting.{state_of};
 
@@ -179,6 +179,21 @@ impl<S: Read + Write + Drop, G: Gate + Drop, J: SessionSeat + Drop> Loop<S, G, J
         }
     }
 
+    // Asks for the draw of a client if it waits for one, and if this many more may be drawn. Returns how many
+    // more may be after it; None if no more may be.
+    fn draw_next(&mut self, rt: &impl Wait, key: usize, most: usize) -> Option<usize>
+        ensures { DrawsNext J.submits key most (state_of self.old) result (state_of self.new) }
+    {
+        let Some(client) = self.wanting(key) else {
+            return Some(most);
+        };
+        if most == 0 {
+            return None;
+        }
+        self.draw(rt, key, client);
+        Some(most - 1)
+    }
+
     // Asks for draws of the clients that wait for one, from a key on. Returns the key from which it
     // is to go on in the next turn, if some are left.
     fn draw_some(&mut self, rt: &impl Wait, from: usize) -> Option<usize>
@@ -187,14 +202,10 @@ impl<S: Read + Write + Drop, G: Gate + Drop, J: SessionSeat + Drop> Loop<S, G, J
     {
         let mut left = DRAWS;
         'keys: for key in from..self.connections.end() {
-            let Some(client) = self.wanting(key) else {
-                continue;
-            };
-            if left == 0 {
-                return Some(key);
+            match self.draw_next(rt, key, left) {
+                Some(rest) => left = rest,
+                None => return Some(key),
             }
-            left -= 1;
-            self.draw(rt, key, client);
         }
         None
     }
