@@ -47,7 +47,8 @@ earlier u v w false is second not = refl
 
 -- ---- one frame more
 
-module _ (frames : List TypedFrame) (i : ℕ) (f d : TypedFrame) (within : i < length frames) (is : f ≡ get_or frames i d) where
+module _ (frames : List TypedFrame) (i : ℕ) (f d : TypedFrame) (within : i < length frames)
+    (is : f ≡ get_or frames i d) where
   more : typists (take (i + 1) frames) ≡ typists (take i frames) ++ f.user ∷ []
   more = map_more (λ (g : TypedFrame). g.user) frames i d within
       ∙ ap (λ (g : TypedFrame). typists (take i frames) ++ g.user ∷ []) (sym is)

@@ -5,7 +5,8 @@ use Rattle.std.proofs.Common.{◌<◌}
 use Rattle.std.proofs.Math.Seq.{paste}
 use Rattle.std.specs.Prelude.{nat_le, if◌then◌else◌}
 use Rattle.std.proofs.lemmas.Bool.{leb-true}
-use Rattle.std.proofs.lemmas.List.{append-nil, drop_all, take_all, length-take-le, drop_more, drop-drop, take_rest, drop-set-lt, take_more_set}
+use Rattle.std.proofs.lemmas.List.{append-nil, drop_all, take_all, length-take-le, drop_more}
+use Rattle.std.proofs.lemmas.List.{drop-drop, take_rest, drop-set-lt, take_more_set}
 use Rattle.std.proofs.lemmas.List.Edits.{take-paste, drop-paste}
 use Rattle.acl.specs.declared.user_id.UserId.{UserId}
 use Rattle.acl.specs.Same.{same_user}
@@ -134,7 +135,8 @@ bytes_next user at to n to_next f fs b made less upto within fits is next =
     ∙ take-paste b to (drop at b) n (omega (arith, less, upto, within, fits)) room in
     let behind : drop end made ≡ drop end b = further (to + n) end made b
     (ap (λ (l : List ℕ). drop (to + n) l) is
-    ∙ drop-paste b to (drop at b) n (omega (arith, less, upto, within, fits)) room) (omega (arith, less, upto, within)) in
+    ∙ drop-paste b to (drop at b) n (omega (arith, less, upto, within, fits)) room)
+    (omega (arith, less, upto, within)) in
     let past : drop (end - at) (drop at b) ≡ drop end b = drop-drop (end - at) at b
     ∙ ap (λ k. drop k b) (omega (arith, upto, within)) in
     ap (λ (l : List ℕ). l ++ rest (drop end made)) front
@@ -143,7 +145,8 @@ bytes_next user at to n to_next f fs b made less upto within fits is next =
     ∙ ap (λ k. take to b ++ (take k (drop at b) ++ rest (drop (end - at) (drop at b)))) (omega (arith, upto))
 
 -- the bytes after the last frame are moved
-pub bytes_last : (at to left : ℕ) (b made : List ℕ) → to ≤ at → at ≤ length b → made ≡ paste b to (drop at b) (length b - at)
+pub bytes_last : (at to left : ℕ) (b made : List ℕ) → to ≤ at → at ≤ length b
+    → made ≡ paste b to (drop at b) (length b - at)
     → left ≡ to + (length b - at) → take left made ≡ take to b ++ drop at b
 bytes_last at to left b made less most is long =
     ap (λ k. take k made) long ∙ ap (λ (l : List ℕ). take (to + (length b - at)) l) is
@@ -156,15 +159,18 @@ pub his_goes : (user : UserId) (gone i : ℕ) (fs : List TypedFrame) (d : TypedF
 his_goes user gone i fs d lt is =
     sym (ap (frames_of_others user gone) (drop_more fs i d lt) ∙ ap
     (λ (b : Bool). if b then frames_of_others user (gone + (get_or fs i d).len) (drop (i + 1) fs)
-    else record (get_or fs i d) { from = (get_or fs i d).from - gone } ∷ frames_of_others user gone (drop (i + 1) fs)) is)
+    else record (get_or fs i d) { from = (get_or fs i d).from - gone } ∷ frames_of_others user gone
+    (drop (i + 1) fs)) is)
 
-pub other_stays : (user : UserId) (gone kept i : ℕ) (fs : List TypedFrame) (d x : TypedFrame) → i < length fs → kept ≤ i
+pub other_stays : (user : UserId) (gone kept i : ℕ) (fs : List TypedFrame) (d x : TypedFrame) → i < length fs
+    → kept ≤ i
     → same_user (get_or fs i d).user user ≡ false → x ≡ record (get_or fs i d) { from = (get_or fs i d).from - gone }
     → take (kept + 1) (set fs kept x) ++ frames_of_others user gone (drop (i + 1) (set fs kept x))
     ≡ take kept fs ++ frames_of_others user gone (drop i fs)
 other_stays user gone kept i fs d x lt most is made =
     let rest : List TypedFrame = frames_of_others user gone (drop (i + 1) fs) in
-    let next : frames_of_others user gone (drop i fs) ≡ x ∷ rest = ap (frames_of_others user gone) (drop_more fs i d lt) ∙ ap
+    let next : frames_of_others user gone (drop i fs) ≡ x ∷ rest = ap (frames_of_others user gone)
+    (drop_more fs i d lt) ∙ ap
     (λ (b : Bool). if b then frames_of_others user (gone + (get_or fs i d).len) (drop (i + 1) fs)
     else record (get_or fs i d) { from = (get_or fs i d).from - gone } ∷ rest) is
     ∙ ap (λ (y : TypedFrame). y ∷ rest) (sym made) in

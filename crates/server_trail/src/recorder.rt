@@ -10,6 +10,7 @@ use crate::file::time;
 use crate::merge::Merge;
 use crate::stop::StopCause;
 use hub::{TrailEntry, asks_for_command};
+use session::Verdict;
 use std::alloc::{AllocError, Global};
 use std::sync::atomic::{AtomicU64, Ordering};
 use std::sync::{Condvar, Mutex, OnceLock, Wait};
@@ -55,16 +56,20 @@ fn line_of(alloc: Global, place: usize, ms: u64, entry: &TrailEntry) -> Result<V
     Ok(line)
 }
 
+// Whether x on a command was checked.
+fn asks_command(verdicts: &[Verdict]) -> bool
+    ensures { result ≡ list_any asks_for_command verdicts.now }
+{
+    verdicts.iter().any(|verdict| asks_for_command(*verdict))
+}
+
 // Whether an entry tells of more than typed keys: of a change, or of a command.
 fn is_urgent(entry: &TrailEntry) -> bool
     ensures changes { ¬ (entry.now.acts ≡ []) → result ≡ true }
     ensures others { entry.now.acts ≡ [] → result ≡ list_any asks_for_command entry.now.verdicts }
 {
     match entry.acts() {
-        [] => entry
-            .verdicts()
-            .iter()
-            .any(|verdict| asks_for_command(*verdict)),
+        [] => asks_command(entry.verdicts()),
         _ => true,
     }
 }

@@ -1,7 +1,7 @@
 //! How many entries of the trail a user may cause.
 
-ghost use Rattle.std.specs.Prelude.{◌≡◌, ◌↔◌, ◌*◌, ◌<◌, IfSome, IsTrue, Some, None, length, option_map, true, false, unwrap_or};
-ghost use Rattle.std.specs.Prelude.{vec_len, vec_capacity};
+ghost use Rattle.std.specs.Prelude.{◌≡◌, ◌↔◌, ◌*◌, ◌<◌, IfSome, IsTrue, Some, None, true, false, length};
+ghost use Rattle.std.specs.Prelude.{option_map, unwrap_or, vec_len, vec_capacity};
 ghost use Rattle.std.specs.Duration.{as_nanos};
 ghost use Rattle.std.specs.List.{position};
 ghost use Rattle.acl.specs.Same.{same_user};

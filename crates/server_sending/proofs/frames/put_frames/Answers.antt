@@ -5,7 +5,15 @@ use Rattle.server_sending.proofs.Framing.{none_put, one_more}
 use Rattle.server_sending.proofs.frames.put_frames.Goals as goal
 
 pub loop-piece-init : goal.loop-piece-init
-loop-piece-init c = (search rules, tt, search rules, [], search rules, none_put c.args.kind c.args.typist c.args.turn.now)
+loop-piece-init c = (
+  search rules,
+  tt,
+  search rules,
+  [],
+  search rules,
+  none_put c.args.kind c.args.typist
+      c.args.turn.now,
+)
 
 pub loop-piece-preserved : goal.loop-piece-preserved
 loop-piece-preserved c =
@@ -20,5 +28,6 @@ loop-piece-preserved c =
       steps.0 ∙ size,
       done ++ piece,
       append_assoc done piece (chunks_rest c.next.new.self) ∙ ap (λ xs. done ++ xs) (sym steps.1.0) ∙ so_far.4,
-      one_more c.args.kind c.args.typist done piece _ _ _ _ so_far.5 fits c.head_of.ensures c.in_ok-put_frame.ensures.ok,
+      one_more c.args.kind c.args.typist done piece _ _ _ _ so_far.5 fits c.head_of.ensures
+          c.in_ok-put_frame.ensures.ok,
     )

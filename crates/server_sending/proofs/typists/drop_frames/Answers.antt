@@ -1,4 +1,5 @@
-use Rattle.std.proofs.Common.{◌≡◌, ◌<◌, ◌+◌, ◌-◌, ◌∙◌, ◌++◌, [], List, ℕ, true, false, length, take, drop, ap, sym, arith}
+use Rattle.std.proofs.Common.{◌≡◌, ◌<◌, ◌+◌, ◌-◌, ◌∙◌, ◌++◌, [], List, ℕ}
+use Rattle.std.proofs.Common.{true, false, length, take, drop, ap, sym, arith}
 use Rattle.std.proofs.Common.{Bool, get_or, set, subst, refl}
 use Rattle.std.specs.Prelude.{if◌then◌else◌}
 use Rattle.std.proofs.lemmas.List.{drop_more, drop-set-lt}
@@ -10,25 +11,29 @@ use Rattle.server_sending.proofs.typists.drop_frames.Goals as goal
 
 pub overflow_add-end : goal.overflow_add-end
 overflow_add-end c =
-    let next = frame_next c.frames.at c.frames.frames c.frames.i (record { user = record { name = [] }; from = 0; len = 0 })
+    let next = frame_next c.frames.at c.frames.frames c.frames.i
+    (record { user = record { name = [] }; from = 0; len = 0 })
     (length c.frames.bytes) (omega arith) c.frames.invariant.within in
     omega (arith, within_end _ _ _ next.1)
 
 pub copy_within-requires-clause-in_bounds : goal.copy_within-requires-clause-in_bounds
 copy_within-requires-clause-in_bounds c =
-    let next = frame_next c.frames.at c.frames.frames c.frames.i (record { user = record { name = [] }; from = 0; len = 0 })
+    let next = frame_next c.frames.at c.frames.frames c.frames.i
+    (record { user = record { name = [] }; from = 0; len = 0 })
     (length c.frames.bytes) (omega arith) c.frames.invariant.within in
     omega (arith, within_end _ _ _ next.1)
 
 pub copy_within-requires-clause-dest_in_bounds : goal.copy_within-requires-clause-dest_in_bounds
 copy_within-requires-clause-dest_in_bounds c =
-    let next = frame_next c.frames.at c.frames.frames c.frames.i (record { user = record { name = [] }; from = 0; len = 0 })
+    let next = frame_next c.frames.at c.frames.frames c.frames.i
+    (record { user = record { name = [] }; from = 0; len = 0 })
     (length c.frames.bytes) (omega arith) c.frames.invariant.within in
     omega (arith, next.0, within_end _ _ _ next.1, c.frames.invariant.gone_most)
 
 pub overflow_add-gone : goal.overflow_add-gone
 overflow_add-gone c =
-    let next = frame_next c.frames.at c.frames.frames c.frames.i (record { user = record { name = [] }; from = 0; len = 0 })
+    let next = frame_next c.frames.at c.frames.frames c.frames.i
+    (record { user = record { name = [] }; from = 0; len = 0 })
     (length c.frames.bytes) (omega arith) c.frames.invariant.within in
     omega (arith, next.0, within_end _ _ _ next.1, c.frames.invariant.gone_most)
 
@@ -63,13 +68,15 @@ frames-preserved-then-eq c =
 
 pub copy_within-requires-in-frames-clause-in_bounds : goal.copy_within-requires-in-frames-clause-in_bounds
 copy_within-requires-in-frames-clause-in_bounds c =
-    let next = frame_next c.frames.at c.frames.frames c.frames.i (record { user = record { name = [] }; from = 0; len = 0 })
+    let next = frame_next c.frames.at c.frames.frames c.frames.i
+    (record { user = record { name = [] }; from = 0; len = 0 })
     (length c.frames.bytes) (omega arith) c.frames.invariant.within in
     omega (arith, within_end _ _ _ next.1)
 
 pub copy_within-requires-in-frames-clause-dest_in_bounds : goal.copy_within-requires-in-frames-clause-dest_in_bounds
 copy_within-requires-in-frames-clause-dest_in_bounds c =
-    let next = frame_next c.frames.at c.frames.frames c.frames.i (record { user = record { name = [] }; from = 0; len = 0 })
+    let next = frame_next c.frames.at c.frames.frames c.frames.i
+    (record { user = record { name = [] }; from = 0; len = 0 })
     (length c.frames.bytes) (omega arith) c.frames.invariant.within in
     omega (arith, next.0, within_end _ _ _ next.1, c.frames.invariant.gone_most)
 
@@ -96,7 +103,8 @@ frames-preserved c =
           (subst (λ (l : List TypedFrame). AreWithin (f.from + f.len) l (length c.frames.bytes)) (sym same) next.1);
       bytes_are = ap
           (λ (l : List TypedFrame). take ((f.from + f.len) - c.frames.gone) c.copy_within-in-frames.new.self
-          ++ without_frames c.args.user (f.from + f.len) l (drop (f.from + f.len) c.copy_within-in-frames.new.self)) same
+          ++ without_frames c.args.user (f.from + f.len) l (drop (f.from + f.len) c.copy_within-in-frames.new.self))
+          same
           ∙ bytes_next c.args.user at (at - c.frames.gone) ((f.from + f.len) - at)
           ((f.from + f.len) - c.frames.gone) f rest c.frames.bytes c.copy_within-in-frames.new.self (omega arith)
           (omega (arith, next.0, stays)) (omega (arith, stays)) fits c.copy_within-in-frames.ensures.after

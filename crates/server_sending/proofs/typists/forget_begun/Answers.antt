@@ -12,7 +12,8 @@ returns c =
     let kept : List TypedFrame = c.retain.new.self.items in
     let is : length now ≡ length kept = c.move_up.auto.frames
     ∙ ap (λ (l : List TypedFrame). length l) c.as_mut_slice.ensures.value in
-    ap (λ (l : List TypedFrame). take c.retain.new.self.len (now ++ l)) (drop_all (length now) kept (omega (arith, is)))
+    ap (λ (l : List TypedFrame). take c.retain.new.self.len (now ++ l))
+    (drop_all (length now) kept (omega (arith, is)))
     ∙ ap (take c.retain.new.self.len) (append-nil now)
     ∙ take_all c.retain.new.self.len now (omega (arith, is, c.retain.new.self.ok.0))
     ∙ c.move_up.ensures

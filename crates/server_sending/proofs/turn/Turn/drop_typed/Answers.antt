@@ -20,7 +20,8 @@ invariant_of-self c =
     let size : c.truncate.new.self.len ≡ length (without_frames user 0 typed bytes) = c.truncate.new.self.ok.0
     ∙ ap (λ (l : List ℕ). length l) (c.truncate.ensures.items
     ∙ ap (take left.bytes) (written c.drop_frames-left.new.bytes c.let_go.new.bytes.items c.let_go.new.bytes.len
-    c.let_go.new.bytes.ok.0 (c.drop_frames-left.auto.bytes ∙ ap (λ (l : List ℕ). length l) c.as_mut_slice.ensures.value))
+    c.let_go.new.bytes.ok.0 (c.drop_frames-left.auto.bytes ∙ ap (λ (l : List ℕ). length l)
+    c.as_mut_slice.ensures.value))
     ∙ done.bytes
     ∙ ap (λ (l : List TypedFrame). without_frames user 0 l bytes) c.as_mut_slice-2.ensures.value) in
     let before : AreWithin 0 typed (length bytes) = subst (AreWithin 0 typed)

@@ -33,10 +33,19 @@ invariant_of-self-in-Some c =
       ),
       subst (λ (l : List TypedFrame). AreWithin 0 l (new - sent)) (sym c.push_reserved.ensures.items)
           (subst (AreWithin 0 (typed ++ f ∷ []))
-          (omega (arith, c.self.invariant.0, c.reserve.ensures.len, head.0, more.0, c.len.ensures, c.len-in-Some.ensures))
+          (omega (
+            arith,
+            c.self.invariant.0,
+            c.reserve.ensures.len,
+            head.0,
+            more.0,
+            c.len.ensures,
+            c.len-in-Some.ensures,
+          ))
           (within_push 0 typed f (old - sent)
           (subst (λ (l : List TypedFrame). AreWithin 0 l (old - sent)) (sym c.reserve-2.ensures.items)
-          (subst (λ n. AreWithin 0 c.self.inside.typed.items (n - sent)) (sym c.reserve.ensures.len) c.self.invariant.2))
+          (subst (λ n. AreWithin 0 c.self.inside.typed.items (n - sent)) (sym c.reserve.ensures.len)
+          c.self.invariant.2))
           (omega (arith, c.len.ensures)))),
     )
 
@@ -64,6 +73,7 @@ invariant_of-self-in_default c =
       within_put typed sent mid (length c.args.payload.now) new ok_2
           (within_put typed sent old (length c.args.head) mid ok
           (subst (λ (l : List TypedFrame). AreWithin 0 l (old - sent)) (sym c.reserve-2.ensures.items)
-          (subst (λ n. AreWithin 0 c.self.inside.typed.items (n - sent)) (sym c.reserve.ensures.len) c.self.invariant.2))
+          (subst (λ n. AreWithin 0 c.self.inside.typed.items (n - sent)) (sym c.reserve.ensures.len)
+          c.self.invariant.2))
           c.extend_from_slice.ensures.len) c.extend_from_slice-2.ensures.len,
     )

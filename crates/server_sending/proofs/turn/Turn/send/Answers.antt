@@ -25,7 +25,13 @@ invariant_of-self g c =
     let sent = c.self.inside.sent in
     let taken = c.in_ok-taken.taken in
     let len = c.self.inside.bytes.len in (
-      omega (arith, c.self.invariant.0, c.in_ok-taken.ensures.bound, c.split_at.ensures.back_len, c.as_slice.ensures.len),
+      omega (
+        arith,
+        c.self.invariant.0,
+        c.in_ok-taken.ensures.bound,
+        c.split_at.ensures.back_len,
+        c.as_slice.ensures.len,
+      ),
       c.self.invariant.1,
       subst (λ (l : List TypedFrame). AreWithin 0 l (len - (sent + taken))) (sym c.forget_begun.ensures)
           (within_sent c.self.inside.typed.items sent taken len c.self.invariant.2),

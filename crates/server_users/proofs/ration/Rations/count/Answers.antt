@@ -28,4 +28,5 @@ returns-in_default-clause-own c =
     let none = no_ration c.args.self.now.list.items c.args.user (lost (is_for c.args.user) _
     (ap (position (is_for c.args.user)) (sym c.deref.ensures.value)
     ∙ sym c.place_of.ensures.place ∙ c.in_default.is)) in
-    none ∙ sym (ap (option_map (later_end (as_nanos c.args.now) (as_nanos c.args.self.now.period) c.args.entries)) none)
+    none
+    ∙ sym (ap (option_map (later_end (as_nanos c.args.now) (as_nanos c.args.self.now.period) c.args.entries)) none)
