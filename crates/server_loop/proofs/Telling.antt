@@ -1,5 +1,5 @@
 -- Cases, and effects one by one.
-use Rattle.std.proofs.Common.{◌≡◌, ◌<◌, ◌+◌, ℕ, Bool, true, false, List, length, drop, get_or, sym, subst}
+use Rattle.std.proofs.Common.{◌≡◌, ◌∙◌, ◌<◌, ◌+◌, ◌∷◌, ℕ, Bool, true, false, List, length, drop, get_or, ap, sym, subst}
 use Rattle.std.proofs.lemmas.Bool.{false≢true}
 use Rattle.std.proofs.lemmas.List.{drop_more}
 use Rattle.session.specs.Trace.{EventValue}
@@ -17,8 +17,10 @@ if_false false A B is b = b
 
 module _ {S J : Type 0} (submits : J → EventValue → Answer → J → Type 0) where
   -- an effect went to its connection, and those after it did
-  pub handed_next : (xs : List Sent) (i : ℕ) (d : Sent) (old mid new : State S J) → i < length xs
-      → Hands submits (get_or xs i d).0 (get_or xs i d).1 old mid → HandsAll submits (drop (i + 1) xs) mid new
+  pub handed_next : (xs : List Sent) (i : ℕ) (sent : Sent) (old mid new : State S J) → i < length xs
+      → sent ≡ get_or xs i sent → Hands submits sent.0 sent.1 old mid → HandsAll submits (drop (i + 1) xs) mid new
       → HandsAll submits (drop i xs) old new
-  handed_next xs i d old mid new lt one rest =
-      subst (λ (l : List Sent). HandsAll submits l old new) (sym (drop_more xs i d lt)) (mid, one, rest)
+  handed_next xs i sent old mid new lt is one rest =
+      let next : drop i xs ≡ sent ∷ drop (i + 1) xs = drop_more xs i sent lt
+      ∙ ap (λ (s : Sent). s ∷ drop (i + 1) xs) (sym is) in
+      subst (λ (l : List Sent). HandsAll submits l old new) (sym next) (mid, one, rest)

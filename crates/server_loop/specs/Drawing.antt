@@ -1,6 +1,6 @@
 -- Whose draws a loop asks for.
-use Rattle.std.specs.Prelude.{◌≡◌, ◌⊎◌, ◌+◌, ◌-◌, ◌<◌, ℕ, zero, suc, Bool, true, false, Option, Some, None, Ok, Err}
-use Rattle.slab.specs.Slab.{Slab, get}
+use Rattle.std.specs.Prelude.{◌≡◌, ◌⊎◌, ◌+◌, ◌-◌, ◌<◌, ℕ, zero, suc, Option, Some, None, Ok, Err}
+use Rattle.slab.specs.Slab.{get}
 use Rattle.session.specs.Trace.{EventValue, Draw}
 use Rattle.server_connections.specs.Changing.{changed, drawn}
 use Rattle.server_connections.specs.Life.{wanted_draw}

@@ -1,5 +1,5 @@
 -- Where the effects go that a loop takes.
-use Rattle.std.specs.Prelude.{◌≡◌, ◌⊎◌, ℕ, Bool, true, false, List, [], ◌∷◌, Option, Some, None}
+use Rattle.std.specs.Prelude.{◌≡◌, ◌⊎◌, ℕ, Bool, false, List, [], ◌∷◌, Option, Some, None}
 use Rattle.acl.specs.declared.user_id.UserId.{UserId}
 use Rattle.attach_proto.specs.declared.kind.Kind.TheVariants as kind
 use Rattle.attach_proto.specs.declared.message.Message.TheVariants as message

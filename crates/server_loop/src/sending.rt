@@ -91,12 +91,20 @@ impl<S: Read + Write + Drop, G: Gate + Drop, J: SessionSeat + Drop> Loop<S, G, J
         }
     }
 
+    // Puts an effect that a user may have typed into the connection that it is for.
+    fn hand_sent(&mut self, rt: &impl Wait, sent: &(Effect, Option<UserId>))
+        ensures { Hands J.submits sent.now.0 sent.now.1 (state_of self.old) (state_of self.new) }
+    {
+        let (effect, typist) = sent;
+        self.hand_one(rt, effect, *typist);
+    }
+
     // Puts these effects into their connections.
     fn hand_all(&mut self, rt: &impl Wait, effects: &[(Effect, Option<UserId>)])
         ensures { HandsAll J.submits effects.now (state_of self.old) (state_of self.new) }
     {
         'effects: for sent in effects {
-            self.hand_one(rt, &sent.0, sent.1);
+            self.hand_sent(rt, sent);
         }
     }
 
