@@ -21,7 +21,7 @@ use std::alloc::{AllocError, Global};
 /// it or is to be put into it; the others are awake.
 #[derive(Drop)]
 pub struct Connections<S> {
-    alloc: Global,
+    pub(crate) alloc: Global,
     peers: Slab<Peer<S>>,
     awake: Marks,
     // How many were taken in.

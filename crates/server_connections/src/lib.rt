@@ -2,6 +2,7 @@
 //! what it is sent, in turn.
 #![tactic(auto)]
 
+mod changing;
 mod connections;
 mod fullness;
 mod marks;

@@ -84,16 +84,24 @@ impl SeatFault {
 
 /// A loop's seat in the session that all loops share.
 pub trait SessionSeat {
-    ghost use Rattle.std.specs.Prelude.{◌≡◌, ◌+◌, ◌%◌, ◌^◌, ℕ, List, length, IfOk, OnErr};
+    ghost use Rattle.std.specs.Prelude.{◌≡◌, Bool, List, Option, Result};
+    ghost use Rattle.acl.specs.declared.user_id.UserId.{UserId as User};
+    ghost use Rattle.session.specs.Trace.{EventValue, happening};
+    ghost use Rattle.session.specs.event.Effect.{Effect as Effected};
+    ghost use Rattle.server_connections.specs.declared.seat.SeatAnswer.{SeatAnswer as Answered};
+    ghost use Rattle.server_connections.specs.declared.seat.SeatFault.{SeatFault as Faulted};
     ghost use Rattle.server_users.specs.Entries.{Entry};
 
     // The users who may connect when the server starts.
     ghost known: { Self → List Entry };
 
-    // How many steps were made for the seat, and how many effects it was handed, counted round.
-    ghost steps: { Self → ℕ };
+    // The seat before a step, its event, what the session answered, and the seat after it. Only a call of
+    // `submit` shows that a step was made.
+    ghost submits: { Self → EventValue → Result Answered Faulted → Self → Type 0 };
 
-    ghost handed: { Self → ℕ };
+    // The seat before effects were taken, these, each with the user who typed it, whether a step other than
+    // a draw was made, and the seat after that. Only a call of `take` shows that they were taken.
+    ghost takes: { Self → List (Effected × Option User) → Bool → Self → Type 0 };
 
     /// The users who may connect when the server starts.
     fn users(&self) -> &Users
@@ -101,9 +109,7 @@ pub trait SessionSeat {
 
     /// Submits an event to the session: one step, or none if it is refused.
     fn submit<R: Wait>(&mut self, rt: &R, event: Event<'_>) -> Result<SeatAnswer, SeatFault>
-        ensures steps { IfOk result (λ answer. steps self.new ≡ (steps self.old + 1) % 2 ^ 64) }
-        ensures none { OnErr result (steps self.new ≡ steps self.old) }
-        ensures handed { handed self.new ≡ handed self.old }
+        ensures step { submits self.old (happening event.entry) result self.new }
         ensures known { known self.new ≡ known self.old };
 
     /// Pays `cost` thousandths of a unit for a step that a user is about to try, unless the user has
@@ -129,8 +135,7 @@ pub trait SessionSeat {
     /// Takes the effects that wait for the loop's peers, each with the user who typed it, and says
     /// whether a step other than a draw was made since the last call.
     fn take<R: Wait>(&mut self, rt: &R) -> (Vec<(Effect, Option<UserId>)>, bool)
-        ensures handed { handed self.new ≡ (handed self.old + length result.0.items) % 2 ^ 64 }
-        ensures steps { steps self.new ≡ steps self.old }
+        ensures taken { takes self.old result.0.items result.1 self.new }
         ensures known { known self.new ≡ known self.old };
 
     /// Whether what this user typed may go into this window.

@@ -1,0 +1,2 @@
+mod Drawn
+mod Telling

@@ -1,1 +1,5 @@
+pub mod Drawing
+pub mod Handing
+pub mod Leaving
 pub mod Naming
+pub mod Submitting

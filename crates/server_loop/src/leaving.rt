@@ -1,29 +1,66 @@
 //! How a connection leaves.
 
+ghost use Rattle.std.specs.Prelude.{◌≡◌, IfSome, option_map};
+ghost use Rattle.slab.specs.Slab.{get};
+ghost use Rattle.session.specs.Trace.{happening};
+ghost use Rattle.server_connections.specs.Changing.{changed, told_to_go};
+ghost use Rattle.server_loop.specs.Handing.{Faults, is_open_at};
+ghost use Rattle.server_loop.specs.Leaving.{Detaches, Expels, LeavesBy, Loses, TellsLeaving, leaving};
+ghost use Rattle.server_loop.specs.Naming.{NamesNobody};
+ghost use Rattle.server_loop.specs.Submitting.{state_of};
+
 use crate::gate::Gate;
 use crate::own::Loop;
 use attach_proto::Why;
-use server_connections::{End, News, Role, SeatFault, SessionSeat, Stage, each_awake};
+use server_connections::{End, News, Role, SeatFault, SessionSeat, each_awake};
+use session::Event;
 use std::io::{Read, Write};
 use std::sync::Wait;
 
 impl<S: Read + Write + Drop, G: Gate + Drop, J: SessionSeat + Drop> Loop<S, G, J> {
-    // Tells the session that a connection left it. If there is no memory, it is told in a later turn.
-    pub(crate) fn tell_leaving(&mut self, rt: &impl Wait, key: usize) -> Result<(), SeatFault> {
-        let Some(peer) = self.connections.get(key) else {
-            return Ok(());
-        };
-        let Some(event) = peer.leaves.parting() else {
-            return Ok(());
-        };
-        if let Err(SeatFault::NoMemory) = self.submit(rt, event) {
-            self.has_refused = true;
-            return Err(SeatFault::NoMemory);
+    // The event by which a connection leaves the session, if it left and the session wasn't told.
+    fn leaving<'a>(&self, key: usize) -> Option<Event<'a>>
+        ensures event { option_map happening result
+            ≡ leaving (get self.entry.now.connections.peers key) }
+        ensures nobody { IfSome result (λ event. NamesNobody (happening event)) }
+    {
+        match self.connections.get(key) {
+            Some(peer) => peer.leaves.parting(),
+            None => None,
         }
-        if let Some(peer) = self.connections.touch(key) {
-            peer.leaves = Role::Stranger;
+    }
+
+    // Tells the session by this event that a connection left it.
+    fn tell_by(&mut self, rt: &impl Wait, key: usize, event: Event) -> bool
+        requires { NamesNobody (happening event) }
+        ensures { LeavesBy J.submits (happening event.entry) key
+            (state_of self.old) result (state_of self.new) }
+    {
+        match self.submit(rt, event) {
+            Ok(_) => {
+                self.connections.note_gone(key);
+                true
+            }
+            Err(SeatFault::Over(_)) => {
+                self.connections.note_gone(key);
+                true
+            }
+            Err(SeatFault::NoMemory) => {
+                self.has_refused = true;
+                false
+            }
         }
-        Ok(())
+    }
+
+    // Tells the session that a connection left it, if it did. The answer is false if there is no memory: then
+    // it is told in a later turn.
+    pub(crate) fn tell_leaving(&mut self, rt: &impl Wait, key: usize) -> bool
+        ensures { TellsLeaving J.submits key (state_of self.old) result (state_of self.new) }
+    {
+        match self.leaving(key) {
+            Some(event) => self.tell_by(rt, key, event),
+            None => true,
+        }
     }
 
     pub(crate) fn tell_all_leaving(&mut self, rt: &impl Wait) {
@@ -33,52 +70,70 @@ impl<S: Read + Write + Drop, G: Gate + Drop, J: SessionSeat + Drop> Loop<S, G, J
     }
 
     // A connection is told to go, after all that was put for it.
-    pub(crate) fn expel(&mut self, rt: &impl Wait, key: usize, why: Why) {
-        if let Some(peer) = self.connections.touch(key) {
-            peer.end(why);
-            peer.leave();
-        }
+    pub(crate) fn expel(&mut self, rt: &impl Wait, key: usize, why: Why)
+        ensures { Expels J.submits why key (state_of self.old) (state_of self.new) }
+    {
+        self.connections.expel(key, why);
         let _ = self.tell_leaving(rt, key);
     }
 
     // A connection that is no guest is told to go, unless it was told before.
-    pub(crate) fn dismiss(&mut self, key: usize, why: Why) {
-        if let Some(peer) = self.connections.touch(key) {
-            if peer.listens() {
-                peer.end(why);
-            }
+    pub(crate) fn dismiss(&mut self, key: usize, why: Why)
+        ensures { self.new ≡ record self.old {
+          connections = changed (told_to_go why) key self.old.connections;
+        } }
+    {
+        self.connections.dismiss(key, why);
+    }
+
+    // Whether a connection is read, and sent what the session says.
+    fn is_open_at(&self, key: usize) -> bool
+        ensures { result ≡ is_open_at (get self.entry.now.connections.peers key) }
+    {
+        match self.connections.get(key) {
+            Some(peer) => peer.stage.is_open(),
+            None => false,
+        }
+    }
+
+    // A connection that is no guest sent something else than a first message.
+    fn note_misfit(&mut self, key: usize)
+        ensures { state_of self.new ≡ state_of self.old }
+    {
+        if self.role_of(key).is_stranger() {
+            self.tell(News::Misfit);
         }
     }
 
     // A connection sent what it mustn't: it is told to go, after all that came of what it sent
     // before.
-    pub(crate) fn fault(&mut self, rt: &impl Wait, key: usize) {
+    pub(crate) fn fault(&mut self, rt: &impl Wait, key: usize)
+        ensures { Faults J.submits J.takes key (state_of self.old) (state_of self.new) }
+    {
         self.hand_out(rt);
-        let peer = self.connections.get(key);
-        if peer.is_some_and(|peer| peer.stage.is_open()) {
-            if self.role_of(key).is_stranger() {
-                self.tell(News::Misfit);
-            }
-            self.expel(rt, key, Why::Fault);
+        if !self.is_open_at(key) {
+            return;
         }
+        self.note_misfit(key);
+        self.expel(rt, key, Why::Fault);
     }
 
     // A connection asked to go. The session answers with the effect that ends it.
-    pub(crate) fn detach(&mut self, rt: &impl Wait, key: usize) {
-        if let Some(peer) = self.connections.touch(key) {
-            peer.stage = Stage::Leaving;
-            peer.leaves = peer.role;
+    pub(crate) fn detach(&mut self, rt: &impl Wait, key: usize)
+        ensures { Detaches J.submits key (state_of self.old) (state_of self.new) }
+    {
+        self.connections.ask_to_go(key);
+        if self.tell_leaving(rt, key) {
+            return;
         }
-        if self.tell_leaving(rt, key).is_err() {
-            self.expel(rt, key, Why::Fault);
-        }
+        self.expel(rt, key, Why::Fault);
     }
 
     // A connection ended or failed: what still waits for it is given up.
-    pub(crate) fn lose(&mut self, rt: &impl Wait, key: usize) {
-        if let Some(peer) = self.connections.touch(key) {
-            peer.close();
-        }
+    pub(crate) fn lose(&mut self, rt: &impl Wait, key: usize)
+        ensures { Loses J.submits key (state_of self.old) (state_of self.new) }
+    {
+        self.connections.give_up(key);
         let _ = self.tell_leaving(rt, key);
     }
 

@@ -1,11 +1,18 @@
 //! What connections are sent, and when they are drawn.
 
+ghost use Rattle.std.specs.Prelude.{◌≡◌, ◌-◌, Bool, true};
+ghost use Rattle.slab.specs.Slab.{get};
+ghost use Rattle.server_sending.specs.Causes.{told_of};
+ghost use Rattle.server_sending.specs.Frames.{Sends, SendsFront};
+ghost use Rattle.server_loop.specs.Drawing.{Draws, DrawsFrom, DrawsNext, wanting};
+ghost use Rattle.server_loop.specs.Handing.{Ends, Hands, HandsAll, HandsFor, HandsOut, SendsTo};
+ghost use Rattle.server_loop.specs.Submitting.{state_of};
+
 use crate::gate::Gate;
 use crate::own::Loop;
+use acl::UserId;
 use attach_proto::{Message, Why};
-use server_connections::{
-    End, Role, SeatFault, Sending, SessionSeat, Stage, each_awake, put, why_of,
-};
+use server_connections::{End, Role, SeatFault, Sending, SessionSeat, Stage, each_awake, why_of};
 use session::{Effect, Event, Reason};
 use std::io::{Read, Write};
 use std::sync::Wait;
@@ -16,73 +23,100 @@ const DRAWS: usize = 16;
 
 impl<S: Read + Write + Drop, G: Gate + Drop, J: SessionSeat + Drop> Loop<S, G, J> {
     // Puts something after what waits for a connection, which is told to go if that can't be done.
-    pub(crate) fn send(&mut self, rt: &impl Wait, key: usize, sending: Sending) {
-        let alloc = self.alloc;
-        let Some(peer) = self.connections.touch(key) else {
+    pub(crate) fn send(&mut self, rt: &impl Wait, key: usize, sending: Sending)
+        ensures { SendsTo J.submits key (Sends sending.entry) (SendsFront sending.entry)
+            (state_of self.old) (state_of self.new) }
+    {
+        if self.connections.put_into(key, sending) {
             return;
-        };
-        if peer.listens() && put(alloc, &mut peer.turn, sending).is_err() {
-            self.expel(rt, key, Why::Fault);
         }
+        self.expel(rt, key, Why::Fault);
     }
 
     // The session ended a client or a window: its connection is told to go.
-    fn let_go(&mut self, role: Role, reason: Reason) {
+    fn let_go(&mut self, role: Role, reason: Reason)
+        ensures { Ends role (told_of reason) (state_of self.old) (state_of self.new) }
+    {
         if reason == Reason::Quit {
             self.end = Some(End::Quit);
         }
-        let Some(key) = self.connections.key_of(role) else {
-            return;
-        };
-        if let Some(peer) = self.connections.touch(key) {
-            peer.end(why_of(reason));
-            peer.role = Role::Stranger;
+        self.connections.let_go(role, why_of(reason));
+    }
+
+    // Puts something for a client or a window. Its connection is told to go if that can't be done.
+    fn hand(&mut self, rt: &impl Wait, role: Role, sending: Sending)
+        ensures { HandsFor J.submits role (Sends sending.entry) (SendsFront sending.entry)
+            (state_of self.old) (state_of self.new) }
+    {
+        match self.connections.put_for(role, sending) {
+            Ok(()) => {}
+            Err(key) => self.expel(rt, key, Why::Fault),
         }
     }
 
-    fn hand(&mut self, rt: &impl Wait, role: Role, sending: Sending) {
-        if let Err(key) = self.connections.put_for(role, sending) {
-            self.expel(rt, key, Why::Fault);
+    // Puts an effect into the connection that it is for.
+    fn hand_one(&mut self, rt: &impl Wait, effect: &Effect, typist: Option<UserId>)
+        ensures { Hands J.submits effect.now typist (state_of self.old) (state_of self.new) }
+    {
+        match effect {
+            Effect::Input(window, bytes) => self.hand(
+                rt,
+                Role::Window(*window),
+                Sending::Input(bytes.as_slice(), typist),
+            ),
+            Effect::Deliver(client, bytes) => self.hand(
+                rt,
+                Role::Client(*client),
+                Sending::Draw(bytes.as_slice()),
+            ),
+            Effect::Say(client, text) => self.hand(
+                rt,
+                Role::Client(*client),
+                Sending::Say(text.as_slice()),
+            ),
+            Effect::Size(window, rows, columns) => self.hand(
+                rt,
+                Role::Window(*window),
+                Sending::Message(&Message::Size {
+                    rows: *rows,
+                    columns: *columns,
+                }),
+            ),
+            Effect::Gone(session::Peer::Window(window), reason) => {
+                self.let_go(Role::Window(*window), *reason)
+            }
+            Effect::Gone(session::Peer::Client(client), reason) => {
+                self.let_go(Role::Client(*client), *reason)
+            }
+        }
+    }
+
+    // Puts an effect that a user may have typed into the connection that it is for.
+    fn hand_sent(&mut self, rt: &impl Wait, sent: &(Effect, Option<UserId>))
+        ensures { Hands J.submits sent.now.0 sent.now.1 (state_of self.old) (state_of self.new) }
+    {
+        let (effect, typist) = sent;
+        self.hand_one(rt, effect, *typist);
+    }
+
+    // Puts these effects into their connections.
+    fn hand_all(&mut self, rt: &impl Wait, effects: &[(Effect, Option<UserId>)])
+        ensures { HandsAll J.submits effects.now (state_of self.old) (state_of self.new) }
+    {
+        'effects: for sent in effects {
+            self.hand_sent(rt, sent);
         }
     }
 
     // Takes the effects that wait for the loop's peers, and puts them into their connections.
-    pub(crate) fn hand_out(&mut self, rt: &impl Wait) {
+    pub(crate) fn hand_out(&mut self, rt: &impl Wait)
+        ensures { (told : Bool)
+            × HandsOut J.submits J.takes (state_of self.old) told (state_of self.new)
+            × (told ≡ true → (self.new.draws.is_told ≡ true) × (self.new.may_have_lost ≡ true)) }
+    {
         self.is_behind = false;
         let (effects, is_told) = self.seat.take(rt);
-        for (effect, typist) in &effects {
-            match effect {
-                Effect::Input(window, bytes) => self.hand(
-                    rt,
-                    Role::Window(*window),
-                    Sending::Input(bytes.as_slice(), *typist),
-                ),
-                Effect::Deliver(client, bytes) => self.hand(
-                    rt,
-                    Role::Client(*client),
-                    Sending::Draw(bytes.as_slice()),
-                ),
-                Effect::Say(client, text) => self.hand(
-                    rt,
-                    Role::Client(*client),
-                    Sending::Say(text.as_slice()),
-                ),
-                Effect::Size(window, rows, columns) => self.hand(
-                    rt,
-                    Role::Window(*window),
-                    Sending::Message(&Message::Size {
-                        rows: *rows,
-                        columns: *columns,
-                    }),
-                ),
-                Effect::Gone(session::Peer::Window(window), reason) => {
-                    self.let_go(Role::Window(*window), *reason)
-                }
-                Effect::Gone(session::Peer::Client(client), reason) => {
-                    self.let_go(Role::Client(*client), *reason)
-                }
-            }
-        }
+        self.hand_all(rt, effects.as_slice());
         self.draws.is_told |= is_told;
         self.may_have_lost |= is_told;
     }
@@ -130,12 +164,12 @@ impl<S: Read + Write + Drop, G: Gate + Drop, J: SessionSeat + Drop> Loop<S, G, J
     }
 
     // Asks for a client's draw. If there is no memory for it, it is asked for in a later turn.
-    fn draw(&mut self, rt: &impl Wait, key: usize, client: u32) {
+    fn draw(&mut self, rt: &impl Wait, key: usize, client: u32)
+        ensures { Draws J.submits client key (state_of self.old) (state_of self.new) }
+    {
         match self.submit(rt, Event::Draw { client }) {
             Ok(_) => {
-                if let Some(peer) = self.connections.touch(key) {
-                    peer.turn.drawn();
-                }
+                self.connections.note_drawn(key);
                 self.draws.made = self.draws.made.saturating_add(1);
             }
             Err(SeatFault::NoMemory) => self.has_refused = true,
@@ -143,20 +177,43 @@ impl<S: Read + Write + Drop, G: Gate + Drop, J: SessionSeat + Drop> Loop<S, G, J
         }
     }
 
+    // The client of a key whose draw is to be asked for.
+    fn wanting(&self, key: usize) -> Option<u32>
+        ensures { result ≡ wanting (get self.entry.now.connections.peers key) }
+    {
+        match self.connections.get(key) {
+            Some(peer) => peer.wants_draw(),
+            None => None,
+        }
+    }
+
+    // Asks for the draw of a client if it waits for one, and if this many more may be drawn. Returns how many
+    // more may be after it; None if no more may be.
+    fn draw_next(&mut self, rt: &impl Wait, key: usize, most: usize) -> Option<usize>
+        ensures { DrawsNext J.submits key most (state_of self.old) result (state_of self.new) }
+    {
+        let Some(client) = self.wanting(key) else {
+            return Some(most);
+        };
+        if most == 0 {
+            return None;
+        }
+        self.draw(rt, key, client);
+        Some(most - 1)
+    }
+
     // Asks for draws of the clients that wait for one, from a key on. Returns the key from which it
     // is to go on in the next turn, if some are left.
-    fn draw_some(&mut self, rt: &impl Wait, from: usize) -> Option<usize> {
+    fn draw_some(&mut self, rt: &impl Wait, from: usize) -> Option<usize>
+        ensures { DrawsFrom J.submits (self.old.connections.peers.capacity - from) from 16
+            (state_of self.old) result (state_of self.new) }
+    {
         let mut left = DRAWS;
-        for key in from..self.connections.end() {
-            let peer = self.connections.get(key);
-            let Some(client) = peer.and_then(|peer| peer.wants_draw()) else {
-                continue;
-            };
-            if left == 0 {
-                return Some(key);
+        'keys: for key in from..self.connections.end() {
+            match self.draw_next(rt, key, left) {
+                Some(rest) => left = rest,
+                None => return Some(key),
             }
-            left -= 1;
-            self.draw(rt, key, client);
         }
         None
     }

@@ -1,8 +1,9 @@
 //! Events that a loop submits to the session which the loops share.
 
-ghost use Rattle.std.specs.Prelude.{◌≡◌, ◌+◌, ◌%◌, ◌^◌, IfOk, OnErr};
+ghost use Rattle.std.specs.Prelude.{◌≡◌};
 ghost use Rattle.session.specs.Trace.{happening};
 ghost use Rattle.server_loop.specs.Naming.{IsOf, NamesNobody};
+ghost use Rattle.server_loop.specs.Submitting.{Submits, Tries, state_of};
 
 use crate::gate::Gate;
 use crate::own::Loop;
@@ -63,11 +64,8 @@ impl<S: Drop, G: Gate + Drop, J: SessionSeat + Drop> Loop<S, G, J> {
         event: Event<'_>,
     ) -> Result<SeatAnswer, SeatFault>
         requires { NamesNobody (happening event) }
-        ensures connections { self.new.connections ≡ self.old.connections }
-        ensures steps { IfOk result (λ answer.
-            J.steps self.new.seat ≡ (J.steps self.old.seat + 1) % 2 ^ 64) }
-        ensures none { OnErr result (J.steps self.new.seat ≡ J.steps self.old.seat) }
-        ensures handed { J.handed self.new.seat ≡ J.handed self.old.seat }
+        ensures { Submits J.submits (happening event.entry)
+            (state_of self.old) result (state_of self.new) }
     {
         self.submit_any(rt, event)
     }
@@ -75,18 +73,23 @@ impl<S: Drop, G: Gate + Drop, J: SessionSeat + Drop> Loop<S, G, J> {
     // Submits an event to the session that the loops share: one step, or none if it is refused. Notes how
     // the server ends, if it does.
     fn submit_any(&mut self, rt: &impl Wait, event: Event<'_>) -> Result<SeatAnswer, SeatFault>
-        ensures connections { self.new.connections ≡ self.old.connections }
-        ensures steps { IfOk result (λ answer.
-            J.steps self.new.seat ≡ (J.steps self.old.seat + 1) % 2 ^ 64) }
-        ensures none { OnErr result (J.steps self.new.seat ≡ J.steps self.old.seat) }
-        ensures handed { J.handed self.new.seat ≡ J.handed self.old.seat }
+        ensures { Submits J.submits (happening event.entry)
+            (state_of self.old) result (state_of self.new) }
     {
         self.gate.before();
         let answer = self.seat.submit(rt, event);
         self.gate.after();
         self.is_behind = true;
         self.submitted.note(event);
-        match &answer {
+        self.note_answer(&answer);
+        answer
+    }
+
+    // Tells how full the trail is, if that is news, and notes how the server ends, if it does.
+    fn note_answer(&mut self, answer: &Result<SeatAnswer, SeatFault>)
+        ensures { state_of self.new ≡ state_of self.old }
+    {
+        match answer {
             Ok(answer) => {
                 if let Some(percent) = answer.filled {
                     self.tell(News::Filled(percent));
@@ -95,7 +98,6 @@ impl<S: Drop, G: Gate + Drop, J: SessionSeat + Drop> Loop<S, G, J> {
             Err(SeatFault::Over(end)) => self.end = Some(*end),
             Err(SeatFault::NoMemory) => {}
         }
-        answer
     }
 
     /// Tries a step for a user who showed their token, and counts what comes of it. There is no answer yet
@@ -107,6 +109,8 @@ impl<S: Drop, G: Gate + Drop, J: SessionSeat + Drop> Loop<S, G, J> {
         event: Event<'_>,
     ) -> Result<Option<SeatAnswer>, SeatFault>
         requires { IsOf shown.user (happening event) }
+        ensures { Tries J.submits (happening event.entry)
+            (state_of self.old) result (state_of self.new) }
     {
         let user = shown.user();
         let entries = entries_of(event);
@@ -122,7 +126,10 @@ impl<S: Drop, G: Gate + Drop, J: SessionSeat + Drop> Loop<S, G, J> {
             Err(_) => Outcome::Untaken,
         };
         self.seat.settle(rt, user, cost, outcome);
-        answer.map(|answer| Some(answer))
+        match answer {
+            Ok(answer) => Ok(Some(answer)),
+            Err(fault) => Err(fault),
+        }
     }
 
     // Which steps were submitted since the last call.

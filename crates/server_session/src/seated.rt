@@ -1,7 +1,9 @@
 //! A loop's seat in the session that it shares.
 
 ghost use Rattle.std.specs.Prelude.{◌≡◌};
+ghost use Rattle.hub.specs.Seats.{with_handed};
 ghost use Rattle.server_session.specs.Outcomes.{checked, outcome_of};
+ghost use Rattle.server_session.specs.Seating.{Steps};
 
 use crate::accounts::Accounts;
 use crate::shared_session::SharedSession;
@@ -68,9 +70,11 @@ impl<'a, L: Begun> Seated<'a, L> {
 impl<L: Begun> SessionSeat for Seated<'_, L> {
     ghost known = { λ s. s.shared.now.users };
 
-    ghost steps = { λ s. s.seat.steps };
+    // The hub answered by one step for this seat, or refused.
+    ghost submits = { λ s event result left. Steps s.seat event result left.seat };
 
-    ghost handed = { λ s. s.seat.handed };
+    // The hub handed these effects to this seat.
+    ghost takes = { λ s effects told left. left.seat ≡ with_handed effects told s.seat };
 
     fn users(&self) -> &Users {
         &self.shared.users

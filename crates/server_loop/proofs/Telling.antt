@@ -1,0 +1,26 @@
+-- Cases, and effects one by one.
+use Rattle.std.proofs.Common.{◌≡◌, ◌∙◌, ◌<◌, ◌+◌, ◌∷◌, ℕ, Bool, true, false, List, length, drop, get_or, ap, sym, subst}
+use Rattle.std.proofs.lemmas.Bool.{false≢true}
+use Rattle.std.proofs.lemmas.List.{drop_more}
+use Rattle.session.specs.Trace.{EventValue}
+use Rattle.server_loop.specs.Handing.{Hands, HandsAll, Sent}
+use Rattle.server_loop.specs.Leaving.{IfBool}
+use Rattle.server_loop.specs.Submitting.{Answer, State}
+
+pub if_true : (b : Bool) (A B : Type 0) → b ≡ true → A → IfBool b A B
+if_true true A B is a = a
+if_true false A B is a = absurd (false≢true is)
+
+pub if_false : (b : Bool) (A B : Type 0) → b ≡ false → B → IfBool b A B
+if_false true A B is b = absurd (false≢true (sym is))
+if_false false A B is b = b
+
+module _ {S J : Type 0} (submits : J → EventValue → Answer → J → Type 0) where
+  -- an effect went to its connection, and those after it did
+  pub handed_next : (xs : List Sent) (i : ℕ) (sent : Sent) (old mid new : State S J) → i < length xs
+      → sent ≡ get_or xs i sent → Hands submits sent.0 sent.1 old mid → HandsAll submits (drop (i + 1) xs) mid new
+      → HandsAll submits (drop i xs) old new
+  handed_next xs i sent old mid new lt is one rest =
+      let next : drop i xs ≡ sent ∷ drop (i + 1) xs = drop_more xs i sent lt
+      ∙ ap (λ (s : Sent). s ∷ drop (i + 1) xs) (sym is) in
+      subst (λ (l : List Sent). HandsAll submits l old new) (sym next) (mid, one, rest)

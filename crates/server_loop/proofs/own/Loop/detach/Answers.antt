@@ -1,0 +1,33 @@
+use Rattle.std.proofs.Common.{◌≡◌, true, false, refl, subst, rules}
+use Rattle.attach_proto.specs.declared.why.Why.TheVariants.{Fault}
+use Rattle.server_connections.specs.declared.connections.Connections.{Connections}
+use Rattle.server_loop.specs.Leaving.{Expels, TellsLeaving}
+use Rattle.server_loop.specs.Submitting.{state_of}
+use Rattle.server_loop.proofs.Telling.{if_false, if_true}
+use Rattle.server_loop.proofs.own.Loop.detach.Goals as goal
+
+pub returns-then-tell_leaving : goal.returns-then-tell_leaving
+returns-then-tell_leaving g c =
+    let yes : c.tell_leaving.result ≡ true = search rules in (
+      c.tell_leaving.result,
+      state_of c.tell_leaving.new.self,
+      subst (λ (s : Connections g.row.S.Denot). TellsLeaving g.J.SessionSeat.submits c.args.key
+          (record { seat = c.args.self.now.seat; connections = s }) c.tell_leaving.result
+          (state_of c.tell_leaving.new.self)) c.ask_to_go.ensures c.tell_leaving.ensures,
+      if_true c.tell_leaving.result (state_of c.tell_leaving.new.self ≡ state_of c.tell_leaving.new.self)
+          (Expels g.J.SessionSeat.submits Fault c.args.key (state_of c.tell_leaving.new.self)
+          (state_of c.tell_leaving.new.self)) yes refl,
+    )
+
+pub returns : goal.returns
+returns g c =
+    let no : c.tell_leaving.result ≡ false = search rules in (
+      c.tell_leaving.result,
+      state_of c.tell_leaving.new.self,
+      subst (λ (s : Connections g.row.S.Denot). TellsLeaving g.J.SessionSeat.submits c.args.key
+          (record { seat = c.args.self.now.seat; connections = s }) c.tell_leaving.result
+          (state_of c.tell_leaving.new.self)) c.ask_to_go.ensures c.tell_leaving.ensures,
+      if_false c.tell_leaving.result (state_of c.expel.new.self ≡ state_of c.tell_leaving.new.self)
+          (Expels g.J.SessionSeat.submits Fault c.args.key (state_of c.tell_leaving.new.self)
+          (state_of c.expel.new.self)) no c.expel.ensures,
+    )

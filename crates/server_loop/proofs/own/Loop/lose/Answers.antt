@@ -1,0 +1,13 @@
+use Rattle.std.proofs.Common.{subst}
+use Rattle.server_connections.specs.declared.connections.Connections.{Connections}
+use Rattle.server_loop.specs.Leaving.{TellsLeaving}
+use Rattle.server_loop.specs.Submitting.{state_of}
+use Rattle.server_loop.proofs.own.Loop.lose.Goals as goal
+
+pub returns : goal.returns
+returns g c = (
+  c.tell_leaving.result,
+  subst (λ (s : Connections g.row.S.Denot). TellsLeaving g.J.SessionSeat.submits c.args.key
+      (record { seat = c.args.self.now.seat; connections = s }) c.tell_leaving.result
+      (state_of c.tell_leaving.new.self)) c.give_up.ensures c.tell_leaving.ensures,
+)
