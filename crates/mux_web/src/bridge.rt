@@ -129,12 +129,7 @@ impl<'a> Bridge<'a> {
     }
 
     // Takes browsers that wait at the listeners. Returns whether more may be taken at once.
-    fn accept_all(
-        &mut self,
-        listeners: &[WebListener],
-        registry: &Registry,
-        now: Duration,
-    ) -> bool
+    fn accept_all(&mut self, listeners: &[WebListener], registry: &Registry, now: Duration) -> bool
         ensures comes { (place : ℕ) → Comes (get self.old.relays place) (get self.new.relays place) }
         ensures same { self.new ≡ record self.old { relays = self.new.relays; has_comers = self.new.has_comers } }
         ensures none { self.old.has_comers ≡ false → self.new ≡ self.old }

@@ -9,10 +9,10 @@ ghost use Rattle.server_loop.specs.Leaving.{Detaches, Expels, LeavesBy, Loses, T
 ghost use Rattle.server_loop.specs.Naming.{NamesNobody};
 ghost use Rattle.server_loop.specs.Submitting.{state_of};
 
-use crate::gate::Gate;
 use crate::own::Loop;
 use attach_proto::Why;
 use server_connections::{End, News, Role, SeatFault, SessionSeat, each_awake};
+use server_steps::Gate;
 use session::Event;
 use std::io::{Read, Write};
 use std::sync::Wait;

@@ -2,7 +2,6 @@
 //! sends and draws, and how connections leave.
 #![tactic(auto)]
 
-mod gate;
 mod leaving;
 mod own;
 mod requests;
@@ -11,9 +10,8 @@ mod submitting;
 mod turn;
 mod typing;
 
-pub use gate::{Gate, Open};
 pub use own::{Loop, Pending};
 pub use server_connections::{Connections, End, Name, News, SessionSeat};
 pub use server_pace::Pace;
-pub use submitting::Submitted;
+pub use server_steps::{Gate, Open, Submitted};
 pub use turn::{Reads, Writes};

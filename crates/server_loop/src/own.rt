@@ -2,10 +2,9 @@
 
 ghost use Rattle.std.specs.Prelude.{◌≡◌};
 
-use crate::gate::Gate;
-use crate::submitting::Submitted;
 use crate::turn::OUTPUT;
 use server_connections::{Awaits, Connections, End, HasConnections, News, SessionSeat};
+use server_steps::{Gate, Submitted};
 use server_users::{Rations, Users};
 use std::alloc::{AllocError, Global};
 use std::time::Duration;

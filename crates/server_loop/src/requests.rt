@@ -5,14 +5,13 @@ ghost use Rattle.acl.specs.Names.{name_of};
 ghost use Rattle.session.specs.Trace.{happening};
 ghost use Rattle.server_loop.specs.Naming.{IsOf, NamesNobody};
 
-use crate::gate::Gate;
 use crate::own::Loop;
-use crate::turn::Progress;
 use attach_proto::{Message, Text, Token, Why};
 use command_lang::{Command, FaultKind, parse};
 use server_connections::{
     Asked, End, Guest, GuestKind, Name, News, Role, SeatAnswer, SeatFault, Sending, SessionSeat,
 };
+use server_steps::{Gate, Progress};
 use server_users::{Shown, Users, authenticate};
 use session::{Done, Event, Refusal};
 use std::alloc::{AllocError, Global};

@@ -8,11 +8,11 @@ ghost use Rattle.server_loop.specs.Drawing.{Draws, DrawsFrom, DrawsNext, wanting
 ghost use Rattle.server_loop.specs.Handing.{Ends, Hands, HandsAll, HandsFor, HandsOut, SendsTo};
 ghost use Rattle.server_loop.specs.Submitting.{state_of};
 
-use crate::gate::Gate;
 use crate::own::Loop;
 use acl::UserId;
 use attach_proto::{Message, Why};
 use server_connections::{End, Role, SeatFault, Sending, SessionSeat, Stage, each_awake, why_of};
+use server_steps::Gate;
 use session::{Effect, Event, Reason};
 use std::io::{Read, Write};
 use std::sync::Wait;

@@ -5,56 +5,12 @@ ghost use Rattle.session.specs.Trace.{happening};
 ghost use Rattle.server_loop.specs.Naming.{IsOf, NamesNobody};
 ghost use Rattle.server_loop.specs.Submitting.{Submits, Tries, state_of};
 
-use crate::gate::Gate;
 use crate::own::Loop;
 use server_connections::{News, SeatAnswer, SeatFault, SessionSeat};
+use server_steps::{Gate, Submitted, entries_of, kept_of};
 use server_users::{Outcome, Shown, UNIT, price};
 use session::Event;
 use std::sync::Wait;
-
-/// Which steps a loop submitted.
-#[derive(Clone, Copy)]
-pub struct Submitted {
-    /// A step other than a draw.
-    pub is_some: bool,
-    /// A step that may do more than to change what is drawn.
-    pub has_acted: bool,
-}
-
-impl Submitted {
-    pub(crate) const NOTHING: Submitted = Submitted {
-        is_some: false,
-        has_acted: false,
-    };
-
-    fn note(&mut self, event: Event<'_>) {
-        match event {
-            Event::Draw { .. } => {}
-            Event::Output { .. } => self.is_some = true,
-            _ => {
-                self.is_some = true;
-                self.has_acted = true;
-            }
-        }
-    }
-}
-
-// How many entries of the trail an event leads to. An attach has two, as its client also leaves.
-fn entries_of(event: Event) -> u16 {
-    match event {
-        Event::Attach { .. } => 2,
-        _ => 1,
-    }
-}
-
-// How many bytes of an event the trail keeps.
-fn kept_of(event: Event) -> usize {
-    match event {
-        Event::Command { line, .. } => line.len(),
-        Event::Open { title, .. } => title.len(),
-        _ => 0,
-    }
-}
 
 impl<S: Drop, G: Gate + Drop, J: SessionSeat + Drop> Loop<S, G, J> {
     /// Submits an event that names no user.

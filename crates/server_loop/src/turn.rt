@@ -1,9 +1,8 @@
 //! How a loop's connections have their turn.
 
-use crate::gate::Gate;
 use crate::own::Loop;
-use crate::submitting::Submitted;
 use server_connections::{Arrival, End, PIECE, Role, SessionSeat, each_awake};
+use server_steps::{Gate, Progress, Submitted};
 use std::io::{Read, Write};
 use std::sync::Wait;
 
@@ -16,16 +15,6 @@ const STEPS: usize = 8;
 
 /// At most this many bytes of windows' output are done in a turn, but the last step may go beyond.
 pub(crate) const OUTPUT: usize = 4 * PIECE;
-
-/// What became of a message.
-#[derive(Clone, Copy, Debug, PartialEq, Eq)]
-pub(crate) enum Progress {
-    Done,
-    /// Some of it is still to be done.
-    Part,
-    /// It waits until its user may cause more entries, or for a look at the users' file.
-    Held,
-}
 
 /// What the reads of a turn brought.
 #[derive(Clone, Copy)]

@@ -1,18 +1,13 @@
 //! What clients type, and how large their terminals are.
 
-use crate::gate::Gate;
 use crate::own::Loop;
-use crate::turn::Progress;
-use server_connections::{SeatAnswer, SeatFault, Sending, SessionSeat, Typeahead};
-use server_users::Outcome;
+use server_connections::{SeatFault, Sending, SessionSeat, Typeahead};
+use server_steps::{Gate, Progress, settle, window_after};
 use session::Event;
 use std::io::{Read, Write};
 use std::sync::Wait;
 
 const DROPPED: &str = "keys were dropped: they waited for a second";
-
-// The key with which a command begins.
-const COMMAND: u8 = 1;
 
 impl<S: Read + Write + Drop, G: Gate + Drop, J: SessionSeat + Drop> Loop<S, G, J> {
     // The time of this turn in milliseconds.
@@ -145,46 +140,5 @@ impl<S: Read + Write + Drop, G: Gate + Drop, J: SessionSeat + Drop> Loop<S, G, J
             }
         }
         progress
-    }
-}
-
-// The window into which the next keys go, by the answer to a step of these keys. After a command it isn't
-// known.
-fn window_after(keys: &[u8], answer: &Result<Option<SeatAnswer>, SeatFault>) -> Option<u32> {
-    let Ok(Some(answer)) = answer else {
-        return None;
-    };
-    let taken = match &answer.reply {
-        Ok(done) => done.taken,
-        Err(_) => 0,
-    };
-    if keys.get(..taken).unwrap_or(keys).contains(&COMMAND) {
-        return None;
-    }
-    answer.typed
-}
-
-// What the answer to a step of keys makes of these. If none of them were judged, nothing can come of the
-// rest either.
-fn settle(typed: &mut Typeahead, answer: &Result<Option<SeatAnswer>, SeatFault>) -> Progress {
-    let taken = match answer {
-        Ok(None) => {
-            typed.set_denied(true);
-            return Progress::Held;
-        }
-        Ok(Some(answer)) => {
-            typed.set_denied(answer.outcome == Outcome::Denied);
-            match &answer.reply {
-                Ok(done) => done.taken,
-                Err(_) => 0,
-            }
-        }
-        Err(_) => 0,
-    };
-    typed.judge(if taken == 0 { usize::MAX } else { taken });
-    if typed.is_empty() {
-        Progress::Done
-    } else {
-        Progress::Part
     }
 }
