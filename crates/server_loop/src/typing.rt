@@ -1,7 +1,7 @@
 //! What clients type, and how large their terminals are.
 
 use crate::own::Loop;
-use server_connections::{SeatFault, Sending, SessionSeat, Typeahead};
+use server_connections::{SeatFault, Sending, SessionSeat};
 use server_steps::{Gate, Progress, settle, window_after};
 use session::Event;
 use std::io::{Read, Write};
