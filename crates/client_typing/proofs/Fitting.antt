@@ -2,7 +2,7 @@
 use Rattle.std.proofs.Common.{◌≡◌, ℕ, List, [], ◌∷◌, ◌++◌, refl, sym, ap, ◌∙◌, append_assoc}
 use Rattle.std.specs.Prelude.{codes}
 use Rattle.keys.specs.Grammar.{line, Rest, nothing, rest_step, with_front, items_from, items}
-use Rattle.client_peer.specs.Fitting.{fit_keys}
+use Rattle.client_typing.specs.Fitting.{fit_keys}
 
 from-append : (r : Rest) (keys later : List ℕ)
     → items_from r (keys ++ later) ≡ with_front (items_from r keys).0 (items_from (items_from r keys).1 later)
@@ -27,4 +27,5 @@ fit-then later = refl
 pub fit-between : (before later : List ℕ) → (items before).1 ≡ nothing
     → items (before ++ (fit_keys ++ later))
     ≡ ((items before).0 ++ line (codes "fit") ∷ (items later).0, (items later).1)
-fit-between before later h = typed-alone before (fit_keys ++ later) h ∙ ap (with_front (items before).0) (fit-then later)
+fit-between before later h =
+    typed-alone before (fit_keys ++ later) h ∙ ap (with_front (items before).0) (fit-then later)

@@ -6,11 +6,11 @@ use Rattle.std.specs.Prelude.{OnOk}
 use Rattle.std.proofs.lemmas.Bool.{false_from_ne_true, eqb-true}
 use Rattle.keys.specs.Grammar.{Rest, nothing, command_key, prompt, Item, typed, rest_step, key_items, line_items}
 use Rattle.keys.specs.Grammar.{stays, line_after_key, colon}
-use Rattle.client_peer.specs.Fitting.{awaits_key}
+use Rattle.client_typing.specs.Fitting.{awaits_key}
 use Rattle.client_words.specs.declared.leaving.LeaveReader.{LeaveReader}
 use Rattle.client_words.specs.Leaving.{sent}
 use Rattle.client_words.specs.Stands.{HasRead}
-use Rattle.client_peer.specs.Typing.{LetsThrough}
+use Rattle.client_typing.specs.Following.{LetsThrough}
 
 pub let-through : {T E : Type 0} (r : Result T E) (reader after : LeaveReader) (input out new : List ℕ) → out ≡ []
     → ((before : List ℕ) → HasRead reader before → OnOk r (HasRead after (before ++ input)))

@@ -2,7 +2,7 @@
 
 ghost use Rattle.std.specs.Prelude.{◌≡◌, ◌++◌, ◌∷◌, ℕ, List, codes};
 ghost use Rattle.keys.specs.Grammar.{items, line, nothing};
-ghost use Rattle.client_peer.specs.Fitting.{fit_keys};
+ghost use Rattle.client_typing.specs.Fitting.{fit_keys};
 
 /// Where the session waits for no key, the keys that give `fit` are one line of the prompt, and what the
 /// user typed before and after it reads as it does alone.

@@ -1,5 +1,5 @@
-use Rattle.client_peer.proofs.Fitting.{typed-alone, fit-between}
-use Rattle.client_peer.proofs.laws.fit_splits_nothing.Goals as goal
+use Rattle.client_typing.proofs.Fitting.{typed-alone, fit-between}
+use Rattle.client_typing.proofs.laws.fit_splits_nothing.Goals as goal
 
 pub returns-clause-given : goal.returns-clause-given
 returns-clause-given c = fit-between

@@ -1,7 +1,7 @@
 use Rattle.std.proofs.Common.{ap}
 use Rattle.keys.specs.Grammar.{items_from}
-use Rattle.client_peer.specs.Fitting.{awaits_key}
-use Rattle.client_peer.proofs.typing.Typing.begin.Goals as goal
+use Rattle.client_typing.specs.Fitting.{awaits_key}
+use Rattle.client_typing.proofs.typing.Typing.begin.Goals as goal
 
 pub invariant_of-self : goal.invariant_of-self
 unfolding items_from

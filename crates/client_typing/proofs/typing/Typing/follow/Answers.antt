@@ -1,7 +1,7 @@
 use Rattle.std.proofs.Common.{ap, ◌∙◌, List}
 use Rattle.keys.specs.Grammar.{Item, Rest}
-use Rattle.client_peer.specs.Fitting.{awaits_key}
-use Rattle.client_peer.proofs.typing.Typing.follow.Goals as goal
+use Rattle.client_typing.specs.Fitting.{awaits_key}
+use Rattle.client_typing.proofs.typing.Typing.follow.Goals as goal
 
 pub invariant_of-self : goal.invariant_of-self
 invariant_of-self c = record {

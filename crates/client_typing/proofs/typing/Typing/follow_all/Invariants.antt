@@ -1,7 +1,7 @@
 use Rattle.std.proofs.Common.{ℕ, List, ◌++◌, take}
 use Rattle.keys.specs.Kept.{StandsFor}
-use Rattle.client_peer.specs.Typing.{StaysBeside}
-use Rattle.client_peer.proofs.typing.Typing.follow_all.Given as goal
+use Rattle.client_typing.specs.Following.{StaysBeside}
+use Rattle.client_typing.proofs.typing.Typing.follow_all.Given as goal
 
 abbrev pub invariant-keys : goal.invariant-keys
 invariant-keys l = record {

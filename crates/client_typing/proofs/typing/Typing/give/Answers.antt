@@ -1,7 +1,7 @@
 use Rattle.std.proofs.Common.{ℕ, List, [], ◌∷◌, ◌++◌, ◌∙◌, subst, append_assoc}
 use Rattle.keys.specs.Grammar.{control_a, colon, carriage_return}
 use Rattle.keys.specs.Kept.{StandsFor}
-use Rattle.client_peer.proofs.typing.Typing.give.Goals as goal
+use Rattle.client_typing.proofs.typing.Typing.give.Goals as goal
 
 pub returns-clause-follows : goal.returns-clause-follows
 returns-clause-follows c = λ before h.

@@ -1,7 +1,7 @@
 use Rattle.std.proofs.Common.{ap}
 use Rattle.keys.specs.Grammar.{items_from}
-use Rattle.client_peer.specs.Fitting.{awaits_key}
-use Rattle.client_peer.proofs.typing.Typing.new.Goals as goal
+use Rattle.client_typing.specs.Fitting.{awaits_key}
+use Rattle.client_typing.proofs.typing.Typing.new.Goals as goal
 
 pub invariant_of-result : goal.invariant_of-result
 unfolding items_from

@@ -1,5 +1,5 @@
-use Rattle.client_peer.proofs.Typed.{let-through}
-use Rattle.client_peer.proofs.typing.Typing.read.Goals as goal
+use Rattle.client_typing.proofs.Typed.{let-through}
+use Rattle.client_typing.proofs.typing.Typing.read.Goals as goal
 
 pub returns-in-Some-clause-through : goal.returns-in-Some-clause-through
 returns-in-Some-clause-through c = λ none.
