@@ -1,4 +1,3 @@
-pub mod Fitting
 pub mod Showing
 pub mod Reopening
 pub mod Sending

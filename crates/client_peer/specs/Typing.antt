@@ -1,37 +1,14 @@
 -- What of the input is sent.
-use Rattle.std.specs.Prelude.{◌≡◌, ℕ, true, false, List, [], ◌++◌, ◌⊎◌, Option, Some, None, IsSome}
+use Rattle.std.specs.Prelude.{◌≡◌, ℕ, true, false, List, [], ◌++◌, ◌⊎◌, None, IsSome}
 use Rattle.attach_proto.specs.declared.kind.Kind.TheVariants.{Keys}
 use Rattle.attach_proto.specs.declared.message.Message.TheVariants.{Resize}
 use Rattle.attach_proto.specs.Spelling.{spelling}
-use Rattle.client_words.specs.declared.leaving.LeaveReader.{LeaveReader}
 use Rattle.client_words.specs.declared.words.Way.TheVariants.{Window}
-use Rattle.client_words.specs.Leaving.{sent}
-use Rattle.client_words.specs.Stands.{HasRead}
-use Rattle.keys.specs.Grammar.{nothing}
-use Rattle.keys.specs.Kept.{Keeping, StandsFor, rest_of}
+use Rattle.client_typing.specs.Fitting.{fit_keys}
+use Rattle.client_typing.specs.Following.{LetsThrough, Follows, Rests}
 use Rattle.client_peer.specs.declared.peer.Peer.{Peer}
-use Rattle.client_peer.specs.declared.typing.Typing.{Typing}
-use Rattle.client_peer.specs.Fitting.{fit_keys}
 use Rattle.client_peer.specs.Reopening.{Sends}
 use Rattle.client_peer.specs.Sending.{Prints, SendsFirst}
-
--- `typed` is what is to be sent of this input: all of it, or the input without the byte that leaves
-abbrev pub LetsThrough : Option LeaveReader → List ℕ → List ℕ → Option LeaveReader → Type 0
-LetsThrough None input typed None = typed ≡ input
-LetsThrough None input typed (Some after) = ⊥
-LetsThrough (Some reader) input typed None = ⊥
-LetsThrough (Some reader) input typed (Some after) =
-    (before : List ℕ) → HasRead reader before
-    → HasRead after (before ++ input) × (sent reader.byte (before ++ input) ≡ sent reader.byte before ++ typed)
-
--- the reader has read these keys too
-abbrev pub Follows : Keeping → List ℕ → Keeping → Type 0
-Follows old keys new = (before : List ℕ) → StandsFor old before → StandsFor new (before ++ keys)
-
--- but for the keys that it has read
-abbrev pub StaysBeside : Typing → Typing → Type 0
-StaysBeside old new =
-    (new.leave ≡ old.leave) × (new.assists ≡ old.assists) × (new.back ≡ old.back) × (new.asks_help ≡ old.asks_help)
 
 -- a client that knows a server, and shows no help
 pub record IsSeated (p : Peer) : Type 0 where
@@ -39,8 +16,8 @@ pub record IsSeated (p : Peer) : Type 0 where
   pub here : p.loss ≡ None
   pub shown : p.is_helping ≡ false
 
--- What a client's user types is put down whole and in order. With --fit it is followed, so that `fit` comes between two
--- keys. While no server is there, it is dropped; while the help is shown, the page is asked for instead.
+-- What a client's user types is put down whole and in order. With --fit it is followed, so that `fit` comes between
+-- two keys. While no server is there, it is dropped; while the help is shown, the page is asked for instead.
 pub record Presses (old new : Peer) (typed : List ℕ) : Type 0 where
   pub sends : IsSeated old → old.typing.assists ≡ false → Sends old.frames.items new.frames.items Keys typed
   pub follows : IsSeated old → old.typing.assists ≡ false → old.fits ≡ true
@@ -60,6 +37,6 @@ pub record TypesIn (old new : Peer) (input : List ℕ) : Type 0 where
 -- `fit` is put down only while the session waits for no key, or nothing is.
 abbrev pub Fits : Peer → Peer → Type 0
 Fits old new =
-    (new.frames ≡ old.frames) ⊎ ((rest_of old.typing.keys ≡ nothing)
+    (new.frames ≡ old.frames) ⊎ (Rests old.typing
     × SendsFirst old.frames.items new.frames.items Keys fit_keys
     × Follows old.typing.keys fit_keys new.typing.keys)

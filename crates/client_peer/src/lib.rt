@@ -2,7 +2,6 @@
 //! the time, and has frames for the server, bytes for standard output and what is to be done next.
 #![tactic(auto)]
 
-mod laws;
 mod looking;
 mod notice;
 mod outgoing;
@@ -10,7 +9,6 @@ mod peer;
 mod taking;
 mod typing;
 
-pub use laws::fit_splits_nothing;
 pub use looking::Step;
 pub use outgoing::Batch;
 pub use peer::Peer;

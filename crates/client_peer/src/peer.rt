@@ -7,9 +7,9 @@ ghost use Rattle.client_peer.specs.Showing.{BeginsAnew};
 
 use crate::looking::Times;
 use crate::notice::Notice;
-use crate::typing::Typing;
 use attach_proto::{Message, Why};
 use client_page::KeptPage;
+use client_typing::Typing;
 use client_words::{Fault, Size, Way, Words};
 use draw_check::DrawCheck;
 use std::alloc::Global;

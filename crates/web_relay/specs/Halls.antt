@@ -1,5 +1,5 @@
 -- The halls of watchers.
-use Rattle.std.specs.Prelude.{◌≡◌, ◌==◌, ◌+◌, ◌⊎◌, ◌≤◌, nat_lt, ℕ, true, Option, Some, None, if◌then◌else◌, IsSome, IsSomeAnd}
+use Rattle.std.specs.Prelude.{◌≡◌, ◌==◌, ◌+◌, ◌⊎◌, ◌≤◌, nat_lt, ℕ, true, Option, Some, None, if◌then◌else◌, IsSome}
 use Rattle.std.specs.Duration.{as_nanos}
 use Rattle.std.specs.declared.time.Duration.{Duration}
 use Rattle.slab.specs.Slab.{Slab, get}

@@ -57,9 +57,12 @@ has_page r = r.has_begun && is_socket r.visitor.wire.phase
 abbrev pub is_other : ℕ → (ℕ × Relay) → Bool
 is_other place at = not (at.0 == place) && has_page at.1
 
--- and of this address
+-- the same of a page of this address
+abbrev pub shares : List ℕ → Relay → Bool
+shares address r = has_page r && bytes_eq r.visitor.address.items address
+
 abbrev pub is_neighbour : ℕ → List ℕ → (ℕ × Relay) → Bool
-is_neighbour place address at = is_other place at && bytes_eq at.1.visitor.address.items address
+is_neighbour place address at = not (at.0 == place) && shares address at.1
 
 -- As many open pages as there may be are others', or three quarters of them are others' of its address.
 abbrev pub IsTooMany : Slab Relay → ℕ → Relay → ℕ → Type 0

@@ -1,9 +1,8 @@
 -- What browsers see: of their own client, or of a hall.
-use Rattle.std.specs.Prelude.{◌≡◌, ◌+◌, min, ◌-◌, ◌^◌, Bool, true, false, Some, MatchBool}
+use Rattle.std.specs.Prelude.{◌≡◌, MatchBool}
 use Rattle.web_client.specs.declared.visitor.Visitor.{Visitor}
 use Rattle.web_client.specs.Asking.{IsOwn, IfOwn}
 use Rattle.web_client.specs.Rows.{IsDue, Shows, SendsAll}
-use Rattle.web_client.specs.Frames.{IsWithin}
 use Rattle.web_relay.specs.declared.halls.Hall.{Hall}
 use Rattle.web_relay.specs.Relaying.{IsOpen, HasClient, Loses}
 use Rattle.web_relay.specs.declared.upstream.TheConstants.{ENDED}

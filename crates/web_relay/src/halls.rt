@@ -119,6 +119,15 @@ fn choose_at(halls: &mut Slab<Hall>, place: usize, choice: &str, now: Duration)
     }
 }
 
+// Sends the clients of all halls to the chosen window.
+fn choose_all(halls: &mut Slab<Hall>, choice: &str, now: Duration)
+    ensures { AreSame halls.old halls.new }
+{
+    'places: for place in 0..halls.capacity() {
+        choose_at(halls, place, choice, now);
+    }
+}
+
 // Reads and writes for the hall at this place.
 fn turn_at(halls: &mut Slab<Hall>, place: usize, buffer: &mut [u8])
     ensures { AreSame halls.old halls.new }
@@ -208,7 +217,8 @@ impl Halls {
     // The place of the hall of this size, or a stand-in if all places are taken by others.
     fn find(&self, size: (u16, u16)) -> Option<usize>
         ensures some { IfSome result (λ place. IsSome (get self.now.list place)) }
-        ensures size { IfSome result (λ place. HasSize size (get self.now.list place) ⊎ (MOST ≤ slab_len self.now.list)) }
+        ensures size { IfSome result (λ place. HasSize size (get self.now.list place)
+            ⊎ (MOST ≤ slab_len self.now.list)) }
     {
         match self.of_size(size) {
             Some(place) => Some(place),
@@ -251,7 +261,8 @@ impl Halls {
     // Opens a hall of this size.
     fn open<R: Net>(&mut self, rt: &R, around: Around<'_>, size: (u16, u16)) -> Option<usize>
         ensures some { IfSome result (λ place. IsSome (get self.new.list place)) }
-        ensures others { (other : ℕ) → IsSome (get self.old.list other) → get self.new.list other ≡ get self.old.list other }
+        ensures others { (other : ℕ) → IsSome (get self.old.list other)
+            → get self.new.list other ≡ get self.old.list other }
     {
         let place = self.list.vacant_key();
         let hall = self.made(rt, around, size, place)?;
@@ -269,7 +280,8 @@ impl Halls {
         size: (u16, u16),
     ) -> Option<HallNumber>
         ensures some { IfSome result (λ number. IsSome (hall_of self.new.list number)) }
-        ensures others { (other : ℕ) → IsSome (get self.old.list other) → get self.new.list other ≡ get self.old.list other }
+        ensures others { (other : ℕ) → IsSome (get self.old.list other)
+            → get self.new.list other ≡ get self.old.list other }
     {
         let place = match self.find(size) {
             Some(place) => place,
@@ -322,9 +334,7 @@ impl Halls {
         let Some(choice) = &self.choice else {
             return;
         };
-        'places: for place in 0..self.list.capacity() {
-            choose_at(&mut self.list, place, choice.as_str(), now);
-        }
+        choose_all(&mut self.list, choice.as_str(), now);
     }
 
     /// Reads and writes for all halls. Nobody counts as their audience yet.

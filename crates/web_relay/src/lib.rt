@@ -1,5 +1,5 @@
 //! Who is sent what: a browser and the connection of its own client, pages that watchers share, and the place of each.
-//! What comes from the server for a client goes to its browser alone, and what a browser types to its own client alone.
+//! What comes from the server for a client goes to its browser alone, and what a browser types to its own client.
 #![tactic(auto)]
 
 mod halls;

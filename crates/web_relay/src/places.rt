@@ -1,9 +1,9 @@
 //! The places of browsers: who is woken, who goes for another, and whether there is room.
 
-ghost use Rattle.std.specs.Prelude.{◌≡◌, ◌↔◌, ℕ, None, IfSome, IsSome, IsTrue};
-ghost use Rattle.slab.specs.Slab.{get, Updates};
+ghost use Rattle.std.specs.Prelude.{◌≡◌, ◌↔◌, ℕ, Some, None, count_by, IfSome, IsSome, IsTrue};
+ghost use Rattle.slab.specs.Slab.{get, entries, Updates};
 ghost use Rattle.web_relay.specs.Places.{changed_at, heeds_browser, heeds_server, IsSilent, IsOver, IsTooMany};
-ghost use Rattle.web_relay.specs.Places.{MayGo, LeavesAs};
+ghost use Rattle.web_relay.specs.Places.{MayGo, LeavesAs, is_other, is_neighbour};
 
 use crate::halls::Halls;
 use crate::relay::Relay;
@@ -86,24 +86,43 @@ pub fn let_go(relays: &mut Slab<Relay>, place: usize) -> Option<(bool, bool)>
     Some(said)
 }
 
+// How many open pages others have.
+fn others(relays: &Slab<Relay>, place: usize) -> usize
+    ensures { result ≡ count_by (is_other place) (entries relays.now) }
+{
+    relays
+        .iter()
+        .filter(|(number, other)| *number != place && other.has_page())
+        .count()
+}
+
+// How many open pages others have of this address.
+fn neighbours(relays: &Slab<Relay>, place: usize, address: &[u8]) -> usize
+    ensures { result ≡ count_by (is_neighbour place address.now) (entries relays.now) }
+{
+    relays
+        .iter()
+        .filter(|(number, other)| *number != place && other.shares(address))
+        .count()
+}
+
 /// Whether the page at this place is one too many: of all, or of its address.
 pub fn is_full(relays: &Slab<Relay>, place: usize, most: usize) -> bool
-    ensures { IfSome (get relays.now place) (λ relay. IsTrue result ↔ IsTooMany relays.now place relay most) }
+    ensures { (relay : Relay) → get relays.now place ≡ Some relay
+        → IsTrue result ↔ IsTooMany relays.now place relay most }
 {
     let Some(relay) = relays.get(place) else {
         return false;
     };
     let address = relay.visitor.address.as_slice();
-    let all = relays
-        .iter()
-        .filter(|(number, other)| *number != place && other.has_page())
-        .count();
-    let same = relays
-        .iter()
-        .filter(|(number, other)| {
-            *number != place && other.has_page() && other.visitor.address.as_slice() == address
-        })
-        .count();
-    let share = most.saturating_sub(most / 4);
-    all >= most || (!address.is_empty() && same >= share)
+    if others(relays, place) >= most {
+        return true;
+    }
+    if address.is_empty() {
+        return false;
+    }
+    if neighbours(relays, place, address) < most.saturating_sub(most / 4) {
+        return false;
+    }
+    true
 }

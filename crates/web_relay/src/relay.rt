@@ -4,7 +4,7 @@ ghost use Rattle.std.specs.Prelude.{◌≡◌, ◌↔◌, ℕ, List, None, IsTru
 ghost use Rattle.web_client.specs.Frames.{page, begun};
 ghost use Rattle.web_client.specs.Asking.{Asks, Keeps, IsOwn};
 ghost use Rattle.web_client.specs.Rows.{TellsLast, Refuses, handed};
-ghost use Rattle.web_relay.specs.Places.{has_page};
+ghost use Rattle.web_relay.specs.Places.{has_page, shares};
 ghost use Rattle.web_relay.specs.Relaying.{IsOpen, HasClient, HasPage, HasGone, Loses, Stays, IsRefused};
 ghost use Rattle.web_client.specs.declared.wire.Phase.TheVariants as phase;
 
@@ -199,6 +199,13 @@ impl Relay {
         ensures { result ≡ has_page self.now }
     {
         self.has_begun && self.visitor.is_open()
+    }
+
+    // Whether its page has said who it is, is open, and came from this address.
+    pub(crate) fn shares(&self, address: &[u8]) -> bool
+        ensures { result ≡ shares address.now self.now }
+    {
+        self.has_page() && self.visitor.address.as_slice() == address
     }
 
     /// When it came.

@@ -42,7 +42,8 @@ impl Halls {
         ensures afresh { relay.new.hall ≢ relay.old.hall
             → relay.new.visitor.view ≡ record { is_welcomed = false; since = 0 } }
         ensures identity { relay.new.visitor.identity ≡ relay.old.visitor.identity }
-        ensures others { (other : ℕ) → IsSome (get self.old.list other) → get self.new.list other ≡ get self.old.list other }
+        ensures others { (other : ℕ) → IsSome (get self.old.list other)
+            → get self.new.list other ≡ get self.old.list other }
     {
         let Identity::Watching(rows, columns) = *relay.visitor.identity() else {
             return false;

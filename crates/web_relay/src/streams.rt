@@ -13,7 +13,7 @@ use std::net::{Net, SocketAddr};
 use std::time::Duration;
 use web_client::Site;
 
-/// What an event is for: a listener of this number; a browser, or the own client of a browser, at this place; or a hall.
+/// What an event is for: a listener of this number; a browser, or the own client of a browser, at this place; a hall.
 #[derive(Clone, Copy, Debug, PartialEq, Eq)]
 pub enum Woken {
     Listener(usize),

@@ -1,5 +1,5 @@
 use Rattle.slab.specs.Slab.{get}
-use Rattle.web_relay.proofs.Halls.{same_self, same_then}
+use Rattle.web_relay.proofs.Turns.{same_self, same_then}
 use Rattle.web_relay.proofs.halls.Halls.turn.Goals as goal
 
 pub places-init : goal.places-init

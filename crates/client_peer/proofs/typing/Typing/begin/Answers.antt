@@ -1,8 +1,0 @@
-use Rattle.std.proofs.Common.{ap}
-use Rattle.keys.specs.Grammar.{items_from}
-use Rattle.client_peer.specs.Fitting.{awaits_key}
-use Rattle.client_peer.proofs.typing.Typing.begin.Goals as goal
-
-pub invariant_of-self : goal.invariant_of-self
-unfolding items_from
-invariant_of-self c = record { begun = ap awaits_key c.new-self.ensures.stands }

@@ -1,0 +1,14 @@
+use Rattle.std.proofs.Common.{ℕ, List, [], ◌∷◌, ◌++◌, ◌∙◌, subst, append_assoc}
+use Rattle.keys.specs.Grammar.{control_a, colon, carriage_return}
+use Rattle.keys.specs.Kept.{StandsFor}
+use Rattle.client_typing.proofs.typing.Typing.give.Goals as goal
+
+pub returns-clause-follows : goal.returns-clause-follows
+returns-clause-follows c = λ before h.
+    let front : List ℕ = control_a ∷ colon ∷ [] in
+    let line : List ℕ = c.args.line.now in
+    let last : List ℕ = carriage_return ∷ [] in
+    subst (λ (keys : List ℕ). StandsFor c.follow_all-3.new.self.keys keys)
+    (append_assoc (before ++ front) line last ∙ append_assoc before front (line ++ last))
+    (c.follow_all-3.ensures.follows ((before ++ front) ++ line)
+    (c.follow_all-2.ensures.follows (before ++ front) (c.follow_all.ensures.follows before h)))

@@ -1,0 +1,24 @@
+use Rattle.std.proofs.Common.{refl, arith}
+use Rattle.web_relay.specs.Halls.{Closes}
+use Rattle.web_relay.proofs.Turns.{done-more, rest-more, all-done}
+use Rattle.web_relay.proofs.halls.Halls.close.Goals as goal
+
+pub places-preserved : goal.places-preserved
+places-preserved c =
+    let old = c.args.self.now.list in
+    let now = c.places.self.list in
+    let at = c.places.place in
+    let then = c.close_at.ensures in
+    let before = c.places.invariant in record {
+      closed =
+          done-more (Closes c.args.now) old now at before.closed before.rest c.close_at.new.self.list then.closes
+          then.others;
+      rest = rest-more (Closes c.args.now) old now at before.closed before.rest c.close_at.new.self.list then.others;
+      all = before.all;
+    }
+
+pub returns : goal.returns
+returns c =
+    let before = c.places.invariant in
+    all-done (Closes c.args.now) c.args.self.now.list c.places.self.list c.places.place before.closed before.rest refl
+    (omega (arith, before.all))

@@ -1,0 +1,28 @@
+use Rattle.std.proofs.Common.{refl, inl, arith}
+use Rattle.slab.specs.Slab.{get}
+use Rattle.web_relay.specs.Halls.{Renews}
+use Rattle.web_relay.proofs.Turns.{done-more, rest-more, all-done, renews-later}
+use Rattle.web_relay.proofs.halls.Halls.renew.Goals as goal
+
+pub places-preserved : goal.places-preserved
+places-preserved g c =
+    let first = c.args.self.now.next in
+    let old = c.args.self.now.list in
+    let now = c.places.self.list in
+    let new = c.renew_at.new.self.list in
+    let at = c.places.place in
+    let then = c.renew_at.ensures in
+    let before = c.places.invariant in record {
+      renewed =
+          done-more (Renews first) old now at before.renewed before.rest new
+          (renews-later first c.places.self.next (get now at) (get new at) before.next then.renews) then.others;
+      rest = rest-more (Renews first) old now at before.renewed before.rest new then.others;
+      next = omega (arith, before.next, then.next);
+      all = before.all;
+    }
+
+pub returns : goal.returns
+returns g c =
+    let before = c.places.invariant in
+    all-done (Renews c.args.self.now.next) c.args.self.now.list c.places.self.list c.places.place before.renewed
+    before.rest (inl refl) (omega (arith, before.all))

@@ -1,0 +1,19 @@
+use Rattle.std.proofs.Common.{◌≡◌, ◌∙◌, ap}
+use Rattle.slab.specs.Slab.{Slab, get}
+use Rattle.web_relay.specs.declared.halls.Hall.{Hall}
+use Rattle.web_relay.proofs.Turns.{where-it-was, insert-others}
+use Rattle.web_relay.proofs.halls.Halls.renew_at.Goals as goal
+
+pub returns-in-Some-made-clause-others : goal.returns-in-Some-made-clause-others
+returns-in-Some-made-clause-others g c = λ other apart.
+    let old : Slab Hall = c.args.self.now.list in
+    let removed : Slab Hall = c.try_remove.new.self in
+    let before : Slab Hall = c.made.new.self.list in
+    let next : removed.vacant_key ≡ c.args.place =
+    where-it-was (get old c.args.place) c.try_remove.result _ c.in-Some.ensures c.try_remove.ensures.value
+    c.try_remove.ensures.key_is_next in
+    insert-others c.insert.result before c.insert.new.self c.args.place _
+    (ap (λ (s : Slab Hall). s.vacant_key) c.made.ensures.list ∙ next) c.insert.ensures.key c.insert.ensures.updates
+    c.insert.ensures.err other apart
+    ∙ ap (λ (s : Slab Hall). get s other) c.made.ensures.list
+    ∙ c.try_remove.ensures.updates.others other apart
