@@ -1,5 +1,9 @@
 //! How a loop's connections have their turn.
 
+ghost use Rattle.std.specs.Prelude.{◌≡◌};
+ghost use Rattle.slab.specs.Slab.{get};
+ghost use Rattle.server_loop.specs.Obeying.{role_at};
+
 use crate::gate::Gate;
 use crate::own::Loop;
 use crate::submitting::Submitted;
@@ -49,7 +53,9 @@ pub struct Writes {
 
 impl<S: Read + Write + Drop, G: Gate + Drop, J: SessionSeat + Drop> Loop<S, G, J> {
     // What a connection is to the session.
-    pub(crate) fn role_of(&self, key: usize) -> Role {
+    pub(crate) fn role_of(&self, key: usize) -> Role
+        ensures { result ≡ role_at (get self.entry.now.connections.peers key) }
+    {
         match self.connections.get(key) {
             Some(peer) => peer.role,
             None => Role::Stranger,
