@@ -10,8 +10,7 @@ mod submitting;
 mod turn;
 mod typing;
 
-pub use own::{Loop, Pending};
+pub use own::Loop;
 pub use server_connections::{Connections, End, Name, News, SessionSeat};
 pub use server_pace::Pace;
-pub use server_steps::{Gate, Open, Submitted};
-pub use turn::{Reads, Writes};
+pub use server_steps::{Gate, Open, Pending, Reads, Submitted, Writes};

@@ -4,7 +4,7 @@ ghost use Rattle.std.specs.Prelude.{◌≡◌};
 
 use crate::turn::OUTPUT;
 use server_connections::{Awaits, Connections, End, HasConnections, News, SessionSeat};
-use server_steps::{Gate, Submitted};
+use server_steps::{Gate, Pending, Submitted};
 use server_users::{Rations, Users};
 use std::alloc::{AllocError, Global};
 use std::time::Duration;
@@ -15,18 +15,6 @@ const READ_SIZE: usize = 32_768;
 
 // At most this many news wait until they are taken. Later ones are left out.
 const MOST_NEWS: usize = 1_024;
-
-/// What a loop has to do, though no event will tell of it.
-#[derive(Clone, Copy, PartialEq, Eq)]
-pub enum Pending {
-    /// To do something at once.
-    Work,
-    /// To try something again soon.
-    Retry,
-    /// To look whether a connection used up its time.
-    Patience,
-    Nothing,
-}
 
 // The reads of a turn.
 #[derive(Drop)]

@@ -1,17 +1,20 @@
 //! What peers ask for.
 
-ghost use Rattle.std.specs.Prelude.{◌≡◌, IfSome, None, Contains, unwrap_or};
+ghost use Rattle.std.specs.Prelude.{◌≡◌, IfSome, None, Contains, length, unwrap_or};
+ghost use Rattle.slab.specs.Slab.{get};
 ghost use Rattle.acl.specs.Names.{name_of};
-ghost use Rattle.session.specs.Trace.{happening};
+ghost use Rattle.session.specs.Trace.{Output, happening};
+ghost use Rattle.server_inbox.specs.Asking.{advanced, piece_of};
 ghost use Rattle.server_loop.specs.Naming.{IsOf, NamesNobody};
+ghost use Rattle.server_loop.specs.Obeying.{FollowsUp, ObeysBy, SubmitsFor, meaning_of, role_at};
+ghost use Rattle.server_loop.specs.Submitting.{state_of};
 
 use crate::own::Loop;
 use attach_proto::{Message, Text, Token, Why};
-use command_lang::{Command, FaultKind, parse};
 use server_connections::{
     Asked, End, Guest, GuestKind, Name, News, Role, SeatAnswer, SeatFault, Sending, SessionSeat,
 };
-use server_steps::{Gate, Progress};
+use server_steps::{Gate, Progress, is_quit};
 use server_users::{Shown, Users, authenticate};
 use session::{Done, Event, Refusal};
 use std::alloc::{AllocError, Global};
@@ -29,43 +32,99 @@ struct Newcomer {
     user: Shown,
 }
 
-fn is_quit(alloc: Global, line: &[u8]) -> Result<bool, AllocError> {
-    match parse(alloc, line) {
-        Ok(Command::Quit) => Ok(true),
-        Err(fault) if fault.kind == FaultKind::NoMemory => Err(AllocError),
-        _ => Ok(false),
+// What a message is to a loop.
+#[derive(Clone, Copy)]
+enum Meaning {
+    /// The first message of a connection.
+    First,
+    /// Output of the program of this window.
+    Output(u32),
+    /// Its client or window ends.
+    Leave,
+    /// It mustn't be sent.
+    Misfit,
+}
+
+fn meaning_of(role: Role, message: &Message) -> Meaning
+    ensures { result ≡ meaning_of role message.now }
+{
+    match role {
+        Role::Stranger => Meaning::First,
+        Role::Window(window) => match message {
+            Message::Output(_) => Meaning::Output(window),
+            Message::Detach => Meaning::Leave,
+            _ => Meaning::Misfit,
+        },
+        Role::Client(_) => match message {
+            Message::Detach => Meaning::Leave,
+            _ => Meaning::Misfit,
+        },
     }
 }
 
 impl<S: Read + Write + Drop, G: Gate + Drop, J: SessionSeat + Drop> Loop<S, G, J> {
-    /// Does a message of a connection, or a step of it.
-    pub(crate) fn obey(&mut self, rt: &impl Wait, key: usize, asked: &mut Asked) -> Progress {
-        match (self.role_of(key), &asked.message) {
-            (Role::Stranger, _) => return self.begin(rt, key, &asked.message),
-            (Role::Window(window), Message::Output(_)) => {
-                return self.output(rt, key, window, asked);
+    /// Does a message of a connection, or a step of it, as what it means.
+    pub(crate) fn obey(&mut self, rt: &impl Wait, key: usize, asked: &mut Asked) -> Progress
+        ensures { ObeysBy J.submits J.takes
+            (meaning_of (role_at (get self.old.connections.peers key)) asked.old.message) key
+            asked.old asked.new (state_of self.old) (state_of self.new) }
+    {
+        match meaning_of(self.role_of(key), &asked.message) {
+            Meaning::First => self.begin(rt, key, &asked.message),
+            Meaning::Output(window) => self.output(rt, key, window, asked),
+            Meaning::Leave => {
+                self.detach(rt, key);
+                Progress::Done
             }
-            (Role::Client(_) | Role::Window(_), Message::Detach) => self.detach(rt, key),
-            _ => self.fault(rt, key),
+            Meaning::Misfit => {
+                self.fault(rt, key);
+                Progress::Done
+            }
         }
-        Progress::Done
+    }
+
+    // If there was no memory for a step, its connection is told to go.
+    fn follow_up(&mut self, rt: &impl Wait, key: usize, answer: &Result<SeatAnswer, SeatFault>)
+        ensures { FollowsUp J.submits J.takes key answer.now (state_of self.old) (state_of self.new) }
+    {
+        match answer {
+            Ok(_) => {}
+            Err(SeatFault::Over(_)) => {}
+            Err(SeatFault::NoMemory) => self.fault(rt, key),
+        }
     }
 
     // Submits an event whose answer nobody waits for. A refusal is passed over, unless there was no
     // memory.
     pub(crate) fn change(&mut self, rt: &impl Wait, key: usize, event: Event)
         requires { NamesNobody (happening event) }
+        ensures { SubmitsFor J.submits J.takes (happening event.entry) key
+            (state_of self.old) (state_of self.new) }
     {
-        if let Err(SeatFault::NoMemory) = self.submit(rt, event) {
-            self.fault(rt, key);
-        }
+        let answer = self.submit(rt, event);
+        self.follow_up(rt, key, &answer);
+    }
+
+    // Submits the next piece of a window's output. Returns how many bytes it has.
+    fn submit_piece(&mut self, rt: &impl Wait, key: usize, window: u32, asked: &Asked) -> usize
+        ensures step { SubmitsFor J.submits J.takes
+            (Output window (piece_of asked.now.message asked.now.done)) key
+            (state_of self.old) (state_of self.new) }
+        ensures count { result ≡ length (piece_of asked.now.message asked.now.done) }
+    {
+        let bytes = asked.piece();
+        self.change(rt, key, Event::Output { window, bytes });
+        bytes.len()
     }
 
     // A step takes a piece of a window's output.
-    fn output(&mut self, rt: &impl Wait, key: usize, window: u32, asked: &mut Asked) -> Progress {
-        let bytes = asked.piece();
-        let taken = bytes.len();
-        self.change(rt, key, Event::Output { window, bytes });
+    fn output(&mut self, rt: &impl Wait, key: usize, window: u32, asked: &mut Asked) -> Progress
+        ensures step { SubmitsFor J.submits J.takes
+            (Output window (piece_of asked.old.message asked.old.done)) key
+            (state_of self.old) (state_of self.new) }
+        ensures asked { asked.new ≡ advanced asked.old }
+    {
+        let taken = self.submit_piece(rt, key, window, asked);
         self.reading.output_left = self.reading.output_left.saturating_sub(taken);
         if asked.note_done(taken) {
             Progress::Done

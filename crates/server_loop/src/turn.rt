@@ -1,8 +1,12 @@
 //! How a loop's connections have their turn.
 
+ghost use Rattle.std.specs.Prelude.{◌≡◌};
+ghost use Rattle.slab.specs.Slab.{get};
+ghost use Rattle.server_loop.specs.Obeying.{role_at};
+
 use crate::own::Loop;
-use server_connections::{Arrival, End, PIECE, Role, SessionSeat, each_awake};
-use server_steps::{Gate, Progress, Submitted};
+use server_connections::{Arrival, PIECE, Role, SessionSeat, each_awake};
+use server_steps::{Gate, Progress, Reads, Writes};
 use std::io::{Read, Write};
 use std::sync::Wait;
 
@@ -16,29 +20,11 @@ const STEPS: usize = 8;
 /// At most this many bytes of windows' output are done in a turn, but the last step may go beyond.
 pub(crate) const OUTPUT: usize = 4 * PIECE;
 
-/// What the reads of a turn brought.
-#[derive(Clone, Copy)]
-pub struct Reads {
-    /// Keys of a client were submitted.
-    pub has_typed: bool,
-    /// A connection had more bytes than one read takes, or windows had more output than one step takes.
-    pub is_much: bool,
-    pub submitted: Submitted,
-}
-
-/// What the end of a turn brought.
-#[derive(Clone, Copy)]
-pub struct Writes {
-    /// How many clients were drawn.
-    pub drawn: usize,
-    pub submitted: Submitted,
-    /// Why the server is to end, if it is.
-    pub end: Option<End>,
-}
-
 impl<S: Read + Write + Drop, G: Gate + Drop, J: SessionSeat + Drop> Loop<S, G, J> {
     // What a connection is to the session.
-    pub(crate) fn role_of(&self, key: usize) -> Role {
+    pub(crate) fn role_of(&self, key: usize) -> Role
+        ensures { result ≡ role_at (get self.entry.now.connections.peers key) }
+    {
         match self.connections.get(key) {
             Some(peer) => peer.role,
             None => Role::Stranger,

@@ -5,7 +5,9 @@
 mod gate;
 mod progress;
 mod submitted;
+mod turns;
 
 pub use gate::{Gate, Open};
 pub use progress::{Progress, settle, window_after};
-pub use submitted::{Submitted, entries_of, kept_of};
+pub use submitted::{Submitted, entries_of, is_quit, kept_of};
+pub use turns::{Pending, Reads, Writes};

@@ -1,6 +1,8 @@
 //! Which steps a loop submitted, and what they cost.
 
+use command_lang::{Command, FaultKind, parse};
 use session::Event;
+use std::alloc::{AllocError, Global};
 
 /// Which steps a loop submitted.
 #[derive(Clone, Copy)]
@@ -45,5 +47,14 @@ pub fn kept_of(event: Event) -> usize {
         Event::Command { line, .. } => line.len(),
         Event::Open { title, .. } => title.len(),
         _ => 0,
+    }
+}
+
+/// Whether a line is the command `quit`. `AllocError` if memory is refused.
+pub fn is_quit(alloc: Global, line: &[u8]) -> Result<bool, AllocError> {
+    match parse(alloc, line) {
+        Ok(Command::Quit) => Ok(true),
+        Err(fault) if fault.kind == FaultKind::NoMemory => Err(AllocError),
+        _ => Ok(false),
     }
 }

@@ -1,0 +1,53 @@
+-- What a message of a connection means, and what is done by it.
+use Rattle.std.specs.Prelude.{◌≡◌, ℕ, Bool, List, Option, Some, None, Ok, Err}
+use Rattle.attach_proto.specs.declared.message.Message.{Message}
+use Rattle.attach_proto.specs.declared.message.Message.TheVariants as message
+use Rattle.session.specs.Trace.{EventValue, Output}
+use Rattle.server_connections.specs.declared.peer.Peer.{Peer}
+use Rattle.server_connections.specs.declared.peer.Role.{Role}
+use Rattle.server_connections.specs.declared.peer.Role.TheVariants as role
+use Rattle.server_connections.specs.declared.seat.SeatFault.TheVariants as fault
+use Rattle.server_inbox.specs.Asking.{advanced, piece_of}
+use Rattle.server_inbox.specs.declared.asked.Asked.{Asked}
+use Rattle.server_loop.specs.Handing.{Faults, Sent}
+use Rattle.server_loop.specs.Leaving.{Detaches}
+use Rattle.server_loop.specs.Submitting.{Answer, State, Submits}
+use Rattle.server_loop.specs.declared.requests.Meaning.{Meaning}
+use Rattle.server_loop.specs.declared.requests.Meaning.TheVariants as meaning
+
+-- what a message is, by what its connection is to the session
+abbrev pub meaning_of : Role → Message → Meaning
+meaning_of role.Stranger m = meaning.First
+meaning_of (role.Window window) (message.Output bytes) = meaning.Output window
+meaning_of (role.Window window) message.Detach = meaning.Leave
+meaning_of (role.Client client) message.Detach = meaning.Leave
+meaning_of role m = meaning.Misfit
+
+module _ {S : Type 0} where
+  -- what the connection of a key is to the session
+  abbrev pub role_at : Option (Peer S) → Role
+  role_at None = role.Stranger
+  role_at (Some peer) = peer.role
+
+module _ {S J : Type 0} (submits : J → EventValue → Answer → J → Type 0) (takes : J → List Sent → Bool → J → Type 0)
+  where
+    -- if there was no memory for a step, its connection was told to go
+    abbrev pub FollowsUp : ℕ → Answer → State S J → State S J → Type 0
+    FollowsUp key (Err fault.NoMemory) old new = Faults submits takes key old new
+    FollowsUp key (Err (fault.Over end)) old new = new ≡ old
+    FollowsUp key (Ok answer) old new = new ≡ old
+
+    -- one step was made with this event
+    pub record SubmitsFor (event : EventValue) (key : ℕ) (old new : State S J) : Type 0 where
+      pub answer : Answer
+      pub mid : State S J
+      pub step : Submits submits event old answer mid
+      pub after : FollowsUp key answer mid new
+
+    -- what was done by a message that isn't a first one
+    abbrev pub ObeysBy : Meaning → ℕ → Asked → Asked → State S J → State S J → Type 0
+    ObeysBy meaning.First key was asked old new = asked ≡ was
+    ObeysBy (meaning.Output window) key was asked old new = (asked ≡ advanced was)
+        × SubmitsFor (Output window (piece_of was.message was.done)) key old new
+    ObeysBy meaning.Leave key was asked old new = (asked ≡ was) × Detaches submits key old new
+    ObeysBy meaning.Misfit key was asked old new = (asked ≡ was) × Faults submits takes key old new
