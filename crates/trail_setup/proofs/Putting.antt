@@ -1,6 +1,7 @@
 -- Lines of several kinds that are put out one after another.
 use Rattle.std.proofs.Common.{◌≡◌, ◌∙◌, ◌+◌, ◌<◌, ◌≤◌, ℕ, zero, suc, Bool, true, false, List, [], ◌∷◌, ◌++◌, refl, sym}
-use Rattle.std.proofs.Common.{subst, ap, map, take, drop, length, arith, slice_index_or, length-append, Result, Ok, Err, ◌==◌, not}
+use Rattle.std.proofs.Common.{subst, ap, map, take, drop, length, arith, slice_index_or}
+use Rattle.std.proofs.Common.{length-append, Result, Ok, Err, ◌==◌, not}
 use Rattle.std.specs.Prelude.{OnOk, filter}
 use Rattle.std.proofs.lemmas.Bool.Decides.{nat_tests}
 use Rattle.trail_setup.specs.Masks.{are_any}

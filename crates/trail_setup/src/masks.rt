@@ -7,7 +7,8 @@ ghost use Rattle.acl.specs.History.{History, among, is_open};
 ghost use Rattle.trail_setup.specs.Lines.{HoldWords, PutsLines, kind_of};
 ghost use Rattle.trail_setup.specs.Alone.{HasEntries};
 ghost use Rattle.trail_setup.specs.Masks.{Stands, closed_bits, comes_back, differing, has_if_back, has_on_all};
-ghost use Rattle.trail_setup.specs.Masks.{are_any, is_first, is_lent, known_in, lent_text, mask_kind, mask_parts, mask_word};
+ghost use Rattle.trail_setup.specs.Masks.{are_any, is_first, is_lent, known_in, lent_text};
+ghost use Rattle.trail_setup.specs.Masks.{mask_kind, mask_parts, mask_word};
 ghost use Rattle.trail_setup.specs.Masks.{other_head, other_parts, owner_head, parts_by, said_bits, words_in};
 ghost use Rattle.trail_setup.specs.Masks.{words_of};
 ghost use Rattle.trail_setup.specs.Giving.{PutsAll};
@@ -269,7 +270,8 @@ impl SetupMasks<'_> {
         out: &mut Vec<u8>,
     ) -> Result<(), AllocError>
         ensures { (edition : Edition) (owner : UserId) (h : History) → Stands self.now.state.now edition owner h →
-            OnOk result (PutsAll (parts_by is_later owner h (known_in self.now) start.now by) out.old.items out.new.items) }
+            OnOk result (PutsAll (parts_by is_later owner h (known_in self.now) start.now by) out.old.items
+            out.new.items) }
     {
         if !self.says_any(is_later, by)? {
             return Ok(());
@@ -285,7 +287,8 @@ impl SetupMasks<'_> {
     /// they were.
     pub fn push(&self, is_later: bool, start: &[u8], out: &mut Vec<u8>) -> Result<(), AllocError>
         ensures { (edition : Edition) (owner : UserId) (h : History) → Stands self.now.state.now edition owner h →
-            OnOk result (PutsAll (mask_parts is_later owner h (known_in self.now) start.now) out.old.items out.new.items) }
+            OnOk result (PutsAll (mask_parts is_later owner h (known_in self.now) start.now) out.old.items
+            out.new.items) }
     {
         for by in self.users {
             self.push_by(is_later, start, *by, out)?;

@@ -33,7 +33,8 @@ returns-then-not-is_owner c = λ edition owner h s.
     let other = other_parts start by words (is_lent c.args.is_later owner h by) in
     let any : are_any words ≡ true = sym (c.in_ok-says_any.ensures edition owner h s) ∙ c.if-not-branch.false in
     let first : is_first users by ≡ false = sym c.is_owner.ensures ∙ c.if-not-is_owner.true in
-    subst (λ (b : Bool). OnOk c.push_others.result (PutsAll (if b then (if is_first users by then own else other) else [])
-    out c.push_others.new.out.items)) (sym any)
-    (subst (λ (b : Bool). OnOk c.push_others.result (PutsAll (if b then own else other) out c.push_others.new.out.items))
+    subst (λ (b : Bool). OnOk c.push_others.result (PutsAll
+    (if b then (if is_first users by then own else other) else []) out c.push_others.new.out.items)) (sym any)
+    (subst (λ (b : Bool). OnOk c.push_others.result (PutsAll (if b then own else other)
+    out c.push_others.new.out.items))
     (sym first) (c.push_others.ensures edition owner h s))
