@@ -1,13 +1,16 @@
 -- Lines of several kinds that are put out one after another.
 use Rattle.std.proofs.Common.{◌≡◌, ◌∙◌, ◌+◌, ◌<◌, ◌≤◌, ℕ, zero, suc, Bool, true, false, List, [], ◌∷◌, ◌++◌, refl, sym}
 use Rattle.std.proofs.Common.{subst, ap, map, take, drop, length, arith, slice_index_or}
-use Rattle.std.specs.Prelude.{filter}
+use Rattle.std.proofs.Common.{length-append, Result, Ok, Err, ◌==◌, not}
+use Rattle.std.specs.Prelude.{OnOk, filter}
+use Rattle.std.proofs.lemmas.Bool.Decides.{nat_tests}
+use Rattle.trail_setup.specs.Masks.{are_any}
 use Rattle.std.specs.List.{AllByRecursion, flat_map, list_all}
 use Rattle.std.proofs.lemmas.List.{flat_map_more}
 use Rattle.trail_rights.proofs.Stepping.{keeps_next, leaves_next, take_past}
 use Rattle.trail_setup.specs.declared.lines.LineForm.{LineForm}
 use Rattle.trail_setup.specs.Giving.{Part, PutsAll, PutsPart}
-use Rattle.trail_setup.specs.Lines.{HoldWords, Kind, kind_of}
+use Rattle.trail_setup.specs.Lines.{HoldWords, Kind, PutsLines, begun, kind_of, line, on_lines}
 
 pub puts_append : (ps qs : List Part) (a b c : List ℕ) → PutsAll ps a b → PutsAll qs b c → PutsAll (ps ++ qs) a c
 puts_append [] qs a b c e more = subst (λ (x : List ℕ). PutsAll qs x c) e more
@@ -88,3 +91,50 @@ pub rewritten : (k m : Kind) (start : List ℕ) (ws vs : List (List ℕ)) (out n
 rewritten k m start ws vs out now e same held =
     subst (λ (x : Kind). HoldWords x start vs out now) e
     (subst (λ (xs : List (List ℕ)). HoldWords k start xs out now) same held)
+
+-- ---- whether something is said
+
+longer : (a b : List ℕ) (x : ℕ) → 0 < length (a ++ x ∷ b)
+longer [] b x = omega arith
+longer (y ∷ a) b x = omega arith
+
+positive : (n : ℕ) → 0 < n → not (n == 0) ≡ true
+positive n l = grind (arith, nat_tests, l)
+
+pub any_said : (k : Kind) (words : List (List ℕ)) (out : List ℕ) → PutsLines k [] words out
+    → not (length out == 0) ≡ are_any words
+any_said k words out held = go held.lines held.last held.all held.put held.begins
+  where
+    go : (ls : List (List ℕ × List (List ℕ))) (last : List (List ℕ)) → words ≡ on_lines ls ++ last
+        → out ≡ [] ++ flat_map (line k) ls → [] ≡ begun k last → not (length out == 0) ≡ are_any words
+    go [] [] all put begins = ap (λ (o : List ℕ). not (length o == 0)) put ∙ sym (ap are_any all)
+    go [] (w ∷ ws) all put begins = absurd
+        (let same : 0 ≡ length (begun k (w ∷ ws)) = ap (λ (o : List ℕ). length o) begins in
+        let some = longer k.head (w ++ flat_map (λ (v : List ℕ). k.between ∷ v) ws) 0x20 in
+        omega (arith, same, some))
+    go (l ∷ ls) last all put begins =
+        let begin : List ℕ = begun k (l.0 ∷ l.1) in
+        let end : List ℕ = k.tail ++ 0x0A ∷ [] in
+        let rest : List ℕ = flat_map (line k) ls in
+        let some : 0 < length ((begin ++ end) ++ rest) = omega (
+          arith,
+          longer k.head (l.0 ++ flat_map (λ (v : List ℕ). k.between ∷ v) l.1) 0x20,
+          length-append begin end,
+          length-append (begin ++ end) rest,
+        ) in
+        ap (λ (o : List ℕ). not (length o == 0)) put ∙ positive (length ((begin ++ end) ++ rest)) some
+        ∙ sym (ap are_any all)
+
+-- ---- the parts of an opener
+
+pub one_put : {T E : Type 0} (r : Result T E) (k m : Kind) (start out : List ℕ) (words : List (List ℕ)) → k ≡ m
+    → OnOk r (PutsLines k start words out) → OnOk r (PutsAll (Part.lines m words ∷ []) start out)
+one_put (Ok x) k m start out words e put = (out, subst (λ (y : Kind). PutsLines y start words out) e put, refl)
+one_put (Err x) k m start out words e put = tt
+
+pub lent_put : {T E : Type 0} (r : Result T E) (k m : Kind) (a b c d t u : List ℕ) (words : List (List ℕ)) → k ≡ m
+    → b ≡ a ++ t → PutsLines k b words c → OnOk r (d ≡ c ++ u)
+    → OnOk r (PutsAll (Part.text t ∷ Part.lines m words ∷ Part.text u ∷ []) a d)
+lent_put (Ok x) k m a b c d t u words e first put last =
+    (b, first, (c, subst (λ (y : Kind). PutsLines y b words c) e put, (d, last, refl)))
+lent_put (Err x) k m a b c d t u words e first put last = tt

@@ -1,14 +1,15 @@
 -- What a setup says of masks: closed masks while windows come back, and later those masks that were closed further
 -- than they are.
 use Rattle.std.specs.Prelude.{◌≡◌, ◌||◌, ◌&&◌, ℕ, Bool, true, false, not, if◌then◌else◌, List, [], ◌∷◌, ◌++◌}
-use Rattle.std.specs.Prelude.{Option, Some, None}
+use Rattle.std.specs.Prelude.{Option, Some, None, codes}
 use Rattle.std.specs.Prelude.{slice_index_or}
 use Rattle.std.specs.List.{AllByRecursion, flat_map, list_all}
-use Rattle.acl.specs.declared.act.Object.TheVariants.{Window}
+use Rattle.acl.specs.declared.act.Object.TheVariants.{Command, Window}
 use Rattle.acl.specs.declared.act.PresetKind.{PresetKind}
 use Rattle.acl.specs.declared.act.PresetKind.TheVariants as preset
 use Rattle.acl.specs.declared.bits.Bit.{Bit}
 use Rattle.acl.specs.declared.bits.Bit.TheVariants.{Read, Write, Execute}
+use Rattle.acl.specs.declared.command_name.CommandName.TheVariants.{Aclumask}
 use Rattle.acl.specs.declared.edition.Edition.{Edition}
 use Rattle.acl.specs.declared.user_id.UserId.{UserId}
 use Rattle.acl.specs.History.{History, among, has, is_open}
@@ -18,7 +19,7 @@ use Rattle.trail_setup.specs.declared.masks.SetupMasks.{SetupMasks}
 use Rattle.trail_setup.specs.declared.state.SetMask.{SetMask}
 use Rattle.trail_setup.specs.declared.state.SetupState.{SetupState}
 use Rattle.trail_setup.specs.Alone.{HasEntries}
-use Rattle.trail_setup.specs.Giving.{same_bits}
+use Rattle.trail_setup.specs.Giving.{Part, same_bits}
 use Rattle.trail_setup.specs.Lines.{Kind, given_text}
 
 -- ---- what was set
@@ -108,3 +109,40 @@ words_of later owner h m by = flat_map (word_of later owner h m by) m.users
 
 abbrev pub mask_kind : List ℕ → Kind
 mask_kind head = record { head = head; between = 0x20; tail = [] }
+
+-- ---- the lines of each opener
+
+abbrev pub are_any : List (List ℕ) → Bool
+are_any [] = false
+are_any (w ∷ words) = true
+
+-- another user than the owner is lent x on `aclumask`: while masks are closed, and later if their entry lacks it
+abbrev pub is_lent : Bool → UserId → History → UserId → Bool
+is_lent later owner h by = not later || not (same_user owner by || has owner h by Execute (Command Aclumask))
+
+abbrev pub lent_text : List ℕ → UserId → List ℕ → List ℕ
+lent_text start by bits = start ++ (codes "aclchg " ++ (name_of by ++ (bits ++ codes " aclumask\n")))
+
+-- how a line of an opener begins: only another than the owner is named
+abbrev pub owner_head : List ℕ → List ℕ
+owner_head start = start ++ codes "aclumask"
+
+abbrev pub other_head : List ℕ → UserId → List ℕ
+other_head start by = start ++ (name_of by ++ codes ": aclumask")
+
+abbrev pub other_parts : List ℕ → UserId → List (List ℕ) → Bool → List Part
+other_parts start by words true =
+    Part.text (lent_text start by (codes " +x")) ∷ Part.lines (mask_kind (other_head start by)) words
+    ∷ Part.text (lent_text start by (codes " -x")) ∷ []
+other_parts start by words false = Part.lines (mask_kind (other_head start by)) words ∷ []
+
+abbrev pub parts_by : Bool → UserId → History → Known → List ℕ → UserId → List Part
+parts_by later owner h m start by =
+    if are_any (words_of later owner h m by) then
+    (if is_first m.users by then Part.lines (mask_kind (owner_head start)) (words_of later owner h m by) ∷ []
+    else other_parts start by (words_of later owner h m by) (is_lent later owner h by))
+    else []
+
+-- what each known user masks
+abbrev pub mask_parts : Bool → UserId → History → Known → List ℕ → List Part
+mask_parts later owner h m start = flat_map (parts_by later owner h m start) m.users

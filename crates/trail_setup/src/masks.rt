@@ -1,13 +1,17 @@
 //! The masks of a setup.
 
-ghost use Rattle.std.specs.Prelude.{◌≡◌, ◌∷◌, ◌++◌, [], ℕ, List, OnOk, true};
+ghost use Rattle.std.specs.Prelude.{◌≡◌, ◌∷◌, ◌++◌, [], ℕ, List, OnOk, IfOk, true};
 ghost use Rattle.acl.specs.declared.edition.Edition.{Edition};
 ghost use Rattle.acl.specs.declared.user_id.UserId.{UserId};
 ghost use Rattle.acl.specs.History.{History, among, is_open};
 ghost use Rattle.trail_setup.specs.Lines.{HoldWords, PutsLines, kind_of};
 ghost use Rattle.trail_setup.specs.Alone.{HasEntries};
 ghost use Rattle.trail_setup.specs.Masks.{Stands, closed_bits, comes_back, differing, has_if_back, has_on_all};
-ghost use Rattle.trail_setup.specs.Masks.{is_first, known_in, mask_kind, mask_word, said_bits, words_in, words_of};
+ghost use Rattle.trail_setup.specs.Masks.{are_any, is_first, is_lent, known_in, lent_text};
+ghost use Rattle.trail_setup.specs.Masks.{mask_kind, mask_parts, mask_word};
+ghost use Rattle.trail_setup.specs.Masks.{other_head, other_parts, owner_head, parts_by, said_bits, words_in};
+ghost use Rattle.trail_setup.specs.Masks.{words_of};
+ghost use Rattle.trail_setup.specs.Giving.{PutsAll};
 
 use crate::commands::are_same;
 use crate::lines::{Given, LineForm, Lines, push_bits};
@@ -43,6 +47,17 @@ fn is_among(users: &[UserId], user: UserId) -> bool
     ensures { result ≡ among users.now user }
 {
     users.iter().any(|other| user == *other)
+}
+
+/// Appends a line of the owner that gives an opener x on `aclumask`, or takes it again.
+fn push_lent(start: &[u8], by: UserId, bits: &[u8], out: &mut Vec<u8>) -> Result<(), AllocError>
+    ensures { OnOk result (out.new.items ≡ out.old.items ++ lent_text start.now by bits.now) }
+{
+    out.extend_from_slice(start)?;
+    out.extend_from_slice(b"aclchg ")?;
+    out.extend_from_slice(by.as_bytes())?;
+    out.extend_from_slice(bits)?;
+    out.extend_from_slice(b" aclumask\n")
 }
 
 impl SetupMasks<'_> {
@@ -185,25 +200,43 @@ impl SetupMasks<'_> {
     }
 
     /// Whether an opener has something to say.
-    fn says_any(&self, is_later: bool, by: UserId) -> Result<bool, AllocError> {
+    fn says_any(&self, is_later: bool, by: UserId) -> Result<bool, AllocError>
+        ensures { (edition : Edition) (owner : UserId) (h : History) → Stands self.now.state.now edition owner h →
+            IfOk result (λ any. any ≡ are_any (words_of is_later owner h (known_in self.now) by)) }
+    {
         let mut said = Vec::new(self.alloc);
         self.push_of(is_later, by, b"", &mut said)?;
-        Ok(!said.is_empty())
+        Ok(!said.as_slice().is_empty())
     }
 
-    /// Appends a line of the owner that gives an opener x on `aclumask`, or takes it again.
-    fn push_lent(
-        &self,
-        start: &[u8],
-        by: UserId,
-        bits: &[u8],
-        out: &mut Vec<u8>,
-    ) -> Result<(), AllocError> {
-        out.extend_from_slice(start)?;
-        out.extend_from_slice(b"aclchg ")?;
-        out.extend_from_slice(by.as_bytes())?;
-        out.extend_from_slice(bits)?;
-        out.extend_from_slice(b" aclumask\n")
+    /// Whether an opener is lent x on `aclumask` for their lines.
+    fn is_lent(&self, is_later: bool, by: UserId) -> bool
+        ensures { (edition : Edition) (owner : UserId) (h : History) →
+            HasEntries self.now.state.now.entries edition owner h → result ≡ is_lent is_later owner h by }
+    {
+        let object = Object::Command(CommandName::Aclumask);
+        !is_later || !self.state.entries.has(by, Bit::Execute, object)
+    }
+
+    /// How a line of the owner begins.
+    fn owner_head(&self, start: &[u8]) -> Result<Vec<u8>, AllocError>
+        ensures { IfOk result (λ head. head.items ≡ owner_head start.now) }
+    {
+        let mut head = Vec::new(self.alloc);
+        head.extend_from_slice(start)?;
+        head.extend_from_slice(b"aclumask")?;
+        Ok(head)
+    }
+
+    /// How a line of another opener begins.
+    fn other_head(&self, start: &[u8], by: UserId) -> Result<Vec<u8>, AllocError>
+        ensures { IfOk result (λ head. head.items ≡ other_head start.now by) }
+    {
+        let mut head = Vec::new(self.alloc);
+        head.extend_from_slice(start)?;
+        head.extend_from_slice(by.as_bytes())?;
+        head.extend_from_slice(b": aclumask")?;
+        Ok(head)
     }
 
     /// Appends the lines by which another user than the owner masks users. If that user may not give
@@ -214,21 +247,18 @@ impl SetupMasks<'_> {
         start: &[u8],
         by: UserId,
         out: &mut Vec<u8>,
-    ) -> Result<(), AllocError> {
-        let object = Object::Command(CommandName::Aclumask);
-        let is_lent = !is_later || !self.state.entries.has(by, Bit::Execute, object);
-        let mut head = Vec::new(self.alloc);
-        head.extend_from_slice(start)?;
-        head.extend_from_slice(by.as_bytes())?;
-        head.extend_from_slice(b": aclumask")?;
-        if is_lent {
-            self.push_lent(start, by, b" +x", out)?;
+    ) -> Result<(), AllocError>
+        ensures { (edition : Edition) (owner : UserId) (h : History) → Stands self.now.state.now edition owner h →
+            OnOk result (PutsAll (other_parts start.now by (words_of is_later owner h (known_in self.now) by)
+            (is_lent is_later owner h by)) out.old.items out.new.items) }
+    {
+        let head = self.other_head(start, by)?;
+        if !self.is_lent(is_later, by) {
+            return self.push_of(is_later, by, head.as_slice(), out);
         }
+        push_lent(start, by, b" +x", out)?;
         self.push_of(is_later, by, head.as_slice(), out)?;
-        if is_lent {
-            self.push_lent(start, by, b" -x", out)?;
-        }
-        Ok(())
+        push_lent(start, by, b" -x", out)
     }
 
     /// Appends the lines by which an opener masks users, each after `start`.
@@ -238,22 +268,28 @@ impl SetupMasks<'_> {
         start: &[u8],
         by: UserId,
         out: &mut Vec<u8>,
-    ) -> Result<(), AllocError> {
+    ) -> Result<(), AllocError>
+        ensures { (edition : Edition) (owner : UserId) (h : History) → Stands self.now.state.now edition owner h →
+            OnOk result (PutsAll (parts_by is_later owner h (known_in self.now) start.now by) out.old.items
+            out.new.items) }
+    {
         if !self.says_any(is_later, by)? {
             return Ok(());
         }
         if !self.is_owner(by) {
             return self.push_others(is_later, start, by, out);
         }
-        let mut head = Vec::new(self.alloc);
-        head.extend_from_slice(start)?;
-        head.extend_from_slice(b"aclumask")?;
+        let head = self.owner_head(start)?;
         self.push_of(is_later, by, head.as_slice(), out)
     }
 
     /// Appends the lines by which each opener masks users, each after `start`: closed masks, and later what
     /// they were.
-    pub fn push(&self, is_later: bool, start: &[u8], out: &mut Vec<u8>) -> Result<(), AllocError> {
+    pub fn push(&self, is_later: bool, start: &[u8], out: &mut Vec<u8>) -> Result<(), AllocError>
+        ensures { (edition : Edition) (owner : UserId) (h : History) → Stands self.now.state.now edition owner h →
+            OnOk result (PutsAll (mask_parts is_later owner h (known_in self.now) start.now) out.old.items
+            out.new.items) }
+    {
         for by in self.users {
             self.push_by(is_later, start, *by, out)?;
         }
