@@ -559,7 +559,8 @@ def turns(play, accounts):
         on.shows("ann", "^own: " + told)
     # The lesson's shell can't read the tokens, though ann may type there; and tess may type beside her.
     who, home = ("lab", "~tess") if accounts.real else ("nobody", on.home)
-    on.type("ann", "echo I am $(id -un); cat %s/class/users\n" % home)
+    # (a long path would break the message)
+    on.type("ann", "echo I am $(id -un); cat %s/class/users 2>&1 | grep -o Perm.*\n" % home)
     if os.getuid() == 0:
         on.shows("ann", "Permission denied")
         on.shows("ann", "^I am " + who)
@@ -823,7 +824,8 @@ def words_alone(play):
     else:
         play.text.leave("it is a pattern", "mux-attach --user NAME", "mux-attach --rows 24 --cols 80",
                         "mux-attach --fit", "mux-shell --detach", "mux-console db7", "muxsim --edition 1")
-        play.text.leave("tests/outside/share plays it, with three accounts", "mux-share --with cole", "mux-join dana")
+        play.text.leave("tests/outside/share plays it, with three accounts", "mux-share --with cole", "mux-join dana",
+                        "mux-share --give cole", "mux-share --take")
 
 
 def muxd_page(play):
