@@ -140,12 +140,13 @@
   };
   const note = () => {
     const [caption = "", message = ""] = [...page.children].slice(-2).map((row) => row.textContent.trimEnd());
+    if (!caption && page.firstChild) return;  // (a page of a new size is still to be drawn)
     // Who may not look back is told so.
     if (back && message.startsWith("denied: x on scrollview")) {
       back = asked = 0;
       past.hidden = true;
     }
-    if (caption) hear(caption, message);
+    hear(caption, message);
     const me = user ? user.name : "", lock = /^denied: window \d+ locked by (\w+)$/.exec(message);
     const isDenied = lock || /^denied: w on window /.test(message), types = lock ? lock[1] : turn;
     const lines = [told_turn(me, isDenied, types)];
