@@ -77,7 +77,8 @@ def told_to_go():
     with Server() as server:
         deaf = server.admit(window())
         client = server.admit(attach())
-        for _ in range(60):
+        # (of more than 256 KiB the client has to wait)
+        for _ in range(30):
             client.sendall(frame(KEYS, b"x" * 8192))
         time.sleep(1)
         check("a window is killed", server.give(b"kill", number=0).endswith(DONE))
@@ -89,7 +90,7 @@ def told_to_go():
         check("and closed when 10 seconds are over, though it doesn't read", has_ended and 8 < took < 13,
               f"{took:.1f} s")
         typed = all_of(deaf)
-        check("what it didn't take is dropped", 0 < typed.count(b"x") < 60 * 8192 and not typed.endswith(b"g\0\1\3"),
+        check("what it didn't take is dropped", 0 < typed.count(b"x") < 30 * 8192 and not typed.endswith(b"g\0\1\3"),
               f"{len(typed)} bytes")
 
 
