@@ -2,6 +2,7 @@ pub use Rattle.hub_check.specs.Clients
 pub use Rattle.hub_check.specs.Following
 pub use Rattle.hub_check.specs.Judges
 pub use Rattle.hub_check.specs.declared.replay
+pub use Rattle.hub_ledger.specs.Closing
 pub use Rattle.hub_ledger.specs.Seats
 pub use Rattle.hub_ledger.specs.declared.begun
 pub use Rattle.hub_trail.specs.Filing

@@ -5,7 +5,7 @@ use Rattle.session.specs.Noted.{Noted}
 use Rattle.hub_trail.specs.declared.kept.Kept.{Kept}
 use Rattle.hub_trail.specs.Trails.{Entry, Trail}
 use Rattle.hub_trail.specs.Filing.{ending_of}
-use Rattle.hub_ledger.specs.declared.prepared.Prepared.{Prepared}
+use Rattle.hub_ledger.specs.declared.growing_trail.Prepared.{Prepared}
 
 -- what a trail keeps of the event
 abbrev pub kept_by : Option Prepared → Option Kept

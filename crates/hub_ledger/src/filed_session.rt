@@ -15,10 +15,9 @@ ghost use Rattle.hub_ledger.specs.States.{IsKept, Takes, begun_with, state_of};
 ghost use Rattle.hub_ledger.specs.declared.ledger.answer.HubFault.TheVariants.{TrailFull, Strange};
 ghost use Rattle.hub_ledger.specs.declared.ledger.TheConstants.{FULL};
 
-use crate::growing_trail::GrowingTrail;
+use crate::growing_trail::{GrowingTrail, Prepared};
 use crate::ledger::{FULL, Foreign, Full, HubFault};
-use crate::prepared::Prepared;
-use crate::receipt::are_below;
+use crate::seat::are_below;
 use crate::waiting::{SeatEffects, typed_in, typist_of};
 use acl::{Edition, UserId};
 use hub_check::all_pass;
@@ -29,24 +28,13 @@ use session::{Event, Notes, Refusal, Reply, Session, Verdict};
 use std::alloc::{AllocError, Global};
 
 /// A session with its trail, the seats of its peers, and the effects that wait for each seat.
+#[derive(Drop)]
 pub struct FiledSession {
     pub alloc: Global,
     pub session: Session,
     pub entries: GrowingTrail,
     pub peers: Peers,
     pub waiting: SeatEffects,
-}
-
-impl Drop for FiledSession {
-    fn drop(self) {
-        let FiledSession {
-            alloc: _,
-            session: _,
-            entries: _,
-            peers: _,
-            waiting: _,
-        } = self;
-    }
 }
 
 /// Whether a step was refused because memory was refused.
@@ -212,13 +200,7 @@ impl FiledSession {
     pub fn into_entries(self) -> GrowingTrail
         ensures { result ≡ self.entries }
     {
-        let FiledSession {
-            alloc: _,
-            session: _,
-            entries,
-            peers: _,
-            waiting: _,
-        } = self;
+        let FiledSession { entries, .. } = self;
         entries
     }
 }

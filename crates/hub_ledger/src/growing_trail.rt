@@ -1,15 +1,38 @@
-//! The entries of a trail that grows.
+//! The entries of a trail that grows, and what is made before a step so that its entry takes no memory.
 
-ghost use Rattle.std.specs.Prelude.{◌≡◌, ◌<◌, OnOk, length};
+ghost use Rattle.std.specs.Prelude.{◌≡◌, ◌<◌, IfOk, OnOk, length};
+ghost use Rattle.session.specs.Trace.{happening};
+ghost use Rattle.hub_trail.specs.Filing.{kept_of};
 ghost use Rattle.hub_record.specs.EntryLists.{HasRoom};
 ghost use Rattle.hub_ledger.specs.Slips.{kept_by, with_entries, written};
 ghost use Rattle.hub_ledger.specs.States.{trail_in};
 
-use crate::prepared::Prepared;
 use acl::{Edition, UserId};
-use hub_record::{EntryList, KeptReply, NewEntry};
-use session::{Notes, Reply};
-use std::alloc::AllocError;
+use hub_record::{EntryList, Kept, KeptReply, NewEntry};
+use session::{Event, Notes, Refusal, Reply};
+use std::alloc::{AllocError, Global};
+
+/// What is kept of an event, and a block of memory for a refusal.
+#[derive(Drop)]
+pub struct Prepared {
+    pub event: Kept,
+    pub spare: Box<Refusal>,
+}
+
+impl Prepared {
+    /// What has to be made for the event, if it writes an entry. `AllocError` if memory is refused.
+    pub fn of(alloc: Global, event: Event<'_>) -> Result<Option<Prepared>, AllocError>
+        ensures { IfOk result (λ prepared. kept_by prepared ≡ kept_of (happening event.entry)) }
+    {
+        match Kept::of(alloc, event)? {
+            Some(event) => {
+                let spare = Box::new(alloc, Refusal::NoMemory)?;
+                Ok(Some(Prepared { event, spare }))
+            }
+            None => Ok(None),
+        }
+    }
+}
 
 /// The entries of all steps of a session, with its edition and its owner.
 #[derive(Drop)]

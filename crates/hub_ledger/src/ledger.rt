@@ -13,18 +13,21 @@ ghost use Rattle.hub_ledger.specs.Closing.{AreThere, IsFirstWrong, receipts_of};
 ghost use Rattle.hub_ledger.specs.Seats.{AllBelow, Answers, AreNumbered, HasChecks, NoneAsks};
 ghost use Rattle.hub_ledger.specs.Seats.{StandsLast, fresh_seat, placed, with_handed};
 ghost use Rattle.hub_ledger.specs.Faults.{foreign, full};
+ghost use Rattle.hub_ledger.specs.Laws.{KeptTrailsAreLegal, KeptTrailsHaveTheActs};
 ghost use Rattle.hub_ledger.specs.declared.ledger.TheConstants.{FULL};
 ghost use Rattle.hub_ledger.specs.declared.ledger.answer.HubFault.TheVariants.{TrailFull, NoMemory};
 ghost use Rattle.hub_ledger.specs.declared.ledger.answer.HubFault.TheVariants.{Strange};
 
 mod answer;
 mod trail;
+#[cfg(test)]
+mod turned;
 
 use crate::begun::Begun;
 use crate::closing::{count, first_wrong};
 use crate::filed_session::FiledSession;
-use crate::handed::Handed;
 use crate::seat::Seat;
+use crate::waiting::Handed;
 use acl::UserId;
 pub use answer::{Answer, Foreign, Full, HubFault};
 use hub_record::Receipts;
@@ -33,7 +36,7 @@ use session::{Event, Session};
 use std::alloc::{AllocError, Global};
 use std::marker::Model;
 use std::sync::ledger::{Blank, Book, Ledger as ShareLedger, Share};
-pub use trail::Trail;
+pub use trail::{Trail, check_entries, check_trail};
 
 /// The most entries that a trail may have.
 pub const FULL: usize = 4_194_304;
@@ -41,15 +44,10 @@ pub const FULL: usize = 4_194_304;
 /// What lies under the hub's lock: a session that stands for a run, its trail, and the effects that
 /// wait for each seat. Its shares count the receipts of all seats: there are as many as the trail
 /// has entries.
+#[derive(Drop)]
 pub struct Ledger<L: Begun> {
     filed: FiledSession,
     book: Book<L>,
-}
-
-impl<L: Begun> Drop for Ledger<L> {
-    fn drop(self) {
-        let Ledger { filed: _, book: _ } = self;
-    }
 }
 
 impl<L: Begun> Model for Ledger<L> {
@@ -284,3 +282,10 @@ impl<L: Begun> Ledger<L> {
         (Trail::of(entries), wrong)
     }
 }
+
+/// What is kept under the lock says that the trail is legal, and that the session's lists, masks,
+/// groups, locks and users of clients are those of the trail's acts.
+pub fn kept_trails_are_legal()
+    ensures legal { KeptTrailsAreLegal }
+    ensures acts { KeptTrailsHaveTheActs }
+{}

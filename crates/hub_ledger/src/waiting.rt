@@ -1,4 +1,4 @@
-//! What waits for each seat.
+//! What waits for each seat, and what is handed out to it.
 
 ghost use Rattle.std.specs.Prelude.{◌≡◌, ◌≤◌, ◌<◌, [], length, map, true, false, IfOk, OnOk, Some};
 ghost use Rattle.std.specs.Prelude.{slice_get, slice_set, replicate};
@@ -10,27 +10,65 @@ ghost use Rattle.hub_peers.specs.Peers.{AreSeats, HasPeer, owners_of};
 ghost use Rattle.hub_ledger.specs.Routing.{views, HaveRoom, AreRouted, marked, is_draw, typist_of};
 ghost use Rattle.hub_ledger.specs.Routing.{last_input, later, typed_in};
 
-use crate::handed::{Handed, Sent};
 use acl::UserId;
 use hub_peers::Peers;
 use session::{Effect, Event, Session};
 use std::alloc::{AllocError, Global};
+use std::marker::Model;
 use std::mem;
+
+/// An effect, with the user who typed it: all effects of a step of keys or of a command have the user
+/// whose step it was; those of other steps have none.
+pub type Sent = (Effect, Option<UserId>);
+
+/// The effects that a take hands out, in order. Only a ledger makes them, so nothing can be left out,
+/// put in or moved.
+#[derive(Drop)]
+pub struct Handed {
+    effects: Vec<Sent>,
+}
+
+impl Model for Handed {
+    ghost use Rattle.std.specs.Prelude.{List};
+    ghost use Rattle.hub_ledger.specs.Routing.{Sent};
+
+    ghost Value = { List Sent };
+
+    ghost view = { λ h. h.effects.items };
+}
+
+impl Handed {
+    pub(crate) fn of(effects: Vec<Sent>) -> Handed
+        ensures { result ≡ effects.items }
+    {
+        Handed { effects }
+    }
+
+    /// The effects.
+    pub fn as_slice(&self) -> &[Sent]
+        ensures { result.now ≡ self.now }
+    {
+        self.effects.as_slice()
+    }
+
+    /// The effects, to be moved on.
+    pub fn into_items(self) -> Vec<Sent>
+        ensures { result.items ≡ self }
+    {
+        let Handed { effects } = self;
+        effects
+    }
+}
 
 /// The most effects that one step has.
 pub const MOST: usize = 256;
 
 /// The effects that wait for each seat, and whether a step other than a Draw came since its effects
 /// were last taken.
+#[derive(Drop)]
 pub struct SeatEffects {
     pub lists: Vec<Vec<Sent>>,
     pub marks: Vec<bool>,
-}
-
-impl Drop for SeatEffects {
-    fn drop(self) {
-        let SeatEffects { lists: _, marks: _ } = self;
-    }
 }
 
 impl SeatEffects {

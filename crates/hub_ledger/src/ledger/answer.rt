@@ -70,6 +70,7 @@ impl<T: Drop> From<AllocFailed<T>> for HubFault {
 }
 
 /// The answer to one submitted event. Only a submit makes one, and nothing copies it.
+#[derive(Drop)]
 pub struct Answer<'a> {
     pub(super) event: Event<'a>,
     pub(super) reply: Reply,
@@ -77,19 +78,6 @@ pub struct Answer<'a> {
     pub(super) place: Option<usize>,
     pub(super) checks: (Option<bool>, bool),
     pub(super) entry: Option<TrailEntry>,
-}
-
-impl Drop for Answer<'_> {
-    fn drop(self) {
-        let Answer {
-            event: _,
-            reply: _,
-            typed: _,
-            place: _,
-            checks: _,
-            entry: _,
-        } = self;
-    }
 }
 
 impl<'a> Model for Answer<'a> {
@@ -128,14 +116,7 @@ impl<'a> Answer<'a> {
     pub fn into_reply(self) -> Reply
         ensures { result ≡ self.entry.reply }
     {
-        let Answer {
-            event: _,
-            reply,
-            typed: _,
-            place: _,
-            checks: _,
-            entry: _,
-        } = self;
+        let Answer { reply, .. } = self;
         reply
     }
 

@@ -2,7 +2,7 @@ use Rattle.std.proofs.Common.{◌≡◌, ◌∙◌, ◌-◌, Some, ap, sym, subs
 use Rattle.std.specs.Prelude.{◌↔◌, nat_lt, slice_get}
 use Rattle.hub_ledger.specs.Rising.{AllBelow}
 use Rattle.hub_ledger.proofs.Rising.{last_tells}
-use Rattle.hub_ledger.proofs.receipt.are_below.Goals as goal
+use Rattle.hub_ledger.proofs.seat.are_below.Goals as goal
 
 pub returns-else-count-eq0 : goal.returns-else-count-eq0
 returns-else-count-eq0 c =

@@ -6,7 +6,7 @@ use Rattle.hub_trail.specs.Judging.{AreGood, AreJudgeable, IsBadAt, IsIllegalAt}
 use Rattle.hub_trail.specs.Legal.{AreLegal}
 use Rattle.hub_check.proofs.Judged.{bad_illegal, good_legal}
 use Rattle.hub_ledger.proofs.OtherOwner.{legal_until}
-use Rattle.hub_ledger.proofs.checking.check_trail.Goals as goal
+use Rattle.hub_ledger.proofs.ledger.trail.check_trail.Goals as goal
 
 -- the same entries, judged by the same edition
 legal_for : (here edition : Edition) (owner : UserId) (es entries : List Entry) → here ≡ edition → es ≡ entries

@@ -9,7 +9,7 @@ use Rattle.hub_trail.specs.Judging.{AreGood, IsBadAt}
 use Rattle.hub_check.specs.Judges.{HasJudged}
 use Rattle.hub_check.specs.declared.fault.CheckFault.{CheckFault}
 use Rattle.hub_check.specs.declared.fault.CheckFault.TheVariants.{BadEntry, NoMemory}
-use Rattle.hub_ledger.proofs.checking.check_entries.Goals as goal
+use Rattle.hub_ledger.proofs.ledger.trail.check_entries.Goals as goal
 
 abbrev place_in : Result (Unit {0}) CheckFault → ℕ
 place_in (Ok x) = 0

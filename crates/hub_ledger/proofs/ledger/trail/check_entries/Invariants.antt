@@ -1,6 +1,6 @@
 use Rattle.std.proofs.Common.{take}
 use Rattle.hub_check.specs.Judges.{HasJudged}
-use Rattle.hub_ledger.proofs.checking.check_entries.Given as goal
+use Rattle.hub_ledger.proofs.ledger.trail.check_entries.Given as goal
 
 -- the entries before this one passed
 abbrev pub invariant-places : goal.invariant-places

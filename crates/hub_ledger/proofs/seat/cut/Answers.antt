@@ -1,7 +1,7 @@
 use Rattle.std.proofs.Common.{◌∙◌, sym}
 use Rattle.hub_ledger.specs.Rising.{AllBelow}
 use Rattle.hub_ledger.proofs.Rising.{before_all, cut_end, not_below, smaller, some_there}
-use Rattle.hub_ledger.proofs.receipt.cut.Goals as goal
+use Rattle.hub_ledger.proofs.seat.cut.Goals as goal
 
 pub pop-requires : goal.pop-requires
 pop-requires c = some_there c.above.receipts.receipts c.args.place

@@ -1,6 +1,6 @@
 use Rattle.std.proofs.Common.{◌≡◌, length}
 use Rattle.hub_ledger.specs.Rising.{Rise, before}
-use Rattle.hub_ledger.proofs.receipt.cut.Given as goal
+use Rattle.hub_ledger.proofs.seat.cut.Given as goal
 
 abbrev pub invariant-above : goal.invariant-above
 invariant-above l = record {

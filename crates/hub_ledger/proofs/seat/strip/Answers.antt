@@ -2,7 +2,7 @@ use Rattle.std.proofs.Common.{◌≡◌, ◌∙◌, ◌-◌, ◌∷◌, ◌++◌
 use Rattle.std.specs.Prelude.{slice_get}
 use Rattle.hub_record.specs.Receipts.{Receipt}
 use Rattle.hub_ledger.proofs.Rising.{last_one, not_below, some_there, strip_none, strip_one}
-use Rattle.hub_ledger.proofs.receipt.strip.Goals as goal
+use Rattle.hub_ledger.proofs.seat.strip.Goals as goal
 
 pub returns-then-are_below : goal.returns-then-are_below
 returns-then-are_below c =

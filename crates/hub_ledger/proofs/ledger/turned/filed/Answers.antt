@@ -1,0 +1,21 @@
+use Rattle.std.proofs.Common.{◌≡◌, Result, Ok, Err, Some, IfOk, sym, subst}
+use Rattle.std.specs.Result.{result_ok}
+use Rattle.acl.specs.declared.edition.Edition.{Edition}
+use Rattle.acl.specs.declared.edition.Edition.TheVariants.{Second}
+use Rattle.acl.specs.declared.user_id.UserId.{UserId}
+use Rattle.session.specs.Trace.{begun}
+use Rattle.session.specs.session.Session.{Session}
+use Rattle.hub_ledger.specs.States.{StandsFor}
+use Rattle.hub_ledger.proofs.ledger.turned.filed.Goals as goal
+
+made_so : {E : Type 0} (P : Session → Type 0) (r : Result Session E) (s : Session) → Some s ≡ result_ok r → IfOk r P
+    → P s
+made_so P (Ok x) s is made = subst P (let same : x ≡ s = cc (is) in same) made
+made_so P (Err x) s is made = absurd (cc (is))
+
+pub new-requires-2-clause-fresh : goal.new-requires-2-clause-fresh
+new-requires-2-clause-fresh g c =
+    let s = c.in_ok-session.session in
+    subst (λ (u : UserId). StandsFor (begun g.L.Begun.edition u) s) (sym c.requires.begun.1)
+    (subst (λ (e : Edition). StandsFor (begun e c.args.owner) s) (sym c.requires.begun.0)
+    (made_so (StandsFor (begun Second c.args.owner)) c.new.result s c.in_ok-session.ensures.value c.new.ensures.ok))
