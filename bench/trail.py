@@ -136,7 +136,7 @@ def main():
         else:
             places, size = make(path, given.mb * 1_000_000, given.mix)
             print(f"{given.mix}: {places:,} entries, {size / 1e6:.0f} MB")
-        run(["cat", path])
+        subprocess.run(["cat", path], stdout=subprocess.DEVNULL, check=True)
         for way in ("check", "who"):
             processor, clock, memory = run([given.trail, way, path])
             print(f"{way}: {clock:.1f} s, {processor:.1f} s of processor, {size / 1e6 / processor:.0f} MB/s, "

@@ -10,7 +10,7 @@ use trail_confined::{
     Question, failing_of, power_deciders, push_confinement, push_reasons, write_rights,
 };
 use trail_files::{ILLEGAL, LEGAL, TrailFault, UNCONFINED, tell_finish};
-use trail_rights::{Decider, settings_of, users_of};
+use trail_rights::{Decider, Settler, Sight, settings_of, users_of};
 
 /// The known users, and then the others of these users.
 fn users_with(reading: &TrailReading, others: &[UserId]) -> Result<Vec<UserId>, AllocError> {
@@ -35,14 +35,27 @@ fn write_titles<W: Write>(reading: &TrailReading, output: &mut W) -> io::Result<
     Ok(())
 }
 
+/// What these deciders and settlers find in the acts of the entries.
+fn sight_of(
+    reading: &TrailReading,
+    deciders: Vec<Decider>,
+    settlers: Vec<Settler>,
+) -> Result<Sight, TrailFault> {
+    match reading.watch.sight(deciders, settlers) {
+        Ok(Some(sight)) => Ok(sight),
+        Ok(None) => Err(TrailFault::NotSought),
+        Err(error) => Err(TrailFault::Io(io::Error::from(error))),
+    }
+}
+
 /// Writes who may do what.
-fn write_who<W: Write>(reading: &TrailReading, output: &mut W) -> io::Result<u8> {
-    let (alloc, watch) = (reading.alloc, &reading.watch);
-    let users = users_with(reading, &[])?;
-    let settlers = settings_of(alloc, users.as_slice())?;
-    let sight = watch.sight(Vec::new(alloc), settlers)?;
+fn write_who<W: Write>(reading: &TrailReading, output: &mut W) -> Result<u8, TrailFault> {
+    let alloc = reading.alloc;
+    let users = users_with(reading, &[]).map_err(io::Error::from)?;
+    let settlers = settings_of(alloc, users.as_slice()).map_err(io::Error::from)?;
+    let sight = sight_of(reading, Vec::new(alloc), settlers)?;
     write_titles(reading, output)?;
-    write_rights(alloc, reading.owner, watch, &sight, output)?;
+    write_rights(alloc, reading.owner, &reading.watch, &sight, output)?;
     Ok(LEGAL)
 }
 
@@ -56,10 +69,7 @@ fn write_confined<W: Write>(
     let users = users_with(reading, confined).map_err(io::Error::from)?;
     let deciders = power_deciders(alloc, owner, users.as_slice()).map_err(io::Error::from)?;
     let settlers = settings_of(alloc, users.as_slice()).map_err(io::Error::from)?;
-    let sight = reading
-        .watch
-        .sight(deciders, settlers)
-        .map_err(io::Error::from)?;
+    let sight = sight_of(reading, deciders, settlers)?;
     let failing = failing_of(alloc, replay, &sight, confined).map_err(io::Error::from)?;
     let Some(failing) = failing else {
         return Err(TrailFault::NotSought);
@@ -92,12 +102,12 @@ fn write_why<W: Write>(
     reading: &TrailReading,
     question: Question,
     output: &mut W,
-) -> io::Result<u8> {
-    let (alloc, watch) = (reading.alloc, &reading.watch);
-    let deciders = deciders_of(reading, question)?;
-    let sight = watch.sight(deciders, Vec::new(alloc))?;
+) -> Result<u8, TrailFault> {
+    let (alloc, replay) = (reading.alloc, reading.watch.replay());
+    let deciders = deciders_of(reading, question).map_err(io::Error::from)?;
+    let sight = sight_of(reading, deciders, Vec::new(alloc))?;
     let mut text = Vec::new(alloc);
-    push_reasons(reading.owner, watch.replay(), &sight, question, &mut text)?;
+    push_reasons(reading.owner, replay, &sight, question, &mut text).map_err(io::Error::from)?;
     output.write_all(text.as_slice())?;
     if question.user != reading.owner {
         reading.history.write(alloc, output)?;
@@ -110,7 +120,7 @@ fn write_titled<W: Write>(
     reading: &TrailReading,
     question: Option<Question>,
     output: &mut W,
-) -> io::Result<u8> {
+) -> Result<u8, TrailFault> {
     let Some(question) = question else {
         writeln!(output, "no: no open window has this title")?;
         reading.history.write(reading.alloc, output)?;
@@ -130,17 +140,17 @@ fn answer<W: Write>(
 ) -> Result<u8, TrailFault> {
     if let Some(titled) = asked.titled {
         let question = reading.question_of(titled);
-        return Ok(write_titled(reading, question, output)?);
+        return write_titled(reading, question, output);
     }
     if let Some(question) = asked.question {
-        return Ok(write_why(reading, question, output)?);
+        return write_why(reading, question, output);
     }
     match asked.confined {
         Some(names) => {
             let users = users_named(reading.alloc, names).map_err(io::Error::from)?;
             write_confined(reading, users.as_slice(), output)
         }
-        None => Ok(write_who(reading, output)?),
+        None => write_who(reading, output),
     }
 }
 

@@ -15,11 +15,10 @@ use std::io::{self, BufRead, BufReader, Read, Write};
 use std::rt::Files;
 use std::time::Clock;
 use trail_files::{
-    Heading, ILLEGAL, LEGAL, TROUBLE, TrailFault, check_lines, heading_of, place_at, tell_back,
-    tell_finish, tell_heading,
+    Heading, ILLEGAL, LEGAL, LineFormat, TROUBLE, TrailFault, check_lines, heading_of, place_at,
+    show_lines, tell_back, tell_finish, tell_heading,
 };
 use trail_lines::Audit;
-use trail_rights::{LineFormat, show_lines};
 
 /// Judges the entries of a reader.
 fn judge<R: BufRead, W: Write>(

@@ -2,14 +2,14 @@
 
 use crate::history::{BitAsked, History, window_titled};
 use crate::words::{TitledBit, TrailArgs};
-use acl::{Object, UserId};
+use acl::{Bit, Object, UserId};
 use std::alloc::{AllocError, Global};
 use std::io::{self, BufRead};
 use trail_confined::Question;
 use trail_files::{Finish, TrailFault, finish_of, heading_of};
 use trail_lines::{EntryLine, Halt, next_entry};
 use trail_log::{Names, giver};
-use trail_rights::Watch;
+use trail_rights::{AskedBits, Watch};
 
 /// What was read of a file's entries.
 #[derive(Drop)]
@@ -27,6 +27,16 @@ fn bit_asked(asked: TrailArgs<'_>) -> BitAsked<'_> {
         (Some(question), _) => BitAsked::Of(question),
         (None, Some(titled)) => BitAsked::On(titled),
         (None, None) => BitAsked::Nothing,
+    }
+}
+
+/// The bits whose deciding acts the answer may name.
+fn bits_asked(asked: TrailArgs<'_>) -> AskedBits {
+    match bit_asked(asked) {
+        BitAsked::Of(Question { bit, object, .. }) => AskedBits::On { bit, object },
+        BitAsked::On(titled) => AskedBits::Windows { bit: titled.bit },
+        BitAsked::Nothing if asked.confined.is_some() => AskedBits::Commands { bit: Bit::Execute },
+        BitAsked::Nothing => AskedBits::Nothing,
     }
 }
 
@@ -86,7 +96,9 @@ pub fn reading_of<R: BufRead>(
     let mut reading = TrailReading {
         alloc,
         owner,
-        watch: Watch::new(alloc, heading.edition, owner).map_err(io::Error::from)?,
+        watch: Watch::new(alloc, heading.edition, owner, bits_asked(asked)).map_err(
+            io::Error::from,
+        )?,
         names: Names::new(alloc),
         history: History::new(alloc),
     };

@@ -4,7 +4,7 @@ use crate::words::TrailArgs;
 use std::alloc::Global;
 use std::io::{self, BufRead, Write};
 use trail_files::{ILLEGAL, LEGAL, TrailFault, finish_of, heading_of, tell_finish};
-use trail_rights::{Watch, watch_entries};
+use trail_rights::{AskedBits, Watch, watch_entries};
 use trail_setup::{SetupState, push_setup};
 
 /// Writes the lines of a setup by the entries that a reader has, or what is wrong with the file.
@@ -16,7 +16,7 @@ pub fn tell_setup<R: BufRead, W: Write>(
 ) -> Result<u8, TrailFault> {
     let heading = heading_of(alloc, reader)?;
     let (edition, owner) = (heading.edition, asked.owner.unwrap_or(heading.owner));
-    let mut watch = Watch::new(alloc, edition, owner).map_err(io::Error::from)?;
+    let mut watch = Watch::new(alloc, edition, owner, AskedBits::Nothing).map_err(io::Error::from)?;
     let mut state = SetupState::new(alloc, edition, owner).map_err(io::Error::from)?;
     let mut line = Vec::new(alloc);
     let last = asked.place.unwrap_or(u64::MAX);

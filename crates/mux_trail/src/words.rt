@@ -7,7 +7,7 @@ use line_fields::{read_u32, read_u64};
 use program_words::of_trail;
 use std::alloc::{AllocError, Global};
 use trail_confined::{Question, bit_of};
-use trail_rights::LineFormat;
+use trail_files::LineFormat;
 
 /// What the program does with a file.
 #[derive(Clone, Copy)]

@@ -19,7 +19,7 @@ pub enum TrailFault {
     NoPlace(u64, u64),
     /// `--at` gives a time before the first entry.
     NoEntryYet,
-    /// A mask wasn't looked for.
+    /// What the answer tells wasn't looked for.
     NotSought,
 }
 
@@ -66,7 +66,7 @@ impl TrailFault {
             ),
             TrailFault::NotSought => writeln!(
                 output,
-                "a mask wasn't looked for: {path}: this is a fault of mux-trail"
+                "what the answer tells wasn't looked for: {path}: this is a fault of mux-trail"
             ),
         }
     }

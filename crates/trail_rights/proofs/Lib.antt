@@ -3,3 +3,4 @@ pub mod Opened
 pub mod Seen
 pub mod Stepping
 pub mod Settled
+pub mod Kept

@@ -1,11 +1,14 @@
 //! What decides a user's bit on an object.
 
 ghost use Rattle.std.specs.Prelude.{◌≡◌, ◌||◌, ◌&&◌, []};
+ghost use Rattle.std.specs.List.{list_all};
 ghost use Rattle.acl.specs.Same.{same_user, same_bit, same_object};
 ghost use Rattle.acl.specs.History.{decides_known, decides_open};
 ghost use Rattle.trail_rights.specs.Deciding.{HasDecided, decides, decider_after, first_decider, found_in};
 ghost use Rattle.trail_rights.specs.Deciding.{there_after};
+ghost use Rattle.trail_rights.specs.Keeping.{is_asked};
 
+use crate::asked::AskedBits;
 use crate::mark::Mark;
 use acl::{Act, Bit, Object, UserId};
 
@@ -46,7 +49,7 @@ fn decides_open(window: u32, act: &Act) -> Option<bool>
 }
 
 /// Whether the objects are the same.
-fn is_same(object: Object, other: Object) -> bool
+pub fn is_same(object: Object, other: Object) -> bool
     ensures { result ≡ same_object object other }
 {
     match (object, other) {
@@ -166,6 +169,18 @@ impl Decider {
             ..self
         }
     }
+}
+
+/// Whether each of the deciders looks for a bit that is asked about.
+pub fn are_asked(asked: AskedBits, deciders: &[Decider]) -> bool
+    ensures { result ≡ list_all (is_asked asked) deciders.now }
+{
+    for decider in deciders {
+        if !asked.asks(decider.bit, decider.object) {
+            return false;
+        }
+    }
+    true
 }
 
 /// What decides a user's bit on an object, by the first decider that looks for it.

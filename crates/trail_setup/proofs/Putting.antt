@@ -20,6 +20,12 @@ pub puts_more : (ps : List Part) (p : Part) (a b c : List ℕ) → PutsAll ps a 
     → PutsAll (ps ++ p ∷ []) a c
 puts_more ps p a b c all more = puts_append ps (p ∷ []) a b c all (c, more, refl)
 
+-- a text after several parts
+pub puts_text : {T E : Type 0} (r : Result T E) (ps : List Part) (t a b c : List ℕ) → PutsAll ps a b
+    → OnOk r (c ≡ b ++ t) → OnOk r (PutsAll (ps ++ Part.text t ∷ []) a c)
+puts_text (Ok x) ps t a b c all e = puts_more ps (Part.text t) a b c all e
+puts_text (Err x) ps t a b c all e = tt
+
 map_more : {X Y : Type 0} (f : X → Y) (xs : List X) (x : X) → map f (xs ++ x ∷ []) ≡ map f xs ++ f x ∷ []
 map_more f [] x = refl
 map_more f (y ∷ xs) x = ap (λ l. f y ∷ l) (map_more f xs x)

@@ -1,5 +1,7 @@
 pub mod Alone
 pub mod Closing
 pub mod Giving
+pub mod Keeping
 pub mod Lines
 pub mod Masks
+pub mod Setup

@@ -1,5 +1,6 @@
 -- Lines with one command each, on which as many words stand as fit.
 use Rattle.std.specs.Prelude.{◌≡◌, ◌||◌, ℕ, Bool, true, false, not, cond, List, [], ◌∷◌, ◌++◌, slice_index_or}
+use Rattle.std.specs.Prelude.{Result, OnOk}
 use Rattle.std.specs.List.{flat_map}
 use Rattle.trail_setup.specs.declared.lines.LineForm.{LineForm}
 
@@ -36,6 +37,12 @@ pub record HoldWords (k : Kind) (start : List ℕ) (words : List (List ℕ)) (ou
 -- whole lines were put out, on which these words stand
 abbrev pub PutsLines : Kind → List ℕ → List (List ℕ) → List ℕ → Type 0
 PutsLines k start words out = HoldWords k start words out []
+
+-- unless memory was refused, these words were put after those that stood on the lines
+abbrev pub AddsWords : {T E : Type 0} → Result T E → Kind → List (List ℕ) → (out now later then : List ℕ) → Type 0
+AddsWords r k more out now later then =
+    (start : List ℕ) (words : List (List ℕ)) → HoldWords k start words out now
+    → OnOk r (HoldWords k start (words ++ more) later then)
 
 -- ---- bits, as +r-wx
 

@@ -2,12 +2,12 @@
 //! lock that a trail's entries leave. While windows come back, masks are closed: they give nobody more than they had.
 //!
 //! Proved: what users' own entries have (`Entries`), and that a window born under closed masks gives a user no bit
-//! that they lacked on one of the old windows (`born_closed`). The lines make exactly these users known, with nothing.
-//! They give exactly the leaders and the bits on commands that users have after the trail's acts. They set the presets,
-//! the default lock and the masks that the state keeps; a closed mask leaves no bit that the user lacks on an open
-//! window of the opener, and x on `aclumask` that an opener is lent for their lines is taken again. Not proved: that
-//! the state keeps the masks, presets and windows of the trail's acts; that a setup has all these lines, in their
-//! order; and what a session does that takes them.
+//! that they lacked on one of the old windows (`born_closed`). The state follows each act of each entry in order, but
+//! none of a `quit` (`SetupState::take`), and stands for the history of these acts (`states_stand`, `states_keep`). A
+//! setup has just these lines, in this order (`push_setup`): users become known with nothing; closed masks, with x on `aclumask` that
+//! an opener is lent for them; leaders and bits on commands that users have after the trail's acts; presets; the
+//! default lock; and for later the masks, and the mode that the state keeps. Not proved: what entries say of the mode,
+//! and what a session does that takes these lines.
 #![tactic(auto)]
 
 mod commands;
@@ -19,6 +19,6 @@ mod mode;
 mod setup;
 mod state;
 
-pub use laws::born_closed;
+pub use laws::{born_closed, states_keep, states_stand};
 pub use setup::push_setup;
 pub use state::SetupState;

@@ -1,7 +1,7 @@
 //! Lines with one command each, on which as many words stand as fit.
 
 ghost use Rattle.std.specs.Prelude.{◌≡◌, ◌++◌, ℕ, List, [], ◌∷◌, OnOk, OnErr};
-ghost use Rattle.trail_setup.specs.Lines.{HoldWords, PutsLines, begun, kind_of, letters_of, given_text};
+ghost use Rattle.trail_setup.specs.Lines.{AddsWords, HoldWords, PutsLines, begun, kind_of, letters_of, given_text};
 ghost use Rattle.trail_setup.specs.Lines.{letter as letter_of};
 
 use std::alloc::{AllocError, Global};
@@ -60,10 +60,8 @@ impl<'a> Lines<'a> {
     /// Puts a word on the line, or on the next one if it doesn't fit.
     pub fn put(&mut self, word: &[u8], out: &mut Vec<u8>) -> Result<(), AllocError>
         ensures form { self.new.form ≡ self.old.form }
-        ensures holds { (start : List ℕ) (words : List (List ℕ))
-            → HoldWords (kind_of self.old.form) start words out.old.items self.old.line.items
-            → OnOk result (HoldWords (kind_of self.old.form) start (words ++ word.now ∷ []) out.new.items
-            self.new.line.items) }
+        ensures holds { AddsWords result (kind_of self.old.form) (word.now ∷ []) out.old.items self.old.line.items
+            out.new.items self.new.line.items }
     {
         let length = self.line.len().saturating_add(word.len());
         if length.saturating_add(self.form.tail.len()) >= LONGEST {

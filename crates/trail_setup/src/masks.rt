@@ -1,10 +1,10 @@
 //! The masks of a setup.
 
-ghost use Rattle.std.specs.Prelude.{◌≡◌, ◌∷◌, ◌++◌, [], ℕ, List, OnOk, IfOk, true};
+ghost use Rattle.std.specs.Prelude.{◌≡◌, ◌∷◌, ◌++◌, [], OnOk, IfOk, true};
 ghost use Rattle.acl.specs.declared.edition.Edition.{Edition};
 ghost use Rattle.acl.specs.declared.user_id.UserId.{UserId};
 ghost use Rattle.acl.specs.History.{History, among, is_open};
-ghost use Rattle.trail_setup.specs.Lines.{HoldWords, PutsLines, kind_of};
+ghost use Rattle.trail_setup.specs.Lines.{AddsWords, PutsLines, kind_of};
 ghost use Rattle.trail_setup.specs.Alone.{HasEntries};
 ghost use Rattle.trail_setup.specs.Masks.{Stands, closed_bits, comes_back, differing, has_if_back, has_on_all};
 ghost use Rattle.trail_setup.specs.Masks.{are_any, is_first, is_lent, known_in, lent_text};
@@ -125,10 +125,8 @@ impl SetupMasks<'_> {
         out: &mut Vec<u8>,
     ) -> Result<(), AllocError>
         ensures form { lines.new.form ≡ lines.old.form }
-        ensures holds { (start : List ℕ) (words : List (List ℕ))
-            → HoldWords (kind_of lines.old.form) start words out.old.items lines.old.line.items
-            → OnOk result (HoldWords (kind_of lines.old.form) start (words ++ mask_word user given ∷ [])
-            out.new.items lines.new.line.items) }
+        ensures holds { AddsWords result (kind_of lines.old.form) (mask_word user given ∷ []) out.old.items
+            lines.old.line.items out.new.items lines.new.line.items }
     {
         let mut word = Vec::new(self.alloc);
         word.extend_from_slice(user.as_bytes())?;
@@ -162,10 +160,8 @@ impl SetupMasks<'_> {
         out: &mut Vec<u8>,
     ) -> Result<(), AllocError>
         ensures form { lines.new.form ≡ lines.old.form }
-        ensures holds { (start : List ℕ) (words : List (List ℕ))
-            → HoldWords (kind_of lines.old.form) start words out.old.items lines.old.line.items
-            → OnOk result (HoldWords (kind_of lines.old.form) start (words ++ words_in user said)
-            out.new.items lines.new.line.items) }
+        ensures holds { AddsWords result (kind_of lines.old.form) (words_in user said) out.old.items
+            lines.old.line.items out.new.items lines.new.line.items }
     {
         match said {
             Some(given) => self.put(user, given, lines, out),

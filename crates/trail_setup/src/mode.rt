@@ -1,8 +1,11 @@
 //! Whether a session is multiuser, as far as its trail says so.
 
-use acl::{Act, Bit, CommandName, Object, UserId};
+ghost use Rattle.std.specs.Prelude.{◌≡◌};
+ghost use Rattle.trail_setup.specs.Keeping.{asks_for, is_of};
+
+use acl::{Act, CommandName, Object, UserId};
 use command_lang::{Command, FaultKind, parse};
-use hub::{Kept, TrailEntry};
+use hub::{Kept, TrailEntry, from_command};
 use session::{Refusal, Verdict};
 use std::alloc::{AllocError, Global};
 
@@ -15,19 +18,27 @@ pub enum ModeSeen {
     Unsaid,
 }
 
-/// Whether the verdicts ask for x on the command.
-pub fn asks_for(verdicts: &[Verdict], name: CommandName) -> bool {
-    for verdict in verdicts {
-        if let Verdict::Right {
-            bit: Bit::Execute,
+/// Whether the verdict is of a right on this command.
+fn is_of(verdict: Verdict, name: CommandName) -> bool
+    ensures { result ≡ is_of name verdict }
+{
+    match verdict {
+        Verdict::Right {
             object: Object::Command(command),
             ..
-        } = *verdict
-        {
-            return command == name;
-        }
+        } => command == name,
+        _ => false,
     }
-    false
+}
+
+/// Whether the first verdict that asks for x on a command asks for it on this one.
+pub fn asks_for(verdicts: &[Verdict], name: CommandName) -> bool
+    ensures { result ≡ asks_for name verdicts.now }
+{
+    match from_command(verdicts).split_first() {
+        Some((first, _)) => is_of(*first, name),
+        None => false,
+    }
 }
 
 /// Whether the verdicts ask for x on a list command, which is done in multiuser mode alone.

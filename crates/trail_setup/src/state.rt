@@ -1,7 +1,11 @@
 //! What a setup needs of a trail's entries, besides what a watch of them has.
 
-ghost use Rattle.std.specs.Prelude.{◌≡◌};
-ghost use Rattle.trail_setup.specs.Masks.{mask_in, preset_in};
+ghost use Rattle.std.specs.Prelude.{◌≡◌, ◌↔◌, ◌&&◌, [], true, IfOk, IsTrue, OnOk};
+ghost use Rattle.acl.specs.Same.{same_user};
+ghost use Rattle.trail_setup.specs.Alone.{HasEntries};
+ghost use Rattle.trail_setup.specs.Keeping.{FollowsAct, FollowsEach, FollowsEntry, IsQuit, forgotten, masked_in};
+ghost use Rattle.trail_setup.specs.Keeping.{preset_after, windows_after, with_bit};
+ghost use Rattle.trail_setup.specs.Masks.{all_bits, mask_in, preset_in};
 
 use crate::entries::Entries;
 use crate::lines::Given;
@@ -37,12 +41,16 @@ pub struct SetupState {
 }
 
 /// Whether the entry is of a `quit` that was done.
-fn is_quit(entry: &TrailEntry) -> bool {
+fn is_quit(entry: &TrailEntry) -> bool
+    ensures { IsTrue result ↔ IsQuit entry.now }
+{
     entry.ending().is_ok() && asks_for(entry.verdicts(), CommandName::Quit)
 }
 
 /// Sets a bit.
-fn set(given: &mut Given, bit: Bit, value: bool) {
+fn set(given: &mut Given, bit: Bit, value: bool)
+    ensures { given.new ≡ with_bit bit value given.old }
+{
     match bit {
         Bit::Read => given[0] = value,
         Bit::Write => given[1] = value,
@@ -50,9 +58,60 @@ fn set(given: &mut Given, bit: Bit, value: bool) {
     }
 }
 
+/// Whether it is what this opener masks for the user.
+fn is_for(mask: SetMask, by: UserId, user: UserId) -> bool
+    ensures { result ≡ (same_user mask.by by && same_user mask.user user) }
+{
+    mask.by == by && mask.user == user
+}
+
+/// Sets what an opener's mask leaves to a user.
+fn set_mask(
+    masks: &mut Vec<SetMask>,
+    by: UserId,
+    user: UserId,
+    bit: Bit,
+    value: bool,
+) -> Result<(), AllocError>
+    ensures { OnOk result (masks.new.items ≡ masked_in by user bit value masks.old.items) }
+{
+    for place in 0..masks.len() {
+        let mut mask = masks[place];
+        if is_for(mask, by, user) {
+            set(&mut mask.left, bit, value);
+            masks[place] = mask;
+            return Ok(());
+        }
+    }
+    let mut left = [true, true, true];
+    set(&mut left, bit, value);
+    masks.push(SetMask { by, user, left })?;
+    Ok(())
+}
+
+/// A user becomes known or is gone: their masks, and those for them, begin anew.
+fn forget(masks: &mut Vec<SetMask>, user: UserId)
+    ensures { masks.new.items ≡ forgotten user masks.old.items }
+{
+    masks.retain(|mask| mask.by != user && mask.user != user);
+}
+
+/// Windows that are open but this one.
+fn close(windows: &mut Vec<(u32, UserId)>, window: u32)
+    ensures { windows.new.items ≡ windows_after (Act.Closed window) windows.old.items }
+{
+    windows.retain(|row| row.0 != window);
+}
+
 impl SetupState {
     /// Before the first entry.
-    pub fn new(alloc: Global, edition: Edition, owner: UserId) -> Result<SetupState, AllocError> {
+    pub fn new(alloc: Global, edition: Edition, owner: UserId) -> Result<SetupState, AllocError>
+        ensures entries { IfOk result (λ state. HasEntries state.entries edition owner []) }
+        ensures lists { IfOk result (λ state. (state.windows.items ≡ []) × (state.masks.items ≡ [])) }
+        ensures presets { IfOk result (λ state. (state.on_windows ≡ all_bits) × (state.on_commands ≡ all_bits)) }
+        ensures modes { IfOk result (λ state. (state.default ≡ LockMode.Off) × (state.mode ≡ ModeSeen.Single)
+            × (state.owner ≡ owner)) }
+    {
         Ok(SetupState {
             alloc,
             owner,
@@ -88,28 +147,13 @@ impl SetupState {
         }
     }
 
-    /// Sets what an opener's mask leaves to a user.
-    fn mask(&mut self, by: UserId, user: UserId, bit: Bit, value: bool) -> Result<(), AllocError> {
-        for mask in self.masks.iter_mut() {
-            if mask.by == by && mask.user == user {
-                set(&mut mask.left, bit, value);
-                return Ok(());
-            }
-        }
-        let mut left = [true, true, true];
-        set(&mut left, bit, value);
-        self.masks.push(SetMask { by, user, left })?;
-        Ok(())
-    }
-
-    /// A user becomes known or is gone: their masks, and those for them, begin anew.
-    fn forget(&mut self, user: UserId) {
-        self.masks
-            .retain(|mask| mask.by != user && mask.user != user);
-    }
-
     /// Sets a preset.
-    fn set_preset(&mut self, kind: PresetKind, bit: Bit, value: bool) {
+    fn set_preset(&mut self, kind: PresetKind, bit: Bit, value: bool)
+        ensures { self.new ≡ record self.old {
+          on_windows = preset_after PresetKind.Windows (Act.Preset kind bit value) self.old.on_windows;
+          on_commands = preset_after PresetKind.Commands (Act.Preset kind bit value) self.old.on_commands;
+        } }
+    {
         match kind {
             PresetKind::Windows => set(&mut self.on_windows, bit, value),
             PresetKind::Commands => set(&mut self.on_commands, bit, value),
@@ -117,18 +161,20 @@ impl SetupState {
     }
 
     /// Follows one act.
-    fn follow(&mut self, act: Act) -> Result<(), AllocError> {
+    fn follow(&mut self, act: Act) -> Result<(), AllocError>
+        ensures { OnOk result (FollowsAct act self.old self.new) }
+    {
         self.entries.follow(act)?;
         match act {
             Act::Opened { by, window } => self.windows.push((window, by))?,
-            Act::Closed { window } => self.windows.retain(|row| row.0 != window),
-            Act::Known { user } | Act::Gone { user } => self.forget(user),
+            Act::Closed { window } => close(&mut self.windows, window),
+            Act::Known { user } | Act::Gone { user } => forget(&mut self.masks, user),
             Act::Masked {
                 by,
                 user,
                 bit,
                 value,
-            } => self.mask(by, user, bit, value)?,
+            } => set_mask(&mut self.masks, by, user, bit, value)?,
             Act::Preset { kind, bit, value } => self.set_preset(kind, bit, value),
             Act::Default { mode } => self.default = mode,
             _ => {}
@@ -137,7 +183,9 @@ impl SetupState {
     }
 
     /// Follows acts in order.
-    fn follow_all(&mut self, acts: &[Act]) -> Result<(), AllocError> {
+    fn follow_all(&mut self, acts: &[Act]) -> Result<(), AllocError>
+        ensures { OnOk result (FollowsEach acts.now self.old self.new) }
+    {
         for act in acts {
             self.follow(*act)?;
         }
@@ -145,7 +193,9 @@ impl SetupState {
     }
 
     /// Takes the next entry of a legal trail.
-    pub fn take(&mut self, entry: &TrailEntry) -> Result<(), AllocError> {
+    pub fn take(&mut self, entry: &TrailEntry) -> Result<(), AllocError>
+        ensures { OnOk result (FollowsEntry entry.now self.old self.new) }
+    {
         if is_quit(entry) {
             return Ok(());
         }

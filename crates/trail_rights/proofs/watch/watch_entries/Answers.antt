@@ -37,8 +37,8 @@ halted h last said line None new few a = tt
 halted h last said line (Some bytes) None few a = absurd a
 halted h last said line (Some bytes) (Some rest) few a = inr (few, a)
 
-pub returns-then-count-last : goal.returns-then-count-last
-returns-then-count-last g c = λ edition owner fresh.
+pub returns-then-count-last-clause-watched : goal.returns-then-count-last-clause-watched
+returns-then-count-last-clause-watched g c = λ edition owner fresh.
     let come = c.loop-number.invariant.0 edition owner fresh in
     let counted : c.loop-number.watch.audit.next ≡ length come.0 = come.1.read.next ∙ count_in come.0 in
     let all : length come.0 ≡ c.args.last + 1 =
@@ -51,8 +51,8 @@ returns-then-count-last g c = λ edition owner fresh.
       done = (_, come.5);
     }
 
-pub returns-in-Some : goal.returns-in-Some
-returns-in-Some g c = λ edition owner fresh.
+pub returns-in-Some-clause-watched : goal.returns-in-Some-clause-watched
+returns-in-Some-clause-watched g c = λ edition owner fresh.
     let come = c.loop-number.invariant.0 edition owner fresh in
     let counted : c.loop-number.watch.audit.next ≡ length come.0 = come.1.read.next ∙ count_in come.0 in
     let less : length come.0 ≤ c.args.last = omega (arith, counted, c.count.ensures, c.if-count-last.false) in
@@ -71,15 +71,15 @@ returns-in-Some g c = λ edition owner fresh.
       done = (_, come.5);
     }
 
-pub returns-in-Err : goal.returns-in-Err
-returns-in-Err g c = λ edition owner fresh.
+pub returns-in-Err-clause-watched : goal.returns-in-Err-clause-watched
+returns-in-Err-clause-watched g c = λ edition owner fresh.
     let come = c.loop-number.invariant.0 edition owner fresh in
     let counted : c.loop-number.watch.audit.next ≡ length come.0 = come.1.read.next ∙ count_in come.0 in
     let less : length come.0 ≤ c.args.last = omega (arith, counted, c.count.ensures, c.if-count-last.false) in
     let next = subst (λ (h : Option Halt). OfKnown (g.R.Read.remaining c.loop-number.reader)
     (g.R.Read.remaining c.next_entry.new.reader) (NextIs h c.loop-number.number c.next_entry.new.line.items))
     c.in_default.is c.in_ok-halt.ensures.next in
-    let wrong = c.in-Err.ensures edition owner come.0 come.1 in
+    let wrong = c.in-Err.ensures.tells edition owner come.0 come.1 in
     record {
       said = come.0;
       tells = (
@@ -104,7 +104,7 @@ loop-number-preserved g c = (
       let next = subst (λ (h : Option Halt). OfKnown (g.R.Read.remaining c.loop-number.reader)
       (g.R.Read.remaining c.next_entry.new.reader) (NextIs h c.loop-number.number c.next_entry.new.line.items))
       c.in_default.is c.in_ok-halt.ensures.next in
-      let takes = c.in-Ok.ensures edition owner come.0 come.1 in
+      let takes = c.in-Ok.ensures.tells edition owner come.0 come.1 in
       let x = said c.in-Ok.said in
       let is = subst (λ (line : List ℕ). read_line line ≡ Some x) c.as_slice.ensures.value takes.is in (
         come.0 ++ x ∷ [],
@@ -116,4 +116,5 @@ loop-number-preserved g c = (
             (c.in-Ok.said, refl, called_at g.F.FnMut c.follow.ensures (search rules)),
       ),
   mut_next g.F.FnMut _ _ _ _ _ c.follow.ensures refl c.loop-number.invariant.1,
+  c.in-Ok.ensures.asked ∙ c.loop-number.invariant.2,
 )

@@ -16,4 +16,4 @@ invariant-loop-number g l =
     × (length said ≤ l.last + 1)
     × OfKnown (g.R.Read.remaining l.fn.reader) (g.R.Read.remaining l.reader) (AreRead said)
     × FoldsTo (Follows g.F.FnMut) l.fn.follow said l.follow)
-    × goal.F-IsAlwaysCallable g l.follow
+    × goal.F-IsAlwaysCallable g l.follow × (l.watch.acts.asked ≡ l.fn.watch.acts.asked)

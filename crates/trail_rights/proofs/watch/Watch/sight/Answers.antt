@@ -1,10 +1,18 @@
-use Rattle.std.proofs.Common.{◌∙◌, [], ap, subst}
-use Rattle.std.specs.Prelude.{IfOk}
-use Rattle.trail_rights.specs.Marks.{marked_on}
+use Rattle.std.proofs.Common.{◌≡◌, ◌∙◌, [], true, ap, sym, subst}
+use Rattle.std.specs.List.{list_all}
+use Rattle.trail_rights.specs.Keeping.{is_asked}
+use Rattle.trail_rights.specs.Marks.{marked_after, marked_on}
 use Rattle.trail_rights.specs.Seeing.{HasSeen}
+use Rattle.trail_rights.proofs.Kept.{seen_whole}
 use Rattle.trail_rights.proofs.watch.Watch.sight.Goals as goal
 
 pub returns-clause-seen : goal.returns-clause-seen
 returns-clause-seen c = λ edition owner said w decided settled.
-    subst (λ marked. IfOk c.of.result (λ sight. HasSeen sight owner marked))
-    (ap (marked_on []) c.marked.ensures ∙ w.kept.acts) (c.of.ensures.seen owner decided settled)
+    let all : list_all (is_asked c.args.self.now.acts.asked) c.args.deciders.items ≡ true =
+    ap (λ a. list_all (is_asked a) c.args.deciders.items) (sym c.asked.ensures)
+    ∙ ap (list_all (is_asked c.asked.result)) (sym c.as_slice.ensures.value) ∙ sym c.are_asked.ensures
+    ∙ c.if-not-are_asked.false in
+    seen_whole c.args.self.now.acts.asked c.in_ok-sight.sight owner (marked_after [] said) c.args.deciders.items
+    (ap (λ p. p.0) c.in_ok-sight.ensures.sought) all
+    (subst (HasSeen c.in_ok-sight.sight owner) (ap (marked_on []) c.marked.ensures ∙ w.kept.acts)
+    (c.in_ok-sight.ensures.seen owner decided settled))

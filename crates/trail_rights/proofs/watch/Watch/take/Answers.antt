@@ -6,8 +6,8 @@ use Rattle.trail_rights.specs.Keeping.{HasKept}
 use Rattle.trail_rights.proofs.Seen.{entries_more, marked_more}
 use Rattle.trail_rights.proofs.watch.Watch.take.Goals as goal
 
-pub returns : goal.returns
-returns c = λ edition owner xs w.
+pub returns-clause-tells : goal.returns-clause-tells
+returns-clause-tells c = λ edition owner xs w.
     let t = c.in_ok-said.ensures.tells edition owner (entries_in xs) w.read in
     let next = said c.in_ok-said.said in record {
       is = t.is;
@@ -15,6 +15,6 @@ returns c = λ edition owner xs w.
       watched = record {
         read = subst (HasRead c.take.new.self edition owner) (sym (entries_more xs next)) t.read;
         kept = subst (HasKept c.take-2.new.self) (sym (marked_more [] xs next))
-            (c.in_ok-take.ensures (marked_after [] xs) w.kept);
+            (c.in_ok-take.ensures.keeps (marked_after [] xs) w.kept);
       };
     }

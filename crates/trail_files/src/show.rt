@@ -2,12 +2,12 @@
 
 use crate::json::{write_end, write_entry};
 use crate::shown_texts::behind_words;
-use crate::texts::write_when;
 use hub::Kept;
 use line_fields::{push_escaped, push_means};
 use std::alloc::{AllocError, Global};
 use std::io::{self, BufRead, Write};
 use trail_lines::{Ended, EntryLine, NextLine, UnreadLine, next_line, read_end, read_line};
+use trail_rights::write_when;
 
 /// What an entry's line says, as it is shown.
 #[derive(Drop)]

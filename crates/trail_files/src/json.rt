@@ -1,11 +1,11 @@
 //! Entries as objects of JSON (RFC 8259), one a line.
 
-use crate::lines::Said;
+use crate::show::Said;
 use crate::shown_texts::{behind_words, first_word};
-use crate::texts::write_when;
 use std::alloc::Global;
 use std::io::{self, Write};
 use trail_lines::Ended;
+use trail_rights::write_when;
 
 /// Writes a byte of a string. The byte is 0x20 to 0x7E.
 fn write_byte<W: Write>(byte: u8, output: &mut W) -> io::Result<()> {
