@@ -4,7 +4,8 @@ use strict;
 use warnings;
 use Fcntl qw(O_WRONLY O_CREAT O_EXCL);
 use MuxShare::Trail qw(BIT bits_of text_of untext);
-use MuxShare::Wire qw(DONE REFUSED ask content quoted write_all);
+use MuxShare::Wire qw(DONE REFUSED ATTACH KEYS DETACH GONE ANSWER ask connected content frame limit_time quoted
+    read_exactly write_all);
 
 # The most bytes of a line.
 use constant LONGEST_LINE => 1000;
@@ -181,8 +182,27 @@ sub lock {
     my $is_held = $mode eq 'on' && $holder ne '';
     my ($by) = $is_held ? grep { $_ eq $holder } @able : @able;
     $self->give($it, $by // $owner, "writelock $mode", $number);
-    if (!$is_held && defined $by) { $self->give($it, $owner, "aclchg $by -w+w $number") }
-    elsif (!defined $by && $holder ne $owner) { say("window $number: the owner has its lock until they leave it") }
+    if ($is_held) { say_held($number) unless defined $by || $holder eq $owner }
+    elsif (defined $by) { $self->give($it, $owner, "aclchg $by -w+w $number") }
+    else { $self->leave_as($owner, $number) }
+    return;
+}
+
+sub say_held { say("window $_[0]: the owner has its lock until they leave it") }
+
+# Frees a lock that the owner took: a client of the owner goes to the window and leaves.
+sub leave_as {
+    my ($self, $owner, $number) = @_;
+    my $server = connected($self->{socket}) or return;
+    limit_time($server, ANSWER);
+    my $first = frame(ATTACH, pack 'n n a64 a*', 24, 80, $self->token($owner), $owner);
+    write_all($server, $first . frame(KEYS, "\1:select $number\r") . frame(DETACH, ''));
+    while (defined(my $head = read_exactly($server, 3))) {
+        my ($kind, $length) = unpack 'Cn', $head;
+        read_exactly($server, $length) // last;
+        return if $kind == GONE;
+    }
+    say_held($number);
     return;
 }
 

@@ -9,11 +9,13 @@ use Socket qw(PF_UNIX SOCK_STREAM SOL_SOCKET SO_PEERCRED SO_RCVTIMEO SO_SNDTIMEO
 
 our @EXPORT = qw(NOBODY SAY GONE WELCOME ATTACH COMMAND DONE REFUSED fault log_line content connected peer_uid
     peer_process limit_time write_all read_exactly frame ask quoted spawn pause now);
+our @EXPORT_OK = qw(KEYS DETACH ANSWER);
 
 # The uid that the kernel shows for every account of a foreign user namespace, so it names no account.
 use constant NOBODY => 65534;
 # Frames of muxd's protocol, and reasons of GONE.
-use constant { ATTACH => 0x41, COMMAND => 0x43, SAY => 0x73, WELCOME => 0x79, GONE => 0x67 };
+use constant { ATTACH => 0x41, COMMAND => 0x43, KEYS => 0x4b, DETACH => 0x44 };
+use constant { SAY => 0x73, WELCOME => 0x79, GONE => 0x67 };
 use constant { DONE => "\0", REFUSED => "\6" };
 # The number of a window in a command that names none, and how many seconds an answer may take.
 use constant { NO_WINDOW => 255, ANSWER => 10 };

@@ -23,8 +23,14 @@ QUIT, REMOVED = frame(b"g", b"\x04"), frame(b"g", b"\x01")
 DROPPED = b"keys were dropped: they waited for a second"
 
 
+def mark(path):
+    """Names the session at a socket, at once as mux-again does: a window that sees an empty name ends."""
+    Path(path + ".new").write_text("one")
+    os.replace(path + ".new", path + ".session")
+
+
 class Servers(Place):
-    """Servers at one socket, one after another; each lets its peer in and keeps what it sends."""
+    """Servers of one session at one socket, one after another; each lets its peer in and keeps what it sends."""
 
     def __init__(self):
         super().__init__()
@@ -34,6 +40,7 @@ class Servers(Place):
     def open(self):
         self.listener = self.listen()
         self.listener.settimeout(10)
+        mark(self.path)
 
     def begin(self, answer=WELCOME):
         """Starts a server, unless one is there, and waits for its peer."""
@@ -264,7 +271,7 @@ def attached_again():
         for count in range(3):
             at.end()
             check("it says that the server is gone", it.shows(b"the server is gone"), str(it.out))
-            it.type(b"lost")
+            it.type(b"lost", 0.2)  # (the client has to read it before a server is there)
             start = time.monotonic()
             at.begin(WELCOME + frame(b"d", b"\x1bcnext%d" % count))
             check("it comes back", it.shows(b"next%d" % count), str(it.out))
@@ -311,7 +318,6 @@ def attached_again():
             it.type(key)
             check(f"{key} ends the wait", it.status(1) is not None)
     with Servers() as at, Client(at.words("--again", "60")) as it:
-        Path(at.path + ".session").write_text("one")
         at.begin()
         time.sleep(0.3)
         at.end()
@@ -365,6 +371,26 @@ def stays():
         time.sleep(0.2)
         at.end()
         check("it ends when its time is over", it.status(0.6) is None and it.status(2) == 1)
+    for name, changes, why in (("of another name", lambda it: it.write_text("two"), b"another session is at"),
+                               ("that is missing", Path.unlink, b".session is missing or older"),
+                               ("older than the socket", lambda it: os.utime(it, (1, 1)), b".session is missing or older")):
+        with Servers() as at, Client(at.words("--title", "sh", "--stay", "30", way="window")) as it:
+            at.begin()
+            time.sleep(0.2)
+            at.end()
+            at.open()
+            changes(Path(at.path + ".session"))
+            check(f"with a mark {name} it ends, and says why", it.status(6) == 1 and why in it.said(), it.said())
+            at.listener.settimeout(0)
+            check("and no server hears of it", raises(at.listener.accept, BlockingIOError))
+
+
+def raises(call, fault):
+    try:
+        call()
+    except fault:
+        return True
+    return False
 
 
 def survives():
@@ -372,6 +398,8 @@ def survives():
     with tempfile.TemporaryDirectory() as room:
         server = Server()
         path, token = server.path, token_of(server)
+        marked = lambda: mark(path)
+        marked()
         common = ["--socket", path, "--user", "own", "--token", token]
         words = [script("mux-shell"), *common, "--title", "sh", "--stay", "20", "env", "PS1=in> ", "sh"]
         shell = subprocess.Popen(words, env={**os.environ, "MUX": WORDS.mux, "HOME": room})
@@ -389,6 +417,7 @@ def survives():
                 words = [WORDS.muxd, "--socket", path, "--users", str(server.users)]
                 server.program = subprocess.Popen(words, stdout=subprocess.PIPE)
                 server.program.stdout.readline()
+                marked()
                 begin = len(it.out)
                 check("the page comes back", it.is_drawn())
                 check("and the window", it.has(b"0 sh", 20, begin), str(it.out[begin:]))

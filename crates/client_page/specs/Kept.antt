@@ -1,15 +1,40 @@
 -- What a kept terminal has read, and what brings it back.
-use Rattle.std.specs.Prelude.{◌≡◌, ℕ, Bool, true, false, List, take, Option, Some, None}
-use Rattle.terminal_model.specs.Reading.{Terminal, reads}
-use Rattle.emulator.specs.Standing.{Parts, StandsFor}
+use Rattle.std.specs.Prelude.{◌≡◌, ◌<◌, ℕ, Bool, true, false, List, take, Option, Some, None, IfSome}
+use Rattle.cells.specs.Page.{IsGridSize}
+use Rattle.client_words.specs.declared.words.Way.TheVariants.{Window}
+use Rattle.client_words.specs.declared.words.Words.{Words}
+use Rattle.terminal_model.specs.Reading.{Terminal, ready, reads}
+use Rattle.terminal_model.specs.Screen.{starting}
+use Rattle.terminal_model.specs.Writing.{Size}
+use Rattle.emulator.specs.Standing.{Parts, StandsFor, TakesWriting}
 use Rattle.rebuild.specs.Rebuilt.{BringsBack}
+
+-- an emulator has read these bytes in order, from whatever terminal it stood for before
+abbrev pub TakesAll : Parts → List ℕ → Parts → Type 0
+TakesAll old bytes new = (t : Terminal) → StandsFor old t → StandsFor new (reads t bytes).terminal
+
+-- a kept terminal, too, and it is still kept
+abbrev pub ReadsAll : Option Parts → List ℕ → Option Parts → Type 0
+ReadsAll None bytes new = new ≡ None
+ReadsAll (Some e) bytes None = ⊥
+ReadsAll (Some e) bytes (Some e') = TakesAll e bytes e'
+
+-- a kept terminal has this size now, as a terminal that is given it
+abbrev pub TakesSize : Option Parts → ℕ → ℕ → Option Parts → Type 0
+TakesSize None rows columns new = new ≡ None
+TakesSize (Some e) rows columns None = ⊥
+TakesSize (Some e) rows columns (Some e') = IsGridSize rows columns × TakesWriting e (Size rows columns) e'
+
+-- only a window that stays keeps a terminal, which has read nothing
+abbrev pub Begins : Words → Option Parts → Type 0
+Begins w p = IfSome p
+    (λ e. (w.way ≡ Window) × (0 < w.again) × StandsFor e (ready (starting w.rows w.columns w.keep)))
 
 -- a kept terminal has read the first bytes, from whatever terminal it stood for before
 abbrev pub Settles : Option Parts → List ℕ → ℕ → Option Parts → Type 0
 Settles None bytes count new = (count ≡ 0) × (new ≡ None)
 Settles (Some e) bytes count None = ⊥
-Settles (Some e) bytes count (Some e') =
-    (t : Terminal) → StandsFor e t → StandsFor e' (reads t (take count bytes)).terminal
+Settles (Some e) bytes count (Some e') = TakesAll e (take count bytes) e'
 
 -- these bytes bring a kept terminal back, which isn't hidden
 abbrev pub TellsPage : Option Parts → Bool → List ℕ → Type 0

@@ -1,11 +1,14 @@
 //! The page of a window that stays, which the session's next server is told.
 
-ghost use Rattle.std.specs.Prelude.{◌≡◌, ◌≤◌, false, length, IfSome};
+ghost use Rattle.std.specs.Prelude.{◌≡◌, ◌≤◌, false, length, IfSome, OnOk, OnErr, Err, None};
 ghost use Rattle.std.specs.Prelude.{take};
-ghost use Rattle.terminal_model.specs.Reading.{Terminal, reads};
+ghost use Rattle.cells.specs.Page.{IsGridSize};
+ghost use Rattle.terminal_model.specs.Reading.{Terminal, ready, reads};
+ghost use Rattle.terminal_model.specs.Screen.{starting};
 ghost use Rattle.emulator.specs.Standing.{StandsFor};
-ghost use Rattle.client_page.specs.Kept.{TellsPage, Settles};
+ghost use Rattle.client_page.specs.Kept.{TellsPage, Settles, TakesAll, ReadsAll, TakesSize, Begins};
 
+use cells::GridFault;
 use client_words::Words;
 use emulator::Emulator;
 use rebuild::rebuild;
@@ -22,8 +25,21 @@ pub struct KeptPage {
 }
 
 // A blank terminal.
-fn blank(alloc: Global, rows: usize, columns: usize, keep: usize) -> Option<Emulator> {
+fn blank(alloc: Global, rows: usize, columns: usize, keep: usize) -> Option<Emulator>
+    ensures { IfSome result (λ e. StandsFor e (ready (starting rows columns keep))) }
+{
     Emulator::new(alloc, rows, columns, keep).ok()
+}
+
+// A blank terminal for a window that stays.
+fn begun(alloc: Global, words: &Words<'_>) -> Option<Emulator>
+    ensures { Begins words.now result }
+{
+    if !words.way.is_window() || words.again == 0 {
+        return None;
+    }
+    let (rows, columns) = (usize::from(words.rows), usize::from(words.columns));
+    blank(alloc, rows, columns, usize::from(words.keep))
 }
 
 // Reads until nothing is incomplete, or all bytes. Returns how many.
@@ -40,40 +56,66 @@ fn read_to_end(emulator: &mut Emulator, bytes: &[u8]) -> usize
     read
 }
 
+// Reads bytes one by one, which takes no memory.
+fn read_each(emulator: &mut Emulator, bytes: &[u8])
+    ensures { TakesAll emulator.old bytes.now emulator.new }
+{
+    let mut read = 0;
+    'bytes: while read < bytes.len() {
+        emulator.feed(bytes[read]);
+        read += 1;
+    }
+}
+
+// Reads all bytes. If memory for answers is refused, the rest is read one by one: nobody reads the answers.
+fn read_all(alloc: Global, emulator: &mut Emulator, bytes: &[u8])
+    ensures { TakesAll emulator.old bytes.now emulator.new }
+{
+    let mut answers = Vec::new(alloc);
+    if let Err(stopped) = emulator.feed_all(bytes, &mut answers) {
+        read_each(emulator, &bytes[stopped.read..]);
+    }
+}
+
 impl KeptPage {
-    pub fn new(alloc: Global, words: &Words<'_>) -> KeptPage {
-        let (rows, columns) = (usize::from(words.rows), usize::from(words.columns));
-        let emulator = if words.way.is_window() && words.again > 0 {
-            blank(alloc, rows, columns, usize::from(words.keep))
-        } else {
-            None
-        };
+    /// A window that stays has a blank page of its size. There is none if memory is refused.
+    pub fn new(alloc: Global, words: &Words<'_>) -> KeptPage
+        ensures blank { Begins words.now result.emulator }
+        ensures shown { result.is_hidden ≡ false }
+    {
         KeptPage {
             alloc,
-            emulator,
+            emulator: begun(alloc, words),
             is_hidden: false,
         }
     }
 
     /// Reads what the server reads. What is asked there, the server answers.
-    pub fn read(&mut self, bytes: &[u8]) {
-        let mut answers = Vec::new(self.alloc);
-        if let Some(emulator) = &mut self.emulator
-            && emulator.feed_all(bytes, &mut answers).is_err()
-        {
-            self.emulator = None;
+    pub fn read(&mut self, bytes: &[u8])
+        ensures read { ReadsAll self.old.emulator bytes.now self.new.emulator }
+        ensures hidden { self.new.is_hidden ≡ self.old.is_hidden }
+    {
+        let alloc = self.alloc;
+        if let Some(emulator) = &mut self.emulator {
+            read_all(alloc, emulator, bytes);
         }
     }
 
-    /// Takes the window's new size.
-    pub fn resize(&mut self, rows: u16, columns: u16) {
-        if let Some(emulator) = &mut self.emulator
-            && emulator
-                .resized(usize::from(rows), usize::from(columns))
-                .is_err()
-        {
+    /// Takes the window's new size. If it is none, or memory is refused, no page is kept from then on.
+    pub fn resize(&mut self, rows: u16, columns: u16) -> Result<(), GridFault>
+        ensures ok { OnOk result (TakesSize self.old.emulator rows columns self.new.emulator) }
+        ensures err { OnErr result (self.new.emulator ≡ None) }
+        ensures bad_size { result ≡ Err GridFault.BadSize → ¬ IsGridSize rows columns }
+        ensures hidden { self.new.is_hidden ≡ self.old.is_hidden }
+    {
+        let Some(emulator) = &mut self.emulator else {
+            return Ok(());
+        };
+        let taken = emulator.resized(usize::from(rows), usize::from(columns));
+        if taken.is_err() {
             self.emulator = None;
         }
+        taken
     }
 
     /// Reads the bytes that end an incomplete character, sequence or string, and returns how many these are.

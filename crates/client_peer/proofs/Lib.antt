@@ -1,3 +1,4 @@
+pub mod Closing
 pub mod Handing
 pub mod Passing
 pub mod Sending

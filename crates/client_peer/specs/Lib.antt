@@ -1,3 +1,4 @@
+pub mod Meeting
 pub mod Showing
 pub mod Reopening
 pub mod Sending

@@ -3,6 +3,7 @@
 #![tactic(auto)]
 
 mod looking;
+mod meeting;
 mod notice;
 mod outgoing;
 mod peer;
@@ -10,5 +11,6 @@ mod taking;
 mod typing;
 
 pub use looking::Step;
+pub use meeting::{Meeting, SessionMark};
 pub use outgoing::Batch;
 pub use peer::Peer;

@@ -1,5 +1,7 @@
 //! What a peer does by itself, as time goes by.
 
+ghost use Rattle.std.specs.Prelude.{◌≡◌, true, false};
+ghost use Rattle.client_peer.specs.Sending.{HasServer};
 ghost use Rattle.client_peer.specs.Typing.{Fits};
 
 use crate::notice::NoticeStage;
@@ -281,8 +283,11 @@ impl Peer {
     }
 
     /// Decides whether the peer comes back, after its connection has ended: if the socket's folder is
-    /// there, for some seconds from the first loss on. It says so once.
-    pub fn comes_back(&mut self, now: u64, is_planned: bool, has_place: bool) -> bool {
+    /// there, for some seconds from the first loss on. It says so once. Until then no server has a window.
+    pub fn comes_back(&mut self, now: u64, is_planned: bool, has_place: bool) -> bool
+        ensures leaves { result ≡ true → HasServer self.new → ⊥ }
+        ensures last { self.old.is_final ≡ true → result ≡ false }
+    {
         let Some(end) = self.end else {
             return false;
         };
@@ -293,7 +298,11 @@ impl Peer {
             self.times.lost_at = now;
             self.tell_loss();
         }
-        !self.is_final
+        if self.is_final {
+            return false;
+        }
+        self.is_welcome = false;
+        true
     }
 
     // Says on a client's terminal that its server is gone. CAN ends what may have been cut.

@@ -1,6 +1,7 @@
 //! What a client writes to its terminal of its own: a line at the bottom, and its help.
 
 ghost use Rattle.std.specs.Prelude.{◌≡◌};
+ghost use Rattle.client_peer.specs.Meeting.{StaysClosed};
 ghost use Rattle.client_peer.specs.Showing.{Keeps};
 
 use crate::peer::Peer;
@@ -82,7 +83,8 @@ impl Peer {
     /// Takes a text that came after the client was let in. One of the session stands on the status
     /// line, too; if it is a refusal by number, its meaning is shown beside it.
     pub fn hear_later(&mut self, text: &str) -> Result<(), Fault>
-        ensures { Keeps self.old self.new }
+        ensures keeps { Keeps self.old self.new }
+        ensures closed { StaysClosed self.old self.new }
     {
         let mut meaning = Vec::new(self.alloc);
         if self.typing.assists {

@@ -3,11 +3,11 @@
 ghost use Rattle.std.specs.Prelude.{◌≡◌, ◌≤◌, ◌<◌, ◌-◌, ◌++◌, ◌↔◌, length, drop, [], IsTrue};
 ghost use Rattle.std.specs.Prelude.{OnOk, OnErr, IfOk, IfSome, IsNone, IsSome};
 ghost use Rattle.attach_proto.specs.Spelling.{frame, spelling};
+ghost use Rattle.client_page.specs.Kept.{ReadsAll};
 ghost use Rattle.attach_proto.specs.declared.kind.Kind.TheVariants.{Keys, Output, Detach};
 ghost use Rattle.client_peer.specs.Reopening.{Sends, Reopens};
 ghost use Rattle.client_peer.specs.Sending.{Puts, SendsFirst, MaySend, HandsOut, HasBack};
-ghost use Rattle.client_peer.specs.Sending.{HasServer, Prints, KeepsNewest, unsent, left};
-ghost use Rattle.client_peer.specs.Showing.{Keeps};
+ghost use Rattle.client_peer.specs.Sending.{HasServer, Prints, Holds, HoldsLast, unsent, left};
 
 use crate::peer::Peer;
 use attach_proto::{Kind, LONGEST, Message, head_of, write_message};
@@ -93,7 +93,7 @@ impl Peer {
 
     // Holds what a window's program printed.
     fn hold(&mut self, bytes: &[u8]) -> Result<(), AllocError>
-        ensures newest { OnOk result (KeepsNewest (self.old.held.items ++ bytes.now) self.new.held.items) }
+        ensures holds { OnOk result (Holds self.old bytes.now self.new) }
         ensures same { self.new ≡ record self.old { held = self.new.held; page = self.new.page } }
     {
         self.held.extend_from_slice(bytes)?;
@@ -105,8 +105,7 @@ impl Peer {
 
     // Keeps the newest of the bytes that are held. The page reads the others.
     fn trim(&mut self) -> Result<(), AllocError>
-        ensures newest { OnOk result (self.new.held.items
-            ≡ drop (length self.old.held.items - 262144) self.old.held.items) }
+        ensures last { OnOk result (HoldsLast self.old self.old.held.items self.new) }
         ensures same { self.new ≡ record self.old { held = self.new.held; page = self.new.page } }
     {
         let held = mem::replace(&mut self.held, Vec::new(self.alloc));
@@ -117,9 +116,13 @@ impl Peer {
 
     /// Puts down the page and what was held, once a server has the window again. Returns whether the server is told the
     /// page.
-    pub fn reopen(&mut self) -> Result<bool, AllocError>
+    pub(crate) fn tell_again(&mut self) -> Result<bool, AllocError>
         ensures ok { IfOk result (λ is_told. Reopens self.old self.new is_told) }
-        ensures keeps { Keeps self.old self.new }
+        ensures same { self.new ≡ record self.old {
+          frames = self.new.frames;
+          held = self.new.held;
+          page = self.new.page;
+        } }
     {
         let held = mem::replace(&mut self.held, Vec::new(self.alloc));
         let read = self.page.settle(&held);
@@ -140,8 +143,8 @@ impl Peer {
     fn put_again(&mut self, told: Vec<u8>, later: &[u8]) -> Result<(), AllocError>
         ensures ok { OnOk result (Sends self.old.frames.items self.new.frames.items Output
             (told.items ++ later.now)) }
-        ensures held { self.new.held ≡ self.old.held }
-        ensures keeps { Keeps self.old self.new }
+        ensures read { ReadsAll self.old.page.emulator later.now self.new.page.emulator }
+        ensures same { self.new ≡ record self.old { frames = self.new.frames; page = self.new.page } }
     {
         self.page.read(later);
         let mut bytes = told;

@@ -3,9 +3,13 @@
 ghost use Rattle.std.specs.Prelude.{◌≡◌, ◌↔◌, ◌++◌, [], false, true, IsSome, IsTrue, OnOk};
 ghost use Rattle.attach_proto.specs.Spelling.{spelling};
 ghost use Rattle.draw_check.specs.Places.{place_after};
+ghost use Rattle.client_peer.specs.Meeting.{Meets};
+ghost use Rattle.client_peer.specs.Sending.{HasServer};
 ghost use Rattle.client_peer.specs.Showing.{BeginsAnew};
+ghost use Rattle.client_peer.specs.declared.meeting.Meeting.TheVariants.{Same};
 
 use crate::looking::Times;
+use crate::meeting::{Meeting, SessionMark};
 use crate::notice::Notice;
 use attach_proto::{Message, Why};
 use client_page::KeptPage;
@@ -68,6 +72,10 @@ pub struct Peer {
     pub page_number: u8,
     /// The window is to be opened again: what it prints waits.
     pub is_reopening: bool,
+    /// The name of the session that the peer was in; empty if nothing named it.
+    pub(crate) session: Vec<u8>,
+    /// Nothing said that the session at the socket is the one that the peer was in.
+    pub is_unsure: bool,
     pub typing: Typing,
     /// This connection's server let the peer in.
     pub is_welcome: bool,
@@ -122,6 +130,8 @@ impl Peer {
             number: 0,
             page_number: 0,
             is_reopening: false,
+            session: Vec::new(alloc),
+            is_unsure: false,
             typing: Typing::new(words),
             is_welcome: false,
             was_welcome: false,
@@ -135,10 +145,25 @@ impl Peer {
         }
     }
 
-    /// Begins another connection. What the last one's server drew may end within a function: CAN ends
-    /// it, and the check begins anew. If memory for that is refused, the check goes on.
-    pub fn begin(&mut self)
-        ensures { BeginsAnew self.old self.new }
+    /// Begins another connection, if the session at the socket is the one that the peer was in. What the last one's
+    /// server drew may end within a function: CAN ends it, and the check begins anew. If memory for that is refused,
+    /// the check goes on.
+    pub fn begin(&mut self, mark: &SessionMark) -> Meeting
+        ensures meets { Meets self.old mark.now result }
+        ensures begins { result ≡ Same → BeginsAnew self.old self.new }
+        ensures leaves { result ≡ Same → HasServer self.new → ⊥ }
+        ensures stays { (result ≡ Same → ⊥) → self.new ≡ self.old }
+    {
+        let met = self.meets(mark);
+        if met == Meeting::Same {
+            self.begin_anew();
+        }
+        met
+    }
+
+    fn begin_anew(&mut self)
+        ensures begins { BeginsAnew self.old self.new }
+        ensures leaves { HasServer self.new → ⊥ }
     {
         self.cut_off();
         self.is_cut = false;

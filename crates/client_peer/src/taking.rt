@@ -1,9 +1,12 @@
 //! Sorts the messages that come from the server.
 
-ghost use Rattle.std.specs.Prelude.{◌≡◌, ◌++◌, OnOk, OnErr};
+ghost use Rattle.std.specs.Prelude.{◌≡◌, ◌++◌, OnOk, OnErr, IfOk};
 ghost use Rattle.client_words.specs.declared.words.Way.TheVariants.{Attach};
+ghost use Rattle.client_peer.specs.Meeting.{Meets, Opens, StaysClosed};
 ghost use Rattle.client_peer.specs.Showing.{Keeps, Adds, PassesOn, StopsAt};
+ghost use Rattle.client_peer.specs.declared.meeting.Meeting.TheVariants.{Same};
 
+use crate::meeting::{Meeting, SessionMark};
 use crate::peer::Peer;
 use attach_proto::{LONGEST, Message, ProtoFault, Reader, Told, Why};
 use client_words::{Fault, Way, put_visible};
@@ -50,6 +53,7 @@ impl Peer {
     fn show(&mut self, bytes: &[u8]) -> Result<(), Fault>
         ensures ok { OnOk result (PassesOn self.old self.new) }
         ensures err { OnErr result (StopsAt self.old self.new) }
+        ensures closed { StaysClosed self.old self.new }
     {
         if self.is_covered {
             self.pass_over(bytes.len() == LONGEST);
@@ -61,7 +65,8 @@ impl Peer {
 
     // Notes that there is a draw, and whether it goes on in the next frame.
     fn note_cut(&mut self, is_cut: bool)
-        ensures { Keeps self.old self.new }
+        ensures keeps { Keeps self.old self.new }
+        ensures closed { StaysClosed self.old self.new }
     {
         self.is_cut = is_cut;
         self.has_drawn = true;
@@ -69,14 +74,16 @@ impl Peer {
 
     // Leaves out a draw, or the first part of one.
     fn pass_over(&mut self, is_cut: bool)
-        ensures { Keeps self.old self.new }
+        ensures keeps { Keeps self.old self.new }
+        ensures closed { StaysClosed self.old self.new }
     {
         self.is_cut = is_cut;
         self.is_covered = is_cut || self.is_helping;
     }
 
     fn put_size(&mut self, rows: u16, columns: u16) -> Result<(), Fault>
-        ensures { Keeps self.old self.new }
+        ensures keeps { Keeps self.old self.new }
+        ensures same { self.new ≡ record self.old { rows = rows; columns = columns; sizes = self.new.sizes } }
     {
         self.rows = rows;
         self.columns = columns;
@@ -85,7 +92,7 @@ impl Peer {
     }
 
     fn put_line(&mut self, line: &str) -> Result<(), Fault>
-        ensures { self.new.way ≡ self.old.way }
+        ensures { self.new ≡ record self.old { bytes = self.new.bytes } }
     {
         put_visible(line.as_bytes(), &mut self.bytes)?;
         self.put(b"\n")
@@ -96,6 +103,7 @@ impl Peer {
     fn hear(&mut self, alloc: Global, text: &str) -> Result<(), Fault>
         ensures way { self.new.way ≡ self.old.way }
         ensures keeps { self.old.way ≡ Attach → Keeps self.old self.new }
+        ensures closed { StaysClosed self.old self.new }
     {
         if self.way.is_command() {
             self.put_line(text)?;
@@ -108,6 +116,7 @@ impl Peer {
     fn hear_more(&mut self, text: &str) -> Result<(), Fault>
         ensures ok { OnOk result (PassesOn self.old self.new) }
         ensures err { OnErr result (StopsAt self.old self.new) }
+        ensures closed { StaysClosed self.old self.new }
     {
         self.hear_later(text)
     }
@@ -115,7 +124,8 @@ impl Peer {
     // Notes that the peer is let in. A window gets its first size. One that is opened again has to know first whether
     // its page may be told.
     fn welcome(&mut self) -> Result<(), Fault>
-        ensures { Keeps self.old self.new }
+        ensures keeps { Keeps self.old self.new }
+        ensures closed { StaysClosed self.old self.new }
     {
         if self.is_welcome || self.way.is_command() {
             return Ok(());
@@ -132,15 +142,31 @@ impl Peer {
         Ok(())
     }
 
-    /// Opens a window again, whose page is hidden from this server or isn't. If the server isn't told the page, the
-    /// window's size is told again, so that its program draws anew.
-    pub fn open_again(&mut self, is_hidden: bool) -> Result<(), Fault>
-        ensures { Keeps self.old self.new }
+    /// Opens a window again, if the session at the socket is the one that it was in; its page is hidden from this
+    /// server or isn't. If the server isn't told the page, the window's size is told again, so that its program draws
+    /// anew.
+    pub fn reopen(&mut self, mark: &SessionMark, is_hidden: bool) -> Result<Meeting, Fault>
+        ensures meets { IfOk result (Meets self.old mark.now) }
+        ensures ok { IfOk result (λ met. met ≡ Same → Opens self.old self.new is_hidden) }
+        ensures stays { IfOk result (λ met. (met ≡ Same → ⊥) → self.new ≡ self.old) }
+        ensures fault { OnErr result (Meets self.old mark.now Same) }
+        ensures keeps { Keeps self.old self.new }
+    {
+        let met = self.meets(mark);
+        if met == Meeting::Same {
+            self.open(is_hidden)?;
+        }
+        Ok(met)
+    }
+
+    fn open(&mut self, is_hidden: bool) -> Result<(), Fault>
+        ensures opens { OnOk result (Opens self.old self.new is_hidden) }
+        ensures keeps { Keeps self.old self.new }
     {
         self.is_reopening = false;
         self.page_number = self.number;
         self.page.is_hidden = is_hidden;
-        if self.reopen()? {
+        if self.tell_again()? {
             return Ok(());
         }
         self.put_size(self.rows, self.columns)
@@ -148,9 +174,11 @@ impl Peer {
 
     // Takes a window's new size.
     fn resize_window(&mut self, rows: u16, columns: u16) -> Result<(), Fault>
-        ensures { Keeps self.old self.new }
+        ensures keeps { Keeps self.old self.new }
+        ensures closed { StaysClosed self.old self.new }
     {
-        self.page.resize(rows, columns);
+        // Without memory for it no page is kept.
+        let _ = self.page.resize(rows, columns);
         self.put_size(rows, columns)
     }
 
@@ -159,6 +187,7 @@ impl Peer {
     fn put_message(&mut self, message: &Message) -> Result<(), Fault>
         ensures ok { OnOk result (PassesOn self.old self.new) }
         ensures err { OnErr result (StopsAt self.old self.new) }
+        ensures closed { StaysClosed self.old self.new }
     {
         match message {
             Message::Draw(bytes) if self.way.is_attach() => self.show(bytes.as_slice()),
@@ -184,6 +213,7 @@ impl Peer {
     fn take(&mut self, alloc: Global, message: &Message) -> Result<Option<Why>, Fault>
         ensures ok { OnOk result (PassesOn self.old self.new) }
         ensures err { OnErr result (StopsAt self.old self.new) }
+        ensures closed { StaysClosed self.old self.new }
     {
         self.put_message(message)?;
         // A command is never let in here, so it hears each text.
@@ -208,6 +238,7 @@ impl Peer {
     ) -> Result<Option<Why>, Fault>
         ensures ok { OnOk result (PassesOn self.old self.new) }
         ensures err { OnErr result (StopsAt self.old self.new) }
+        ensures closed { StaysClosed self.old self.new }
     {
         for message in messages {
             if let Some(why) = self.take(alloc, message)? {
@@ -229,6 +260,7 @@ impl Peer {
     ) -> Result<Option<Why>, Fault>
         ensures ok { OnOk result (PassesOn self.old self.new) }
         ensures err { OnErr result (StopsAt self.old self.new) }
+        ensures closed { StaysClosed self.old self.new }
     {
         let mut messages = Vec::new(alloc);
         let fed = reader.feed(bytes, &mut messages);
@@ -252,6 +284,7 @@ impl Peer {
     ) -> Result<Option<Result<Why, Fault>>, Fault>
         ensures ok { OnOk result (PassesOn self.old self.new) }
         ensures err { OnErr result (StopsAt self.old self.new) }
+        ensures closed { StaysClosed self.old self.new }
     {
         // Any answer to `mux ping` shows that there is a server.
         if self.way.is_ping() {

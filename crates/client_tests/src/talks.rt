@@ -62,9 +62,9 @@ enum Peer {
     /// It comes back, after a server that goes at once.
     Again,
     Window,
-    /// The same of a window.
+    /// A window that would come back.
     Staying,
-    /// The same after its program has printed something.
+    /// The same, after its program has printed something.
     Telling,
     Command,
 }
@@ -83,7 +83,7 @@ struct Talk {
     kept_back: &'static [u8],
 }
 
-static TALKS: [Talk; 14] = [
+static TALKS: [Talk; 13] = [
     // A client: its keys are sent, and a draw is written.
     Talk {
         peer: Peer::Client,
@@ -184,18 +184,7 @@ static TALKS: [Talk; 14] = [
         written: b"\x181000h",
         kept_back: b"?1000h",
     },
-    // So does a window.
-    Talk {
-        peer: Peer::Staying,
-        typed: b"",
-        first: b"y\0\x01\0",
-        awaited: b"W\0",
-        last: b"i\0\x05typedg\0\x01\x03",
-        status: 0,
-        written: b"typed",
-        kept_back: b"g\0",
-    },
-    // The next server is told the window's page.
+    // So does a window, once it knows its session. The next server is told its page.
     Talk {
         peer: Peer::Telling,
         typed: b"printed",
@@ -240,6 +229,18 @@ static TALKS: [Talk; 14] = [
         kept_back: b"bad",
     },
 ];
+
+// A window that stays, whose server has no mark.
+static UNMARKED: Talk = Talk {
+    peer: Peer::Staying,
+    typed: b"",
+    first: b"y\0\x01\0",
+    awaited: b"W\0",
+    last: b"",
+    status: 1,
+    written: b"",
+    kept_back: b"",
+};
 
 // Reads until these bytes came. Returns whether they came.
 fn awaits(stream: &mut UnixStream, came: &mut Vec<u8>, bytes: &[u8]) -> io::Result<bool> {
@@ -290,7 +291,7 @@ fn serve_first<R: Stage>(rt: &R, listener: &UnixListener, talk: Talk) -> io::Res
 
 // Serves one talk. Returns whether what it waits for came.
 fn serve<R: Stage>(rt: &R, listener: &UnixListener, talk: Talk) -> io::Result<bool> {
-    if matches!(talk.peer, Peer::Again | Peer::Staying | Peer::Telling) {
+    if matches!(talk.peer, Peer::Again | Peer::Telling) {
         serve_first(rt, listener, talk)?;
     }
     let (mut stream, _) = listener.accept()?;
@@ -325,15 +326,25 @@ fn is_right(served: io::Result<bool>, called: io::Result<bool>) -> bool {
 /// What is typed is sent, what is drawn or said is written, and the status is that of the end.
 #[test]
 fn talks_go_as_they_must(rt: HostRuntime) {
-    for (path, text) in [(TOKEN, TOKEN_TEXT), (SESSION, b"1"), (RESTORING, b"")] {
+    let Ok(listener) = UnixListener::bind(&rt, SOCKET) else {
+        panic!(rt; "no socket")
+    };
+    let Ok(()) = write_file(&rt, TOKEN, TOKEN_TEXT) else {
+        panic!(rt; "a file can't be written")
+    };
+    let (shared, door) = (&rt, &listener);
+    // Without a mark a window doesn't come back.
+    let unmarked = thread::join(
+        shared,
+        || serve_first(shared, door, UNMARKED),
+        || call(shared, UNMARKED),
+    );
+    // The mark of this socket's server is as new as the socket.
+    for (path, text) in [(SESSION, b"1".as_slice()), (RESTORING, b"")] {
         let Ok(()) = write_file(&rt, path, text) else {
             panic!(rt; "a file can't be written")
         };
     }
-    let Ok(listener) = UnixListener::bind(&rt, SOCKET) else {
-        panic!(rt; "no socket")
-    };
-    let (shared, door) = (&rt, &listener);
     let mut wrong = None;
     for (place, talk) in TALKS.iter().enumerate() {
         let talk = *talk;
@@ -353,6 +364,7 @@ fn talks_go_as_they_must(rt: HostRuntime) {
     for path in [TOKEN, SESSION, RESTORING, SOCKET] {
         let _ = fs::remove_file(&rt, path);
     }
+    assert!(rt; matches!(unmarked, (Ok(()), Ok(true))));
     assert_eq!(rt; wrong, None);
     assert_eq!(rt; status, 2);
 }

@@ -16,6 +16,8 @@ pub struct PeerEnding {
     /// The user left by the byte that leaves.
     pub has_left: bool,
     pub was_welcome: bool,
+    /// Nothing said that the session at the socket is the one before.
+    pub is_unsure: bool,
 }
 
 impl PeerEnding {
@@ -27,6 +29,7 @@ impl PeerEnding {
             has_dropped: peer.has_dropped,
             has_left: peer.has_left(),
             was_welcome: peer.was_welcome,
+            is_unsure: peer.is_unsure,
         }
     }
 }
@@ -77,6 +80,13 @@ pub fn tell_end<E: Write>(
         );
     }
     let status = tell_cause(alloc, ending, words, errors);
+    if ending.is_unsure {
+        let _ = writeln!(
+            errors,
+            "mux: the window isn't opened again, in case the session is another one: {}.session is missing or older than the socket (see muxd-run --again)",
+            words.socket
+        );
+    }
     if !ending.was_welcome {
         tell_unseen(words, errors);
     }

@@ -2,7 +2,7 @@
 
 use crate::host::PeerHost;
 use attach_proto::{Reader, Side};
-use client_peer::Peer;
+use client_peer::{Meeting, Peer, SessionMark};
 use client_words::Words;
 use std::alloc::{AllocError, Global};
 use std::os::unix::net::UnixStream;
@@ -44,12 +44,15 @@ impl SharedPeer {
         }
     }
 
-    /// Begins another connection.
-    pub fn begin<R: Wait>(&self, rt: &R) {
+    /// Begins another connection, if the peer meets its session at the socket.
+    pub fn begin<R: Wait>(&self, rt: &R, mark: &SessionMark) -> Meeting {
         let mut seat = self.seat.lock(rt);
-        seat.peer.begin();
-        seat.reader = Reader::new(self.alloc, Side::Peer);
-        seat.stream = None;
+        let met = seat.peer.begin(mark);
+        if met == Meeting::Same {
+            seat.reader = Reader::new(self.alloc, Side::Peer);
+            seat.stream = None;
+        }
+        met
     }
 
     /// Wakes all threads.

@@ -7,10 +7,11 @@ use crate::opening::{Door, another_door};
 use crate::reading::serve;
 use crate::shared::{SharedPeer, start_thread};
 use crate::writing::send;
-use client_peer::Step;
+use client_peer::{Meeting, SessionMark, Step};
 use client_words::{Fault, Words};
 use std::alloc::Global;
 use std::fs::{File, Files};
+use std::os::unix::fs::MetadataExt;
 use std::sync::{Arc, Wait};
 use std::thread::Threads;
 use std::time::{Duration, Instant};
@@ -22,8 +23,12 @@ const SHORTLY: u64 = 10;
 
 const PAUSE: u64 = 50;
 
-// How many tries a client lets pass while windows come back: one that comes before them shows none.
+// How many tries a client lets pass while windows come back: one that comes before them shows none. A window lets so
+// many pass until the server that made the socket has marked its session.
 const HELD: u32 = 60;
+
+// How often a window looks for the mark of its first server.
+const LEARNING: u32 = 20;
 
 // Milliseconds since the peer began. A clock that can't be read stands still.
 fn now<R: PeerHost>(rt: &R, began: Option<Instant>) -> u64 {
@@ -55,12 +60,30 @@ fn look<R: PeerHost + Wait>(rt: &R, shared: &SharedPeer, began: Option<Instant>)
     step
 }
 
-// What the file beside the socket says that names the session; empty if there is none.
-fn session<R: Files<File = File> + AllocGlobal>(rt: &R, words: &Words<'_>) -> Vec<u8> {
-    let none = Vec::new(rt.alloc());
-    match format!(in rt.alloc(); "{}.session", words.socket) {
-        Ok(path) => fs::read(rt, path.as_str()).unwrap_or(none),
-        Err(_) => none,
+// What stands beside the socket about the session that is served there. A mark is made anew for each server, so one
+// that is older than the socket isn't this server's.
+fn mark_of<R: Files<File = File> + AllocGlobal>(rt: &R, words: &Words<'_>) -> SessionMark {
+    let mut mark = SessionMark {
+        name: Vec::new(rt.alloc()),
+        is_current: false,
+    };
+    if let Ok(path) = format!(in rt.alloc(); "{}.session", words.socket)
+        && let Ok(name) = fs::read(rt, path.as_str())
+    {
+        mark.name = name;
+        mark.is_current = is_as_new(rt, path.as_str(), words.socket);
+    }
+    mark
+}
+
+// Whether a file was written no earlier than another one.
+fn is_as_new<R: Files<File = File>>(rt: &R, path: &str, other: &str) -> bool {
+    match (fs::metadata(rt, path), fs::metadata(rt, other)) {
+        (Ok(it), Ok(other)) if it.mtime() == other.mtime() => {
+            it.mtime_nsec() >= other.mtime_nsec()
+        }
+        (Ok(it), Ok(other)) => it.mtime() > other.mtime(),
+        _ => false,
     }
 }
 
@@ -91,13 +114,13 @@ pub fn start<R: PeerHost + Threads + Wait>(
     Ok(())
 }
 
-// What a peer that comes back goes by.
+// How many tries a peer that comes back has let pass.
 #[derive(Drop)]
 struct Comeback {
-    /// What named the session when the peer was let in first; empty if nothing did.
-    named: Vec<u8>,
-    /// How many tries it has let pass.
+    /// While windows come back.
     held: u32,
+    /// While the mark beside the socket may be that of an earlier server.
+    older: u32,
 }
 
 // Whether the next server must not be told a window's page, since a command has cleared it, or this isn't known.
@@ -135,37 +158,62 @@ impl Comeback {
         passes
     }
 
-    // Whether the session is another one now. None if that isn't known.
-    fn is_another<R: Files<File = File> + AllocGlobal>(
-        &self,
+    // What comes of what the peer met. A window waits for a mark of the server that made the socket, but not for long.
+    fn judge<R: PeerHost + Wait + Files<File = File> + AllocGlobal>(
+        &mut self,
         rt: &R,
+        shared: &SharedPeer,
         words: &Words<'_>,
-    ) -> Option<bool> {
-        let named = session(rt, words);
-        let is_known = !self.named.is_empty() && !named.is_empty();
-        is_known.then_some(self.named.as_slice() != named.as_slice())
+        met: Meeting,
+    ) {
+        let waits = met == Meeting::Older && self.older < HELD;
+        self.older = match met {
+            Meeting::Older if is_beside(rt, words, "") => self.older.wrapping_add(1),
+            _ => 0,
+        };
+        if met != Meeting::Same && !waits {
+            shared.seat.lock(rt).peer.stay_away(met);
+        }
     }
 
     // Opens a window again in a server that has let it in. What stands beside the socket is that server's by now.
     fn reopen<R: PeerHost + Wait + Files<File = File> + AllocGlobal>(
-        &self,
+        &mut self,
         rt: &R,
         shared: &SharedPeer,
         words: &Words<'_>,
     ) {
-        let is_another = self.is_another(rt, words);
+        let mark = mark_of(rt, words);
         let mut seat = shared.seat.lock(rt);
         let number = seat.peer.page_number;
-        let opened = match is_another {
-            Some(true) => Err(Fault::OtherSession),
-            Some(false) => seat.peer.open_again(is_hidden(rt, words, number)),
-            None => seat.peer.open_again(true),
-        };
+        let opened = seat.peer.reopen(&mark, is_hidden(rt, words, number));
         if let Err(fault) = opened {
             seat.peer.end_by(Err(fault));
         }
         drop(seat);
         shared.work.notify_all();
+        if let Ok(met) = opened {
+            self.judge(rt, shared, words, met);
+            if met == Meeting::Older {
+                thread::sleep(rt, Duration::from_millis(PAUSE));
+            }
+        }
+    }
+}
+
+// Takes the session's name for the peer. The server's mark may come a moment after its socket.
+fn learn<R: PeerHost + Wait + Files<File = File> + AllocGlobal>(
+    rt: &R,
+    shared: &SharedPeer,
+    words: &Words<'_>,
+) {
+    for _ in 0..LEARNING {
+        let mark = mark_of(rt, words);
+        if words.way.is_attach() || mark.is_current || mark.name.is_empty() {
+            shared.seat.lock(rt).peer.learn(mark);
+            break;
+        }
+        thread::sleep(rt, Duration::from_millis(PAUSE));
     }
 }
 
@@ -180,9 +228,10 @@ fn come_back<R: PeerHost + Threads + Wait + Files<File = File> + AllocGlobal>(
     if comeback.lets_pass(rt, words) {
         return Ok(());
     }
-    shared.begin(rt);
-    if comeback.is_another(rt, words) == Some(true) {
-        return Err(Fault::OtherSession);
+    let met = shared.begin(rt, &mark_of(rt, words));
+    comeback.judge(rt, shared, words, met);
+    if met != Meeting::Same {
+        return Ok(());
     }
     let seat = shared.seat.lock(rt);
     let size = (seat.peer.rows, seat.peer.columns);
@@ -220,19 +269,18 @@ pub fn wait<R: PeerHost + Threads + Wait + Files<File = File> + AllocGlobal, I: 
 ) -> PeerEnding {
     let began = Instant::now(rt).ok();
     let mut sources = sources;
-    let mut comeback = Comeback {
-        named: Vec::new(shared.alloc),
-        held: 0,
-    };
+    let mut comeback = Comeback { held: 0, older: 0 };
     for _ in rt.forever() {
         match look(rt, shared, began) {
             Step::Wait | Step::WaitShortly => {}
             Step::Send => send(rt, shared),
             Step::Reopen => comeback.reopen(rt, shared, words),
             Step::Begin => {
-                comeback.named = session(rt, words);
                 if sources.start(rt, shared).is_err() {
                     shared.seat.lock(rt).peer.end_by(Err(Fault::NoMemory));
+                }
+                if words.again > 0 {
+                    learn(rt, shared, words);
                 }
             }
             Step::Ask => ask(rt, shared, words, now(rt, began), &mut comeback),

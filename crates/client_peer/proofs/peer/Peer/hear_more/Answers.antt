@@ -7,10 +7,10 @@ pub returns-clause-ok : goal.returns-clause-ok
 returns-clause-ok c =
     let old : Peer = c.args.self.now in
     let new : Peer = c.hear_later.new.self in
-    on_ok_given {P = PassesOn old new} c.hear_later.result (passes_keeps old new c.hear_later.ensures)
+    on_ok_given {P = PassesOn old new} c.hear_later.result (passes_keeps old new c.hear_later.ensures.keeps)
 
 pub returns-clause-err : goal.returns-clause-err
 returns-clause-err c =
     let old : Peer = c.args.self.now in
     let new : Peer = c.hear_later.new.self in
-    on_err_given {P = StopsAt old new} c.hear_later.result (stops_keeps old new c.hear_later.ensures)
+    on_err_given {P = StopsAt old new} c.hear_later.result (stops_keeps old new c.hear_later.ensures.keeps)

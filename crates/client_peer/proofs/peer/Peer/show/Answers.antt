@@ -10,7 +10,7 @@ returns-clause-ok c =
     let middle : Peer = c.note_cut.new.self in
     let new : Peer = c.put_draw.new.self in
     on_ok_weaker {P = PassesOn middle new} {Q = PassesOn old new} c.put_draw.result
-    (λ p. passes_then old middle new (passes_keeps old middle c.note_cut.ensures) p) c.put_draw.ensures.ok
+    (λ p. passes_then old middle new (passes_keeps old middle c.note_cut.ensures.keeps) p) c.put_draw.ensures.ok
 
 pub returns-clause-err : goal.returns-clause-err
 returns-clause-err c =
@@ -18,7 +18,7 @@ returns-clause-err c =
     let middle : Peer = c.note_cut.new.self in
     let new : Peer = c.put_draw.new.self in
     on_err_weaker {P = StopsAt middle new} {Q = StopsAt old new} c.put_draw.result
-    (λ s. stops_then old middle new (passes_keeps old middle c.note_cut.ensures) s) c.put_draw.ensures.err
+    (λ s. stops_then old middle new (passes_keeps old middle c.note_cut.ensures.keeps) s) c.put_draw.ensures.err
 
 pub returns-then-self-clause-ok : goal.returns-then-self-clause-ok
-returns-then-self-clause-ok c = passes_keeps c.args.self.now c.pass_over.new.self c.pass_over.ensures
+returns-then-self-clause-ok c = passes_keeps c.args.self.now c.pass_over.new.self c.pass_over.ensures.keeps

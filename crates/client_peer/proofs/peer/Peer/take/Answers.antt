@@ -1,6 +1,8 @@
 use Rattle.std.proofs.Common.{sym, subst}
 use Rattle.client_peer.specs.declared.peer.Peer.{Peer}
+use Rattle.client_peer.specs.Meeting.{StaysClosed}
 use Rattle.client_peer.specs.Showing.{PassesOn}
+use Rattle.client_peer.proofs.Closing.{closed_same, closed_then}
 use Rattle.client_peer.proofs.Passing.{passes_keeps, passes_same, passes_heard, passes_then}
 use Rattle.client_peer.proofs.peer.Peer.take.Goals.{then-told+in_ok-welcome, else-told}
 use Rattle.client_peer.proofs.peer.Peer.take.Goals.{in-Some+in_ok-hear, in_default}
@@ -13,7 +15,7 @@ returns-clause-ok c =
     let last : Peer = c.match-told-3.self in
     let welcomed : PassesOn first second = elim c.if-told.branch [
       | then-told+in_ok-welcome w ↦
-          subst (PassesOn first) (sym w.self-is) (passes_keeps first w.welcome.new.self w.welcome.ensures)
+          subst (PassesOn first) (sym w.self-is) (passes_keeps first w.welcome.new.self w.welcome.ensures.keeps)
       | else-told w ↦ subst (PassesOn first) (sym w.self-is) (passes_same first)
     ] in
     let heard : PassesOn second last = elim c.match-told-3.branch [
@@ -24,3 +26,19 @@ returns-clause-ok c =
     ] in
     passes_then c.args.self.now first last c.in_ok-put_message.ensures.ok
     (passes_then first second last welcomed heard)
+
+pub returns-clause-closed : goal.returns-clause-closed
+returns-clause-closed c =
+    let first : Peer = c.put_message.new.self in
+    let second : Peer = c.if-told.self in
+    let last : Peer = c.match-told-3.self in
+    let welcomed : StaysClosed first second = elim c.if-told.branch [
+      | then-told+in_ok-welcome w ↦ subst (StaysClosed first) (sym w.self-is) w.welcome.ensures.closed
+      | else-told w ↦ subst (StaysClosed first) (sym w.self-is) (closed_same first)
+    ] in
+    let heard : StaysClosed second last = elim c.match-told-3.branch [
+      | in-Some+in_ok-hear w ↦ subst (StaysClosed second) (sym w.self-is) w.hear.ensures.closed
+      | in_default w ↦ subst (StaysClosed second) (sym w.self-is) (closed_same second)
+    ] in
+    closed_then c.args.self.now first last c.in_ok-put_message.ensures.closed
+    (closed_then first second last welcomed heard)

@@ -1,18 +1,38 @@
 use Rattle.client_peer.specs.Showing.{StopsAt}
+use Rattle.client_peer.proofs.Closing.{closed_same, closed_then}
 use Rattle.client_peer.proofs.Passing.{passes_same, passes_then, stops_then, on_err_given}
 use Rattle.client_peer.proofs.peer.Peer.take_all.Goals as goal
 
 pub loop-message-init : goal.loop-message-init
-loop-message-init c = passes_same c.args.self.now
+loop-message-init c = record { passes = passes_same c.args.self.now; closed = closed_same c.args.self.now }
 
 pub loop-message-preserved : goal.loop-message-preserved
-loop-message-preserved c =
-    passes_then c.args.self.now c.loop-message.self c.take.new.self c.loop-message.invariant c.in_ok-why.ensures.ok
+loop-message-preserved c = record {
+  passes =
+      passes_then c.args.self.now c.loop-message.self c.take.new.self c.loop-message.invariant.passes
+      c.in_ok-why.ensures.ok;
+  closed =
+      closed_then c.args.self.now c.loop-message.self c.take.new.self c.loop-message.invariant.closed
+      c.in_ok-why.ensures.closed;
+}
 
 pub returns-in-Some-clause-ok : goal.returns-in-Some-clause-ok
 returns-in-Some-clause-ok c =
-    passes_then c.args.self.now c.loop-message.self c.take.new.self c.loop-message.invariant c.in_ok-why.ensures.ok
+    passes_then c.args.self.now c.loop-message.self c.take.new.self c.loop-message.invariant.passes
+    c.in_ok-why.ensures.ok
+
+pub returns-in-Some-clause-closed : goal.returns-in-Some-clause-closed
+returns-in-Some-clause-closed c =
+    closed_then c.args.self.now c.loop-message.self c.take.new.self c.loop-message.invariant.closed
+    c.in_ok-why.ensures.closed
 
 pub returns-in_err-why-clause-err : goal.returns-in_err-why-clause-err
-returns-in_err-why-clause-err c = on_err_given {P = StopsAt c.args.self.now c.take.new.self} c.from_residual.result
-    (stops_then c.args.self.now c.loop-message.self c.take.new.self c.loop-message.invariant c.in_err-why.ensures.err)
+returns-in_err-why-clause-err c =
+    on_err_given {P = StopsAt c.args.self.now c.take.new.self} c.from_residual.result
+    (stops_then c.args.self.now c.loop-message.self c.take.new.self c.loop-message.invariant.passes
+    c.in_err-why.ensures.err)
+
+pub returns-in_err-why-clause-closed : goal.returns-in_err-why-clause-closed
+returns-in_err-why-clause-closed c =
+    closed_then c.args.self.now c.loop-message.self c.take.new.self c.loop-message.invariant.closed
+    c.in_err-why.ensures.closed

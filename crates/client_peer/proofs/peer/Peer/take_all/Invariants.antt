@@ -1,5 +1,6 @@
+use Rattle.client_peer.specs.Meeting.{StaysClosed}
 use Rattle.client_peer.specs.Showing.{PassesOn}
 use Rattle.client_peer.proofs.peer.Peer.take_all.Given as goal
 
 abbrev pub invariant-loop-message : goal.invariant-loop-message
-invariant-loop-message l = PassesOn l.fn.self l.self
+invariant-loop-message l = record { passes : PassesOn l.fn.self l.self; closed : StaysClosed l.fn.self l.self }

@@ -1,0 +1,54 @@
+-- Which session a peer comes back to.
+use Rattle.std.specs.Prelude.{◌≡◌, ◌≢◌, ◌↔◌, Bool, true, false, [], ◌⊎◌, Some, Err, IsSome}
+use Rattle.client_words.specs.declared.fault.Fault.TheVariants.{OtherSession}
+use Rattle.client_words.specs.declared.words.Way.TheVariants.{Window}
+use Rattle.client_peer.specs.declared.meeting.Meeting.{Meeting}
+use Rattle.client_peer.specs.declared.meeting.Meeting.TheVariants.{Same, Another, Older, Unnamed}
+use Rattle.client_peer.specs.declared.meeting.SessionMark.{SessionMark}
+use Rattle.client_peer.specs.declared.peer.Peer.{Peer}
+use Rattle.client_peer.specs.Reopening.{Reopens}
+use Rattle.client_peer.specs.Sending.{HasServer}
+
+-- two names, and another one
+abbrev pub IsAnother : Peer → SessionMark → Type 0
+IsAnother p m =
+    (p.session.items ≢ []) × (m.name.items ≢ []) × (p.session.items ≢ m.name.items)
+
+-- A window may be opened again: its session had a name, the session at the socket has the same one, and whoever made
+-- this socket has marked it so.
+abbrev pub MayOpen : Peer → SessionMark → Type 0
+MayOpen p m = (p.session.items ≢ []) × (p.session.items ≡ m.name.items) × (m.is_current ≡ true)
+
+-- what a peer meets
+pub record Meets (p : Peer) (m : SessionMark) (x : Meeting) : Type 0 where
+  pub window : p.way ≡ Window → (x ≡ Same ↔ MayOpen p m)
+  pub other : (p.way ≡ Window → ⊥) → (x ≡ Same ↔ (IsAnother p m → ⊥))
+  pub another : x ≡ Another ↔ IsAnother p m
+  pub older : x ≡ Older → (p.session.items ≡ m.name.items) × (m.is_current ≡ false)
+  pub unnamed : x ≡ Unnamed → (p.session.items ≡ []) ⊎ (m.name.items ≡ [])
+
+-- a window takes no name that may be that of an earlier server
+pub record Learns (old : Peer) (m : SessionMark) (new : Peer) : Type 0 where
+  pub takes : (m.is_current ≡ true) ⊎ (old.way ≡ Window → ⊥) → new.session ≡ m.name
+  pub keeps : old.way ≡ Window → m.is_current ≡ false → new ≡ old
+  pub rest : new ≡ record old { session = new.session }
+
+-- the peer ends, and is never let in again
+pub record StaysAway (old : Peer) (x : Meeting) (new : Peer) : Type 0 where
+  pub last : (new.is_final ≡ true) × IsSome new.end
+  pub another : x ≡ Another → new.end ≡ Some (Err OtherSession)
+  pub rest : new ≡ record old { is_final = true; is_unsure = new.is_unsure; end = new.end }
+
+-- What a window's program prints goes to no server before the window is opened again: no word of a server puts down a
+-- frame, and one that lets the window in again doesn't have it yet.
+pub record StaysClosed (old new : Peer) : Type 0 where
+  pub way : new.way ≡ old.way
+  pub was : old.was_welcome ≡ true → new.was_welcome ≡ true
+  pub frames : old.way ≡ Window → new.frames ≡ old.frames
+  pub again : old.way ≡ Window → old.was_welcome ≡ true → HasServer new → HasServer old
+
+-- A window is opened again: what is sent then is its page, perhaps, and what was held.
+pub record Opens (old new : Peer) (is_hidden : Bool) : Type 0 where
+  pub is_told : Bool
+  pub sends : Reopens (record old { page = record old.page { is_hidden = is_hidden } }) new is_told
+  pub here : new.is_reopening ≡ false
