@@ -1,12 +1,14 @@
 //! The loop of a bridge: one thread, and all connections.
 
-ghost use Rattle.std.specs.Prelude.{◌≡◌, ◌≢◌, ◌≤◌, ℕ, [], true, false, None, IfOk};
+ghost use Rattle.std.specs.Prelude.{◌≡◌, ◌≢◌, ◌≤◌, ℕ, [], true, false, None, IfOk, OnErr, OnOk};
 ghost use Rattle.std.specs.Duration.{as_nanos};
 ghost use Rattle.slab.specs.Slab.{get, Updates};
-ghost use Rattle.web_relay.specs.Places.{Comes, IsOver, changed_at, heeds_browser, heeds_server};
+ghost use Rattle.web_relay.specs.Halls.{heeds};
+ghost use Rattle.web_relay.specs.Places.{Comes, IsClosed, IsOver, LetsIn, changed_at, heeds_browser, heeds_server};
+ghost use Rattle.mux_web.specs.Accepting.{Accepts, AcceptsEach, room_for};
 
 use crate::log::WebLog;
-use crate::showing::{enter_hall, redeem, tell};
+use crate::showing::{connect, redeem, tell, tell_watching};
 use mio::{Events, Poll, Registry};
 use server_system::Host;
 use slab::Slab;
@@ -19,7 +21,7 @@ use web_client::Site;
 use web_options::WebOptions;
 use web_relay::{
     Around, Browser, Halls, Relay, WebListener, Woken, browser_token, is_full, let_go,
-    listener_token, make_room, mark, server_token, woken_by,
+    listener_token, make_room, mark, woken_by,
 };
 
 /// The size of a read.
@@ -72,6 +74,8 @@ impl<'a> Bridge<'a> {
     ) -> io::Result<Bridge<'a>>
         ensures nobody { IfOk result (λ bridge. (bridge.relays.slots ≡ []) × (bridge.halls.list.slots ≡ [])) }
         ensures comers { IfOk result (λ bridge. bridge.has_comers ≡ true) }
+        ensures given { IfOk result (λ bridge. (bridge.site ≡ site) × (bridge.socket ≡ options.entry.socket)
+            × (bridge.links ≡ options.entry.links) × (bridge.most ≡ options.entry.most)) }
     {
         Ok(Bridge {
             alloc,
@@ -89,14 +93,24 @@ impl<'a> Bridge<'a> {
         })
     }
 
+    // How many browsers may be there.
+    fn places(&self) -> usize
+        ensures { result ≡ room_for self.now.most }
+    {
+        self.most.saturating_add(SPARE)
+    }
+
     // Lets a browser in, if there is memory and the system watches its connection. If there are too many, the oldest
     // one goes that hasn't said who it is.
     fn let_in(&mut self, browser: Browser, registry: &Registry, now: Duration) -> io::Result<()>
         ensures comes { (place : ℕ) → Comes (get self.old.relays place) (get self.new.relays place) }
+        ensures ok { OnOk result (LetsIn (room_for self.old.most) browser now self.old.relays self.new.relays) }
+        ensures err { OnErr result (IsClosed (room_for self.old.most) self.old.relays self.new.relays) }
         ensures same { self.new ≡ record self.old { relays = self.new.relays } }
     {
         let mut browser = browser;
-        make_room(&mut self.relays, self.most.saturating_add(SPARE));
+        let most = self.places();
+        make_room(&mut self.relays, most);
         let place = self.relays.vacant_key();
         browser.register(registry, browser_token(place))?;
         match self.relays.insert(Relay::new(self.alloc, browser, now)) {
@@ -105,21 +119,44 @@ impl<'a> Bridge<'a> {
         }
     }
 
-    // Takes browsers that wait at a listener. Returns whether more may be taken at once. If the system refuses to
-    // hand one over, it is asked again soon.
+    // Takes one browser that waits at a listener: it is let in or closed. Returns whether there was one. If the system
+    // refuses to hand it over, it is asked again soon.
+    fn accept_one(&mut self, listener: &WebListener, registry: &Registry, now: Duration) -> bool
+        ensures some { result ≡ true → Accepts (room_for self.old.most) now self.old.relays self.new.relays }
+        ensures none { result ≡ false → self.new ≡ record self.old { has_comers = self.new.has_comers } }
+        ensures waits { self.old.has_comers ≡ true → self.new.has_comers ≡ true }
+        ensures same { self.new ≡ record self.old {
+          relays = self.new.relays;
+          has_comers = self.new.has_comers;
+        } }
+    {
+        match listener.accept() {
+            Ok(browser) => {
+                // (one that can't be let in is closed)
+                let _ = self.let_in(browser, registry, now);
+                true
+            }
+            Err(error) => {
+                self.has_comers |= error.kind() != ErrorKind::WouldBlock;
+                false
+            }
+        }
+    }
+
+    // Takes browsers that wait at a listener. Returns whether more may be taken at once: then as many as may be were.
     fn accept(&mut self, listener: &WebListener, registry: &Registry, now: Duration) -> bool
-        ensures { result ≡ true → self.new.has_comers ≡ true }
+        ensures comers { (count : ℕ) × (count ≤ COMERS) × (result ≡ true → count ≡ COMERS)
+            × AcceptsEach (room_for self.old.most) now count self.old.relays self.new.relays }
+        ensures more { result ≡ true → self.new.has_comers ≡ true }
+        ensures waits { self.old.has_comers ≡ true → self.new.has_comers ≡ true }
+        ensures same { self.new ≡ record self.old {
+          relays = self.new.relays;
+          has_comers = self.new.has_comers;
+        } }
     {
         'comers: for _ in 0..COMERS {
-            match listener.accept() {
-                Ok(browser) => {
-                    // (one that can't be let in is closed)
-                    let _ = self.let_in(browser, registry, now);
-                }
-                Err(error) => {
-                    self.has_comers |= error.kind() != ErrorKind::WouldBlock;
-                    return false;
-                }
+            if !self.accept_one(listener, registry, now) {
+                return false;
             }
         }
         self.has_comers = true;
@@ -128,7 +165,14 @@ impl<'a> Bridge<'a> {
 
     // Takes browsers that wait at the listeners. Returns whether more may be taken at once.
     fn accept_all(&mut self, listeners: &[WebListener], registry: &Registry, now: Duration) -> bool
-        ensures { self.old.has_comers ≡ false → self.new ≡ self.old }
+        ensures none { self.old.has_comers ≡ false → self.new ≡ self.old }
+        ensures comers { (count : ℕ) × AcceptsEach (room_for self.old.most) now count self.old.relays
+            self.new.relays }
+        ensures more { result ≡ true → self.new.has_comers ≡ true }
+        ensures same { self.new ≡ record self.old {
+          relays = self.new.relays;
+          has_comers = self.new.has_comers;
+        } }
     {
         let mut has_more = false;
         if self.has_comers {
@@ -177,8 +221,9 @@ impl<'a> Bridge<'a> {
             → self.new ≡ record self.old { relays = changed_at self.old.relays place heeds_browser } }
         ensures server { (place : ℕ) → woken ≡ Woken.Server place
             → self.new ≡ record self.old { relays = changed_at self.old.relays place heeds_server } }
-        ensures hall { (place : ℕ) → woken ≡ Woken.Hall place
-            → self.new ≡ record self.old { halls = self.new.halls } }
+        ensures hall { (place : ℕ) → woken ≡ Woken.Hall place → self.new ≡ record self.old {
+          halls = record self.old.halls { list = changed_at self.old.halls.list place heeds };
+        } }
     {
         match woken {
             Woken::Listener(_) => self.has_comers = true,
@@ -230,11 +275,10 @@ impl Bridge<'_> {
             socket: self.socket,
             now,
         };
-        if relay.wants_server() {
-            relay.connect(rt, around, server_token(place));
-        }
+        connect(rt, around, place, relay);
         redeem(rt, self.links, relay);
-        enter_hall(rt, (relay, place), &mut self.halls, around, &self.log);
+        let begins = self.halls.seat(rt, around, relay);
+        tell_watching(rt, &self.log, place, relay, begins);
         relay.read_server(self.buffer.as_mut_slice());
         tell(rt, &self.log, place, relay);
         relay.write_all();

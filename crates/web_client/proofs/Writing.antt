@@ -1,9 +1,10 @@
 -- After a write, what was written and what waits are still all that was put. After a read, what waits and
 -- what is left are still all that was sent.
-use Rattle.std.proofs.Common.{◌≡◌, ℕ, List, ◌++◌, take, drop, Option, Some, None, append_assoc, ap, sym, ◌∙◌}
+use Rattle.std.proofs.Common.{◌≡◌, ℕ, List, ◌++◌, take, drop, Option, Some, None}
+use Rattle.std.proofs.Common.{append_assoc, ap, sym, ◌∙◌}
 use Rattle.std.proofs.lemmas.List.{take-append-drop}
 use Rattle.std.specs.Io.KnownBytes.{Keeps, Appends, Consumes}
-use Rattle.web_client.specs.Sending.{IsSent, IsReceived}
+use Rattle.web_client.specs.Sending.{IsSent, IsReceived, IsRest}
 
 pub kept : (old new : Option (List ℕ)) → Keeps old new → (put waiting : List ℕ) → IsSent put old waiting
     → IsSent put new waiting
@@ -24,3 +25,13 @@ came (Some xs) None bytes before after c e sent w = absurd c
 came (Some xs) (Some ys) bytes before after c e sent w =
     w ∙ ap (λ (l : List ℕ). before ++ l) c ∙ sym (append_assoc before bytes ys)
     ∙ ap (λ (l : List ℕ). l ++ ys) (sym e)
+
+-- ---- what waits is the rest of what waited
+
+pub first_written : (n : ℕ) (old new : List ℕ) → new ≡ drop n old → IsRest old new
+first_written n old new e =
+    (take n old, sym (ap (λ (l : List ℕ). take n old ++ l) e ∙ take-append-drop n old))
+
+pub more_written : (a b c : List ℕ) → IsRest a b → IsRest b c → IsRest a c
+more_written a b c p q =
+    (p.0 ++ q.0, p.1 ∙ ap (λ (l : List ℕ). p.0 ++ l) q.1 ∙ sym (append_assoc p.0 q.0 c))

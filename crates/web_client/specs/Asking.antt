@@ -9,6 +9,7 @@ use Rattle.attach_proto.specs.Spelling.{spelling}
 use Rattle.web_client.specs.declared.client.WebClient.{WebClient}
 use Rattle.web_client.specs.declared.identity.Identity.{Identity}
 use Rattle.web_client.specs.declared.identity.Identity.TheVariants.{Nobody, Own, Watching, Link, Unknown, Left}
+use Rattle.web_client.specs.Sending.{IsRest}
 use Rattle.web_page.specs.Hearing.{WebDisplay, IsBlank, IsResized}
 
 -- ---- messages
@@ -111,6 +112,15 @@ Keeps (Watching rows columns) after = after ≡ Watching rows columns
 Keeps (Link secret) after = after ≡ Link secret
 Keeps Unknown after = after ≡ Unknown
 Keeps Left after = after ≡ Left
+
+-- what waits for the server may be written, and nothing else changes
+abbrev pub AsksOnly : Identity → Identity → Type 0
+AsksOnly Nobody after = after ≡ Nobody
+AsksOnly (Own before) after = IsOwn after (λ c. (c.display ≡ before.display) × IsRest before.outgoing c.outgoing)
+AsksOnly (Watching rows columns) after = after ≡ Watching rows columns
+AsksOnly (Link secret) after = after ≡ Link secret
+AsksOnly Unknown after = after ≡ Unknown
+AsksOnly Left after = after ≡ Left
 
 -- ---- any number of messages
 

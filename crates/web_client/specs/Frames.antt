@@ -20,7 +20,7 @@ use Rattle.web_requests.specs.declared.site.Site.{Site}
 use Rattle.web_requests.specs.declared.requests.Response.{Response}
 use Rattle.web_requests.specs.declared.requests.Response.TheVariants as answer
 use Rattle.web_requests.specs.Serving.{AnswersBytes}
-use Rattle.web_client.specs.Asking.{Takes, Keeps}
+use Rattle.web_client.specs.Asking.{IfOwn, Takes, Keeps}
 use Rattle.web_client.specs.Judging.{IsAllowed}
 
 -- how far a page's connection is, its WebSocket, the bytes that came and weren't read, its identity, and how many bytes
@@ -220,6 +220,12 @@ TakesBytes site Last old new more = page new ≡ page old
 -- bytes on their way to a browser, none of them taken by the system yet
 abbrev pub IsWithin : Wire → Type 0
 IsWithin w = length w.output.items ≤ 2097152
+
+-- it is read: what waits for its own client, and for itself, is little
+abbrev pub CanRead : Visitor → Type 0
+CanRead v =
+    (v.wire.phase ≡ Last → ⊥) × (length v.wire.output.items ≤ 65536)
+    × IfOwn v.identity (λ c. length c.outgoing ≤ 65536)
 
 -- what is kept for a browser: bytes that it sent, and bytes on their way to it
 abbrev pub IsBounded : Visitor → Type 0

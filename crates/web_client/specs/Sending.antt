@@ -15,6 +15,14 @@ abbrev pub IsReceived : List ℕ → Option (List ℕ) → List ℕ → Type 0
 IsReceived sent None waiting = ⊥
 IsReceived sent (Some left) waiting = sent ≡ waiting ++ left
 
+-- bytes came after those that waited
+abbrev pub IsMore : List ℕ → List ℕ → Type 0
+IsMore old new = (more : List ℕ) × (new ≡ old ++ more)
+
+-- the first bytes of those that waited were written, and the others still wait
+abbrev pub IsRest : List ℕ → List ℕ → Type 0
+IsRest old new = (written : List ℕ) × (old ≡ written ++ new)
+
 -- a display heard the next bytes of a reader, and no others
 abbrev pub HearsNext : Option (List ℕ) → WebDisplay → Option (List ℕ) → WebDisplay → Type 0
 HearsNext left old later new = (bytes : List ℕ) × Consumes left later bytes × Hears old bytes new

@@ -8,7 +8,7 @@ ghost use Rattle.attach_proto.specs.Spelling.{spelling, IsSpellable};
 ghost use Rattle.web_page.specs.Hearing.{IsBlank, IsResized};
 ghost use Rattle.web_client.specs.Asking.{IsLogin};
 ghost use Rattle.web_client.specs.Judging.{IsTyped, FailsFor};
-ghost use Rattle.web_client.specs.Sending.{IsSent, HearsNext};
+ghost use Rattle.web_client.specs.Sending.{IsSent, IsRest, HearsNext};
 ghost use Rattle.web_client.specs.declared.client.WebClient.{WebClient as Attached};
 
 use crate::outgoing::Outgoing;
@@ -146,6 +146,7 @@ impl WebClient {
     pub(crate) fn send_all<W: Write>(&mut self, server: &mut W) -> io::Result<()>
         ensures sent { (put : List ℕ) → IsSent put (W.contents server.old) self.old.outgoing
             → IsSent put (W.contents server.new) self.new.outgoing }
+        ensures rest { IsRest self.old.outgoing self.new.outgoing }
         ensures display { self.new.display ≡ self.old.display }
     {
         self.outgoing.send_all(server)
@@ -187,6 +188,7 @@ impl SharedClient {
     pub fn receive<S: Read>(&mut self, server: &mut S, buffer: &mut [u8]) -> io::Result<usize>
         ensures hears { OnOk result (HearsNext (S.remaining server.old) self.old.client.display
             (S.remaining server.new) self.new.client.display) }
+        ensures unheard { IfErr result (λ e. error_kind e ≢ ErrorKind.InvalidData → self.new ≡ self.old) }
         ensures asks { self.new.client.outgoing ≡ self.old.client.outgoing }
     {
         self.client.receive(server, buffer)
@@ -206,6 +208,7 @@ impl SharedClient {
     pub fn send_all<W: Write>(&mut self, server: &mut W) -> io::Result<()>
         ensures sent { (put : List ℕ) → IsSent put (W.contents server.old) self.old.client.outgoing
             → IsSent put (W.contents server.new) self.new.client.outgoing }
+        ensures rest { IsRest self.old.client.outgoing self.new.client.outgoing }
         ensures display { self.new.client.display ≡ self.old.client.display }
     {
         self.client.send_all(server)

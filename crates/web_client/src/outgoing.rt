@@ -2,7 +2,7 @@
 
 ghost use Rattle.std.specs.Prelude.{◌≡◌, ◌++◌, ◌≤◌, ℕ, List, [], length, drop, vec_len, IfOk, OnOk, OnErr};
 ghost use Rattle.std.specs.Io.KnownBytes.{WriteAppends};
-ghost use Rattle.web_client.specs.Sending.{IsSent};
+ghost use Rattle.web_client.specs.Sending.{IsSent, IsRest};
 
 use std::alloc::{AllocError, Global};
 use std::io;
@@ -23,6 +23,7 @@ pub fn drop_front(bytes: &mut Vec<u8>, taken: usize)
 fn write_once<W: Write>(bytes: &mut Vec<u8>, writer: &mut W) -> io::Result<usize>
     ensures ok { IfOk result (λ n. (n ≤ length bytes.old.items) × (bytes.new.items ≡ drop n bytes.old.items)) }
     ensures err { OnErr result (bytes.new.items ≡ bytes.old.items) }
+    ensures rest { IsRest bytes.old.items bytes.new.items }
     ensures writes { WriteAppends (W.contents writer.old) (W.contents writer.new) result bytes.old.items }
     ensures sent { (put : List ℕ) → IsSent put (W.contents writer.old) bytes.old.items
         → IsSent put (W.contents writer.new) bytes.new.items }
@@ -34,7 +35,8 @@ fn write_once<W: Write>(bytes: &mut Vec<u8>, writer: &mut W) -> io::Result<usize
 
 /// Writes bytes that wait, as far as the writer takes them.
 pub fn write_all<W: Write>(bytes: &mut Vec<u8>, writer: &mut W) -> io::Result<()>
-    ensures { (put : List ℕ) → IsSent put (W.contents writer.old) bytes.old.items
+    ensures rest { IsRest bytes.old.items bytes.new.items }
+    ensures sent { (put : List ℕ) → IsSent put (W.contents writer.old) bytes.old.items
         → IsSent put (W.contents writer.new) bytes.new.items }
 {
     'writes: for _ in 0..u64::MAX {
@@ -100,7 +102,8 @@ impl Outgoing {
 
     /// Writes the bytes that wait, as far as the writer takes them.
     pub fn send_all<W: Write>(&mut self, writer: &mut W) -> io::Result<()>
-        ensures { (put : List ℕ) → IsSent put (W.contents writer.old) self.old
+        ensures rest { IsRest self.old self.new }
+        ensures sent { (put : List ℕ) → IsSent put (W.contents writer.old) self.old
             → IsSent put (W.contents writer.new) self.new }
     {
         write_all(&mut self.bytes, writer)

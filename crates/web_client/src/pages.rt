@@ -1,7 +1,8 @@
 //! A browser's own client, and which page a browser is shown.
 
-ghost use Rattle.std.specs.Prelude.{◌≡◌, ◌↔◌, ℕ, List, OnOk, IsTrue, false};
-ghost use Rattle.web_client.specs.Asking.{Keeps, IsOwn, IfOwn, IsWatcher};
+ghost use Rattle.std.specs.IoError.{error_kind};
+ghost use Rattle.std.specs.Prelude.{◌≡◌, ◌≢◌, ◌↔◌, ℕ, List, OnOk, IfErr, IsTrue, false};
+ghost use Rattle.web_client.specs.Asking.{AsksOnly, Keeps, IsOwn, IfOwn, IsWatcher};
 ghost use Rattle.web_client.specs.Sending.{IsSent, HearsNext};
 ghost use Rattle.web_client.specs.Rows.{Adds, IsDue, Shows, SendsAll};
 ghost use Rattle.web_client.specs.Frames.{IsWithin};
@@ -11,13 +12,14 @@ use crate::identity::Identity;
 use crate::visitor::Visitor;
 use crate::wire::{Phase, SentPage, WireFault};
 use std::io;
-use std::io::{Read, Write};
+use std::io::{ErrorKind, Read, Write};
 
 impl Visitor {
     /// Reads the server once for the browser's own client, which hears what this read gave. `Ok(0)` if it has none.
     pub fn hear<S: Read>(&mut self, server: &mut S, buffer: &mut [u8]) -> io::Result<usize>
         ensures hears { IfOwn self.old.identity (λ old. OnOk result (IsOwn self.new.identity (λ new.
             HearsNext (S.remaining server.old) old.display (S.remaining server.new) new.display))) }
+        ensures unheard { IfErr result (λ e. error_kind e ≢ ErrorKind.InvalidData → self.new ≡ self.old) }
         ensures keeps { Keeps self.old.identity self.new.identity }
         ensures same { self.new ≡ record self.old { identity = self.new.identity } }
     {
@@ -31,7 +33,7 @@ impl Visitor {
     pub fn ask<S: Write>(&mut self, server: &mut S) -> io::Result<()>
         ensures sent { IfOwn self.old.identity (λ old. IsOwn self.new.identity (λ new. (put : List ℕ)
             → IsSent put (S.contents server.old) old.outgoing → IsSent put (S.contents server.new) new.outgoing)) }
-        ensures display { IfOwn self.old.identity (λ old. IsOwn self.new.identity (λ new. new.display ≡ old.display)) }
+        ensures asks { AsksOnly self.old.identity self.new.identity }
         ensures apart { (IsOwn self.old.identity (λ _. Unit {0}) → ⊥)
             → (self.new ≡ self.old) × (server.new ≡ server.old) }
         ensures same { self.new ≡ record self.old { identity = self.new.identity } }
@@ -53,14 +55,7 @@ impl Visitor {
     pub fn is_watcher(&self) -> bool
         ensures { IsTrue result ↔ IsWatcher self.now.identity }
     {
-        match &self.identity {
-            Identity::Watching(_, _) => true,
-            Identity::Nobody
-            | Identity::Own(_)
-            | Identity::Link(_)
-            | Identity::Unknown
-            | Identity::Left => false,
-        }
+        matches!(&self.identity, Identity::Watching(_, _))
     }
 
     /// Shows the page of a shared client to a browser that watches. No other one is sent it.

@@ -2,12 +2,12 @@
 
 ghost use Rattle.std.specs.Prelude.{◌≡◌, ◌↔◌, ◌⊎◌, ℕ, List, drop, IfOk, OnOk, OnErr, IsTrue, ◌<◌, ◌≤◌, []};
 ghost use Rattle.std.specs.Prelude.{length, false, true, codes, vec_len};
-ghost use Rattle.web_client.specs.Asking.{Asks, IfOwn};
-ghost use Rattle.web_client.specs.Sending.{IsReceived, IsSent};
+ghost use Rattle.web_client.specs.Asking.{Asks};
+ghost use Rattle.web_client.specs.Sending.{IsReceived, IsMore, IsSent, IsRest};
 ghost use Rattle.web_client.specs.Rows.{TellsLast, TellsHere, Refuses, said, handed};
 ghost use Rattle.web_requests.specs.Serving.{refusal};
 ghost use Rattle.web_client.specs.Frames.{page, page_after, begun, Reads, Answers, TakesMessage, TakesSome};
-ghost use Rattle.web_client.specs.Frames.{TakesBytes, IsBounded};
+ghost use Rattle.web_client.specs.Frames.{TakesBytes, CanRead, IsBounded};
 
 use crate::frame::PageFrame;
 use crate::identity::{Identity, MessageFault};
@@ -49,7 +49,8 @@ impl Visitor {
     pub fn new(alloc: Global) -> Visitor
         ensures page { page result ≡ begun }
         ensures output { result.wire.output.items ≡ [] }
-        ensures view { result.view.since ≡ 0 }
+        ensures view { result.view ≡ record { is_welcomed = false; since = 0 } }
+        ensures address { result.address.items ≡ [] }
     {
         Visitor {
             input: Vec::new(alloc),
@@ -83,11 +84,7 @@ impl Visitor {
 
     /// Whether the browser is to be read: it isn't while much waits for its client or for itself.
     pub fn can_read(&self) -> bool
-        ensures last { self.now.wire.phase ≡ Phase.Last → result ≡ false }
-        ensures own { IfOwn self.now.identity (λ c. 65536 < length c.outgoing → result ≡ false) }
-        ensures output { 65536 < length self.now.wire.output.items → result ≡ false }
-        ensures other { (self.now.wire.phase ≡ Phase.Last → ⊥) → length self.now.wire.output.items ≤ 65536
-            → IfOwn self.now.identity (λ c. length c.outgoing ≤ 65536) → result ≡ true }
+        ensures { IsTrue result ↔ CanRead self.now }
     {
         let waiting = match &self.identity {
             Identity::Own(client) => client.waiting(),
@@ -100,7 +97,8 @@ impl Visitor {
     pub fn send_all<B: Write>(&mut self, browser: &mut B) -> io::Result<()>
         ensures sent { (put : List ℕ) → IsSent put (B.contents browser.old) self.old.wire.output.items
             → IsSent put (B.contents browser.new) self.new.wire.output.items }
-        ensures rest { self.new ≡ record self.old { wire = record self.old.wire { output = self.new.wire.output } } }
+        ensures rest { IsRest self.old.wire.output.items self.new.wire.output.items }
+        ensures same { self.new ≡ record self.old { wire = record self.old.wire { output = self.new.wire.output } } }
     {
         write_all(&mut self.wire.output, browser)
     }
@@ -146,8 +144,7 @@ impl Visitor {
                 self.wire.tell_gone(Why::Fault)
             }
             Identity::Left => self.wire.tell_gone(Why::Detached),
-            Identity::Nobody | Identity::Own(_) | Identity::Watching(_, _) | Identity::Link(_) =>
-                Ok(()),
+            _ => Ok(()),
         }
     }
 
@@ -207,7 +204,9 @@ impl Visitor {
     pub fn receive<B: Read>(&mut self, browser: &mut B, buffer: &mut [u8]) -> io::Result<usize>
         ensures received { (sent : List ℕ) → IsReceived sent (B.remaining browser.old) self.old.input.items
             → OnOk result (IsReceived sent (B.remaining browser.new) self.new.input.items) }
-        ensures identity { self.new.identity ≡ self.old.identity }
+        ensures adds { IsMore self.old.input.items self.new.input.items }
+        ensures err { OnErr result (self.new.input.items ≡ self.old.input.items) }
+        ensures same { self.new ≡ record self.old { input = self.new.input } }
     {
         let count = browser.read(buffer)?;
         self.input.extend_from_slice(&buffer[..count])?;

@@ -1,9 +1,8 @@
 -- What stays of a browser's identity over several steps.
-use Rattle.std.proofs.Common.{◌≡◌, refl, sym, subst, ◌∙◌}
+use Rattle.std.proofs.Common.{◌≡◌, [], refl, sym, subst, ◌∙◌}
 use Rattle.web_client.specs.declared.identity.Identity.{Identity}
 use Rattle.web_client.specs.declared.identity.Identity.TheVariants.{Nobody, Own, Watching, Link, Unknown, Left}
-use Rattle.web_client.specs.Asking.{Keeps}
-use Rattle.web_relay.specs.Relaying.{AsksOnly}
+use Rattle.web_client.specs.Asking.{AsksOnly, Keeps}
 
 pub kept : (s : Identity) → Keeps s s
 kept Nobody = refl
@@ -36,7 +35,7 @@ both Left b c h k = subst (λ (v : Identity). Keeps v c) h k
 
 pub asked : (s : Identity) → AsksOnly s s
 asked Nobody = refl
-asked (Own c) = refl
+asked (Own c) = (refl, ([], refl))
 asked (Watching rows columns) = refl
 asked (Link secret) = refl
 asked Unknown = refl

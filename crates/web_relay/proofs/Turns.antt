@@ -1,5 +1,5 @@
 -- Halls, place by place.
-use Rattle.std.proofs.Common.{◌≡◌, ◌≢◌, ℕ, ◌+◌, ◌≤◌, ◌<◌, refl, sym, subst, ◌∙◌, inl, inr, Option, Some, None}
+use Rattle.std.proofs.Common.{◌≡◌, ◌≢◌, ℕ, ◌+◌, ◌≤◌, ◌<◌, [], refl, sym, subst, ◌∙◌, inl, inr, Option, Some, None}
 use Rattle.std.proofs.Common.{◌==◌, Bool, true, false, if◌then◌else◌, IsSome, ap, length, arith}
 use Rattle.std.proofs.Common.{Result, Ok, Err, OnErr}
 use Rattle.std.specs.Prelude.{IsSomeAnd, MatchBool, IfOk, OnSome}
@@ -7,39 +7,17 @@ use Rattle.std.proofs.lemmas.Bool.{cases_eq, cases_lt}
 use Rattle.std.proofs.lemmas.List.{get_or_past}
 use Rattle.slab.specs.Slab.{Slab, get, with_value, Updates}
 use Rattle.slab.proofs.SlabLemmas.{Updates-with_value}
-use Rattle.web_relay.specs.declared.halls.Hall.{Hall}
-use Rattle.web_relay.specs.Halls.{IsSame, AreSame, IsNewer, Renews, HasSize, hall_of, with_serial}
+use Rattle.web_relay.specs.declared.hall.Hall.{Hall}
+use Rattle.web_relay.specs.Halls.{AtBoth, IsNewer, Renews, Turns, hall_of, with_serial}
 use Rattle.web_relay.specs.Relaying.{Loses}
 use Rattle.web_relay.specs.Seeing.{SeesHall, Watches}
 use Rattle.web_relay.specs.declared.halls.HallNumber.{HallNumber}
 use Rattle.web_relay.specs.declared.upstream.TheConstants.{ENDED}
+use Rattle.std.specs.declared.time.Duration.{Duration}
 use Rattle.web_client.specs.declared.visitor.Visitor.{Visitor}
-
-pub same_self : (h : Option Hall) → IsSame h h
-same_self None = refl
-same_self (Some hall) = (refl, refl)
-
-pub same_is : (g h : Option Hall) → h ≡ g → IsSame g h
-same_is g h e = subst (λ (v : Option Hall). IsSame g v) (sym e) (same_self g)
-
-pub same_then : (a b c : Option Hall) → IsSame a b → IsSame b c → IsSame a c
-same_then None b c h k = subst (λ (v : Option Hall). IsSame v c) h k
-same_then (Some a) None c h k = absurd h
-same_then (Some a) (Some b) None h k = absurd k
-same_then (Some a) (Some b) (Some c) h k = (k.0 ∙ h.0, k.1 ∙ h.1)
-
--- a hall that is the same is put in its place
-pub same_put : (s : Slab Hall) (place : ℕ) (old new : Hall) → get s place ≡ Some old
-    → (new.serial ≡ old.serial) × (new.size ≡ old.size) → AreSame s (with_value s place new)
-same_put s place old new there same q =
-    let u = Updates-with_value s place new (subst (λ (v : Option Hall). IsSome v) (sym there) refl) in
-    elim (cases_eq q place) [
-      | inl e ↦
-          subst (λ (n : ℕ). IsSame (get s n) (get (with_value s place new) n)) (sym e)
-          (subst (λ (v : Option Hall). IsSame v (get (with_value s place new) place)) (sym there)
-          (subst (λ (v : Option Hall). IsSame (Some old) v) (sym u.changed) same))
-      | inr apart ↦ same_is (get s q) (get (with_value s place new) q) (u.others q apart)
-    ]
+use Rattle.web_client.proofs.Writing.{more_written}
+use Rattle.web_requests.specs.declared.site.Watcher.{Watcher}
+use Rattle.web_relay.proofs.Hearing.{each_self, each_then}
 
 -- ---- each place in its turn
 
@@ -74,15 +52,37 @@ module _ (P : Option Hall → Option Hall → Type 0) (before now : Slab Hall) (
             (subst (λ (v : Option Hall). P None v) (sym (rest q high ∙ past)) none)
       ]
 
-newer-later : (early late : ℕ) (old new : Option Hall) → early ≤ late → IsNewer late old new → IsNewer early old new
-newer-later early late None new le n = n
-newer-later early late (Some old) None le n = tt
-newer-later early late (Some old) (Some new) le n = (omega (arith, n.0), n.1)
+newer-later : (w : Option Watcher) (now : Duration) (early late : ℕ) (old new : Option Hall) → early ≤ late
+    → IsNewer w now late old new → IsNewer w now early old new
+newer-later w now early late None new le n = n
+newer-later w now early late (Some old) None le n = n
+newer-later w now early late (Some old) (Some new) le n = (n.0, omega (arith, n.1), n.2)
 
 -- a hall that is newer than a later serial
-pub renews-later : (early late : ℕ) (old new : Option Hall) → early ≤ late → Renews late old new → Renews early old new
-renews-later early late old new le (inl same) = inl same
-renews-later early late old new le (inr newer) = inr (newer-later early late old new le newer)
+pub renews-later : (w : Option Watcher) (now : Duration) (early late : ℕ) (old new : Option Hall) → early ≤ late
+    → Renews w now late old new → Renews w now early old new
+renews-later w now early late old new le (inl same) = inl same
+renews-later w now early late old new le (inr newer) = inr (newer-later w now early late old new le newer)
+
+pub not-over : (a b : Bool) → (a ≡ true → b ≡ true) → b ≡ false → a ≡ false
+not-over true b h e = let t : b ≡ true = h refl in cc
+not-over false b h e = refl
+
+-- ---- what a hall's client hears and asks
+
+pub turns_then : (a b c : Hall) → Turns a b → Turns b c → Turns a c
+turns_then a b c p q = record {
+  heard = λ e. each_then a.client.client.display b.client.client.display c.client.client.display
+      (p.heard (not-over b.is_lost c.is_lost q.lost e)) (q.heard e);
+  asked = more_written a.client.client.outgoing b.client.client.outgoing c.client.client.outgoing p.asked q.asked;
+  lost = λ e. q.lost (p.lost e);
+  rest = q.rest ∙ ap (λ (h : Hall). record h {
+    client = c.client;
+    stream = c.stream;
+    is_ready = c.is_ready;
+    is_lost = c.is_lost;
+  }) p.rest;
+}
 
 -- ---- a hall's number
 
@@ -121,17 +121,12 @@ module _ (halls : Slab Hall) (number : HallNumber) (there hall after : Hall) (ol
   shown-on lost same =
       shown (subst (λ (b : Bool). MatchBool b (Loses ENDED.now v new) (new ≡ v)) (sym (lost-then false lost)) same)
 
-pub not-over : (a b : Bool) → (a ≡ true → b ≡ true) → b ≡ false → a ≡ false
-not-over true b h e = let t : b ≡ true = h refl in cc
-not-over false b h e = refl
-
 -- ---- a hall that comes for another one
 
-pub where-it-was : {P : Type 0} (there taken : Option Hall) (size : ℕ × ℕ) → HasSize size there → taken ≡ there
-    → OnSome taken P → P
-where-it-was None taken size h is p = absurd h
-where-it-was (Some hall) None size h is p = absurd (let e : None ≡ Some hall = is in cc)
-where-it-was (Some hall) (Some other) size h is p = p
+pub where-it-was : {P : Type 0} (there taken : Option Hall) → (there ≡ None → ⊥) → taken ≡ there → OnSome taken P → P
+where-it-was None taken some is p = absurd (some refl)
+where-it-was (Some hall) None some is p = absurd (let e : None ≡ Some hall = is in cc)
+where-it-was (Some hall) (Some other) some is p = p
 
 pub insert-others : {E : Type 0} (r : Result ℕ E) (before after : Slab Hall) (place : ℕ) (hall : Hall)
     → before.vacant_key ≡ place → IfOk r (λ key. key ≡ before.vacant_key)

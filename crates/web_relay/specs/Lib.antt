@@ -1,3 +1,4 @@
+pub mod Hearing
 pub mod Tokens
 pub mod Halls
 pub mod Places

@@ -1,11 +1,15 @@
 -- Browsers at their places.
 use Rattle.std.specs.Prelude.{◌≡◌, ◌≢◌, ◌⊎◌, ◌&&◌, ◌==◌, ◌-◌, ◌/◌, ◌≤◌, ℕ, Bool, not, true, false}
 use Rattle.std.specs.Prelude.{List, [], Option, Some, None, bytes_eq, count_by, IsTrue, ◌↔◌}
-use Rattle.slab.specs.Slab.{Slab, get, with_value, entries}
+use Rattle.std.specs.Prelude.{IsSomeAnd, ◌<◌}
+use Rattle.std.specs.Duration.{as_nanos}
+use Rattle.std.specs.declared.time.Duration.{Duration}
+use Rattle.slab.specs.Slab.{Slab, SameValues, Updates, get, with_value, entries, slab_len}
 use Rattle.web_client.specs.declared.wire.Phase.{Phase}
 use Rattle.web_client.specs.declared.wire.Phase.TheVariants.{Request, Socket, Last}
 use Rattle.web_client.specs.Frames.{page, begun}
 use Rattle.web_relay.specs.declared.relay.Relay.{Relay}
+use Rattle.web_relay.specs.declared.streams.Browser.{Browser}
 use Rattle.web_relay.specs.declared.relay.Upstream.TheVariants.{Unasked}
 use Rattle.web_relay.specs.Relaying.{IsRefused}
 
@@ -82,6 +86,72 @@ abbrev pub LeavesAs : (Bool × Bool) → Option Relay → Type 0
 LeavesAs said None = ⊥
 LeavesAs said (Some relay) =
     (relay.is_over ≡ true) × (said.0 ≡ relay.is_told) × (IsTrue said.1 ↔ IsRefused relay)
+
+-- a browser that has just come: nothing was read of it, and it was sent nothing
+pub record IsNew (browser : Browser) (now : Duration) (relay : Relay) : Type 0 where
+  pub page : page relay.visitor ≡ begun
+  pub output : relay.visitor.wire.output.items ≡ []
+  pub view : relay.visitor.view ≡ record { is_welcomed = false; since = 0 }
+  pub address : relay.visitor.address.items ≡ []
+  pub rest : relay ≡ record {
+    visitor = relay.visitor;
+    browser = browser;
+    server = Unasked;
+    hall = None;
+    browser_ready = true;
+    server_ready = false;
+    has_more = false;
+    has_begun = false;
+    is_told = false;
+    began = now;
+    heard = now;
+    asked = now;
+    is_over = false;
+  }
+
+-- one who hasn't said who it is came no earlier than this
+abbrev pub IsNoOlder : Duration → Option Relay → Type 0
+IsNoOlder began None = Unit {0}
+IsNoOlder began (Some relay) = relay.has_begun ≡ false → as_nanos began ≤ as_nanos relay.began
+
+-- the oldest of those who haven't said who they are is at this place
+abbrev pub IsOldest : Slab Relay → ℕ → Type 0
+IsOldest relays place =
+    IsSomeAnd (get relays place) (λ oldest. (oldest.has_begun ≡ false)
+    × ((other : ℕ) → IsNoOlder oldest.began (get relays other)))
+
+-- of those that were looked at the oldest is this one, or now the one at this place
+abbrev pub IsOlderOf : ℕ → Relay → Option (ℕ × Duration) → Option (ℕ × Duration) → Type 0
+IsOlderOf place relay None new =
+    (relay.has_begun ≡ false → new ≡ Some (place, relay.began)) × (relay.has_begun ≡ true → new ≡ None)
+IsOlderOf place relay (Some old) new =
+    ((relay.has_begun ≡ false) × (as_nanos relay.began ≤ as_nanos old.1) × (new ≡ Some (place, relay.began)))
+    ⊎ ((relay.has_begun ≡ false → as_nanos old.1 ≤ as_nanos relay.began) × (new ≡ Some old))
+
+-- the oldest of those goes, and no other one; nobody goes if all have said who they are
+abbrev pub OldestGoes : Slab Relay → Slab Relay → Type 0
+OldestGoes old new =
+    ((place : ℕ) × IsOldest old place × Updates old new place None)
+    ⊎ (((place : ℕ) → IsSilent (get old place) → ⊥) × (new ≡ old))
+
+-- nobody goes as long as fewer than `most` are there
+pub record MakesRoom (most : ℕ) (old new : Slab Relay) : Type 0 where
+  pub few : slab_len old < most → new ≡ old
+  pub many : most ≤ slab_len old → OldestGoes old new
+
+-- one who comes gets a place that is free after room was made
+pub record LetsIn (most : ℕ) (browser : Browser) (now : Duration) (old new : Slab Relay) : Type 0 where
+  pub room : Slab Relay
+  pub makes : MakesRoom most old room
+  pub place : ℕ
+  pub vacant : get room place ≡ None
+  pub relay : Relay
+  pub comes : IsNew browser now relay
+  pub placed : Updates room new place (Some relay)
+
+-- one who comes is closed: there is no memory, or the system doesn't watch the connection
+abbrev pub IsClosed : ℕ → Slab Relay → Slab Relay → Type 0
+IsClosed most old new = (room : Slab Relay) × MakesRoom most old room × SameValues room new
 
 -- nobody, or a stranger: one who was told nothing and has said nothing
 abbrev pub IsStranger : Option Relay → Type 0

@@ -3,7 +3,7 @@ use Rattle.std.specs.Prelude.{◌≡◌, MatchBool}
 use Rattle.web_client.specs.declared.visitor.Visitor.{Visitor}
 use Rattle.web_client.specs.Asking.{IsOwn, IfOwn}
 use Rattle.web_client.specs.Rows.{IsDue, Shows, SendsAll}
-use Rattle.web_relay.specs.declared.halls.Hall.{Hall}
+use Rattle.web_relay.specs.declared.hall.Hall.{Hall}
 use Rattle.web_relay.specs.Relaying.{IsOpen, HasClient, Loses}
 use Rattle.web_relay.specs.declared.upstream.TheConstants.{ENDED}
 

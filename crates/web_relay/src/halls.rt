@@ -1,11 +1,14 @@
 //! Pages that several watchers share: one client of the server for each size.
 
-ghost use Rattle.std.specs.Prelude.{◌≡◌, ◌≢◌, ◌↔◌, ◌⊎◌, ◌≤◌, ◌<◌, ℕ, [], Some, None, IsTrue, IsSome, IfSome, IfNone};
-ghost use Rattle.slab.specs.Slab.{get, slab_len, Updates};
-ghost use Rattle.web_relay.specs.Halls.{hall_of, HasSize, AreSame, noted, IsOver, Closes, Renews};
+ghost use Rattle.std.specs.Prelude.{◌≡◌, ◌≢◌, ◌⊎◌, ◌≤◌, ℕ, [], Some, None, IsSome, IfSome, IfNone, IsSomeAnd};
+ghost use Rattle.std.specs.String.{string_bytes};
+ghost use Rattle.slab.specs.Slab.{get, slab_len};
+ghost use Rattle.web_relay.specs.Halls.{hall_of, heeds, AtBoth, AtEach, Chooses, Closes, HasSize, IsStuck, OpensBy};
+ghost use Rattle.web_relay.specs.Halls.{Renews, TurnsAlone};
+ghost use Rattle.web_relay.specs.Places.{changed_at};
 
-use crate::streams::{Around, ReadOutcome, hall_token, outcome_of};
-use mio::net::UnixStream;
+use crate::hall::Hall;
+use crate::streams::{Around, hall_token};
 use slab::Slab;
 use std::alloc::Global;
 use std::net::Net;
@@ -15,16 +18,6 @@ use web_client::SharedClient;
 /// How many pages are shared at most.
 const MOST: usize = 8;
 
-/// How often a connection is read in one turn.
-const READS: usize = 16;
-
-/// A client that sees no window attaches again after this number of seconds, and one is sent to the chosen window.
-const PAUSE: u64 = 10;
-
-/// A page that nobody watches is closed after this number of seconds: who comes and goes doesn't use up
-/// what its user may still try at the server.
-const STAY: u64 = 30;
-
 /// The number of a hall. A place may have one hall after another.
 #[derive(Clone, Copy, PartialEq, Eq)]
 pub struct HallNumber {
@@ -32,87 +25,10 @@ pub struct HallNumber {
     pub(crate) serial: u64,
 }
 
-/// A page that watchers share.
-#[derive(Drop)]
-pub struct Hall {
-    pub(crate) serial: u64,
-    size: (u16, u16),
-    pub(crate) client: SharedClient,
-    stream: UnixStream,
-    is_ready: bool,
-    // How many watch it.
-    pub(crate) audience: usize,
-    // Whether its connection ended.
-    pub(crate) is_lost: bool,
-    opened: Duration,
-    watched: Duration,
-    // When it was sent to the chosen window.
-    chosen: Option<Duration>,
-}
-
-impl Hall {
-    // Reads what the server has sent, and writes what waits for it.
-    fn turn(&mut self, buffer: &mut [u8])
-        ensures same { (self.new.serial ≡ self.old.serial) × (self.new.size ≡ self.old.size) }
-        ensures audience { self.new.audience ≡ 0 }
-    {
-        self.audience = 0;
-        'reads: for _ in 0..READS {
-            if !self.is_ready || self.is_lost {
-                break;
-            }
-            match outcome_of(self.client.receive(&mut self.stream, buffer)) {
-                ReadOutcome::Nothing => self.is_ready = false,
-                ReadOutcome::End => self.is_lost = true,
-                ReadOutcome::More => {}
-            }
-        }
-        if self.client.send_all(&mut self.stream).is_err() {
-            self.is_lost = true;
-        }
-    }
-
-    // Notes whether somebody watches it.
-    fn note_audience(&mut self, now: Duration)
-        ensures { self.new ≡ noted now self.old }
-    {
-        if self.audience > 0 {
-            self.watched = now;
-        }
-    }
-
-    // Whether it ended, or nobody has watched it for a while.
-    fn is_over(&self, now: Duration) -> bool
-        ensures { IsTrue result ↔ IsOver now self.now }
-    {
-        let alone = now.saturating_sub(self.watched);
-        self.is_lost || self.client.display().gone().is_some() || alone >= Duration::from_secs(STAY)
-    }
-
-    // Sends its client to the chosen window: at first, and again now and then, since the window may open later.
-    fn choose(&mut self, choice: &str, now: Duration)
-        ensures { (self.new.serial ≡ self.old.serial) × (self.new.size ≡ self.old.size) }
-    {
-        let is_due = match self.chosen {
-            Some(chosen) => now.saturating_sub(chosen) >= Duration::from_secs(PAUSE),
-            None => true,
-        };
-        if is_due && self.client.display().is_welcome() {
-            self.chosen = Some(now);
-            self.is_lost |= self.client.choose(choice.as_bytes()).is_err();
-        }
-    }
-
-    // Whether its client is to attach again: it sees no window.
-    fn is_stuck(&self, now: Duration) -> bool {
-        now.saturating_sub(self.opened) >= Duration::from_secs(PAUSE)
-            && self.client.display().is_vacant()
-    }
-}
-
 // Sends the client of the hall at this place to the chosen window.
 fn choose_at(halls: &mut Slab<Hall>, place: usize, choice: &str, now: Duration)
-    ensures { AreSame halls.old halls.new }
+    ensures at { AtBoth (Chooses choice.now now) (get halls.old place) (get halls.new place) }
+    ensures others { (other : ℕ) → other ≢ place → get halls.new other ≡ get halls.old other }
 {
     if let Some(hall) = halls.get_mut(place) {
         hall.choose(choice, now);
@@ -121,7 +37,7 @@ fn choose_at(halls: &mut Slab<Hall>, place: usize, choice: &str, now: Duration)
 
 // Sends the clients of all halls to the chosen window.
 fn choose_all(halls: &mut Slab<Hall>, choice: &str, now: Duration)
-    ensures { AreSame halls.old halls.new }
+    ensures { AtEach (Chooses choice.now now) halls.old halls.new }
 {
     'places: for place in 0..halls.capacity() {
         choose_at(halls, place, choice, now);
@@ -130,7 +46,8 @@ fn choose_all(halls: &mut Slab<Hall>, choice: &str, now: Duration)
 
 // Reads and writes for the hall at this place.
 fn turn_at(halls: &mut Slab<Hall>, place: usize, buffer: &mut [u8])
-    ensures { AreSame halls.old halls.new }
+    ensures at { AtBoth TurnsAlone (get halls.old place) (get halls.new place) }
+    ensures others { (other : ℕ) → other ≢ place → get halls.new other ≡ get halls.old other }
 {
     if let Some(hall) = halls.get_mut(place) {
         hall.turn(buffer);
@@ -163,7 +80,7 @@ impl Halls {
 
     /// Notes that the connection of the hall at this place has something to read, or has room.
     pub fn mark(&mut self, place: usize)
-        ensures { (other : ℕ) → other ≢ place → get self.new.list other ≡ get self.old.list other }
+        ensures { self.new ≡ record self.old { list = changed_at self.old.list place heeds } }
     {
         if let Some(hall) = self.list.get_mut(place) {
             hall.is_ready = true;
@@ -187,7 +104,8 @@ impl Halls {
 
     // The place of the hall of this size.
     fn of_size(&self, size: (u16, u16)) -> Option<usize>
-        ensures { IfSome result (λ place. HasSize size (get self.now.list place)) }
+        ensures some { IfSome result (λ place. HasSize size (get self.now.list place)) }
+        ensures none { result ≡ None → (place : ℕ) → HasSize size (get self.now.list place) → ⊥ }
     {
         'halls: for place in 0..self.list.capacity() {
             if let Some(hall) = self.list.get(place) {
@@ -219,6 +137,7 @@ impl Halls {
         ensures some { IfSome result (λ place. IsSome (get self.now.list place)) }
         ensures size { IfSome result (λ place. HasSize size (get self.now.list place)
             ⊎ (MOST ≤ slab_len self.now.list)) }
+        ensures none { result ≡ None → (place : ℕ) → HasSize size (get self.now.list place) → ⊥ }
     {
         match self.of_size(size) {
             Some(place) => Some(place),
@@ -237,7 +156,8 @@ impl Halls {
     ) -> Option<Hall>
         ensures list { self.new.list ≡ self.old.list }
         ensures next { self.old.next ≤ self.new.next }
-        ensures made { IfSome result (λ hall. (hall.serial ≡ self.old.next) × (hall.size ≡ size)) }
+        ensures serial { IfSome result (λ hall. hall.serial ≡ self.old.next) }
+        ensures opens { IfSome result (OpensBy around.entry.site.now.watcher size around.entry.now around.entry.now) }
     {
         let watcher = around.site.watcher.as_ref()?;
         let client = SharedClient::attach(self.alloc, size.0, size.1, watcher).ok()?;
@@ -260,7 +180,8 @@ impl Halls {
 
     // Opens a hall of this size.
     fn open<R: Net>(&mut self, rt: &R, around: Around<'_>, size: (u16, u16)) -> Option<usize>
-        ensures some { IfSome result (λ place. IsSome (get self.new.list place)) }
+        ensures opens { IfSome result (λ place. IsSomeAnd (get self.new.list place)
+            (OpensBy around.entry.site.now.watcher size around.entry.now around.entry.now)) }
         ensures others { (other : ℕ) → IsSome (get self.old.list other)
             → get self.new.list other ≡ get self.old.list other }
     {
@@ -280,6 +201,9 @@ impl Halls {
         size: (u16, u16),
     ) -> Option<HallNumber>
         ensures some { IfSome result (λ number. IsSome (hall_of self.new.list number)) }
+        ensures size { IfSome result (λ number. HasSize size (get self.new.list number.place)
+            ⊎ (MOST ≤ slab_len self.old.list)) }
+        ensures known { (place : ℕ) → HasSize size (get self.old.list place) → self.new ≡ self.old }
         ensures others { (other : ℕ) → IsSome (get self.old.list other)
             → get self.new.list other ≡ get self.old.list other }
     {
@@ -292,7 +216,8 @@ impl Halls {
 
     // The size of the hall at this place, and when it was watched last, if its client is to attach again.
     fn stuck(&self, place: usize, now: Duration) -> Option<((u16, u16), Duration)>
-        ensures { IfSome result (λ stuck. HasSize stuck.0 (get self.now.list place)) }
+        ensures { IfSome result (λ stuck. IsSomeAnd (get self.now.list place) (λ hall.
+            IsStuck now hall × (stuck.0 ≡ hall.size) × (stuck.1 ≡ hall.watched))) }
     {
         match self.list.get(place) {
             Some(hall) if hall.is_stuck(now) => Some((hall.size, hall.watched)),
@@ -302,7 +227,8 @@ impl Halls {
 
     // Attaches the client of this place again, if it sees no window.
     fn renew_at<R: Net>(&mut self, rt: &R, around: Around<'_>, place: usize)
-        ensures renews { Renews self.old.next (get self.old.list place) (get self.new.list place) }
+        ensures renews { Renews around.entry.site.now.watcher around.entry.now self.old.next
+            (get self.old.list place) (get self.new.list place) }
         ensures others { (other : ℕ) → other ≢ place → get self.new.list other ≡ get self.old.list other }
         ensures next { self.old.next ≤ self.new.next }
     {
@@ -320,7 +246,8 @@ impl Halls {
     /// Attaches the clients again whose window has closed. They then see the first window that there
     /// is.
     pub fn renew<R: Net>(&mut self, rt: &R, around: Around<'_>)
-        ensures { (place : ℕ) → Renews self.old.next (get self.old.list place) (get self.new.list place) }
+        ensures { (place : ℕ) → Renews around.entry.site.now.watcher around.entry.now self.old.next
+            (get self.old.list place) (get self.new.list place) }
     {
         'places: for place in 0..self.list.capacity() {
             self.renew_at(rt, around, place);
@@ -329,7 +256,9 @@ impl Halls {
 
     /// Sends their clients to the chosen window.
     pub fn choose(&mut self, now: Duration)
-        ensures { AreSame self.old.list self.new.list }
+        ensures none { self.old.choice ≡ None → self.new ≡ self.old }
+        ensures some { IfSome self.old.choice (λ choice.
+            AtEach (Chooses (string_bytes choice) now) self.old.list self.new.list) }
     {
         let Some(choice) = &self.choice else {
             return;
@@ -339,7 +268,7 @@ impl Halls {
 
     /// Reads and writes for all halls. Nobody counts as their audience yet.
     pub fn turn(&mut self, buffer: &mut [u8])
-        ensures { AreSame self.old.list self.new.list }
+        ensures { AtEach TurnsAlone self.old.list self.new.list }
     {
         'places: for place in 0..self.list.capacity() {
             turn_at(&mut self.list, place, buffer);

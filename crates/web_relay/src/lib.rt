@@ -2,6 +2,7 @@
 //! What comes from the server for a client goes to its browser alone, and what a browser types to its own client.
 #![tactic(auto)]
 
+mod hall;
 mod halls;
 mod places;
 mod relay;

@@ -3,7 +3,8 @@
 ghost use Rattle.std.specs.Prelude.{◌≡◌, ◌↔◌, ℕ, Some, None, count_by, IfSome, IsSome, IsTrue};
 ghost use Rattle.slab.specs.Slab.{get, entries, Updates};
 ghost use Rattle.web_relay.specs.Places.{changed_at, heeds_browser, heeds_server, IsSilent, IsOver, IsTooMany};
-ghost use Rattle.web_relay.specs.Places.{MayGo, LeavesAs, is_other, is_neighbour};
+ghost use Rattle.web_relay.specs.Places.{MayGo, LeavesAs, is_other, is_neighbour, IsOlderOf, IsOldest, MakesRoom};
+ghost use Rattle.web_relay.specs.Halls.{heeds};
 
 use crate::halls::Halls;
 use crate::relay::Relay;
@@ -17,7 +18,8 @@ pub fn mark(woken: Woken, relays: &mut Slab<Relay>, halls: &mut Halls)
         → (relays.new ≡ changed_at relays.old place heeds_browser) × (halls.new ≡ halls.old) }
     ensures server { (place : ℕ) → woken ≡ Woken.Server place
         → (relays.new ≡ changed_at relays.old place heeds_server) × (halls.new ≡ halls.old) }
-    ensures hall { (place : ℕ) → woken ≡ Woken.Hall place → relays.new ≡ relays.old }
+    ensures hall { (place : ℕ) → woken ≡ Woken.Hall place → (relays.new ≡ relays.old)
+        × (halls.new ≡ record halls.old { list = changed_at halls.old.list place heeds }) }
     ensures listener { (number : ℕ) → woken ≡ Woken.Listener number
         → (relays.new ≡ relays.old) × (halls.new ≡ halls.old) }
 {
@@ -37,20 +39,34 @@ pub fn mark(woken: Woken, relays: &mut Slab<Relay>, halls: &mut Halls)
     }
 }
 
+// The oldest of those that were looked at, and of this one if it hasn't said who it is.
+fn older(
+    oldest: Option<(usize, Duration)>,
+    place: usize,
+    relay: &Relay,
+) -> Option<(usize, Duration)>
+    ensures { IsOlderOf place relay.now oldest result }
+{
+    let is_older = match oldest {
+        Some((_, began)) => relay.began() < began,
+        None => true,
+    };
+    if !relay.has_begun() && is_older {
+        Some((place, relay.began()))
+    } else {
+        oldest
+    }
+}
+
 /// The place of the oldest browser that hasn't said who it is.
 pub fn oldest_silent(relays: &Slab<Relay>) -> Option<usize>
-    ensures { IfSome result (λ place. IsSilent (get relays.now place)) }
+    ensures some { IfSome result (IsOldest relays.now) }
+    ensures none { result ≡ None → (place : ℕ) → IsSilent (get relays.now place) → ⊥ }
 {
     let mut oldest: Option<(usize, Duration)> = None;
     'places: for place in 0..relays.capacity() {
         if let Some(relay) = relays.get(place) {
-            let is_older = match oldest {
-                Some((_, began)) => relay.began() < began,
-                None => true,
-            };
-            if !relay.has_begun() && is_older {
-                oldest = Some((place, relay.began()));
-            }
+            oldest = older(oldest, place, relay);
         }
     }
     match oldest {
@@ -61,7 +77,8 @@ pub fn oldest_silent(relays: &Slab<Relay>) -> Option<usize>
 
 /// Makes room for one who comes: if that many are there, the oldest goes that hasn't said who it is.
 pub fn make_room(relays: &mut Slab<Relay>, most: usize)
-    ensures { (place : ℕ) → MayGo IsSilent (get relays.old place) (get relays.new place) }
+    ensures goes { (place : ℕ) → MayGo IsSilent (get relays.old place) (get relays.new place) }
+    ensures room { MakesRoom most relays.old relays.new }
 {
     if relays.len() >= most {
         if let Some(place) = oldest_silent(relays) {

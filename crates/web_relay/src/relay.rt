@@ -1,11 +1,12 @@
 //! A browser, and the connection to the server of its own client.
 
-ghost use Rattle.std.specs.Prelude.{◌≡◌, ◌↔◌, ℕ, List, None, IsTrue, IsSome, IfSome, true, false};
-ghost use Rattle.web_client.specs.Frames.{page, begun};
+ghost use Rattle.std.specs.Prelude.{◌≡◌, ◌↔◌, ◌⊎◌, ℕ, List, None, IsTrue, IsSome, IfSome, true, false};
+ghost use Rattle.web_client.specs.Frames.{TakesBytes};
 ghost use Rattle.web_client.specs.Asking.{Asks, Keeps, IsOwn};
 ghost use Rattle.web_client.specs.Rows.{TellsLast, Refuses, handed};
-ghost use Rattle.web_relay.specs.Places.{has_page, shares};
-ghost use Rattle.web_relay.specs.Relaying.{IsOpen, HasClient, HasPage, HasGone, Loses, Stays, IsRefused};
+ghost use Rattle.web_relay.specs.Places.{has_page, shares, IsNew};
+ghost use Rattle.web_relay.specs.Relaying.{IsOpen, HasClient, HasPage, HasGone, IsConnected, Loses, IsRefused};
+ghost use Rattle.web_relay.specs.Relaying.{ReadsOnly, TakesEach, TakesOnce};
 ghost use Rattle.web_client.specs.declared.wire.Phase.TheVariants as phase;
 
 use crate::halls::HallNumber;
@@ -19,6 +20,9 @@ use web_client::{Identity, Visitor};
 
 /// How often a connection is read in one turn.
 const READS: usize = 16;
+
+/// What a page is told if its client can't be connected.
+pub const NO_SERVER: &str = "no server: is muxd running?";
 
 /// The own client's connection to the server.
 #[derive(Drop)]
@@ -54,9 +58,7 @@ pub struct Relay {
 impl Relay {
     /// A browser that has just come.
     pub fn new(alloc: Global, browser: Browser, now: Duration) -> Relay
-        ensures page { page result.visitor ≡ begun }
-        ensures begins { (result.has_begun ≡ false) × (result.is_told ≡ false) × (result.is_over ≡ false) }
-        ensures apart { (result.server ≡ Upstream.Unasked) × (result.hall ≡ None) }
+        ensures { IsNew browser now result }
     {
         Relay {
             visitor: Visitor::new(alloc),
@@ -94,22 +96,38 @@ impl Relay {
     pub fn read_browser(&mut self, around: Around<'_>, buffer: &mut [u8]) -> bool
         ensures asks { Asks self.old.visitor.identity self.new.visitor.identity }
         ensures opens { IsTrue result ↔ ((IsOpen self.old.visitor → ⊥) × IsOpen self.new.visitor) }
-        ensures stays { Stays self.old self.new }
-        ensures server { self.new.server ≡ self.old.server }
+        // Frames are taken in order, and each once.
+        ensures takes { self.new.is_over ≡ false
+            → TakesEach around.entry.site.now self.old.visitor self.new.visitor }
+        ensures over { self.old.is_over ≡ true → self.new.is_over ≡ true }
+        ensures same { ReadsOnly self.old self.new }
     {
         let was_open = self.visitor.is_open();
+        self.take_rest(around);
+        self.read_some(around, buffer);
+        !was_open && self.visitor.is_open()
+    }
+
+    // Takes what was left of frames that came.
+    fn take_rest(&mut self, around: Around<'_>)
+        ensures asks { Asks self.old.visitor.identity self.new.visitor.identity }
+        ensures takes { self.new.is_over ≡ false
+            → TakesEach around.entry.site.now self.old.visitor self.new.visitor }
+        ensures over { self.old.is_over ≡ true → self.new.is_over ≡ true }
+        ensures same { ReadsOnly self.old self.new }
+    {
         if self.has_more && self.visitor.can_read() {
             self.take(around);
         }
-        self.read_some(around, buffer);
-        !was_open && self.visitor.is_open()
     }
 
     // Reads the browser while it has sent something.
     fn read_some(&mut self, around: Around<'_>, buffer: &mut [u8])
         ensures asks { Asks self.old.visitor.identity self.new.visitor.identity }
-        ensures stays { Stays self.old self.new }
-        ensures server { self.new.server ≡ self.old.server }
+        ensures takes { self.new.is_over ≡ false
+            → TakesEach around.entry.site.now self.old.visitor self.new.visitor }
+        ensures over { self.old.is_over ≡ true → self.new.is_over ≡ true }
+        ensures same { ReadsOnly self.old self.new }
     {
         'reads: for _ in 0..READS {
             if self.has_more || !self.browser_ready || !self.visitor.can_read() {
@@ -122,8 +140,10 @@ impl Relay {
     // Reads the browser once.
     fn read_once(&mut self, around: Around<'_>, buffer: &mut [u8])
         ensures asks { Asks self.old.visitor.identity self.new.visitor.identity }
-        ensures stays { Stays self.old self.new }
-        ensures server { self.new.server ≡ self.old.server }
+        ensures takes { self.new.is_over ≡ false
+            → TakesOnce around.entry.site.now self.old.visitor self.new.visitor }
+        ensures over { self.old.is_over ≡ true → self.new.is_over ≡ true }
+        ensures same { ReadsOnly self.old self.new }
     {
         match outcome_of(self.visitor.receive(&mut self.browser, buffer)) {
             ReadOutcome::Nothing => self.browser_ready = false,
@@ -138,6 +158,9 @@ impl Relay {
     // Takes what came of the browser.
     fn take(&mut self, around: Around<'_>)
         ensures asks { Asks self.old.visitor.identity self.new.visitor.identity }
+        ensures takes { self.new.is_over ≡ false → TakesBytes around.entry.site.now self.old.visitor.wire.phase
+            self.old.visitor self.new.visitor self.new.has_more }
+        ensures over { self.old.is_over ≡ true → self.new.is_over ≡ true }
         ensures same { self.new ≡ record self.old {
           visitor = self.new.visitor;
           heard = around.entry.now;
@@ -239,8 +262,10 @@ impl Relay {
 
     /// The name of its user, if the server has let it in and this wasn't logged.
     pub fn is_let_in(&self) -> Option<&str>
-        ensures { IfSome result (λ name. (self.now.is_told ≡ false) × IsOwn self.now.visitor.identity (λ c.
+        ensures some { IfSome result (λ name. (self.now.is_told ≡ false) × IsOwn self.now.visitor.identity (λ c.
             (c.display.told.is_welcome ≡ true) × (name.now ≡ c.display.name))) }
+        ensures none { result ≡ None → self.now.is_told ≡ false
+            → IsOwn self.now.visitor.identity (λ c. c.display.told.is_welcome ≡ true) → ⊥ }
     {
         match self.visitor.identity() {
             Identity::Own(client) if client.display().is_welcome() && !self.is_told => {
@@ -287,11 +312,21 @@ impl Relay {
 
     /// Connects its own client.
     pub fn connect<R: Net>(&mut self, rt: &R, around: Around<'_>, token: mio::Token)
-        ensures { Keeps self.old.visitor.identity self.new.visitor.identity }
+        ensures keeps { Keeps self.old.visitor.identity self.new.visitor.identity }
+        ensures connects { IsConnected self.new.server → IsConnected self.old.server
+            ⊎ (self.new ≡ record self.old { server = self.new.server }) }
+        ensures loses { (IsConnected self.new.server → ⊥) → self.new.is_over ≡ false
+            → Loses NO_SERVER.now self.old.visitor self.new.visitor }
+        ensures over { self.old.is_over ≡ true → self.new.is_over ≡ true }
+        ensures same { self.new ≡ record self.old {
+          visitor = self.new.visitor;
+          server = self.new.server;
+          is_over = self.new.is_over;
+        } }
     {
         match around.connect(rt, token) {
             Ok(stream) => self.server = Upstream::Connected(stream),
-            Err(_) => self.lose("no server: is muxd running?"),
+            Err(_) => self.lose(NO_SERVER),
         }
     }
 
@@ -312,6 +347,8 @@ impl Relay {
     pub fn hand(&mut self, name: &str, token: &str)
         ensures hands { self.new.is_over ≡ false
             → TellsLast (handed name.now token.now) self.old.visitor.wire self.new.visitor.wire }
+        ensures identity { self.new.visitor.identity ≡ self.old.visitor.identity }
+        ensures over { self.old.is_over ≡ true → self.new.is_over ≡ true }
         ensures last { self.new.is_over ≡ false → self.new.visitor.wire.phase ≡ phase.Last }
         ensures same { self.new ≡ record self.old { visitor = self.new.visitor; is_over = self.new.is_over } }
     {
@@ -325,6 +362,8 @@ impl Relay {
     pub fn refuse(&mut self, reason: &str)
         ensures refuses { self.new.is_over ≡ false
             → Refuses reason.now self.old.visitor.wire self.new.visitor.wire }
+        ensures identity { self.new.visitor.identity ≡ self.old.visitor.identity }
+        ensures over { self.old.is_over ≡ true → self.new.is_over ≡ true }
         ensures last { self.new.is_over ≡ false → self.new.visitor.wire.phase ≡ phase.Last }
         ensures same { self.new ≡ record self.old { visitor = self.new.visitor; is_over = self.new.is_over } }
     {

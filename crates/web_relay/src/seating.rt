@@ -1,14 +1,15 @@
 //! Which page a browser is shown: of a hall if it watches, and else of its own client.
 
-ghost use Rattle.std.specs.Prelude.{◌≡◌, ◌≢◌, ℕ, Some, None, true, false, IsSome, IsSomeAnd, IfSome};
-ghost use Rattle.slab.specs.Slab.{get};
+ghost use Rattle.std.specs.Prelude.{◌≡◌, ◌≢◌, ◌⊎◌, ◌≤◌, ℕ, Some, None, true, false, IsSome, IsSomeAnd, IfSome};
+ghost use Rattle.slab.specs.Slab.{get, slab_len};
 ghost use Rattle.web_client.specs.Asking.{IsWatcher, Keeps};
-ghost use Rattle.web_relay.specs.Halls.{hall_of};
+ghost use Rattle.web_relay.specs.Halls.{hall_of, HasSize};
 ghost use Rattle.web_relay.specs.Seeing.{SeesOwn, SeesHall, Watches};
 ghost use Rattle.web_relay.specs.Relaying.{Loses};
 
-use crate::halls::{Hall, HallNumber, Halls};
-use crate::relay::Relay;
+use crate::hall::Hall;
+use crate::halls::{HallNumber, Halls};
+use crate::relay::{NO_SERVER, Relay};
 use crate::streams::Around;
 use crate::upstream::ENDED;
 use std::net::Net;
@@ -21,6 +22,7 @@ impl Hall {
         ensures sees { relay.new.is_over ≡ false → SeesHall self.old self.new relay.old.visitor relay.new.visitor }
         ensures identity { relay.new.visitor.identity ≡ relay.old.visitor.identity }
         ensures serial { self.new.serial ≡ self.old.serial }
+        ensures over { relay.old.is_over ≡ true → relay.new.is_over ≡ true }
         ensures same { relay.new ≡ record relay.old { visitor = relay.new.visitor; is_over = relay.new.is_over } }
     {
         self.audience = self.audience.saturating_add(1);
@@ -39,8 +41,18 @@ impl Halls {
             → (relay.new ≡ relay.old) × (self.new ≡ self.old) × (result ≡ false) }
         ensures hall { IsWatcher relay.old.visitor.identity
             → IfSome relay.new.hall (λ number. IsSome (hall_of self.new.list number)) }
+        ensures size { (rows columns : ℕ) → relay.old.visitor.identity ≡ Identity.Watching rows columns
+            → IfSome relay.new.hall (λ number. HasSize (rows, columns) (get self.new.list number.place)
+            ⊎ (8 ≤ slab_len self.old.list)) }
         ensures afresh { relay.new.hall ≢ relay.old.hall
             → relay.new.visitor.view ≡ record { is_welcomed = false; since = 0 } }
+        // Nothing else of it changes, unless there is no hall.
+        ensures seats { IsSome relay.new.hall → relay.new ≡ record relay.old {
+          hall = relay.new.hall;
+          visitor = record relay.old.visitor { view = relay.new.visitor.view };
+        } }
+        ensures stays { IsSome relay.new.hall → relay.new.hall ≡ relay.old.hall → relay.new ≡ relay.old }
+        ensures over { relay.old.is_over ≡ true → relay.new.is_over ≡ true }
         ensures identity { relay.new.visitor.identity ≡ relay.old.visitor.identity }
         ensures others { (other : ℕ) → IsSome (get self.old.list other)
             → get self.new.list other ≡ get self.old.list other }
@@ -50,7 +62,7 @@ impl Halls {
         };
         let found = self.enter(rt, around, (rows, columns));
         if found.is_none() {
-            relay.lose("no server: is muxd running?");
+            relay.lose(NO_SERVER);
         }
         let had = relay.hall;
         if found == had {
@@ -71,6 +83,8 @@ impl Halls {
             Watches hall after relay.old.visitor relay.new.visitor) }
         ensures others { (other : ℕ) → other ≢ number.place → get self.new.list other ≡ get self.old.list other }
         ensures identity { relay.new.visitor.identity ≡ relay.old.visitor.identity }
+        ensures over { relay.old.is_over ≡ true → relay.new.is_over ≡ true }
+        ensures same { relay.new ≡ record relay.old { visitor = relay.new.visitor; is_over = relay.new.is_over } }
     {
         match self.list.get_mut(number.place) {
             Some(hall) if hall.serial == number.serial => {
@@ -99,6 +113,8 @@ impl Halls {
         ensures others { (number : HallNumber) (other : ℕ) → relay.old.hall ≡ Some number → other ≢ number.place
             → get self.new.list other ≡ get self.old.list other }
         ensures keeps { Keeps relay.old.visitor.identity relay.new.visitor.identity }
+        ensures over { relay.old.is_over ≡ true → relay.new.is_over ≡ true }
+        ensures same { relay.new ≡ record relay.old { visitor = relay.new.visitor; is_over = relay.new.is_over } }
     {
         if !relay.visitor.is_watcher() {
             return relay.show_own();

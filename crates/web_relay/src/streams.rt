@@ -129,7 +129,9 @@ impl WebListener {
 
 impl Browser {
     /// Waits for bytes, and for room.
-    pub fn register(&mut self, registry: &Registry, token: Token) -> io::Result<()> {
+    pub fn register(&mut self, registry: &Registry, token: Token) -> io::Result<()>
+        ensures { self.new ≡ self.old }
+    {
         let both = Interest::READABLE | Interest::WRITABLE;
         match self {
             Browser::Tcp(it) => registry.register(it, token, both),

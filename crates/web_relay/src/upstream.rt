@@ -1,10 +1,11 @@
 //! What a relay does with the server's connection, and when its browser is shown something or ends.
 
-ghost use Rattle.std.specs.Prelude.{◌≡◌, [], true, false};
-ghost use Rattle.web_client.specs.Asking.{Keeps};
-ghost use Rattle.web_relay.specs.Relaying.{HasGone, Loses, Stays, AsksOnly};
+ghost use Rattle.std.specs.Prelude.{◌≡◌, ◌↔◌, true, false, IsTrue};
+ghost use Rattle.web_client.specs.Asking.{AsksOnly, Keeps};
+ghost use Rattle.web_relay.specs.Hearing.{HearsOnly};
+ghost use Rattle.web_relay.specs.Relaying.{HasGone, HasTakenAll, IsBusy, IsDone, IsLate, IsLost, IsToAsk, Loses};
+ghost use Rattle.web_relay.specs.Relaying.{ServesOnly, TellsOnly, WritesOnly};
 ghost use Rattle.web_relay.specs.Seeing.{SeesOwn};
-ghost use Rattle.web_client.specs.declared.wire.Phase.TheVariants as phase;
 
 use crate::relay::{Relay, Upstream};
 use crate::streams::{ReadOutcome, outcome_of};
@@ -35,6 +36,7 @@ impl Relay {
         ensures gone { HasGone self.old.visitor.identity → self.new.visitor ≡ self.old.visitor }
         ensures loses { (HasGone self.old.visitor.identity → ⊥) → self.new.is_over ≡ false
             → Loses ENDED.now self.old.visitor self.new.visitor }
+        ensures over { self.old.is_over ≡ true → self.new.is_over ≡ true }
         ensures identity { self.new.visitor.identity ≡ self.old.visitor.identity }
         ensures same { self.new ≡ record self.old {
           visitor = self.new.visitor;
@@ -53,7 +55,12 @@ impl Relay {
     // Reads the server once.
     fn hear(&mut self, buffer: &mut [u8])
         ensures keeps { Keeps self.old.visitor.identity self.new.visitor.identity }
-        ensures stays { Stays self.old self.new }
+        ensures hears { (IsLost self.new.server → ⊥)
+            → HearsOnly self.old.visitor.identity self.new.visitor.identity }
+        ensures tells { self.new.is_over ≡ false → TellsOnly self.old self.new }
+        ensures lost { IsLost self.old.server → self.new ≡ record self.old { server_ready = false } }
+        ensures over { self.old.is_over ≡ true → self.new.is_over ≡ true }
+        ensures same { ServesOnly self.old self.new }
     {
         let Upstream::Connected(server) = &mut self.server else {
             self.server_ready = false;
@@ -69,7 +76,11 @@ impl Relay {
     /// Reads what the server has sent to its own client. Nobody else hears it.
     pub fn read_server(&mut self, buffer: &mut [u8])
         ensures keeps { Keeps self.old.visitor.identity self.new.visitor.identity }
-        ensures stays { Stays self.old self.new }
+        ensures hears { (IsLost self.new.server → ⊥)
+            → HearsOnly self.old.visitor.identity self.new.visitor.identity }
+        ensures tells { self.new.is_over ≡ false → TellsOnly self.old self.new }
+        ensures over { self.old.is_over ≡ true → self.new.is_over ≡ true }
+        ensures same { ServesOnly self.old self.new }
     {
         'reads: for _ in 0..READS {
             if !self.server_ready {
@@ -82,7 +93,9 @@ impl Relay {
     // Writes what its own client has for the server.
     fn write_server(&mut self)
         ensures asks { AsksOnly self.old.visitor.identity self.new.visitor.identity }
-        ensures stays { Stays self.old self.new }
+        ensures tells { self.new.is_over ≡ false → TellsOnly self.old self.new }
+        ensures over { self.old.is_over ≡ true → self.new.is_over ≡ true }
+        ensures same { ServesOnly self.old self.new }
     {
         let Upstream::Connected(server) = &mut self.server else {
             return;
@@ -95,7 +108,16 @@ impl Relay {
     /// Writes what waits for either side.
     pub fn write_all(&mut self)
         ensures asks { AsksOnly self.old.visitor.identity self.new.visitor.identity }
-        ensures stays { Stays self.old self.new }
+        ensures writes { self.new.is_over ≡ false → (between : Relay) × TellsOnly self.old between
+            × (self.new.server ≡ between.server) × WritesOnly between.visitor self.new.visitor }
+        ensures over { self.old.is_over ≡ true → self.new.is_over ≡ true }
+        ensures same { self.new ≡ record self.old {
+          visitor = self.new.visitor;
+          browser = self.new.browser;
+          server = self.new.server;
+          server_ready = self.new.server_ready;
+          is_over = self.new.is_over;
+        } }
     {
         self.write_server();
         if self.visitor.send_all(&mut self.browser).is_err() {
@@ -105,6 +127,7 @@ impl Relay {
 
     /// Shows the page of its own client.
     pub fn show_own(&mut self)
+        ensures over { self.old.is_over ≡ true → self.new.is_over ≡ true }
         ensures sees { self.new.is_over ≡ false → SeesOwn self.old.visitor self.new.visitor }
         ensures keeps { Keeps self.old.visitor.identity self.new.visitor.identity }
         ensures same { self.new ≡ record self.old { visitor = self.new.visitor; is_over = self.new.is_over } }
@@ -117,7 +140,7 @@ impl Relay {
 
     /// Whether something is left to do without an event.
     pub fn is_busy(&self) -> bool
-        ensures { self.now.is_over ≡ true → result ≡ false }
+        ensures { IsTrue result ↔ IsBusy self.now }
     {
         let has_server = matches!(&self.server, Upstream::Connected(_));
         !self.is_over
@@ -125,33 +148,57 @@ impl Relay {
                 || (self.server_ready && has_server))
     }
 
+    // Whether it can be read, and has taken all that it was sent.
+    fn has_taken_all(&self) -> bool
+        ensures { IsTrue result ↔ HasTakenAll self.now.visitor }
+    {
+        self.visitor.can_read() && self.visitor.is_idle()
+    }
+
     // Whether it was silent for too long.
-    fn is_silent(&self, now: Duration, takes: bool) -> bool {
+    fn is_late(&self, now: Duration) -> bool
+        ensures { IsTrue result ↔ IsLate now self.now }
+    {
         let silent = now.saturating_sub(self.heard);
         match self.visitor.identity() {
             Identity::Nobody => now.saturating_sub(self.began) > Duration::from_secs(PATIENCE),
-            _ if takes => silent > Duration::from_secs(DEAD),
+            _ if self.has_taken_all() => silent > Duration::from_secs(DEAD),
             _ => silent > Duration::from_secs(STUCK),
         }
+    }
+
+    // Whether it is to be asked whether it is there.
+    fn is_to_ask(&self, now: Duration) -> bool
+        ensures { IsTrue result ↔ IsToAsk now self.now }
+    {
+        self.has_begun && now.saturating_sub(self.asked) >= Duration::from_secs(ASK)
+    }
+
+    // Asks it whether it is there.
+    fn ask(&mut self, now: Duration)
+        ensures asks { AsksOnly self.old.visitor.identity self.new.visitor.identity }
+        ensures over { self.old.is_over ≡ true → self.new.is_over ≡ true }
+    {
+        self.asked = now;
+        self.is_over |= self.visitor.ping().is_err();
+        self.write_all();
     }
 
     /// Ends it if it is done or was silent for too long, and asks it now and then whether it is there.
     pub fn look(&mut self, now: Duration)
         // What it was told last is written first.
-        ensures done { self.old.visitor.wire.phase ≡ phase.Last → self.old.visitor.wire.output.items ≡ []
-            → self.new.is_over ≡ true }
+        ensures done { IsDone self.old.visitor → self.new.is_over ≡ true }
+        ensures late { IsLate now self.old → self.new.is_over ≡ true }
+        // Another one stays, and is sent nothing unless it is to be asked.
+        ensures stays { (IsDone self.old.visitor → ⊥) → (IsLate now self.old → ⊥)
+            → (HasTakenAll self.old.visitor × IsToAsk now self.old → ⊥) → self.new ≡ self.old }
         ensures asks { AsksOnly self.old.visitor.identity self.new.visitor.identity }
+        ensures over { self.old.is_over ≡ true → self.new.is_over ≡ true }
     {
-        let takes = self.visitor.can_read() && self.visitor.is_idle();
-        if self.is_silent(now, takes) || (self.visitor.is_last() && self.visitor.is_idle()) {
+        if self.is_late(now) || (self.visitor.is_last() && self.visitor.is_idle()) {
             self.is_over = true;
-        } else if takes
-            && self.has_begun
-            && now.saturating_sub(self.asked) >= Duration::from_secs(ASK)
-        {
-            self.asked = now;
-            self.is_over = self.visitor.ping().is_err();
-            self.write_all();
+        } else if self.has_taken_all() && self.is_to_ask(now) {
+            self.ask(now);
         }
     }
 }

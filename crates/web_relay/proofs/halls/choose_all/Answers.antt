@@ -1,11 +1,22 @@
-use Rattle.slab.specs.Slab.{get}
-use Rattle.web_relay.proofs.Turns.{same_self, same_then}
+use Rattle.std.proofs.Common.{refl, arith}
+use Rattle.web_relay.specs.Halls.{AtBoth, Chooses}
+use Rattle.web_relay.proofs.Turns.{done-more, rest-more, all-done}
 use Rattle.web_relay.proofs.halls.choose_all.Goals as goal
 
-pub places-init : goal.places-init
-places-init c = λ q. same_self (get c.args.halls.now q)
-
 pub places-preserved : goal.places-preserved
-places-preserved c = λ q.
-    same_then (get c.args.halls.now q) (get c.places.halls q) (get c.choose_at.new.halls q) (c.places.invariant q)
-    (c.choose_at.ensures q)
+places-preserved c =
+    let P = AtBoth (Chooses c.args.choice.now c.args.now) in
+    let old = c.args.halls.now in
+    let now = c.places.halls in
+    let then = c.choose_at.ensures in
+    let before = c.places.invariant in record {
+      chosen = done-more P old now c.places.place before.chosen before.rest c.choose_at.new.halls then.at then.others;
+      rest = rest-more P old now c.places.place before.chosen before.rest c.choose_at.new.halls then.others;
+      all = before.all;
+    }
+
+pub returns : goal.returns
+returns c =
+    let before = c.places.invariant in
+    all-done (AtBoth (Chooses c.args.choice.now c.args.now)) c.args.halls.now c.places.halls c.places.place
+    before.chosen before.rest refl (omega (arith, before.all))

@@ -1,5 +1,11 @@
-use Rattle.web_relay.specs.Halls.{AreSame}
+use Rattle.std.proofs.Common.{◌≡◌, ℕ, ◌<◌, ◌≤◌, length}
+use Rattle.slab.specs.Slab.{get}
+use Rattle.web_relay.specs.Halls.{AtBoth, Chooses}
 use Rattle.web_relay.proofs.halls.choose_all.Given as goal
 
 abbrev pub invariant-places : goal.invariant-places
-invariant-places l = AreSame l.fn.halls l.halls
+invariant-places l = record {
+  chosen : (q : ℕ) → q < l.place → AtBoth (Chooses l.choice l.now) (get l.fn.halls q) (get l.halls q);
+  rest : (q : ℕ) → l.place ≤ q → get l.halls q ≡ get l.fn.halls q;
+  all : length l.fn.halls.slots ≤ l.place-end;
+}

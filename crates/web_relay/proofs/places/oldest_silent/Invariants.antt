@@ -1,7 +1,9 @@
-use Rattle.std.proofs.Common.{IfSome}
-use Rattle.slab.specs.Slab.{get}
-use Rattle.web_relay.specs.Places.{IsSilent}
+use Rattle.std.proofs.Common.{◌≤◌, length}
+use Rattle.web_relay.proofs.Oldest.{Below}
 use Rattle.web_relay.proofs.places.oldest_silent.Given as goal
 
 abbrev pub invariant-places : goal.invariant-places
-invariant-places l = IfSome l.oldest (λ at. IsSilent (get l.relays at.0))
+invariant-places l = record {
+  below : Below l.relays l.place l.oldest;
+  all : length l.relays.slots ≤ l.place-end;
+}

@@ -6,6 +6,8 @@ use Rattle.web_relay.proofs.halls.Halls.renew.Goals as goal
 
 pub places-preserved : goal.places-preserved
 places-preserved g c =
+    let w = c.args.around.site.now.watcher in
+    let t = c.args.around.now in
     let first = c.args.self.now.next in
     let old = c.args.self.now.list in
     let now = c.places.self.list in
@@ -14,9 +16,9 @@ places-preserved g c =
     let then = c.renew_at.ensures in
     let before = c.places.invariant in record {
       renewed =
-          done-more (Renews first) old now at before.renewed before.rest new
-          (renews-later first c.places.self.next (get now at) (get new at) before.next then.renews) then.others;
-      rest = rest-more (Renews first) old now at before.renewed before.rest new then.others;
+          done-more (Renews w t first) old now at before.renewed before.rest new
+          (renews-later w t first c.places.self.next (get now at) (get new at) before.next then.renews) then.others;
+      rest = rest-more (Renews w t first) old now at before.renewed before.rest new then.others;
       next = omega (arith, before.next, then.next);
       all = before.all;
     }
@@ -24,5 +26,5 @@ places-preserved g c =
 pub returns : goal.returns
 returns g c =
     let before = c.places.invariant in
-    all-done (Renews c.args.self.now.next) c.args.self.now.list c.places.self.list c.places.place before.renewed
+    all-done (Renews c.args.around.site.now.watcher c.args.around.now c.args.self.now.next) c.args.self.now.list c.places.self.list c.places.place before.renewed
     before.rest (inl refl) (omega (arith, before.all))

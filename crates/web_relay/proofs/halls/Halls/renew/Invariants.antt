@@ -5,7 +5,8 @@ use Rattle.web_relay.proofs.halls.Halls.renew.Given as goal
 
 abbrev pub invariant-places : goal.invariant-places
 invariant-places g l = record {
-  renewed : (q : ℕ) → q < l.place → Renews l.fn.self.next (get l.fn.self.list q) (get l.self.list q);
+  renewed : (q : ℕ) → q < l.place → Renews l.around.site.now.watcher l.around.now l.fn.self.next
+      (get l.fn.self.list q) (get l.self.list q);
   rest : (q : ℕ) → l.place ≤ q → get l.self.list q ≡ get l.fn.self.list q;
   next : l.fn.self.next ≤ l.self.next;
   all : length l.fn.self.list.slots ≤ l.place-end;

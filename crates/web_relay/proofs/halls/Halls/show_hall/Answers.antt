@@ -1,5 +1,5 @@
 use Rattle.std.proofs.Common.{◌≡◌, false, refl, sym}
-use Rattle.web_relay.specs.declared.halls.Hall.{Hall}
+use Rattle.web_relay.specs.declared.hall.Hall.{Hall}
 use Rattle.web_relay.proofs.Turns.{shown-last, shown-on, not-over}
 use Rattle.web_relay.proofs.halls.Halls.show_hall.Goals as goal
 

@@ -1,5 +1,5 @@
 use Rattle.std.proofs.Common.{refl}
-use Rattle.web_relay.proofs.halls.Hall.show.Goals as goal
+use Rattle.web_relay.proofs.hall.Hall.show.Goals as goal
 
 pub returns-in-Ok-clause-sees : goal.returns-in-Ok-clause-sees
 returns-in-Ok-clause-sees c = λ goes_on. record {

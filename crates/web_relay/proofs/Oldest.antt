@@ -1,0 +1,14 @@
+-- The oldest of those who haven't said who they are, place by place.
+use Rattle.std.proofs.Common.{◌≡◌, ℕ, ◌<◌, false, Option, Some, None}
+use Rattle.std.specs.Prelude.{IsSomeAnd}
+use Rattle.std.specs.declared.time.Duration.{Duration}
+use Rattle.slab.specs.Slab.{Slab, get}
+use Rattle.web_relay.specs.declared.relay.Relay.{Relay}
+use Rattle.web_relay.specs.Places.{IsNoOlder, IsSilent}
+
+-- of the places below one, the oldest is at this place; or nobody is silent there
+abbrev pub Below : Slab Relay → ℕ → Option (ℕ × Duration) → Type 0
+Below relays n None = (q : ℕ) → q < n → IsSilent (get relays q) → ⊥
+Below relays n (Some at) =
+    IsSomeAnd (get relays at.0) (λ r. (r.has_begun ≡ false) × (r.began ≡ at.1))
+    × ((q : ℕ) → q < n → IsNoOlder at.1 (get relays q))

@@ -1,0 +1,10 @@
+use Rattle.std.proofs.Common.{ℕ, ◌<◌, ◌≤◌, length}
+use Rattle.slab.specs.Slab.{get}
+use Rattle.web_relay.specs.Halls.{HasSize}
+use Rattle.web_relay.proofs.halls.Halls.of_size.Given as goal
+
+abbrev pub invariant-halls : goal.invariant-halls
+invariant-halls l = record {
+  none : (q : ℕ) → q < l.place → HasSize l.size (get l.self.list q) → ⊥;
+  all : length l.self.list.slots ≤ l.place-end;
+}
