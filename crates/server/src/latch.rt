@@ -1,13 +1,7 @@
 //! Where the loops wait until all of them can serve.
 
+use server_system::Unready;
 use std::sync::{Condvar, Mutex, Wait};
-
-/// Why a loop can't be started.
-#[derive(Clone, Copy, Debug, PartialEq, Eq)]
-pub enum Unready {
-    NoThread,
-    NoMemory,
-}
 
 // What is known of the loops.
 #[derive(Drop)]

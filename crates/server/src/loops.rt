@@ -1,7 +1,6 @@
 //! A server: its socket, its threads, its files, its log and its end.
 
 use crate::disk_line::DiskLog;
-use crate::latch::Unready;
 use crate::loop_handle::{LoopStart, Shared};
 use crate::ready::ReadyLine;
 use crate::turns::run_loop;
@@ -10,8 +9,10 @@ use server_session::{
     Accounts, Begun, LoopBody, LoopsFault, Recorder, Seat, Seated, SharedSession, Start, Trail,
     keep,
 };
-use server_system::{Host, LastLine, ServeFault, Setup, SocketPath};
-use server_trail::{Cause, Journal};
+use server_system::{
+    Host, LastLine, ServeFault, Setup, SocketPath, Unready, cause_of, outcome_of, served,
+};
+use server_trail::Journal;
 use std::alloc::Global;
 use std::io::Write;
 use std::rt::{HostRuntime, Stderr};
@@ -21,15 +22,6 @@ use std::time::{Clock, Duration};
 
 // How many seconds the trail's disk has for the last line before that is told.
 const PATIENCE: u64 = 5;
-
-// The cause that the last line of the trail's file names; None if a fault leaves the file without one.
-fn cause_of(end: End) -> Option<Cause> {
-    match end {
-        End::Quit => Some(Cause::Quit),
-        End::TrailFull => Some(Cause::Full),
-        End::Fault => None,
-    }
-}
 
 /// A server, of which each loop runs in a thread of its own.
 #[derive(Drop)]
@@ -78,17 +70,6 @@ impl<G: Drop, O: Write> Server<'_, G, O> {
         Some(ServeFault::of_trail(self.shared.alloc, journal.path(), fault))
     }
 
-    // How the server ended, after it served. `agrees` says whether every answer stands in the trail.
-    fn outcome(&self, rt: &impl Wait, agrees: bool) -> Result<(), ServeFault> {
-        match (self.shared.over.get().copied(), self.trail_fault(rt)) {
-            (Some(End::Fault) | None, _) => Err(ServeFault::Loop),
-            (Some(End::Quit), _) if !agrees => Err(ServeFault::Trail),
-            (_, Some(fault)) => Err(fault),
-            (Some(End::TrailFull), None) => Err(ServeFault::TrailFull),
-            (Some(End::Quit), None) => Ok(()),
-        }
-    }
-
     // Why a session didn't begin.
     fn fault(&self, fault: LoopsFault) -> ServeFault {
         let alloc = self.shared.alloc;
@@ -107,21 +88,21 @@ impl<G: Gate + Copy + Sync + Drop, O: Write + Send> Server<'_, G, O> {
         rt: &R,
         start: Start<LoopStart>,
     ) -> Result<(), ServeFault> {
-        let kept = keep(rt, start, self);
+        let kept = match keep(rt, start, self) {
+            Ok(agreement) => Ok(agreement.holds()),
+            Err(fault) => Err(self.fault(fault)),
+        };
         self.shared.watched.stop(rt);
         let said = self.ready.said(rt);
         if let (None | Some(Err(_)), Some(journal)) = (&said, &self.journal) {
             journal.remove();
         }
-        match (kept, said) {
-            (Err(fault), _) => Err(self.fault(fault)),
-            (Ok(_), Some(Err(error))) => Err(ServeFault::Untold(error)),
-            (Ok(_), None) => match self.shared.latch.fault(rt) {
-                Some(Unready::NoThread) => Err(ServeFault::NoThread),
-                Some(Unready::NoMemory) | None => Err(ServeFault::NoMemory),
-            },
-            (Ok(agrees), Some(Ok(()))) => self.outcome(rt, agrees),
-        }
+        let agrees = served(kept, said, self.shared.latch.fault(rt))?;
+        outcome_of(
+            self.shared.over.get().copied(),
+            self.trail_fault(rt),
+            agrees,
+        )
     }
 }
 
@@ -149,10 +130,6 @@ where
         };
         self.leave(rt);
         left
-    }
-
-    fn setup(&self) -> &[u8] {
-        &self.setup.file
     }
 
     fn fail(&self, rt: &R) {
@@ -183,7 +160,7 @@ where
                 path: journal.path(),
             };
             let written = journal.write(rt, recorder, &watch);
-            let cause = self.shared.over.get().copied().and_then(cause_of);
+            let cause = cause_of(self.shared.over.get().copied());
             journal.end(rt, recorder, written, cause);
         }
     }

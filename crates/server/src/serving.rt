@@ -188,6 +188,7 @@ where
     let start = Start {
         alloc,
         users,
+        setup: &server.setup.file,
         places,
     };
     server.serve(rt, start)

@@ -8,7 +8,7 @@ use mio::{Events, Poll, Registry, Token};
 use server_loop::{
     Connections, Gate, Loop, News, Pace, Pending, Reads, SessionSeat, Submitted, Writes,
 };
-use server_system::Wired;
+use server_system::{Wired, most_new, sleep_for};
 use std::io;
 use std::io::{ErrorKind, Read, Write};
 use std::sync::Wait;
@@ -21,15 +21,6 @@ pub const WAKE: Token = Token(0);
 pub const LISTEN: Token = Token(1);
 // The connection under key k has the token k + FIRST.
 const FIRST: usize = 2;
-
-// What was refused for want of memory is tried again after this many milliseconds.
-const PAUSE: u64 = 20;
-
-// Connections with a time limit are looked at after this many milliseconds.
-const LOOK: u64 = 1_000;
-
-// At most this many connections wait for their first message, by all loops together.
-const MOST_NEW: usize = 256;
 
 /// What comes to a loop: events of its connections, news, and connections to be taken in.
 #[derive(Drop)]
@@ -79,17 +70,12 @@ impl Inlet<'_> {
 
     // How long to wait for events if the loop itself has this to do.
     fn timeout(&self, pending: Pending) -> Option<Duration> {
-        if pending == Pending::Work || self.has_more() {
-            Some(Duration::ZERO)
-        } else if let Some(longest) = self.pace.longest_sleep(&self.shared.busy) {
-            Some(longest)
-        } else if pending == Pending::Retry || self.is_stuck() {
-            Some(Duration::from_millis(PAUSE))
-        } else if pending == Pending::Patience {
-            Some(Duration::from_millis(LOOK))
-        } else {
-            None
-        }
+        sleep_for(
+            pending == Pending::Work || self.has_more(),
+            pending == Pending::Retry || self.is_stuck(),
+            pending == Pending::Patience,
+            self.pace.longest_sleep(&self.shared.busy),
+        )
     }
 
     // Waits until the loop has something to do. News wake it only while it sleeps.
@@ -101,11 +87,6 @@ impl Inlet<'_> {
         let waited = self.wait(longest);
         self.loop_handle.is_awake();
         waited
-    }
-
-    // How many connections of this loop may wait for their first message.
-    fn share(&self) -> usize {
-        MOST_NEW / self.shared.loop_handles.len().clamp(1, MOST_NEW)
     }
 
     // Hands the connections that wait to the loops, if this loop does so. News that came before this
@@ -148,13 +129,12 @@ fn admit<'a, J: SessionSeat + Drop, G: Gate + Drop>(
     if inlet.is_stuck() {
         own.let_oldest_go(rt, 1);
     }
-    let share = inlet.share();
+    let loops = inlet.shared.loop_handles.len();
     for _ in 0..u64::MAX {
         let Some(handed) = inlet.loop_handle.handed.lock(rt).pop_front() else {
             return;
         };
-        let most = if handed.is_extra { 1 } else { share };
-        own.let_oldest_go(rt, most);
+        own.let_oldest_go(rt, most_new(loops, handed.is_extra));
         let token = Token(own.connections.vacant_key().saturating_add(FIRST));
         if let Ok(wired) = Wired::new(inlet.registry, token, handed.stream) {
             let _ = own.connections.admit(wired, handed.is_extra);

@@ -1,5 +1,4 @@
 pub mod Changing
-pub mod Ending
 pub mod Fullness
 pub mod Lending
 pub mod Life

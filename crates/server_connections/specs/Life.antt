@@ -6,7 +6,7 @@ use Rattle.attach_proto.specs.declared.why.Why.{Why}
 use Rattle.session.specs.Trace.{EventValue, Detach, Closed}
 use Rattle.server_connections.specs.Peers.{is_stranger, is_open, listens}
 use Rattle.server_sending.specs.Written.{ended}
-use Rattle.server_connections.specs.declared.news.Guest.{Guest}
+use Rattle.server_seat.specs.declared.news.Guest.{Guest}
 use Rattle.server_connections.specs.declared.peer.Peer.{Peer}
 use Rattle.server_connections.specs.declared.peer.Role.{Role}
 use Rattle.server_connections.specs.declared.peer.Role.TheVariants as role

@@ -1,7 +1,7 @@
 //! Whether what is typed into a window has to wait.
 
 ghost use Rattle.std.specs.Prelude.{◌≡◌};
-ghost use Rattle.server_connections.specs.Fullness.{fullness_news, full_window, is_stuffed};
+ghost use Rattle.server_connections.specs.Fullness.{fullness_news, full_window, is_stuffed, own_window};
 
 use crate::peer::{Peer, Role};
 
@@ -25,20 +25,29 @@ impl<S: Drop> Peer<S> {
         }
     }
 
-    /// What all loops are to be told of it: the window's serial, and whether what is typed into it has
-    /// to wait.
+    // The window that it is, while it is sent what the session says.
+    fn own_window(&self) -> Option<u32>
+        ensures { result ≡ own_window self.now }
+    {
+        match self.role {
+            Role::Window(window) if self.listens() => Some(window),
+            _ => None,
+        }
+    }
+
+    /// What all loops are to be told of a window: its serial, and whether what is typed into it has to
+    /// wait. Of one that was full they are told once more when it goes.
     pub fn take_fullness(&mut self) -> Option<(u32, bool)>
-        ensures news { result ≡ fullness_news self.old.full (full_window self.old) }
+        ensures news { result ≡ fullness_news self.old.full (full_window self.old) (own_window self.old) }
         ensures full { self.new ≡ record self.old { full = full_window self.old } }
     {
-        let full = match self.role {
-            Role::Window(window) if self.listens() && self.is_stuffed() => Some(window),
-            _ => None,
-        };
-        match (std::mem::replace(&mut self.full, full), full) {
-            (None, Some(window)) => Some((window, true)),
-            (Some(window), None) => Some((window, false)),
-            _ => None,
+        let own = self.own_window();
+        let full = if self.is_stuffed() { own } else { None };
+        let was = std::mem::replace(&mut self.full, full);
+        match (full, was.or(own)) {
+            (Some(window), _) => Some((window, true)),
+            (None, Some(window)) => Some((window, false)),
+            (None, None) => None,
         }
     }
 }

@@ -12,9 +12,9 @@ ghost use Rattle.server_inbox.specs.Asking.{Stands, is_empty};
 ghost use Rattle.server_typing.specs.Typed.{untyped};
 ghost use Rattle.session.specs.Trace.{happening};
 
-use crate::news::Guest;
 use attach_proto::{Reader, Side, Why};
 use server_inbox::{Inbox, Typeahead};
+use server_seat::Guest;
 use server_sending::{Turn, gone_frame};
 use server_users::Shown;
 use session::Event;
@@ -112,7 +112,7 @@ pub struct Peer<S> {
     pub stage: Stage,
     /// How many connections of its loop came before it.
     pub number: u64,
-    /// Its user, once a token was shown.
+    /// Its user, once it was let in.
     pub user: Option<Shown>,
     /// It was taken in though no more are to stay.
     pub is_extra: bool,

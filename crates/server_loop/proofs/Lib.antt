@@ -1,2 +1,7 @@
+mod Begun
 mod Drawn
+mod Dropping
+mod Keys
+mod Passing
+mod Stepping
 mod Telling

@@ -3,17 +3,11 @@ use Rattle.std.specs.Prelude.{◌≡◌, ◌⊎◌, ◌+◌, ◌-◌, ◌<◌, �
 use Rattle.slab.specs.Slab.{get}
 use Rattle.session.specs.Trace.{EventValue, Draw}
 use Rattle.server_connections.specs.Changing.{changed, drawn}
-use Rattle.server_connections.specs.Life.{wanted_draw}
 use Rattle.server_connections.specs.declared.connections.Connections.{Connections}
-use Rattle.server_connections.specs.declared.peer.Peer.{Peer}
+use Rattle.server_steps.specs.Sending.{wanting}
 use Rattle.server_loop.specs.Submitting.{Answer, State}
 
 module _ {S : Type 0} where
-  -- the client of a key whose draw is to be asked for
-  abbrev pub wanting : Option (Peer S) → Option ℕ
-  wanting None = None
-  wanting (Some peer) = wanted_draw peer
-
   -- a draw that was made is noted
   abbrev pub NotesDraw : Answer → ℕ → Connections S → Connections S → Type 0
   NotesDraw (Ok answer) key old new = new ≡ changed drawn key old

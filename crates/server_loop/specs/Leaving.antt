@@ -8,7 +8,7 @@ use Rattle.server_connections.specs.Changing.{asked_to_go, changed, expelled, kn
 use Rattle.server_connections.specs.Life.{given_up, parting}
 use Rattle.server_connections.specs.declared.connections.Connections.{Connections}
 use Rattle.server_connections.specs.declared.peer.Peer.{Peer}
-use Rattle.server_connections.specs.declared.seat.SeatFault.TheVariants as fault
+use Rattle.server_seat.specs.declared.seat.SeatFault.TheVariants as fault
 use Rattle.server_loop.specs.Submitting.{Answer, State}
 
 module _ {S : Type 0} where
@@ -42,6 +42,10 @@ module _ {S J : Type 0} (submits : J → EventValue → Answer → J → Type 0)
   TellsLeaving key old told new = MatchOption (leaving (get old.connections.peers key))
       ((told ≡ true) × (new ≡ old))
       (λ event. LeavesBy event key old told new)
+
+  -- so it was, or there was no memory for it
+  abbrev pub TriesLeaving : ℕ → State S J → State S J → Type 0
+  TriesLeaving key old new = (told : Bool) × TellsLeaving key old told new
 
   -- the connection of a key was changed, and if it left, the session was told so
   abbrev pub Changes : (Peer S → Peer S) → ℕ → State S J → Bool → State S J → Type 0

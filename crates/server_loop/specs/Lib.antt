@@ -1,6 +1,11 @@
+pub mod Beginning
 pub mod Drawing
 pub mod Handing
 pub mod Leaving
 pub mod Naming
 pub mod Obeying
+pub mod Serving
 pub mod Submitting
+pub mod Typing
+pub mod Walking
+pub mod Writing

@@ -1,27 +1,28 @@
 -- What a message of a connection means, and what is done by it.
-use Rattle.std.specs.Prelude.{◌≡◌, ℕ, Bool, List, Option, Some, None, Ok, Err}
-use Rattle.attach_proto.specs.declared.message.Message.{Message}
-use Rattle.attach_proto.specs.declared.message.Message.TheVariants as message
+use Rattle.std.specs.Prelude.{◌≡◌, ◌==◌, ℕ, Bool, List, Option, Some, None, Ok, Err, if◌then◌else◌, length}
 use Rattle.session.specs.Trace.{EventValue, Output}
 use Rattle.server_connections.specs.declared.peer.Peer.{Peer}
 use Rattle.server_connections.specs.declared.peer.Role.{Role}
 use Rattle.server_connections.specs.declared.peer.Role.TheVariants as role
-use Rattle.server_connections.specs.declared.seat.SeatFault.TheVariants as fault
-use Rattle.server_inbox.specs.Asking.{advanced, piece_of}
+use Rattle.server_seat.specs.declared.seat.SeatFault.TheVariants as fault
+use Rattle.server_inbox.specs.Asking.{advanced, piece_of, rest_of}
 use Rattle.server_inbox.specs.declared.asked.Asked.{Asked}
 use Rattle.server_loop.specs.Handing.{Faults, Sent}
 use Rattle.server_loop.specs.Leaving.{Detaches}
 use Rattle.server_loop.specs.Submitting.{Answer, State, Submits}
-use Rattle.server_loop.specs.declared.requests.Meaning.{Meaning}
-use Rattle.server_loop.specs.declared.requests.Meaning.TheVariants as meaning
+use Rattle.server_steps.specs.declared.meaning.Meaning.{Meaning}
+use Rattle.server_steps.specs.declared.meaning.Meaning.TheVariants as meaning
+use Rattle.server_steps.specs.declared.progress.Progress.{Progress}
+use Rattle.server_steps.specs.declared.progress.Progress.TheVariants as progress
 
--- what a message is, by what its connection is to the session
-abbrev pub meaning_of : Role → Message → Meaning
-meaning_of role.Stranger m = meaning.First
-meaning_of (role.Window window) (message.Output bytes) = meaning.Output window
-meaning_of (role.Window window) message.Detach = meaning.Leave
-meaning_of (role.Client client) message.Detach = meaning.Leave
-meaning_of role m = meaning.Misfit
+-- what became of a window's output, of which a step was done
+abbrev pub printed : Asked → Progress
+printed asked = if length (rest_of asked.message asked.done) == 0 then progress.Done else progress.Part
+
+-- a fact of first messages
+abbrev pub OnFirst : Meaning → Type 0 → Type 0
+OnFirst meaning.First fact = fact
+OnFirst other fact = Unit {0}
 
 module _ {S : Type 0} where
   -- what the connection of a key is to the session
@@ -44,10 +45,12 @@ module _ {S J : Type 0} (submits : J → EventValue → Answer → J → Type 0)
       pub step : Submits submits event old answer mid
       pub after : FollowsUp key answer mid new
 
-    -- what was done by a message that isn't a first one
-    abbrev pub ObeysBy : Meaning → ℕ → Asked → Asked → State S J → State S J → Type 0
-    ObeysBy meaning.First key was asked old new = asked ≡ was
-    ObeysBy (meaning.Output window) key was asked old new = (asked ≡ advanced was)
+    -- what was done by a message, and how far it is done; of a first one `Begins` says more
+    abbrev pub ObeysBy : Meaning → ℕ → Asked → Asked → State S J → Progress → State S J → Type 0
+    ObeysBy meaning.First key was asked old far new = asked ≡ was
+    ObeysBy (meaning.Output window) key was asked old far new = (asked ≡ advanced was) × (far ≡ printed asked)
         × SubmitsFor (Output window (piece_of was.message was.done)) key old new
-    ObeysBy meaning.Leave key was asked old new = (asked ≡ was) × Detaches submits key old new
-    ObeysBy meaning.Misfit key was asked old new = (asked ≡ was) × Faults submits takes key old new
+    ObeysBy meaning.Leave key was asked old far new =
+        (asked ≡ was) × (far ≡ progress.Done) × Detaches submits key old new
+    ObeysBy meaning.Misfit key was asked old far new =
+        (asked ≡ was) × (far ≡ progress.Done) × Faults submits takes key old new

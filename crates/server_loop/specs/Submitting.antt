@@ -2,8 +2,8 @@
 use Rattle.std.specs.Prelude.{◌≡◌, Option, Some, None, Result, Ok, Err}
 use Rattle.session.specs.Trace.{EventValue}
 use Rattle.server_connections.specs.declared.connections.Connections.{Connections}
-use Rattle.server_connections.specs.declared.seat.SeatAnswer.{SeatAnswer}
-use Rattle.server_connections.specs.declared.seat.SeatFault.{SeatFault}
+use Rattle.server_seat.specs.declared.seat.SeatAnswer.{SeatAnswer}
+use Rattle.server_seat.specs.declared.seat.SeatFault.{SeatFault}
 use Rattle.server_loop.specs.declared.own.Loop.{Loop}
 
 -- what the session answers

@@ -5,9 +5,10 @@ ghost use Rattle.slab.specs.Slab.{get};
 ghost use Rattle.session.specs.Trace.{happening};
 ghost use Rattle.server_connections.specs.Changing.{changed, told_to_go};
 ghost use Rattle.server_loop.specs.Handing.{Faults, is_open_at};
-ghost use Rattle.server_loop.specs.Leaving.{Detaches, Expels, LeavesBy, Loses, TellsLeaving, leaving};
+ghost use Rattle.server_loop.specs.Leaving.{Detaches, Expels, LeavesBy, Loses, TellsLeaving, TriesLeaving, leaving};
 ghost use Rattle.server_loop.specs.Naming.{NamesNobody};
 ghost use Rattle.server_loop.specs.Submitting.{state_of};
+ghost use Rattle.server_loop.specs.Walking.{VisitsAll};
 
 use crate::own::Loop;
 use attach_proto::Why;
@@ -63,7 +64,9 @@ impl<S: Read + Write + Drop, G: Gate + Drop, J: SessionSeat + Drop> Loop<S, G, J
         }
     }
 
-    pub(crate) fn tell_all_leaving(&mut self, rt: &impl Wait) {
+    pub(crate) fn tell_all_leaving(&mut self, rt: &impl Wait)
+        ensures { VisitsAll (TriesLeaving J.submits) (state_of self.old) (state_of self.new) }
+    {
         each_awake(self, |own, key| {
             let _ = own.tell_leaving(rt, key);
         });

@@ -1,73 +1,52 @@
 //! What peers ask for.
 
-ghost use Rattle.std.specs.Prelude.{◌≡◌, IfSome, None, Contains, length, unwrap_or};
+ghost use Rattle.std.specs.Prelude.{◌≡◌, ℕ, List, IfSome, IsOk, None, Ok, Some, true, Contains, length, unwrap_or};
 ghost use Rattle.slab.specs.Slab.{get};
-ghost use Rattle.acl.specs.Names.{name_of};
+ghost use Rattle.session.specs.Texts.{text_of};
 ghost use Rattle.session.specs.Trace.{Output, happening};
 ghost use Rattle.server_inbox.specs.Asking.{advanced, piece_of};
+ghost use Rattle.server_loop.specs.Beginning.{Answers, Attempts, Begins, BeginsAs, Commands, Ends};
+ghost use Rattle.server_loop.specs.Beginning.{Enters, IsShown, Joins, LetsIn, SendsAway, TurnsAway};
+ghost use Rattle.server_loop.specs.Beginning.{known_of};
 ghost use Rattle.server_loop.specs.Naming.{IsOf, NamesNobody};
-ghost use Rattle.server_loop.specs.Obeying.{FollowsUp, ObeysBy, SubmitsFor, meaning_of, role_at};
+ghost use Rattle.server_loop.specs.Obeying.{FollowsUp, ObeysBy, OnFirst, SubmitsFor, printed, role_at};
 ghost use Rattle.server_loop.specs.Submitting.{state_of};
+ghost use Rattle.server_steps.specs.Meaning.{meaning_of};
 
 use crate::own::Loop;
 use attach_proto::{Message, Text, Token, Why};
 use server_connections::{
-    Asked, End, Guest, GuestKind, Name, News, Role, SeatAnswer, SeatFault, Sending, SessionSeat,
+    Asked, End, GuestKind, Name, News, SeatAnswer, SeatFault, Sending, SessionSeat,
 };
-use server_steps::{Gate, Progress, is_quit};
+use server_steps::{
+    Gate, Meaning, Progress, event_of, guest_of, is_extra, kind_of, make_guest, may_judge,
+    meaning_of, news_of, quits, role_of, shown_in,
+};
 use server_users::{Shown, Users, authenticate};
-use session::{Done, Event, Refusal};
-use std::alloc::{AllocError, Global};
+use session::{Done, Event, Refusal, Reply};
 use std::io::{Read, Write};
 use std::sync::Wait;
 
-const UNKNOWN: &str = "unknown user or wrong token";
+const UNKNOWN: &[u8] = b"unknown user or wrong token";
 
-const NO_ROOM: &str = "the server has no room for more connections";
+const NO_ROOM: &[u8] = b"the server has no room for more connections";
 
-// A connection whose first message is judged: its key, and the user that its token showed.
+// A connection that is to become a client or a window: its key, and the user who showed their token.
 #[derive(Clone, Copy)]
 struct Newcomer {
     key: usize,
     user: Shown,
-}
-
-// What a message is to a loop.
-#[derive(Clone, Copy)]
-enum Meaning {
-    /// The first message of a connection.
-    First,
-    /// Output of the program of this window.
-    Output(u32),
-    /// Its client or window ends.
-    Leave,
-    /// It mustn't be sent.
-    Misfit,
-}
-
-fn meaning_of(role: Role, message: &Message) -> Meaning
-    ensures { result ≡ meaning_of role message.now }
-{
-    match role {
-        Role::Stranger => Meaning::First,
-        Role::Window(window) => match message {
-            Message::Output(_) => Meaning::Output(window),
-            Message::Detach => Meaning::Leave,
-            _ => Meaning::Misfit,
-        },
-        Role::Client(_) => match message {
-            Message::Detach => Meaning::Leave,
-            _ => Meaning::Misfit,
-        },
-    }
+    kind: GuestKind,
 }
 
 impl<S: Read + Write + Drop, G: Gate + Drop, J: SessionSeat + Drop> Loop<S, G, J> {
     /// Does a message of a connection, or a step of it, as what it means.
     pub(crate) fn obey(&mut self, rt: &impl Wait, key: usize, asked: &mut Asked) -> Progress
-        ensures { ObeysBy J.submits J.takes
-            (meaning_of (role_at (get self.old.connections.peers key)) asked.old.message) key
-            asked.old asked.new (state_of self.old) (state_of self.new) }
+        ensures obeys { ObeysBy J.submits J.takes (meaning_of (role_at (get self.old.connections.peers key))
+            asked.old.message) key asked.old asked.new (state_of self.old) result (state_of self.new) }
+        ensures begins { OnFirst (meaning_of (role_at (get self.old.connections.peers key)) asked.old.message)
+            (Begins J.submits J.counts J.uncounts J.takes (known_of J.known self.old) asked.old.message key
+            (state_of self.old) result (state_of self.new)) }
     {
         match meaning_of(self.role_of(key), &asked.message) {
             Meaning::First => self.begin(rt, key, &asked.message),
@@ -94,8 +73,7 @@ impl<S: Read + Write + Drop, G: Gate + Drop, J: SessionSeat + Drop> Loop<S, G, J
         }
     }
 
-    // Submits an event whose answer nobody waits for. A refusal is passed over, unless there was no
-    // memory.
+    // Submits an event whose answer nobody waits for. A refusal is passed over, unless there was no memory.
     pub(crate) fn change(&mut self, rt: &impl Wait, key: usize, event: Event)
         requires { NamesNobody (happening event) }
         ensures { SubmitsFor J.submits J.takes (happening event.entry) key
@@ -123,6 +101,7 @@ impl<S: Read + Write + Drop, G: Gate + Drop, J: SessionSeat + Drop> Loop<S, G, J
             (Output window (piece_of asked.old.message asked.old.done)) key
             (state_of self.old) (state_of self.new) }
         ensures asked { asked.new ≡ advanced asked.old }
+        ensures progress { result ≡ printed asked.new }
     {
         let taken = self.submit_piece(rt, key, window, asked);
         self.reading.output_left = self.reading.output_left.saturating_sub(taken);
@@ -145,11 +124,9 @@ impl<S: Read + Write + Drop, G: Gate + Drop, J: SessionSeat + Drop> Loop<S, G, J
 
     /// The user of this name who showed this token, if it is theirs.
     pub fn user_of(&self, name: &Text, token: &Token) -> Option<Shown>
-        ensures shown { IfSome result (λ shown. (name_of shown.user ≡ name.now)
-            × Contains (unwrap_or self.entry.now.users (J.known self.entry.now.seat))
+        ensures shown { IfSome result (IsShown (known_of J.known self.entry.now).users
             (record { name = name.now; token = token.now })) }
-        ensures none { result ≡ None
-            → ¬ (Contains (unwrap_or self.entry.now.users (J.known self.entry.now.seat))
+        ensures none { result ≡ None → ¬ (Contains (known_of J.known self.entry.now).users
             (record { name = name.now; token = token.now })) }
     {
         match authenticate(self.known(), name.as_str().as_bytes(), token) {
@@ -158,205 +135,188 @@ impl<S: Read + Write + Drop, G: Gate + Drop, J: SessionSeat + Drop> Loop<S, G, J
         }
     }
 
-    // A connection is told why it can't become a guest, and goes.
-    fn turn_away(&mut self, rt: &impl Wait, key: usize, text: &str) {
-        self.send(rt, key, Sending::Say(text.as_bytes()));
+    // A connection is told why it can't stay, and goes.
+    fn turn_away(&mut self, rt: &impl Wait, key: usize, text: &[u8])
+        ensures { TurnsAway J.submits text.now key (state_of self.old) (state_of self.new) }
+    {
+        self.send(rt, key, Sending::Say(text));
         self.dismiss(key, Why::Fault);
     }
 
-    // Whether the users' file was looked at since the connection's first message came.
-    fn may_judge(&self, key: usize) -> bool {
-        let Some(looked) = self.looked else {
-            return true;
-        };
-        let peer = self.connections.get(key);
-        peer.is_some_and(|peer| peer.look.is_some_and(|look| look <= looked))
-    }
-
-    // Judges the first message of a connection.
-    fn begin(&mut self, rt: &impl Wait, key: usize, message: &Message) -> Progress {
-        let (Message::Attach { token, name, .. }
-        | Message::Window { token, name, .. }
-        | Message::Command { token, name, .. }) = message
-        else {
-            self.fault(rt, key);
-            return Progress::Done;
-        };
-        if !self.may_judge(key) {
-            return Progress::Held;
-        }
-        let Some(user) = self.user_of(name, token) else {
-            self.tell(News::WrongToken);
-            self.turn_away(rt, key, UNKNOWN);
-            return Progress::Done;
-        };
-        let is_command = matches!(message, Message::Command { .. });
-        if let Some(peer) = self.connections.touch(key) {
-            peer.user = Some(user);
-            if peer.is_extra && !is_command {
-                self.turn_away(rt, key, NO_ROOM);
-                return Progress::Done;
-            }
-        }
-        self.begin_as(rt, Newcomer { key, user }, message)
-    }
-
-    fn begin_as(&mut self, rt: &impl Wait, newcomer: Newcomer, message: &Message) -> Progress {
-        let user = newcomer.user.user();
-        match message {
-            Message::Attach { rows, columns, .. } => {
-                let event = Event::Attach {
-                    user,
-                    rows: *rows,
-                    columns: *columns,
-                };
-                self.join(rt, newcomer, GuestKind::Client, event)
-            }
-            Message::Window {
-                rows,
-                columns,
-                keep,
-                title,
-                ..
-            } => {
-                let event = Event::Open {
-                    user,
-                    rows: *rows,
-                    columns: *columns,
-                    keep: *keep,
-                    title: title.as_str(),
-                };
-                self.join(rt, newcomer, GuestKind::Window, event)
-            }
-            Message::Command { window, line, .. } => {
-                self.command(rt, newcomer, *window, line.as_slice())
-            }
-            _ => Progress::Done,
-        }
-    }
-
-    // A connection becomes a client or a window, unless its user has as many as a user may have.
-    fn join(
-        &mut self,
-        rt: &impl Wait,
-        newcomer: Newcomer,
-        kind: GuestKind,
-        event: Event,
-    ) -> Progress
-        requires { IsOf newcomer.user.user (happening event) }
+    // A connection is told why its event was refused, and goes.
+    fn refuse(&mut self, rt: &impl Wait, key: usize, refusal: &Refusal)
+        ensures { SendsAway J.submits (text_of refusal.now) key (state_of self.old) (state_of self.new) }
     {
-        let Newcomer { key, user: shown } = newcomer;
-        let user = shown.user();
-        if let Some(most) = self.seat.add(rt, user, kind) {
-            self.say_too_many(rt, newcomer, kind, most);
-            return Progress::Done;
-        }
-        let answer = match self.try_for(rt, shown, event) {
-            Ok(answer) => answer,
-            Err(fault) => {
-                self.dismiss(key, fault.why());
-                self.seat.remove(rt, user, kind);
-                return Progress::Done;
-            }
-        };
-        let Some(answer) = answer else {
-            self.seat.remove(rt, user, kind);
-            return Progress::Held;
-        };
-        match &answer.reply {
-            Ok(done) => self.let_in(rt, newcomer, kind, done),
-            Err(refusal) => {
-                self.say_refusal(rt, key, refusal);
-                self.dismiss(key, Why::Fault);
-                self.seat.remove(rt, user, kind);
-            }
-        }
-        Progress::Done
-    }
-
-    fn let_in(&mut self, rt: &impl Wait, newcomer: Newcomer, kind: GuestKind, done: &Done) {
-        let Newcomer { key, user: shown } = newcomer;
-        let user = shown.user();
-        let (role, number) = match kind {
-            GuestKind::Window => (Role::Window(done.made), u32::from(done.number)),
-            GuestKind::Client => (Role::Client(done.made), done.made),
-        };
-        let guest = Guest { kind, user, number };
-        if let Some(peer) = self.connections.touch(key) {
-            peer.join(role, guest);
-        }
-        self.tell(News::Came(guest));
-        self.send(rt, key, Sending::Message(&Message::Welcome(done.number)));
-    }
-
-    // No effect tells of a `quit` if no window is open and nobody is attached, so its line is read
-    // here too.
-    fn command(
-        &mut self,
-        rt: &impl Wait,
-        newcomer: Newcomer,
-        window: Option<u8>,
-        line: &[u8],
-    ) -> Progress {
-        let Newcomer { key, user: shown } = newcomer;
-        let user = shown.user();
-        let Ok(is_quit) = is_quit(self.alloc, line) else {
-            self.dismiss(key, Why::Fault);
-            return Progress::Done;
-        };
-        match self.try_for(rt, shown, Event::Command { user, window, line }) {
-            Ok(None) => return Progress::Held,
-            Ok(Some(answer)) => self.tell_answer(rt, newcomer, &answer, is_quit),
-            Err(fault) => self.dismiss(key, fault.why()),
-        }
-        Progress::Done
-    }
-
-    // Tells a connection the answer to its command.
-    fn tell_answer(
-        &mut self,
-        rt: &impl Wait,
-        newcomer: Newcomer,
-        answer: &SeatAnswer,
-        is_quit: bool,
-    ) {
-        let Newcomer { key, user: shown } = newcomer;
-        let user = shown.user();
-        self.send(rt, key, Sending::Message(&Message::Welcome(0)));
-        match &answer.reply {
-            Ok(done) => {
-                self.tell(News::Done(user));
-                if let Some(text) = &done.text {
-                    self.send(rt, key, Sending::Say(text.as_slice()));
-                }
-                self.dismiss(key, Why::Detached);
-                if is_quit {
-                    self.end = Some(End::Quit);
-                }
-            }
-            Err(refusal) => {
-                self.tell(News::Refused(user));
-                self.say_refusal(rt, key, refusal);
-                self.dismiss(key, Why::Fault);
-            }
-        }
-    }
-
-    // Tells a connection that its user has as many clients or windows as a user may have.
-    fn say_too_many(&mut self, rt: &impl Wait, newcomer: Newcomer, kind: GuestKind, most: u8) {
-        let Newcomer { key, user: shown } = newcomer;
-        let user = shown.user();
-        let kind = kind.word();
-        match format!(in self.alloc; "too many {kind}s of {}: at most {most}", Name(user)) {
-            Ok(text) => self.turn_away(rt, key, &text),
+        let mut text = Vec::new(self.alloc);
+        match refusal.text(&mut text) {
+            Ok(()) => self.turn_away(rt, key, &text),
             Err(_) => self.dismiss(key, Why::Fault),
         }
     }
 
-    fn say_refusal(&mut self, rt: &impl Wait, key: usize, refusal: &Refusal) {
-        let mut text = Vec::new(self.alloc);
-        if refusal.text(&mut text).is_ok() {
-            self.send(rt, key, Sending::Say(&text));
+    // Judges the first message of a connection.
+    fn begin(&mut self, rt: &impl Wait, key: usize, message: &Message) -> Progress
+        ensures { Begins J.submits J.counts J.uncounts J.takes (known_of J.known self.old)
+            message.now key (state_of self.old) result (state_of self.new) }
+    {
+        let Some((name, token)) = shown_in(message) else {
+            self.fault(rt, key);
+            return Progress::Done;
+        };
+        if !may_judge(self.looked, &self.connections, key) {
+            return Progress::Held;
+        }
+        match self.user_of(name, token) {
+            Some(user) => self.begin_as(rt, key, user, message),
+            None => {
+                self.tell(News::WrongToken);
+                self.turn_away(rt, key, UNKNOWN);
+                Progress::Done
+            }
+        }
+    }
+
+    fn begin_as(&mut self, rt: &impl Wait, key: usize, user: Shown, message: &Message) -> Progress
+        ensures { BeginsAs J.submits J.counts J.uncounts user message.now key
+            (state_of self.old) result (state_of self.new) }
+    {
+        let Some(event) = event_of(user, message) else {
+            return Progress::Done;
+        };
+        match kind_of(message) {
+            Some(kind) => self.join(rt, Newcomer { key, user, kind }, event),
+            None => self.command(rt, key, user, event),
+        }
+    }
+
+    // Tries an event for its user. Without an answer the user has to wait, or the connection is told to go.
+    fn attempt(
+        &mut self,
+        rt: &impl Wait,
+        key: usize,
+        user: Shown,
+        event: Event,
+    ) -> Result<SeatAnswer, Progress>
+        requires { IsOf user.user (happening event) }
+        ensures { Attempts J.submits (happening event.entry) key (state_of self.old) result (state_of self.new) }
+    {
+        match self.try_for(rt, user, event) {
+            Ok(Some(answer)) => Ok(answer),
+            Ok(None) => Err(Progress::Held),
+            Err(fault) => {
+                self.dismiss(key, fault.why());
+                Err(Progress::Done)
+            }
+        }
+    }
+
+    // A connection becomes a client or a window, unless its user has as many as a user may have.
+    fn join(&mut self, rt: &impl Wait, newcomer: Newcomer, event: Event) -> Progress
+        requires { IsOf newcomer.user.user (happening event) }
+        ensures { Joins J.submits J.counts J.uncounts newcomer.user newcomer.kind
+            (happening event.entry) newcomer.key (state_of self.old) result (state_of self.new) }
+    {
+        let Newcomer { key, user, kind } = newcomer;
+        if is_extra(&self.connections, key) {
+            self.turn_away(rt, key, NO_ROOM);
+            return Progress::Done;
+        }
+        if let Some(most) = self.seat.add(rt, user.user(), kind) {
+            self.say_too_many(rt, newcomer, most);
+            return Progress::Done;
+        }
+        match self.attempt(rt, key, user, event) {
+            Ok(answer) => {
+                self.enter(rt, newcomer, &answer.reply);
+                Progress::Done
+            }
+            Err(progress) => {
+                self.seat.remove(rt, user.user(), kind);
+                progress
+            }
+        }
+    }
+
+    // What comes of the answer: the connection becomes a client or a window, or is told why not.
+    fn enter(&mut self, rt: &impl Wait, newcomer: Newcomer, reply: &Reply)
+        ensures { Enters J.submits J.counts J.uncounts newcomer.user newcomer.kind reply.now
+            newcomer.key (state_of self.old) (state_of self.new) }
+    {
+        match reply {
+            Ok(done) => self.let_in(rt, newcomer, done),
+            Err(refusal) => {
+                self.refuse(rt, newcomer.key, refusal);
+                self.seat.remove(rt, newcomer.user.user(), newcomer.kind);
+            }
+        }
+    }
+
+    fn let_in(&mut self, rt: &impl Wait, newcomer: Newcomer, done: &Done)
+        ensures { LetsIn J.submits newcomer.user newcomer.kind done.now newcomer.key
+            (state_of self.old) (state_of self.new) }
+    {
+        let Newcomer { key, user, kind } = newcomer;
+        let guest = guest_of(kind, user, done);
+        make_guest(&mut self.connections, key, user, role_of(kind, done), guest);
+        self.tell(News::Came(guest));
+        let welcome = Message::Welcome(done.number);
+        self.send(rt, key, Sending::Message(&welcome));
+    }
+
+    // No effect tells of a `quit` if no window is open and nobody is attached, so its line is read here too.
+    fn command(&mut self, rt: &impl Wait, key: usize, user: Shown, event: Event) -> Progress
+        requires { IsOf user.user (happening event) }
+        ensures { Commands J.submits (happening event.entry) key (state_of self.old) result (state_of self.new) }
+    {
+        let Ok(is_quit) = quits(self.alloc, event) else {
+            self.dismiss(key, Why::Fault);
+            return Progress::Done;
+        };
+        match self.attempt(rt, key, user, event) {
+            Ok(answer) => {
+                self.tell(news_of(user, &answer.reply));
+                self.tell_answer(rt, key, &answer.reply, is_quit);
+                Progress::Done
+            }
+            Err(progress) => progress,
+        }
+    }
+
+    // Tells a connection what its command lists, and lets it go.
+    fn say_done(&mut self, rt: &impl Wait, key: usize, done: &Done)
+        ensures { Ends J.submits (Ok done.now) key (state_of self.old) (state_of self.new) }
+    {
+        if let Some(text) = &done.text {
+            self.send(rt, key, Sending::Say(text.as_slice()));
+        }
+        self.dismiss(key, Why::Detached);
+    }
+
+    // Tells a connection the answer to its command.
+    fn tell_answer(&mut self, rt: &impl Wait, key: usize, reply: &Reply, is_quit: bool)
+        ensures answers { Answers J.submits reply.now key (state_of self.old) (state_of self.new) }
+        ensures quits { is_quit ≡ true → IsOk reply.now → self.new.end ≡ Some End.Quit }
+    {
+        self.send(rt, key, Sending::Message(&Message::Welcome(0)));
+        match reply {
+            Ok(done) => {
+                self.say_done(rt, key, done);
+                if is_quit {
+                    self.end = Some(End::Quit);
+                }
+            }
+            Err(refusal) => self.refuse(rt, key, refusal),
+        }
+    }
+
+    // Tells a connection that its user has as many clients or windows as a user may have.
+    fn say_too_many(&mut self, rt: &impl Wait, newcomer: Newcomer, most: u8)
+        ensures { (text : List ℕ) × SendsAway J.submits text newcomer.key (state_of self.old) (state_of self.new) }
+    {
+        let (kind, name) = (newcomer.kind.word(), Name(newcomer.user.user()));
+        match format!(in self.alloc; "too many {kind}s of {name}: at most {most}") {
+            Ok(text) => self.turn_away(rt, newcomer.key, text.as_bytes()),
+            Err(_) => self.dismiss(newcomer.key, Why::Fault),
         }
     }
 }

@@ -4,15 +4,19 @@ ghost use Rattle.std.specs.Prelude.{◌≡◌, ◌-◌, Bool, true};
 ghost use Rattle.slab.specs.Slab.{get};
 ghost use Rattle.server_sending.specs.Causes.{told_of};
 ghost use Rattle.server_sending.specs.Frames.{Sends, SendsFront};
-ghost use Rattle.server_loop.specs.Drawing.{Draws, DrawsFrom, DrawsNext, wanting};
+ghost use Rattle.server_loop.specs.Drawing.{Draws, DrawsFrom, DrawsNext};
 ghost use Rattle.server_loop.specs.Handing.{Ends, Hands, HandsAll, HandsFor, HandsOut, SendsTo};
+ghost use Rattle.server_loop.specs.Leaving.{IfBool};
+ghost use Rattle.server_loop.specs.Obeying.{role_at};
 ghost use Rattle.server_loop.specs.Submitting.{state_of};
+ghost use Rattle.server_loop.specs.Walking.{VisitsAll};
+ghost use Rattle.server_loop.specs.Writing.{DropsAt, DropsLaggard, DropsOf, DropsTyped, Writes};
 
 use crate::own::Loop;
 use acl::UserId;
 use attach_proto::{Message, Why};
-use server_connections::{End, Role, SeatFault, Sending, SessionSeat, Stage, each_awake, why_of};
-use server_steps::Gate;
+use server_connections::{End, Role, SeatFault, Sending, SessionSeat, each_awake, why_of};
+use server_steps::{Gate, cut_off, drop_typed, is_laggard, typist_after, wanting, write};
 use session::{Effect, Event, Reason};
 use std::io::{Read, Write};
 use std::sync::Wait;
@@ -91,20 +95,13 @@ impl<S: Read + Write + Drop, G: Gate + Drop, J: SessionSeat + Drop> Loop<S, G, J
         }
     }
 
-    // Puts an effect that a user may have typed into the connection that it is for.
-    fn hand_sent(&mut self, rt: &impl Wait, sent: &(Effect, Option<UserId>))
-        ensures { Hands J.submits sent.now.0 sent.now.1 (state_of self.old) (state_of self.new) }
-    {
-        let (effect, typist) = sent;
-        self.hand_one(rt, effect, *typist);
-    }
-
     // Puts these effects into their connections.
     fn hand_all(&mut self, rt: &impl Wait, effects: &[(Effect, Option<UserId>)])
         ensures { HandsAll J.submits effects.now (state_of self.old) (state_of self.new) }
     {
         'effects: for sent in effects {
-            self.hand_sent(rt, sent);
+            let (effect, typist) = sent;
+            self.hand_one(rt, effect, *typist);
         }
     }
 
@@ -121,45 +118,60 @@ impl<S: Read + Write + Drop, G: Gate + Drop, J: SessionSeat + Drop> Loop<S, G, J
         self.may_have_lost |= is_told;
     }
 
+    // Takes out what a user typed into a window, if they may not type into it any more.
+    fn drop_of(&mut self, rt: &impl Wait, key: usize, window: u32, user: UserId)
+        ensures { DropsOf J.lets_type key window user (state_of self.old) (state_of self.new) }
+    {
+        if self.seat.may_type(rt, user, window) {
+            return;
+        }
+        drop_typed(&mut self.connections, key, user);
+    }
+
     // Takes out of what waits for a window what users typed who may not type into it any more.
-    fn drop_typed(&mut self, rt: &impl Wait, key: usize) {
+    fn drop_typed(&mut self, rt: &impl Wait, key: usize)
+        ensures { DropsTyped J.lets_type (role_at (get self.old.connections.peers key)) key
+            (state_of self.old) (state_of self.new) }
+    {
         let Role::Window(window) = self.role_of(key) else {
             return;
         };
         let mut last = None;
-        for _ in 0..u32::MAX {
-            let peer = self.connections.get(key);
-            let Some(user) = peer.and_then(|peer| peer.turn.typist_after(last)) else {
+        'typists: for _ in 0..u32::MAX {
+            let Some(user) = typist_after(&self.connections, key, last) else {
                 return;
             };
-            if !self.seat.may_type(rt, user, window) {
-                if let Some(peer) = self.connections.touch(key) {
-                    peer.turn.drop_typed(user);
-                }
-            }
+            self.drop_of(rt, key, window, user);
             last = Some(user);
         }
     }
 
     // After a step that may have taken a right, what was typed by those who lost theirs isn't written.
-    pub(crate) fn drop_all_typed(&mut self, rt: &impl Wait) {
-        if self.may_have_lost {
-            self.may_have_lost = false;
-            each_awake(self, |own, key| own.drop_typed(rt, key));
+    pub(crate) fn drop_all_typed(&mut self, rt: &impl Wait)
+        ensures { IfBool self.old.may_have_lost
+            (VisitsAll (DropsAt J.lets_type) (state_of self.old) (state_of self.new))
+            (self.new ≡ self.old) }
+    {
+        if !self.may_have_lost {
+            return;
         }
+        self.may_have_lost = false;
+        each_awake(self, |own, key| own.drop_typed(rt, key));
     }
 
     // Writes what waits for a connection, until it takes no more for now.
-    fn write_to(&mut self, rt: &impl Wait, key: usize) {
-        if let Some(peer) = self.connections.touch(key) {
-            peer.write();
-            if peer.stage == Stage::Closed {
-                let _ = self.tell_leaving(rt, key);
-            }
+    fn write_to(&mut self, rt: &impl Wait, key: usize)
+        ensures { Writes J.submits S.contents key (state_of self.old) (state_of self.new) }
+    {
+        if !write(&mut self.connections, key) {
+            return;
         }
+        let _ = self.tell_leaving(rt, key);
     }
 
-    pub(crate) fn write_all(&mut self, rt: &impl Wait) {
+    pub(crate) fn write_all(&mut self, rt: &impl Wait)
+        ensures { VisitsAll (Writes J.submits S.contents) (state_of self.old) (state_of self.new) }
+    {
         each_awake(self, |own, key| own.write_to(rt, key));
     }
 
@@ -177,22 +189,12 @@ impl<S: Read + Write + Drop, G: Gate + Drop, J: SessionSeat + Drop> Loop<S, G, J
         }
     }
 
-    // The client of a key whose draw is to be asked for.
-    fn wanting(&self, key: usize) -> Option<u32>
-        ensures { result ≡ wanting (get self.entry.now.connections.peers key) }
-    {
-        match self.connections.get(key) {
-            Some(peer) => peer.wants_draw(),
-            None => None,
-        }
-    }
-
     // Asks for the draw of a client if it waits for one, and if this many more may be drawn. Returns how many
     // more may be after it; None if no more may be.
     fn draw_next(&mut self, rt: &impl Wait, key: usize, most: usize) -> Option<usize>
         ensures { DrawsNext J.submits key most (state_of self.old) result (state_of self.new) }
     {
-        let Some(client) = self.wanting(key) else {
+        let Some(client) = wanting(&self.connections, key) else {
             return Some(most);
         };
         if most == 0 {
@@ -242,18 +244,20 @@ impl<S: Read + Write + Drop, G: Gate + Drop, J: SessionSeat + Drop> Loop<S, G, J
     }
 
     // A connection for which too much waits is told so, and closed once it takes no more.
-    fn drop_laggard(&mut self, rt: &impl Wait, key: usize) {
-        let peer = self.connections.get(key);
-        if peer.is_some_and(|peer| peer.is_laggard()) {
-            self.expel(rt, key, Why::TooFarBehind);
-            if let Some(peer) = self.connections.touch(key) {
-                peer.stage = Stage::Cut;
-            }
-            self.write_to(rt, key);
+    fn drop_laggard(&mut self, rt: &impl Wait, key: usize)
+        ensures { DropsLaggard J.submits S.contents key (state_of self.old) (state_of self.new) }
+    {
+        if !is_laggard(&self.connections, key) {
+            return;
         }
+        self.expel(rt, key, Why::TooFarBehind);
+        cut_off(&mut self.connections, key);
+        self.write_to(rt, key);
     }
 
-    pub(crate) fn drop_laggards(&mut self, rt: &impl Wait) {
+    pub(crate) fn drop_laggards(&mut self, rt: &impl Wait)
+        ensures { VisitsAll (DropsLaggard J.submits S.contents) (state_of self.old) (state_of self.new) }
+    {
         each_awake(self, |own, key| own.drop_laggard(rt, key));
     }
 }

@@ -3,10 +3,16 @@
 ghost use Rattle.std.specs.Prelude.{◌≡◌};
 ghost use Rattle.slab.specs.Slab.{get};
 ghost use Rattle.server_loop.specs.Obeying.{role_at};
+ghost use Rattle.server_loop.specs.Serving.{Obeys, ObeysNext, ObeysSome, Steps, StepsOn};
+ghost use Rattle.server_loop.specs.Submitting.{state_of};
+ghost use Rattle.server_loop.specs.Typing.{millis_of};
 
 use crate::own::Loop;
 use server_connections::{Arrival, PIECE, Role, SessionSeat, each_awake};
-use server_steps::{Gate, Progress, Reads, Writes};
+use server_steps::{
+    Gate, Progress, Reads, Writes, drains, go_on, has_asked, is_due_again, is_faulty, is_window,
+    next_asked, put_back, read,
+};
 use std::io::{Read, Write};
 use std::sync::Wait;
 
@@ -31,97 +37,80 @@ impl<S: Read + Write + Drop, G: Gate + Drop, J: SessionSeat + Drop> Loop<S, G, J
         }
     }
 
-    fn is_window(&self, key: usize) -> bool {
-        matches!(self.role_of(key), Role::Window(_))
-    }
-
-    // Whether a connection has something to do. What was held is tried again.
-    fn is_due_at(&mut self, key: usize) -> bool {
-        let peer = self.connections.touch(key);
-        peer.is_some_and(|peer| peer.is_due_again())
-    }
-
     // Does the message of a connection that comes next, or a step of it, if there is one.
-    fn obey_next(&mut self, rt: &impl Wait, key: usize) -> Option<Progress> {
-        let peer = self.connections.touch(key)?;
-        let mut asked = peer.next_asked()?;
+    fn obey_next(&mut self, rt: &impl Wait, key: usize) -> Option<Progress>
+        ensures { ObeysNext J.submits J.takes key (state_of self.old) result (state_of self.new) }
+    {
+        let Some(mut asked) = next_asked(&mut self.connections, key) else {
+            return None;
+        };
         let progress = self.obey(rt, key, &mut asked);
-        if progress != Progress::Done {
-            if let Some(peer) = self.connections.touch(key) {
-                peer.inbox.put_back(asked);
-            }
-        }
+        put_back(&mut self.connections, key, asked, progress);
         Some(progress)
     }
 
+    // Does what a connection asked for first, or a step of it: a client's keys and sizes come before its
+    // messages.
+    fn obey_first(&mut self, rt: &impl Wait, key: usize) -> Option<Progress>
+        ensures { Obeys J.submits J.takes J.finds_full J.lets_type
+            (role_at (get self.old.connections.peers key)) (millis_of self.old.now) key
+            (state_of self.old) result (state_of self.new) }
+    {
+        match self.role_of(key) {
+            Role::Client(client) => match self.typed(rt, key, client) {
+                Some(progress) => Some(progress),
+                None => self.obey_next(rt, key),
+            },
+            Role::Stranger => self.obey_next(rt, key),
+            Role::Window(_) => self.obey_next(rt, key),
+        }
+    }
+
+    // Does something that a connection asked for, if it may be done now. Returns whether to go on.
+    fn obey_step(&mut self, rt: &impl Wait, key: usize) -> bool
+        ensures { Steps J.submits J.takes J.finds_full J.lets_type key self.old result self.new }
+    {
+        if self.reading.output_left == 0 && is_window(&self.connections, key) {
+            return false;
+        }
+        let progress = self.obey_first(rt, key);
+        go_on(&mut self.connections, key, progress)
+    }
+
+    // Does so much of what a connection asked for that the others have their turn.
+    fn obey_steps(&mut self, rt: &impl Wait, key: usize)
+        ensures { StepsOn J.submits J.takes J.finds_full J.lets_type 8 key self.old self.new }
+    {
+        'steps: for _ in 0..STEPS {
+            if !self.obey_step(rt, key) {
+                return;
+            }
+        }
+    }
+
     // Does some of what a connection asked for. Returns whether all of it is done.
-    fn obey_some(&mut self, rt: &impl Wait, key: usize) -> bool {
-        for _ in 0..STEPS {
-            if self.reading.output_left == 0 && self.is_window(key) {
-                break;
-            }
-            let typed = match self.role_of(key) {
-                Role::Client(client) => self.typed(rt, key, client),
-                _ => None,
-            };
-            let progress = match typed {
-                Some(progress) => progress,
-                None => match self.obey_next(rt, key) {
-                    Some(progress) => progress,
-                    None => break,
-                },
-            };
-            if progress == Progress::Held {
-                if let Some(peer) = self.connections.touch(key) {
-                    peer.is_held = true;
-                }
-                break;
-            }
-        }
-        let peer = self.connections.get(key);
-        if peer.is_some_and(|peer| peer.is_faulty()) {
-            self.fault(rt, key);
-        }
-        !self.has_asked(key)
-    }
-
-    fn has_asked(&self, key: usize) -> bool {
-        let peer = self.connections.get(key);
-        peer.is_some_and(|peer| peer.has_asked())
-    }
-
-    // Reads a connection once, if more of it is to be read.
-    fn read_at(&mut self, key: usize) -> Arrival {
-        let now = self.millis();
-        match self.connections.touch(key) {
-            Some(peer) => peer.read(self.reading.buffer.as_mut_slice(), now),
-            None => Arrival::Nothing,
-        }
-    }
-
-    // Whether more of windows' output was done in this turn than one step takes.
-    fn has_done_much(&self) -> bool {
-        self.reading.output_left < OUTPUT - PIECE
-    }
-
-    // A connection sent much. It isn't a flood if that is dropped.
-    fn note_much(&mut self, key: usize) {
-        let peer = self.connections.get(key);
-        if !peer.is_some_and(|peer| peer.inbox.typed.drains()) {
-            self.reading.has_much = true;
-        }
+    fn obey_some(&mut self, rt: &impl Wait, key: usize) -> bool
+        ensures { ObeysSome J.submits J.takes J.finds_full J.lets_type key self.old result self.new }
+    {
+        self.obey_steps(rt, key);
+        let faulty = is_faulty(&self.connections, key);
+        self.fault_if(rt, key, faulty);
+        !has_asked(&self.connections, key)
     }
 
     // Reads what a connection sent, once all that it asked for before is done or is late, and does some
     // of it.
     fn serve(&mut self, rt: &impl Wait, key: usize) {
         for _ in 0..READS {
-            let arrival = self.read_at(key);
+            let now = self.millis();
+            let buffer = self.reading.buffer.as_mut_slice();
+            let arrival = read(&mut self.connections, key, buffer, now);
             match arrival {
                 Arrival::Some => {}
-                Arrival::Much => self.note_much(key),
+                // It isn't a flood if it is dropped.
+                Arrival::Much => self.reading.has_much |= !drains(&self.connections, key),
                 Arrival::Nothing => {
-                    if !self.has_asked(key) {
+                    if !has_asked(&self.connections, key) {
                         return;
                     }
                 }
@@ -131,7 +120,8 @@ impl<S: Read + Write + Drop, G: Gate + Drop, J: SessionSeat + Drop> Loop<S, G, J
                 }
             }
             let is_done = self.obey_some(rt, key);
-            if self.is_window(key) && (!is_done || self.has_done_much()) {
+            let has_done_much = self.reading.output_left < OUTPUT - PIECE;
+            if is_window(&self.connections, key) && (!is_done || has_done_much) {
                 self.reading.has_much = true;
             }
             if !is_done || arrival == Arrival::Much {
@@ -142,7 +132,10 @@ impl<S: Read + Write + Drop, G: Gate + Drop, J: SessionSeat + Drop> Loop<S, G, J
 
     // A window has its turn if output may still be done.
     fn serve_window(&mut self, rt: &impl Wait, key: usize) {
-        if self.reading.output_left > 0 && self.is_window(key) && self.is_due_at(key) {
+        if self.reading.output_left > 0
+            && is_window(&self.connections, key)
+            && is_due_again(&mut self.connections, key)
+        {
             self.reading.next = key.saturating_add(1);
             self.serve(rt, key);
         }
@@ -150,7 +143,7 @@ impl<S: Read + Write + Drop, G: Gate + Drop, J: SessionSeat + Drop> Loop<S, G, J
 
     // A client or a stranger has its turn.
     fn serve_other(&mut self, rt: &impl Wait, key: usize) {
-        if !self.is_window(key) && self.is_due_at(key) {
+        if !is_window(&self.connections, key) && is_due_again(&mut self.connections, key) {
             self.serve(rt, key);
         }
     }

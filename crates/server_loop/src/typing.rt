@@ -1,8 +1,17 @@
 //! What clients type, and how large their terminals are.
 
+ghost use Rattle.std.specs.Prelude.{◌≡◌};
+ghost use Rattle.server_loop.specs.Submitting.{state_of};
+ghost use Rattle.server_loop.specs.Typing.{FaultsIf, Judges, JudgesKeys, JudgesOrWaits, MustWait, Resizes};
+ghost use Rattle.server_loop.specs.Typing.{Stops, TellsDropped, Types, TypesOn, millis_of};
+
 use crate::own::Loop;
-use server_connections::{SeatFault, Sending, SessionSeat};
-use server_steps::{Gate, Progress, settle, window_after};
+use server_connections::{Sending, SessionSeat};
+use server_steps::{
+    Gate, Gathered, Progress, Target, answer_keys, free_keys, free_strayed, gather, has_keys,
+    hold_keys, idle_at, is_refused, next_size, take_keys, take_news, target_at, user_at,
+};
+use server_users::Shown;
 use session::Event;
 use std::io::{Read, Write};
 use std::sync::Wait;
@@ -11,134 +20,152 @@ const DROPPED: &str = "keys were dropped: they waited for a second";
 
 impl<S: Read + Write + Drop, G: Gate + Drop, J: SessionSeat + Drop> Loop<S, G, J> {
     // The time of this turn in milliseconds.
-    pub(crate) fn millis(&self) -> u64 {
+    pub(crate) fn millis(&self) -> u64
+        ensures { result ≡ millis_of self.entry.now.now }
+    {
         u64::try_from(self.now.as_millis()).unwrap_or(u64::MAX)
     }
 
     // Does what a client's next keys and sizes ask for: a step of them, unless it has to wait. None if
     // there are none.
-    pub(crate) fn typed(&mut self, rt: &impl Wait, key: usize, client: u32) -> Option<Progress> {
+    pub(crate) fn typed(&mut self, rt: &impl Wait, key: usize, client: u32) -> Option<Progress>
+        ensures { Types J.submits J.takes J.finds_full J.lets_type (millis_of self.old.now) key client
+            (state_of self.old) result (state_of self.new) }
+    {
         let now = self.millis();
-        let peer = self.connections.touch(key)?;
-        if !peer.stage.is_open() {
-            return None;
+        match gather(&mut self.connections, key, now) {
+            Gathered::Shut => None,
+            Gathered::NoMemory => {
+                self.fault(rt, key);
+                Some(Progress::Done)
+            }
+            Gathered::More => self.type_on(rt, key, client, false),
+            Gathered::All => self.type_on(rt, key, client, true),
         }
-        let Ok(is_through) = peer.gather(now) else {
-            self.fault(rt, key);
-            return Some(Progress::Done);
-        };
-        self.resize(rt, key, client);
-        self.say_dropped(rt, key);
-        let peer = self.connections.touch(key)?;
-        let waits = peer.inbox.sizing.wanted.is_some() || peer.inbox.typed.drains();
-        let progress = if !peer.inbox.typed.is_empty() {
-            self.judge_or_wait(rt, key, client)
-        } else if waits && !peer.inbox.has_messages() {
-            Progress::Held
-        } else if is_through {
-            return None;
-        } else {
-            Progress::Part
-        };
-        // What waits doesn't keep more from being taken in.
-        Some(if progress == Progress::Held && !is_through {
-            Progress::Part
-        } else {
-            progress
-        })
+    }
+
+    // Does what a client's keys and sizes ask for that were taken in: all that came next, or some.
+    fn type_on(&mut self, rt: &impl Wait, key: usize, client: u32, all: bool) -> Option<Progress>
+        ensures { TypesOn J.submits J.takes J.finds_full J.lets_type (millis_of self.old.now) key client
+            all (state_of self.old) result (state_of self.new) }
+    {
+        let now = self.millis();
+        self.resize(rt, key, client, now);
+        self.say_dropped(rt, key, now);
+        if !has_keys(&self.connections, key) {
+            return idle_at(&self.connections, key, all);
+        }
+        let progress = self.judge_or_wait(rt, key, client);
+        Some(progress.unless_more(all))
     }
 
     // Tells the session the last size that a client told, if it may change now.
-    fn resize(&mut self, rt: &impl Wait, key: usize, client: u32) {
-        let now = self.millis();
-        let peer = self.connections.touch(key);
-        if let Some((rows, columns)) = peer.and_then(|peer| peer.inbox.sizing.next(now)) {
-            let event = Event::Resize {
-                client,
-                rows,
-                columns,
-            };
-            self.change(rt, key, event);
+    fn resize(&mut self, rt: &impl Wait, key: usize, client: u32, now: u64)
+        ensures { Resizes J.submits J.takes now key client (state_of self.old) (state_of self.new) }
+    {
+        if let Some((rows, columns)) = next_size(&mut self.connections, key, now) {
+            self.change(
+                rt,
+                key,
+                Event::Resize {
+                    client,
+                    rows,
+                    columns,
+                },
+            );
         }
     }
 
     // Tells a client that keys of it were dropped, at most once a second.
-    fn say_dropped(&mut self, rt: &impl Wait, key: usize) {
-        let now = self.millis();
-        let peer = self.connections.touch(key);
-        if peer.is_some_and(|peer| peer.inbox.typed.take_news(now)) {
+    fn say_dropped(&mut self, rt: &impl Wait, key: usize, now: u64)
+        ensures { TellsDropped J.submits now key (state_of self.old) (state_of self.new) }
+    {
+        if take_news(&mut self.connections, key, now) {
             self.send(rt, key, Sending::Say(DROPPED.as_bytes()));
         }
     }
 
-    // Whether the keys that wait have to wait on, since the window that they are for takes no more for now.
-    // Those that begin a command don't wait. If their user may not type any more, none wait.
-    fn must_wait(&mut self, rt: &impl Wait, key: usize) -> bool {
-        let Some(peer) = self.connections.touch(key) else {
-            return false;
-        };
-        let (Some(window), Some(shown)) = (peer.types_into, peer.user) else {
-            return false;
-        };
-        let typed = &mut peer.inbox.typed;
-        let is_full = !typed.begins_command() && self.seat.is_full(rt, window);
-        if !is_full && !typed.is_held() {
+    // Whether the window that keys are for takes no more for now. Those that begin a command don't wait for that.
+    fn is_stopped(&self, rt: &impl Wait, target: Target) -> bool
+        ensures { Stops J.finds_full target self.entry.now.seat result }
+    {
+        if target.begins_command {
             return false;
         }
-        if !self.seat.may_type(rt, shown.user(), window) {
-            typed.let_go();
+        self.seat.is_full(rt, target.window)
+    }
+
+    // Whether the keys that wait have to wait on. If their user may not type any more, none wait.
+    fn must_wait(&mut self, rt: &impl Wait, key: usize) -> bool
+        ensures waits { MustWait J.finds_full J.lets_type key (state_of self.old) result
+            (state_of self.new) }
+        ensures same { self.new ≡ record self.old { connections = self.new.connections } }
+    {
+        let Some(target) = target_at(&self.connections, key) else {
+            return false;
+        };
+        let is_full = self.is_stopped(rt, target);
+        if !target.is_asked(is_full) {
+            return false;
+        }
+        if !self.seat.may_type(rt, target.user.user(), target.window) {
+            free_keys(&mut self.connections, key);
             return false;
         }
         if is_full {
-            typed.hold();
+            hold_keys(&mut self.connections, key);
         }
         is_full
     }
 
     // Does a step of the keys that wait, unless they have to wait on. Keys that were held and can't be done
     // are as old as they are if it isn't known where they go.
-    fn judge_or_wait(&mut self, rt: &impl Wait, key: usize, client: u32) -> Progress {
+    fn judge_or_wait(&mut self, rt: &impl Wait, key: usize, client: u32) -> Progress
+        ensures { JudgesOrWaits J.submits J.takes J.finds_full J.lets_type self.old.rations self.old.now
+            key client (state_of self.old) result (state_of self.new) }
+    {
         if self.must_wait(rt, key) {
             return Progress::Held;
         }
         let progress = self.judge(rt, key, client);
-        if let Some(peer) = self.connections.touch(key) {
-            if progress == Progress::Held && peer.types_into.is_none() {
-                peer.inbox.typed.let_go();
-            }
-        }
+        free_strayed(&mut self.connections, key, progress);
         progress
     }
 
     // Submits a step of the keys that wait, if their user may cause one more entry. It judges them up to
     // the first command; the rest is the next step's.
-    fn judge(&mut self, rt: &impl Wait, key: usize, client: u32) -> Progress {
-        let (alloc, now) = (self.alloc, self.now);
-        let peer = self.connections.get(key);
-        let Some(shown) = peer.and_then(|peer| peer.user) else {
+    fn judge(&mut self, rt: &impl Wait, key: usize, client: u32) -> Progress
+        ensures { Judges J.submits J.takes self.old.rations self.old.now key client
+            (state_of self.old) result (state_of self.new) }
+    {
+        let Some(shown) = user_at(&self.connections, key) else {
             return Progress::Done;
         };
-        if !self.rations.may(shown.user(), now) {
+        if !self.rations.may(shown.user(), self.now) {
             return Progress::Held;
         }
-        let mut typed = match self.connections.touch(key) {
-            Some(peer) => peer.take_keys(alloc),
-            None => return Progress::Done,
-        };
+        self.judge_for(rt, key, client, shown)
+    }
+
+    // Submits the keys that wait for a user who showed their token.
+    fn judge_for(&mut self, rt: &impl Wait, key: usize, client: u32, shown: Shown) -> Progress
+        ensures { JudgesKeys J.submits J.takes key client (state_of self.old) result (state_of self.new) }
+    {
+        let typed = take_keys(self.alloc, &mut self.connections, key);
         let bytes = typed.keys();
         let answer = self.try_for(rt, shown, Event::Keys { client, bytes });
-        let into = window_after(bytes, &answer);
-        let progress = settle(&mut typed, &answer);
+        let progress = answer_keys(&mut self.connections, key, typed, &answer);
         self.reading.has_typed |= progress != Progress::Held;
-        if let Err(SeatFault::NoMemory) = answer {
+        self.fault_if(rt, key, is_refused(&answer));
+        progress
+    }
+
+    // If there was no memory for a step, its connection is told to go.
+    pub(crate) fn fault_if(&mut self, rt: &impl Wait, key: usize, is_refused: bool)
+        ensures { FaultsIf J.submits J.takes is_refused key (state_of self.old) (state_of self.new) }
+    {
+        if is_refused {
             self.fault(rt, key);
         }
-        if let Some(peer) = self.connections.touch(key) {
-            peer.inbox.typed = typed;
-            if progress != Progress::Held {
-                peer.types_into = into;
-            }
-        }
-        progress
     }
 }

@@ -1,5 +1,5 @@
 -- A submit makes one step for its seat, and hands it nothing.
-use Rattle.std.proofs.Common.{◌≡◌, ◌+◌, ◌%◌, ◌^◌, ℕ, Option, Some, None, ap}
+use Rattle.std.proofs.Common.{◌≡◌, ◌+◌, ◌%◌, ◌^◌, Option, Some, None, ap}
 use Rattle.session.specs.Trace.{EventValue}
 use Rattle.hub.specs.kept.Kept.{Kept}
 use Rattle.hub.specs.Filing.{kept_of}

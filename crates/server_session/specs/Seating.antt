@@ -2,8 +2,8 @@
 use Rattle.std.specs.Prelude.{◌≡◌, Result, Ok, Err}
 use Rattle.session.specs.Trace.{EventValue}
 use Rattle.hub.specs.Seats.{Answers, Sitting, Told}
-use Rattle.server_connections.specs.declared.seat.SeatAnswer.{SeatAnswer}
-use Rattle.server_connections.specs.declared.seat.SeatFault.{SeatFault}
+use Rattle.server_seat.specs.declared.seat.SeatAnswer.{SeatAnswer}
+use Rattle.server_seat.specs.declared.seat.SeatFault.{SeatFault}
 use Rattle.server_session.specs.Outcomes.{outcome_of}
 
 -- The hub answered this event by one step for the seat, and this is what the loop is told of it.

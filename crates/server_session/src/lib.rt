@@ -3,7 +3,8 @@
 #![tactic(auto)]
 
 mod accounts;
-mod full_windows;
+mod closing;
+mod loads;
 mod loop_body;
 mod seated;
 mod setting_up;
@@ -11,6 +12,7 @@ mod shared_session;
 mod trail_size;
 
 pub use accounts::{Accounts, Limits};
+pub use closing::Agreement;
 pub use hub::{Begun, Seat, Trail};
 pub use loop_body::{LoopBody, LoopsFault, Start, keep};
 pub use seated::Seated;

@@ -1,11 +1,13 @@
 //! The loops that share a session, each in a thread of its own.
 
-ghost use Rattle.std.specs.Prelude.{◌≡◌, ◌<◌, ◌≤◌, IfOk};
+ghost use Rattle.std.specs.Prelude.{◌≡◌, ◌<◌, ◌≤◌, IfOk, length};
 ghost use Rattle.acl.specs.declared.edition.Edition.TheVariants.{Second};
 ghost use Rattle.session.specs.Trace.{begun as run_begun};
 ghost use Rattle.hub.specs.Seats.{StandsFor};
+ghost use Rattle.server_session.specs.SettingUp.{HasBegun};
 
-use crate::setting_up::set_up;
+use crate::closing::{Agreement, close};
+use crate::setting_up::{Giver, set_up};
 use crate::shared_session::SharedSession;
 use acl::UserId;
 use hub::{Begun, Hub, Seat, Session, Trail};
@@ -40,12 +42,6 @@ impl From<AllocError> for LoopsFault {
     }
 }
 
-impl From<SetupFault> for LoopsFault {
-    fn from(fault: SetupFault) -> LoopsFault {
-        LoopsFault::Setup(fault)
-    }
-}
-
 /// Runs the loops. Each is given a place of type `P` to begin with.
 pub trait LoopBody<P: Drop, R> {
     /// Runs one loop to its end, and gives its seat back if it ended well.
@@ -56,11 +52,6 @@ pub trait LoopBody<P: Drop, R> {
         seat: Seat<L>,
         place: P,
     ) -> Option<Seat<L>>;
-
-    /// The file with the owner's commands that are given before anybody connects.
-    fn setup(&self) -> &[u8] {
-        &[]
-    }
 
     /// The system refused a loop its thread.
     fn fail(&self, rt: &R);
@@ -80,11 +71,13 @@ pub trait LoopBody<P: Drop, R> {
     fn compare(&self, _rt: &R, _trail: &Trail) {}
 }
 
-/// What a session begins with: who may connect, and a place for each loop.
+/// What a session begins with: who may connect, the file with the commands that are given before anybody
+/// does, and a place for each loop.
 #[derive(Drop)]
-pub struct Start<P: Drop> {
+pub struct Start<'a, P: Drop> {
     pub alloc: Global,
     pub users: Users,
+    pub setup: &'a [u8],
     pub places: Vec<P>,
 }
 
@@ -151,24 +144,13 @@ fn new_session<L: Begun>(alloc: Global, owner: UserId) -> Result<Session, Refusa
     Session::new(alloc, owner)
 }
 
-// What writes the session's trail to a file, if there is one. The seats ask for entries in any case,
-// since an entry tells what came of a step.
-fn recorder<L, P, K, R>(
-    rt: &R,
-    alloc: Global,
-    seats: &mut [Seat<L>],
-    loop_body: &K,
-) -> Option<Recorder>
+// What writes the session's trail to a file, if there is one.
+fn recorder<P, K, R>(rt: &R, alloc: Global, loops: usize, loop_body: &K) -> Option<Recorder>
 where
-    L: Begun,
     P: Drop,
     K: LoopBody<P, R>,
     R: Clock,
 {
-    let loops = seats.len();
-    for seat in seats {
-        seat.ask_for_entries();
-    }
     let recorder = loop_body.recorder(alloc, loops)?;
     recorder.set_time(rt);
     Some(recorder)
@@ -188,6 +170,7 @@ fn begin<L, P, K, R>(
     rt: &R,
     parts: Parts,
     users: Users,
+    setup: &[u8],
     loop_body: &K,
 ) -> Result<(RunningSession<L>, Vec<Seat<L>>), LoopsFault>
 where
@@ -198,6 +181,8 @@ where
     requires blank { (parts.blank.name ≡ L.name) × (parts.blank.parts ≡ L.parts)
         × (parts.loops ≡ L.parts) × (0 < parts.loops) × (parts.loops ≤ 8) }
     requires session { (L.edition ≡ Second) × (L.owner ≡ parts.owner) }
+    ensures seats { IfOk result (λ made. length made.1.items ≡ L.parts) }
+    ensures set_up { IfOk result (λ made. HasBegun parts.owner setup.now made.1.items) }
 {
     let Parts {
         alloc,
@@ -213,16 +198,17 @@ where
     let Ok((hub, mut seats)) = Hub::<L>::new(alloc, blank, session, loops) else {
         return Err(LoopsFault::NoMemory);
     };
-    let recorder = recorder::<L, P, K, R>(rt, alloc, seats.as_mut_slice(), loop_body);
     let shared = SharedSession {
         hub,
         users,
-        recorder,
+        recorder: recorder::<P, K, R>(rt, alloc, loops, loop_body),
     };
-    if let Some(seat) = seats.first_mut() {
-        set_up(rt, alloc, &shared, seat, loop_body.setup())?;
+    let first = &mut seats[0];
+    first.ask_for_entries();
+    match set_up(rt, Giver { alloc, owner }, &shared, first, setup) {
+        Ok(()) => Ok((RunningSession { shared, left }, seats)),
+        Err(fault) => Err(fault),
     }
-    Ok((RunningSession { shared, left }, seats))
 }
 
 fn keep_as<L, P, K, R>(
@@ -230,7 +216,7 @@ fn keep_as<L, P, K, R>(
     parts: Parts,
     start: Start<P>,
     loop_body: &K,
-) -> Result<bool, LoopsFault>
+) -> Result<Agreement, LoopsFault>
 where
     L: Begun + Send + Sync,
     P: Send + Drop,
@@ -240,19 +226,24 @@ where
         × (parts.loops ≡ L.parts) × (0 < parts.loops) × (parts.loops ≤ 8) }
     requires session { (L.edition ≡ Second) × (L.owner ≡ parts.owner) }
 {
-    let Start { users, places, .. } = start;
-    let (running, seats) = begin::<L, P, K, R>(rt, parts, users, loop_body)?;
+    let Start {
+        users,
+        setup,
+        places,
+        ..
+    } = start;
+    let (running, seats) = begin::<L, P, K, R>(rt, parts, users, setup, loop_body)?;
     run_all(rt, &running, seats, places, loop_body);
     let RunningSession { shared, left } = running;
     let SharedSession { hub, .. } = shared;
-    let (trail, wrong) = hub.close(left.into_inner());
+    let (trail, agreement) = close(hub, left.into_inner());
     loop_body.compare(rt, &trail);
-    Ok(wrong.is_none())
+    Ok(agreement)
 }
 
 /// Keeps a new session: runs a loop for each of 1 to 8 places, each in a thread of its own, until all
 /// have ended. The answer is whether every answer that a loop was given stands in the session's trail.
-pub fn keep<P, K, R>(rt: &R, start: Start<P>, loop_body: &K) -> Result<bool, LoopsFault>
+pub fn keep<P, K, R>(rt: &R, start: Start<P>, loop_body: &K) -> Result<Agreement, LoopsFault>
 where
     P: Send + Drop,
     K: LoopBody<P, R> + Sync,

@@ -1,17 +1,19 @@
 //! A loop's seat in the session that it shares.
 
-ghost use Rattle.std.specs.Prelude.{◌≡◌};
+ghost use Rattle.std.specs.Prelude.{◌≡◌, true};
+ghost use Rattle.session.specs.Trace.{happening};
 ghost use Rattle.hub.specs.Seats.{with_handed};
+ghost use Rattle.server_session.specs.Loading.{closed_by, opened_by, size_of};
 ghost use Rattle.server_session.specs.Outcomes.{checked, outcome_of};
 ghost use Rattle.server_session.specs.Seating.{Steps};
 
 use crate::accounts::Accounts;
 use crate::shared_session::SharedSession;
 use acl::UserId;
-use hub::{Begun, HubFault, Seat};
-use server_connections::{End, GuestKind, SeatAnswer, SeatFault, SessionSeat};
+use hub::{Answer, Begun, HubFault, Seat};
+use server_seat::{End, GuestKind, SeatAnswer, SeatFault, SessionSeat};
 use server_users::{Outcome, Users};
-use session::{Effect, Event, Refusal, Reply};
+use session::{Effect, Event, Peer, Refusal, Reply};
 use std::sync::Wait;
 use std::time::{Clock, Duration};
 
@@ -40,6 +42,37 @@ fn outcome_of(reply: &Reply, checks: Option<bool>, execute: bool) -> Outcome
     }
 }
 
+// The most bytes that an event's step types.
+fn size_of(event: Event) -> usize
+    ensures { result ≡ size_of (happening event.entry) }
+{
+    match event {
+        Event::Keys { bytes, .. } => bytes.len(),
+        Event::Command { line, .. } => line.len(),
+        _ => 0,
+    }
+}
+
+// The window that an event opened.
+fn opened_by(event: Event, reply: &Reply) -> Option<u32>
+    ensures { result ≡ opened_by (happening event.entry) reply.now }
+{
+    match (event, reply) {
+        (Event::Open { .. }, Ok(done)) => Some(done.made),
+        _ => None,
+    }
+}
+
+// The window that is gone by an effect.
+fn closed_by(effect: &Effect) -> Option<u32>
+    ensures { result ≡ closed_by effect.now }
+{
+    match effect {
+        Effect::Gone(Peer::Window(window), _) => Some(*window),
+        _ => None,
+    }
+}
+
 /// A seat in a session, with the session and its users' accounts.
 #[derive(Drop)]
 pub struct Seated<'a, L: Begun> {
@@ -49,11 +82,15 @@ pub struct Seated<'a, L: Begun> {
 }
 
 impl<'a, L: Begun> Seated<'a, L> {
+    /// A seat in this session, which asks for entries: an entry tells what came of a step.
     pub fn new(
         shared: &'a SharedSession<L>,
         accounts: &'a Accounts,
-        seat: Seat<L>,
-    ) -> Seated<'a, L> {
+        mut seat: Seat<L>,
+    ) -> Seated<'a, L>
+        ensures { result.seat ≡ record seat { asks = true } }
+    {
+        seat.ask_for_entries();
         Seated {
             shared,
             accounts,
@@ -62,8 +99,20 @@ impl<'a, L: Begun> Seated<'a, L> {
     }
 
     /// The seat, once its loop is over.
-    pub fn into_inner(self) -> Seat<L> {
+    pub fn into_inner(self) -> Seat<L>
+        ensures { result ≡ self.entry.seat }
+    {
         self.seat
+    }
+
+    // Counts what an answered event typed. A window that it opened is counted from now on.
+    fn count(&self, rt: &impl Wait, answer: &Answer) {
+        if let Some(window) = answer.typed() {
+            self.accounts.type_in(rt, window, size_of(answer.event()));
+        }
+        if let Some(window) = opened_by(answer.event(), answer.reply()) {
+            self.accounts.open(rt, window);
+        }
     }
 }
 
@@ -75,6 +124,15 @@ impl<L: Begun> SessionSeat for Seated<'_, L> {
 
     // The hub handed these effects to this seat.
     ghost takes = { λ s effects told left. left.seat ≡ with_handed effects told s.seat };
+
+    // A lock hides the rest.
+    ghost lets_type = { λ s user window may. Unit {0} };
+
+    ghost finds_full = { λ s window is_full. Unit {0} };
+
+    ghost counts = { λ s user kind most. Unit {0} };
+
+    ghost uncounts = { λ s user kind. Unit {0} };
 
     fn users(&self) -> &Users {
         &self.shared.users
@@ -90,6 +148,7 @@ impl<L: Begun> SessionSeat for Seated<'_, L> {
                 let (checks, execute) = (answer.checks(), answer.checks_execute());
                 let outcome = outcome_of(answer.reply(), checks, execute);
                 let typed = answer.typed();
+                self.count(rt, &answer);
                 Ok(SeatAnswer {
                     reply: answer.into_reply(),
                     filled,
@@ -131,6 +190,11 @@ impl<L: Begun> SessionSeat for Seated<'_, L> {
 
     fn take<R: Wait>(&mut self, rt: &R) -> (Vec<(Effect, Option<UserId>)>, bool) {
         let (handed, is_told) = self.shared.hub.take(rt, &mut self.seat);
+        for (effect, _) in handed.as_slice() {
+            if let Some(window) = closed_by(effect) {
+                self.accounts.close(rt, window);
+            }
+        }
         (handed.into_items(), is_told)
     }
 
@@ -139,10 +203,10 @@ impl<L: Begun> SessionSeat for Seated<'_, L> {
     }
 
     fn set_full<R: Wait>(&self, rt: &R, window: u32, is_full: bool) {
-        self.accounts.full_windows.set(rt, window, is_full);
+        self.accounts.set_full(rt, window, is_full);
     }
 
     fn is_full<R: Wait>(&self, rt: &R, window: u32) -> bool {
-        self.accounts.full_windows.has(rt, window)
+        self.accounts.is_full(rt, window)
     }
 }

@@ -1,22 +1,37 @@
 //! What is commanded before anybody connects.
 
+ghost use Rattle.std.specs.Prelude.{◌≡◌, IfErr, OnOk, Ok, length, map};
+ghost use Rattle.program_words.specs.SetupLines.{line_of};
+ghost use Rattle.session.specs.Texts.{text_of};
+ghost use Rattle.session.specs.event.Done.{Done};
+ghost use Rattle.server_session.specs.SettingUp.{AreDone, Fails, IfRefused, IsGiven, IsSetUp};
+ghost use Rattle.server_session.specs.SettingUp.{IsStopped, Stops};
+
 use crate::loop_body::LoopsFault;
 use crate::shared_session::SharedSession;
 use acl::UserId;
 use hub::{Begun, Seat};
-use program_words::{SetupLine, read_setup, speech_in};
-use session::Event;
+use program_words::{SetupLine, read_setup};
+use session::{Event, Refusal, spoken};
 use std::alloc::Global;
 use std::sync::Wait;
 
-// The user who gives a line, and the command: `USER: COMMAND` is that user's, and each other line the owner's.
-fn spoken(owner: UserId, line: &[u8]) -> (UserId, &[u8]) {
-    let Some((name, command)) = speech_in(line) else {
-        return (owner, line);
-    };
-    match UserId::of(name) {
-        Some(user) => (user, command),
-        None => (owner, line),
+/// Who gives the lines of a setup, and the memory for the text of a refusal.
+#[derive(Clone, Copy)]
+pub struct Giver {
+    pub alloc: Global,
+    /// The user whose lines they are that name nobody.
+    pub owner: UserId,
+}
+
+// Says that the line of this number was refused.
+fn refused(alloc: Global, number: usize, refusal: &Refusal) -> LoopsFault
+    ensures { IfRefused result (λ line said. (line ≡ number) × (said ≡ text_of refusal.now)) }
+{
+    let mut said = Vec::new(alloc);
+    match refusal.text(&mut said) {
+        Ok(()) => LoopsFault::Refused(number, said),
+        Err(_) => LoopsFault::NoMemory,
     }
 }
 
@@ -24,12 +39,16 @@ fn spoken(owner: UserId, line: &[u8]) -> (UserId, &[u8]) {
 // could act on.
 fn give<L: Begun, R: Wait>(
     rt: &R,
-    alloc: Global,
+    giver: Giver,
     shared: &SharedSession<L>,
     seat: &mut Seat<L>,
     line: &SetupLine,
-) -> Result<(), LoopsFault> {
-    let (user, command) = spoken(shared.users.owner(), line.text.as_bytes());
+) -> Result<(), LoopsFault>
+    ensures done { OnOk result ((done : Done) × IsGiven giver.owner (line_of line.now) (Ok done) seat.old seat.new) }
+    ensures refused { IfErr result (λ fault. IfRefused fault (λ number said.
+        IsStopped giver.owner (line_of line.now) number said seat.old seat.new)) }
+{
+    let (user, command) = spoken(giver.owner, line.text.as_bytes());
     let event = Event::Command {
         user,
         window: None,
@@ -42,25 +61,43 @@ fn give<L: Begun, R: Wait>(
     };
     match answer.reply() {
         Ok(_) => Ok(()),
-        Err(refusal) => {
-            let mut said = Vec::new(alloc);
-            refusal.text(&mut said)?;
-            Err(LoopsFault::Refused(line.number, said))
+        Err(refusal) => Err(refused(giver.alloc, line.number, refusal)),
+    }
+}
+
+// Submits lines, up to the first one that is refused.
+fn give_all<L: Begun, R: Wait>(
+    rt: &R,
+    giver: Giver,
+    shared: &SharedSession<L>,
+    seat: &mut Seat<L>,
+    lines: &[SetupLine],
+) -> Result<(), LoopsFault>
+    ensures done { OnOk result (AreDone giver.owner (map line_of lines.now) (length lines.now) seat.old seat.new) }
+    ensures stops { IfErr result (λ fault. IfRefused fault (λ number said.
+        Stops giver.owner (map line_of lines.now) number said seat.old seat.new)) }
+{
+    for line in lines {
+        if let Err(fault) = give(rt, giver, shared, seat, line) {
+            return Err(fault);
         }
     }
+    Ok(())
 }
 
 /// Submits the lines of a setup's file, up to the first one that is refused.
 pub fn set_up<L: Begun, R: Wait>(
     rt: &R,
-    alloc: Global,
+    giver: Giver,
     shared: &SharedSession<L>,
     seat: &mut Seat<L>,
     file: &[u8],
-) -> Result<(), LoopsFault> {
-    let setup = read_setup(alloc, file)?;
-    for line in &setup {
-        give(rt, alloc, shared, seat, line)?;
+) -> Result<(), LoopsFault>
+    ensures done { OnOk result (IsSetUp giver.owner file.now seat.old seat.new) }
+    ensures fails { IfErr result (λ fault. Fails giver.owner file.now fault seat.old seat.new) }
+{
+    match read_setup(giver.alloc, file) {
+        Ok(lines) => give_all(rt, giver, shared, seat, &lines),
+        Err(fault) => Err(LoopsFault::Setup(fault)),
     }
-    Ok(())
 }

@@ -17,9 +17,6 @@ use std::sync::{Mutex, Wait};
 use std::thread::Threads;
 use std::time::{Clock, Duration};
 
-// How many connections are ready in a turn at most.
-const KEYS: usize = 8;
-
 // The users own and bob.
 fn users(alloc: Global) -> Result<Users, Stop> {
     match Users::read(alloc, USERS) {
@@ -59,12 +56,16 @@ fn take<G: Gate + Drop, J: SessionSeat + Drop>(
     tick: Duration,
     turns: Turns,
 ) {
-    let keys = if turns.are_quiet { 0 } else { KEYS };
     for _ in 0..turns.most {
         if turns.are_quiet && !own.is_due() {
             return;
         }
-        for key in 0..keys {
+        let ready = if turns.are_quiet {
+            0
+        } else {
+            own.connections.end()
+        };
+        for key in 0..ready {
             if let Some(peer) = own.connections.touch(key) {
                 peer.mark_ready(true);
                 peer.mark_room();
@@ -266,6 +267,7 @@ pub fn perform(rt: &impl System, loops: usize, acts: &[StageAct]) -> Result<Seen
     let start = Start {
         alloc,
         users,
+        setup: &[],
         places,
     };
     let playing = Playing {
@@ -277,7 +279,7 @@ pub fn perform(rt: &impl System, loops: usize, acts: &[StageAct]) -> Result<Seen
         left: Mutex::new(LoopsLeft::new(alloc)),
     };
     match keep(rt, start, &playing) {
-        Ok(agrees) => seen_of(playing, agrees),
+        Ok(agreement) => seen_of(playing, agreement.holds()),
         Err(LoopsFault::NoMemory) => Err(Stop::Memory),
         Err(_) => Err(Stop::Other("begun")),
     }

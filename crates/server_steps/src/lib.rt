@@ -1,13 +1,29 @@
-//! What is called around a step that a loop submits, which steps it submitted, what they cost, and what became of a
-//! message.
+//! What is called around a step that a loop submits, which steps it submitted, what they cost, what a message
+//! means, what became of it, and what of it a connection holds before and after a step.
 #![tactic(auto)]
 
+mod asking;
 mod gate;
+mod meaning;
 mod progress;
+mod sending;
 mod submitted;
 mod turns;
+mod typing;
 
+pub use asking::{
+    drains, go_on, has_asked, is_due_again, is_faulty, is_window, next_asked, put_back, read,
+};
 pub use gate::{Gate, Open};
-pub use progress::{Progress, settle, window_after};
+pub use meaning::{
+    Meaning, event_of, guest_of, is_extra, kind_of, make_guest, may_judge, meaning_of, news_of,
+    quits, role_of, shown_in,
+};
+pub use progress::{Progress, is_refused, settle, window_after};
+pub use sending::{cut_off, drop_typed, is_laggard, typist_after, wanting, write};
 pub use submitted::{Submitted, entries_of, is_quit, kept_of};
 pub use turns::{Pending, Reads, Writes};
+pub use typing::{
+    Gathered, Target, answer_keys, free_keys, free_strayed, gather, has_keys, hold_keys, idle_at,
+    is_open_at, next_size, take_keys, take_news, target_at, user_at,
+};

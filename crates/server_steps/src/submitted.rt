@@ -1,5 +1,11 @@
 //! Which steps a loop submitted, and what they cost.
 
+ghost use Rattle.std.specs.Prelude.{◌≡◌, ◌↔◌, IfOk, IsTrue};
+ghost use Rattle.command_lang.specs.Relation.{Relates};
+ghost use Rattle.command_lang.specs.declared.command.Command.TheVariants as command;
+ghost use Rattle.session.specs.Trace.{happening};
+ghost use Rattle.server_steps.specs.Submitted.{entries_of, kept_of, noted};
+
 use command_lang::{Command, FaultKind, parse};
 use session::Event;
 use std::alloc::{AllocError, Global};
@@ -21,7 +27,9 @@ impl Submitted {
     };
 
     /// Notes that this event was submitted.
-    pub fn note(&mut self, event: Event<'_>) {
+    pub fn note(&mut self, event: Event<'_>)
+        ensures { self.new ≡ noted (happening event.entry) self.old }
+    {
         match event {
             Event::Draw { .. } => {}
             Event::Output { .. } => self.is_some = true,
@@ -34,7 +42,9 @@ impl Submitted {
 }
 
 /// How many entries of the trail an event leads to. An attach has two, as its client also leaves.
-pub fn entries_of(event: Event) -> u16 {
+pub fn entries_of(event: Event) -> u16
+    ensures { result ≡ entries_of (happening event.entry) }
+{
     match event {
         Event::Attach { .. } => 2,
         _ => 1,
@@ -42,7 +52,9 @@ pub fn entries_of(event: Event) -> u16 {
 }
 
 /// How many bytes of an event the trail keeps.
-pub fn kept_of(event: Event) -> usize {
+pub fn kept_of(event: Event) -> usize
+    ensures { result ≡ kept_of (happening event.entry) }
+{
     match event {
         Event::Command { line, .. } => line.len(),
         Event::Open { title, .. } => title.len(),
@@ -50,11 +62,22 @@ pub fn kept_of(event: Event) -> usize {
     }
 }
 
+// Whether a command is `quit`.
+fn quits(order: &Command) -> bool
+    ensures { IsTrue result ↔ (order.now ≡ command.Quit) }
+{
+    matches!(order, Command::Quit)
+}
+
 /// Whether a line is the command `quit`. `AllocError` if memory is refused.
-pub fn is_quit(alloc: Global, line: &[u8]) -> Result<bool, AllocError> {
+pub fn is_quit(alloc: Global, line: &[u8]) -> Result<bool, AllocError>
+    ensures { IfOk result (λ is_quit. IsTrue is_quit ↔ Relates line.now command.Quit) }
+{
     match parse(alloc, line) {
-        Ok(Command::Quit) => Ok(true),
-        Err(fault) if fault.kind == FaultKind::NoMemory => Err(AllocError),
-        _ => Ok(false),
+        Ok(command) => Ok(quits(&command)),
+        Err(fault) => match fault.kind {
+            FaultKind::NoMemory => Err(AllocError),
+            _ => Ok(false),
+        },
     }
 }

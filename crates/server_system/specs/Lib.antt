@@ -1,0 +1,4 @@
+pub mod Ending
+pub mod Logging
+pub mod Looking
+pub mod Waiting

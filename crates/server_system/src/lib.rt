@@ -3,6 +3,7 @@
 #![tactic(auto)]
 
 mod closed;
+mod ending;
 mod fault;
 mod host;
 mod log;
@@ -15,6 +16,7 @@ mod watched;
 mod wired;
 
 pub use closed::fill_closed;
+pub use ending::{Unready, cause_of, is_late, most_new, outcome_of, served, sleep_for};
 pub use fault::ServeFault;
 pub use host::Host;
 pub use log::Log;

@@ -1,5 +1,8 @@
 //! Lines on their way to standard error: several threads put them down, and one thread writes them.
 
+ghost use Rattle.std.specs.Prelude.{◌≡◌, ◌⊎◌, ◌+◌, ◌-◌, ◌≤◌, ◌==◌, [], length, vec_len, vec_capacity};
+ghost use Rattle.server_system.specs.Logging.{IsKept, IsLeftOut};
+
 use crate::room::{PIECE, has_room};
 use jiff::Timestamp;
 use std::alloc::Global;
@@ -25,6 +28,51 @@ struct UnwrittenLines {
     left_out: u64,
     // How many loops run.
     loops: usize,
+}
+
+impl UnwrittenLines {
+    // Puts a line down. One for which there is no room is left out, and counted.
+    fn put(&mut self, line: &[u8])
+        ensures put { IsKept line.now self.old self.new ⊎ IsLeftOut self.old self.new }
+        ensures room { vec_len self.old.text + length line.now ≤ 65536
+            → vec_len self.old.text + length line.now ≤ vec_capacity self.old.text
+            → IsKept line.now self.old self.new }
+        ensures loops { self.new.loops ≡ self.old.loops }
+    {
+        let has_room = self.text.len().saturating_add(line.len()) <= MOST;
+        if !has_room || self.text.extend_from_slice(line).is_err() {
+            self.leave_out();
+        }
+    }
+
+    // A line is left out.
+    fn leave_out(&mut self)
+        ensures left_out { IsLeftOut self.old self.new }
+        ensures loops { self.new.loops ≡ self.old.loops }
+    {
+        self.left_out = self.left_out.saturating_add(1);
+    }
+
+    // Takes the bytes that wait, and how many lines were left out.
+    fn take(&mut self) -> (Vec<u8>, u64)
+        ensures text { result.0.items ≡ self.old.text.items }
+        ensures left_out { result.1 ≡ self.old.left_out }
+        ensures none { (self.new.text.items ≡ []) × (self.new.left_out ≡ 0) }
+        ensures loops { self.new.loops ≡ self.old.loops }
+    {
+        let none = Vec::new(*self.text.allocator());
+        let text = std::mem::replace(&mut self.text, none);
+        (text, std::mem::replace(&mut self.left_out, 0))
+    }
+
+    // A loop has ended. Returns whether it was the last one.
+    fn leave(&mut self) -> bool
+        ensures loops { self.new ≡ record self.old { loops = self.old.loops - 1 } }
+        ensures last { result ≡ (self.new.loops == 0) }
+    {
+        self.loops = self.loops.saturating_sub(1);
+        self.loops == 0
+    }
 }
 
 /// Lines on their way to standard error. Loops put them down and one thread writes them, so that no
@@ -58,9 +106,9 @@ impl Log {
             None => writeln!(line, "muxd: {what}"),
         };
         let mut waiting = self.waiting.lock(rt);
-        let has_room = waiting.text.len().saturating_add(line.len()) <= MOST;
-        if is_made.is_err() || !has_room || waiting.text.extend_from_slice(&line).is_err() {
-            waiting.left_out = waiting.left_out.saturating_add(1);
+        match is_made {
+            Ok(()) => waiting.put(&line),
+            Err(_) => waiting.leave_out(),
         }
         drop(waiting);
         self.news.notify_one();
@@ -68,10 +116,7 @@ impl Log {
 
     /// A loop has ended, and puts nothing more down. Returns whether it was the last one.
     pub fn leave(&self, rt: &impl Wait) -> bool {
-        let mut waiting = self.waiting.lock(rt);
-        waiting.loops = waiting.loops.saturating_sub(1);
-        let was_last = waiting.loops == 0;
-        drop(waiting);
+        let was_last = self.waiting.lock(rt).leave();
         self.news.notify_one();
         was_last
     }
@@ -82,11 +127,7 @@ impl Log {
 
     // Takes the bytes that wait, with a line that counts those that were left out.
     fn take(&self, rt: &impl Wait) -> Vec<u8> {
-        let mut waiting = self.waiting.lock(rt);
-        let none = Vec::new(self.alloc);
-        let mut text = std::mem::replace(&mut waiting.text, none);
-        let left_out = std::mem::replace(&mut waiting.left_out, 0);
-        drop(waiting);
+        let (mut text, left_out) = self.waiting.lock(rt).take();
         if left_out > 0 {
             let _ = writeln!(
                 text,

@@ -1,5 +1,9 @@
 //! The users' file, and whether it has changed.
 
+ghost use Rattle.std.specs.Prelude.{◌≡◌, ◌==◌, IfErr, IfOk, IfSome, bit_and, false, not, true};
+ghost use Rattle.std.specs.Option.{option_copied};
+ghost use Rattle.server_system.specs.Looking.{AreOf, IsSafe, IsWrong, MayBeTold, after_look};
+
 use crate::fault::{ServeFault, SystemError};
 use server_users::{Users, UsersFault};
 use std::alloc::Global;
@@ -39,8 +43,36 @@ impl Stamp {
     }
 
     /// Whether others may read the file.
-    pub fn is_open(&self) -> bool {
+    pub fn is_open(&self) -> bool
+        ensures { result ≡ not (bit_and self.now.mode 0o044 == 0) }
+    {
         self.mode & OTHERS_READ != 0
+    }
+
+    // Whether others may write the file.
+    fn is_writable(&self) -> bool
+        ensures safe { result ≡ false → IsSafe self.now }
+        ensures open { result ≡ true → IsSafe self.now → ⊥ }
+    {
+        self.mode & OTHERS_WRITE != 0
+    }
+}
+
+// The users of a file of this path and stamp, which has these bytes.
+fn users_of(alloc: Global, path: String, stamp: &Stamp, file: &[u8]) -> Result<Users, ServeFault>
+    ensures ok { IfOk result (AreOf stamp.now file.now) }
+    ensures err { IfErr result (IsWrong stamp.now file.now) }
+{
+    if stamp.is_writable() {
+        return Err(ServeFault::Writable(path));
+    }
+    if file.len() > MOST {
+        return Err(ServeFault::TooLarge(path));
+    }
+    match Users::read(alloc, file) {
+        Ok(users) => Ok(users),
+        Err(UsersFault::NoMemory) => Err(ServeFault::NoMemory),
+        Err(fault) => Err(ServeFault::Users(path, fault)),
     }
 }
 
@@ -75,20 +107,13 @@ impl<'p> UsersFile<'p> {
             Ok(_) => return Err(ServeFault::NotPlain(path)),
             Err(error) => return Err(ServeFault::NoFile(path, SystemError(error))),
         };
-        if stamp.mode & OTHERS_WRITE != 0 {
-            return Err(ServeFault::Writable(path));
-        }
         let file = match self.bytes() {
             Ok(file) => file,
             Err(error) => return Err(ServeFault::NoFile(path, SystemError(error))),
         };
-        if file.len() > MOST {
-            return Err(ServeFault::TooLarge(path));
-        }
-        match Users::read(self.alloc, &file) {
+        match users_of(self.alloc, path, &stamp, &file) {
             Ok(users) => Ok((users, stamp)),
-            Err(UsersFault::NoMemory) => Err(ServeFault::NoMemory),
-            Err(fault) => Err(ServeFault::Users(path, fault)),
+            Err(fault) => Err(fault),
         }
     }
 }
@@ -113,7 +138,10 @@ impl LastLook {
 
     // Takes what a look found: the file's stamp, and the fault for which it wasn't read. The answer is
     // whether that is news. A file that can't be read is told once, and read again at the next look.
-    fn is_news(&mut self, found: Option<Stamp>, fault: Option<&ServeFault>) -> bool {
+    fn is_news(&mut self, found: Option<Stamp>, fault: Option<&ServeFault>) -> bool
+        ensures seen { self.new ≡ after_look found (option_copied fault.entry) self.old }
+        ensures told { result ≡ false → MayBeTold (option_copied fault.entry) }
+    {
         match fault {
             Some(ServeFault::NoMemory) => true,
             Some(ServeFault::NoFile(_, _)) => {

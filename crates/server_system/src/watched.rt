@@ -1,5 +1,8 @@
 //! The users' file while a server runs.
 
+ghost use Rattle.std.specs.Prelude.{◌≡◌, ◌==◌, IfSome, None, if◌then◌else◌};
+ghost use Rattle.server_system.specs.Looking.{Ends, Takes, later};
+
 use crate::fault::ServeFault;
 use crate::log::Log;
 use crate::users_file::{LastLook, UsersFile};
@@ -61,7 +64,9 @@ struct Looks {
 impl Looks {
     // Takes the users of a sound file of this owner; after any other file they stay as they were.
     // Either is told.
-    fn take(&mut self, owner: UserId, found: Result<Users, ServeFault>) {
+    fn take(&mut self, owner: UserId, found: Result<Users, ServeFault>)
+        ensures { Takes owner found self.old self.new }
+    {
         match found {
             Ok(users) if users.owner() == owner => {
                 self.users = Some(users);
@@ -72,6 +77,57 @@ impl Looks {
             Err(fault) => self.news = Some(UsersNews::Faulty(fault)),
         }
     }
+
+    // Asks for a look that begins after this, and gives its number.
+    fn ask(&mut self) -> u64
+        ensures number { result ≡ later self.old.begun }
+        ensures asked { self.new ≡ record self.old { wanted = result } }
+    {
+        self.wanted = self.begun.saturating_add(1);
+        self.wanted
+    }
+
+    // A look begins.
+    fn begin(&mut self)
+        ensures { self.new ≡ record self.old { begun = later self.old.begun } }
+    {
+        self.begun = self.begun.saturating_add(1);
+    }
+
+    // Ends the look that was begun, which found this if anything is new.
+    fn end(&mut self, owner: UserId, found: Option<Result<Users, ServeFault>>)
+        ensures { Ends owner found self.old self.new }
+    {
+        self.done = self.begun;
+        if let Some(found) = found {
+            self.take(owner, found);
+        }
+    }
+
+    // What is known now, for a loop that has the users of this count; None if there is no memory for a
+    // copy of the users.
+    fn newest(&self, alloc: Global, count: u64) -> Option<KnownUsers>
+        ensures known { IfSome result (λ known. (known.look ≡ self.now.done) × (known.count ≡ self.now.count)
+            × (known.users ≡ (if self.now.count == count then None else self.now.users))) }
+        ensures none { result ≡ None → self.now.count ≡ count → ⊥ }
+    {
+        let (look, count_now) = (self.done, self.count);
+        let mut users = None;
+        if count_now != count {
+            let Some(newer) = &self.users else {
+                return None;
+            };
+            let Ok(copy) = newer.copy(alloc) else {
+                return None;
+            };
+            users = Some(copy);
+        }
+        Some(KnownUsers {
+            look,
+            count: count_now,
+            users,
+        })
+    }
 }
 
 /// What a loop learns of who may connect.
@@ -79,6 +135,8 @@ impl Looks {
 pub struct KnownUsers {
     /// The last look that is done.
     pub look: u64,
+    /// How many sound files were read after the first one.
+    pub count: u64,
     /// The users, if the loop has others.
     pub users: Option<Users>,
 }
@@ -118,10 +176,7 @@ impl WatchedUsers {
 
     /// Asks for a look that begins after this call, and gives its number.
     pub fn ask(&self, rt: &impl Wait) -> u64 {
-        let mut looks = self.looks.lock(rt);
-        let look = looks.begun.saturating_add(1);
-        looks.wanted = look;
-        drop(looks);
+        let look = self.looks.lock(rt).ask();
         self.asked.notify_one();
         look
     }
@@ -138,17 +193,13 @@ impl WatchedUsers {
         let mut looks = self
             .asked
             .wait_while(rt, looks, |it| { !it.is_over && it.wanted <= it.begun });
-        looks.begun = looks.begun.saturating_add(1);
+        looks.begin();
         !looks.is_over
     }
 
     // Ends a look, which found this if anything is new.
     fn end(&self, rt: &impl Wait, found: Option<Result<Users, ServeFault>>) {
-        let mut looks = self.looks.lock(rt);
-        looks.done = looks.begun;
-        if let Some(found) = found {
-            looks.take(self.owner, found);
-        }
+        self.looks.lock(rt).end(self.owner, found);
     }
 
     // Looks at the file, again and again as long as memory is refused.
@@ -192,15 +243,8 @@ impl WatchedUsers {
             let path = self.path.as_str();
             log.put(rt, &UsersLine { path, news: &news });
         }
-        let users = if looks.count == *count {
-            None
-        } else {
-            Some(looks.users.as_ref()?.copy(self.alloc).ok()?)
-        };
-        *count = looks.count;
-        Some(KnownUsers {
-            look: looks.done,
-            users,
-        })
+        let known = looks.newest(self.alloc, *count)?;
+        *count = known.count;
+        Some(known)
     }
 }

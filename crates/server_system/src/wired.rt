@@ -1,5 +1,8 @@
 //! A connection that a loop waits for.
 
+ghost use Rattle.std.specs.Prelude.{◌≡◌, OnOk};
+ghost use Rattle.server_system.specs.Waiting.{awaits_after};
+
 use crate::unread::{bound_unread, widen_unread};
 use mio::net::UnixStream;
 use mio::{Interest, Registry, Token};
@@ -19,6 +22,18 @@ pub struct Wired<'a> {
     token: Token,
     awaits_room: bool,
     is_widened: bool,
+}
+
+// Whether a connection that was given this many bytes has to take bytes again, by what came of it; None if that is
+// as it was.
+fn awaits_after(written: io::Result<usize>, len: usize) -> Option<bool>
+    ensures { result ≡ awaits_after written len }
+{
+    match written {
+        Ok(count) if count == len => Some(false),
+        Err(error) if error.kind() == ErrorKind::WouldBlock => Some(true),
+        _ => None,
+    }
 }
 
 impl<'a> Wired<'a> {
@@ -51,7 +66,10 @@ impl<'a> Wired<'a> {
         }
     }
 
-    fn await_room(&mut self, awaits_room: bool) -> io::Result<()> {
+    // Waits until the connection takes bytes again, or doesn't.
+    fn await_room(&mut self, awaits_room: bool) -> io::Result<()>
+        ensures { OnOk result (self.new.awaits_room ≡ awaits_room) }
+    {
         if self.awaits_room == awaits_room {
             return Ok(());
         }
@@ -76,20 +94,11 @@ impl Read for Wired<'_> {
 impl Write for Wired<'_> {
     fn write(&mut self, buf: &[u8]) -> io::Result<usize> {
         self.suit(buf.len() > LARGE);
-        match self.stream.write(buf) {
-            Ok(count) => {
-                if count == buf.len() {
-                    self.await_room(false)?;
-                }
-                Ok(count)
-            }
-            Err(error) => {
-                if error.kind() == ErrorKind::WouldBlock {
-                    self.await_room(true)?;
-                }
-                Err(error)
-            }
+        let written = self.stream.write(buf);
+        if let Some(awaits_room) = awaits_after(written, buf.len()) {
+            self.await_room(awaits_room)?;
         }
+        written
     }
 
     fn flush(&mut self) -> io::Result<()> {

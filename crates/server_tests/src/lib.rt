@@ -14,6 +14,8 @@ mod made_up;
 #[cfg(test)]
 mod many;
 #[cfg(test)]
+mod pastes;
+#[cfg(test)]
 mod plays;
 #[cfg(test)]
 mod rations;

@@ -1,3 +1,4 @@
 pub mod Merging
 pub mod Files
 pub mod Faults
+pub mod Disks

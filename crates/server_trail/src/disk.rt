@@ -1,6 +1,7 @@
 //! A trail's file on its disk, and what the disk refuses.
 
 ghost use Rattle.std.specs.Prelude.{◌≡◌};
+ghost use Rattle.server_trail.specs.Disks.{after_write, news_of, no_refusal, one_more, told_of};
 
 use crate::file::TrailFile;
 use std::io::{self, Write};
@@ -32,7 +33,9 @@ struct Refusals {
 }
 
 impl Refusals {
-    fn none() -> Refusals {
+    fn none() -> Refusals
+        ensures { result ≡ no_refusal }
+    {
         Refusals {
             count: 0,
             error: None,
@@ -40,13 +43,27 @@ impl Refusals {
     }
 
     // One more refusal.
-    fn add(&mut self, error: io::Error) {
+    fn add(&mut self, error: io::Error)
+        ensures { self.new ≡ one_more error self.old }
+    {
         self.count = self.count.saturating_add(1);
         self.error = Some(error);
     }
 
+    // A write ends a row, or is refused too.
+    fn note(&mut self, written: io::Result<usize>)
+        ensures { self.new ≡ after_write written self.old }
+    {
+        match written {
+            Ok(_) => *self = Refusals::none(),
+            Err(error) => self.add(error),
+        }
+    }
+
     // The error, if the last refusal is news.
-    fn news(&self) -> Option<io::Error> {
+    fn news(&self) -> Option<io::Error>
+        ensures { result ≡ told_of self.now }
+    {
         if self.count % AGAIN == 1 {
             self.error
         } else {
@@ -68,7 +85,10 @@ pub struct Disk<F: TrailFile + Drop> {
 
 impl<F: TrailFile + Drop> Disk<F> {
     /// Nothing was refused yet.
-    pub fn new(file: F) -> Disk<F> {
+    pub fn new(file: F) -> Disk<F>
+        ensures writes { result.writes ≡ no_refusal }
+        ensures syncs { result.syncs ≡ no_refusal }
+    {
         Disk {
             file,
             writes: Refusals::none(),
@@ -91,7 +111,9 @@ impl<F: TrailFile + Drop> Disk<F> {
     }
 
     // What is news after a write of this many bytes, before which writes were refused or not.
-    fn news(&self, was_refused: bool, bytes: usize) -> Option<DiskNews> {
+    fn news(&self, was_refused: bool, bytes: usize) -> Option<DiskNews>
+        ensures { result ≡ news_of was_refused bytes self.now.writes (told_of self.now.writes) }
+    {
         match self.writes.news() {
             Some(error) => Some(DiskNews::Refuses(error, bytes)),
             None if was_refused && self.writes.count == 0 => Some(DiskNews::Resumes),
@@ -104,16 +126,9 @@ impl<F: TrailFile + Drop> Write for Disk<F> {
     ghost contents = { λ disk. F.contents disk.file };
 
     fn write(&mut self, buf: &[u8]) -> io::Result<usize> {
-        match self.file.write(buf) {
-            Ok(count) => {
-                self.writes = Refusals::none();
-                Ok(count)
-            }
-            Err(error) => {
-                self.writes.add(error);
-                Err(error)
-            }
-        }
+        let written = self.file.write(buf);
+        self.writes.note(written);
+        written
     }
 
     fn flush(&mut self) -> io::Result<()> {

@@ -7,7 +7,7 @@ use crate::disk::{Disk, DiskWatch, WatchedDisk};
 use crate::file::{TrailFile, begin, header_of};
 use crate::reading::is_trail;
 use crate::recorder::Recorder;
-use crate::stop::StopCause;
+use crate::stop::{StopCause, last_cause};
 use crate::writing::Written;
 use acl::{Edition, UserId};
 use hub::EntryList;
@@ -228,7 +228,7 @@ impl<'a> Journal<'a> {
     ) {
         let stopped = recorder.stopped();
         let mut disk = self.file.lock(rt);
-        let is_ended = match stopped.map(StopCause::cause).or(cause) {
+        let is_ended = match last_cause(stopped, cause) {
             Some(cause) => recorder.end(rt, &mut *disk, written, cause),
             None => {
                 let _ = disk.sync();

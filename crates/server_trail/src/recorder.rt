@@ -1,9 +1,12 @@
 //! Lines on their way to a trail's file: several threads put them down, and one thread writes them.
 
-ghost use Rattle.std.specs.Prelude.{◌≡◌, ◌++◌, ◌∷◌, [], true, ℕ, List, IfOk, OnOk, OnErr};
+ghost use Rattle.std.specs.Prelude.{◌≡◌, ◌==◌, ◌+◌, ◌-◌, ◌<◌, ◌&&◌, ◌||◌, ◌++◌, ◌∷◌, []};
+ghost use Rattle.std.specs.Prelude.{true, ℕ, List, Err, IfOk, OnOk, OnErr, nat_le, nat_lt, vec_len};
 ghost use Rattle.std.specs.List.{list_any};
 ghost use Rattle.hub.specs.Legal.{asks_for_command};
-ghost use Rattle.server_trail.specs.Merging.{HasMerged, Placed};
+ghost use Rattle.server_trail.specs.Disks.{wakes};
+ghost use Rattle.server_trail.specs.Merging.{HasMerged, Placed, early_bytes};
+ghost use Rattle.server_trail.specs.declared.stop.StopCause.TheVariants.{Disk, Memory};
 ghost use Rattle.trail_lines.specs.Entries.{line_of};
 
 use crate::file::time;
@@ -45,6 +48,25 @@ pub struct Recorder {
     stopped: OnceLock<StopCause>,
 }
 
+/// What is there for the writer.
+#[derive(Clone, Copy)]
+pub struct Ready {
+    pub bytes: usize,
+    /// A line among them, or one that waits for an earlier line, tells of a change.
+    pub is_urgent: bool,
+    /// All loops have ended.
+    pub is_over: bool,
+}
+
+impl Ready {
+    /// Whether the writer waits for no more.
+    pub fn is_due(self) -> bool
+        ensures { result ≡ (self.is_over || nat_le 65536 self.bytes || self.is_urgent && nat_lt 0 self.bytes) }
+    {
+        self.is_over || self.bytes >= BLOCK || (self.is_urgent && self.bytes > 0)
+    }
+}
+
 /// The line of an entry, with its line feed.
 fn line_of(alloc: Global, place: usize, ms: u64, entry: &TrailEntry) -> Result<Vec<u8>, AllocError>
     ensures { IfOk result (λ line.
@@ -76,7 +98,9 @@ fn is_urgent(entry: &TrailEntry) -> bool
 
 // Whether the writer must be woken after a line, before which this many bytes were ready: the first
 // bytes are ready, or as many as it waits for.
-fn is_news(before: usize, ready: usize) -> bool {
+fn is_news(before: usize, ready: usize) -> bool
+    ensures { result ≡ wakes before ready }
+{
     (before == 0 && ready > 0) || (before < BLOCK && ready >= BLOCK)
 }
 
@@ -88,7 +112,12 @@ impl WaitingLines {
             → OnOk result (HasMerged (put ++ (place, line.items) ∷ []) taken self.new.merge) }
         ensures err { (put : List Placed) (taken : List ℕ) → HasMerged put taken self.old.merge
             → OnErr result (HasMerged put taken self.new.merge) }
-        ensures loops { self.new.loops ≡ self.old.loops }
+        // The disk is too slow only if too many bytes wait for it.
+        ensures slow { (put : List Placed) (taken : List ℕ) → HasMerged put taken self.old.merge
+            → result ≡ Err Disk → 16777216 < vec_len self.old.merge.ready + early_bytes self.old.merge }
+        ensures wakes { IfOk result (λ is_news.
+            is_news ≡ wakes (vec_len self.old.merge.ready) (vec_len self.new.merge.ready)) }
+        ensures others { self.new ≡ record self.old { merge = self.new.merge } }
     {
         if self.merge.waiting() > MOST {
             return Err(StopCause::Disk);
@@ -98,6 +127,68 @@ impl WaitingLines {
             Ok(()) => Ok(is_news(before, self.merge.ready())),
             Err(_) => Err(StopCause::Memory),
         }
+    }
+
+    // Puts the line of an entry down; `Err` if there was no memory for it. Returns whether the writer must
+    // be woken.
+    fn take_in(
+        &mut self,
+        place: usize,
+        line: Result<Vec<u8>, AllocError>,
+        is_urgent: bool,
+    ) -> Result<bool, StopCause>
+        ensures put { IfOk line (λ text. (put : List Placed) (taken : List ℕ)
+            → HasMerged put taken self.old.merge
+            → OnOk result (HasMerged (put ++ (place, text.items) ∷ []) taken self.new.merge)) }
+        ensures lost { OnErr line ((result ≡ Err Memory) × (self.new.merge ≡ self.old.merge)) }
+        ensures slow { (put : List Placed) (taken : List ℕ) → HasMerged put taken self.old.merge
+            → result ≡ Err Disk → 16777216 < vec_len self.old.merge.ready + early_bytes self.old.merge }
+        ensures wakes { IfOk result (λ is_news. is_news ≡ (is_urgent
+            || wakes (vec_len self.old.merge.ready) (vec_len self.new.merge.ready))) }
+        ensures urgent { self.new.is_urgent ≡ (self.old.is_urgent || is_urgent) }
+        ensures loops { self.new.loops ≡ self.old.loops }
+    {
+        self.is_urgent = self.is_urgent || is_urgent;
+        match line {
+            Ok(line) => match self.put(place, line) {
+                Ok(is_news) => Ok(is_urgent || is_news),
+                Err(stop) => Err(stop),
+            },
+            Err(_) => Err(StopCause::Memory),
+        }
+    }
+
+    /// What is there for the writer.
+    pub fn look(&self) -> Ready
+        ensures bytes { result.bytes ≡ vec_len self.now.merge.ready }
+        ensures urgent { result.is_urgent ≡ self.now.is_urgent }
+        ensures over { result.is_over ≡ (self.now.loops == 0) }
+    {
+        Ready {
+            bytes: self.merge.ready(),
+            is_urgent: self.is_urgent,
+            is_over: self.loops == 0,
+        }
+    }
+
+    /// Takes the text that is ready. Lines that wait for earlier ones stay urgent.
+    pub fn take(&mut self) -> Vec<u8>
+        ensures all { self.new.merge.ready.items ≡ [] }
+        ensures text { result.items ≡ self.old.merge.ready.items }
+        ensures taken { (put : List Placed) (taken : List ℕ) → HasMerged put taken self.old.merge
+            → HasMerged put (taken ++ result.items) self.new.merge }
+        ensures loops { self.new.loops ≡ self.old.loops }
+    {
+        let text = self.merge.take();
+        self.is_urgent = self.is_urgent && self.merge.waiting() > 0;
+        text
+    }
+
+    // A loop has ended.
+    fn leave(&mut self)
+        ensures { self.new ≡ record self.old { loops = self.old.loops - 1 } }
+    {
+        self.loops = self.loops.saturating_sub(1);
     }
 }
 
@@ -149,13 +240,8 @@ impl Recorder {
         if self.stopped().is_some() {
             return;
         }
-        let put = match line {
-            Ok(line) => waiting.put(place, line),
-            Err(_) => Err(StopCause::Memory),
-        };
-        waiting.is_urgent |= is_urgent;
-        let is_news = match put {
-            Ok(is_news) => is_news || is_urgent,
+        let is_news = match waiting.take_in(place, line, is_urgent) {
+            Ok(is_news) => is_news,
             Err(stopped) => {
                 let _ = self.stopped.set(rt, stopped);
                 false
@@ -179,9 +265,7 @@ impl Recorder {
 
     /// A loop has ended, and puts nothing more down.
     pub fn leave(&self, rt: &impl Wait) {
-        let mut waiting = self.waiting.lock(rt);
-        waiting.loops = waiting.loops.saturating_sub(1);
-        drop(waiting);
+        self.waiting.lock(rt).leave();
         self.news.notify_one();
     }
 }

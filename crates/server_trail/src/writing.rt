@@ -9,7 +9,7 @@ ghost use Rattle.server_trail.specs.Merging.{Placed, HasMerged, early_bytes};
 
 use crate::file::TrailFile;
 use crate::merge::Merge;
-use crate::recorder::{BLOCK, Recorder};
+use crate::recorder::{Ready, Recorder};
 use crate::stop::StopCause;
 use std::alloc::{AllocError, Global};
 use std::io::Write;
@@ -129,42 +129,14 @@ fn last_line(alloc: Global, ended: &Ended) -> Result<Vec<u8>, AllocError>
     Ok(line)
 }
 
-// What is there for the writer.
-#[derive(Clone, Copy)]
-struct Ready {
-    bytes: usize,
-    // A line among them, or one that waits for an earlier line, tells of a change.
-    is_urgent: bool,
-    // All loops have ended.
-    is_over: bool,
-}
-
-impl Ready {
-    // Whether the writer waits for no more.
-    fn is_due(self) -> bool
-        ensures urgent { self.is_urgent ≡ true → 0 < self.bytes → result ≡ true }
-        ensures over { self.is_over ≡ true → result ≡ true }
-    {
-        self.is_over || self.bytes >= BLOCK || (self.is_urgent && self.bytes > 0)
-    }
-}
-
 impl Recorder {
     fn look(&self, rt: &impl Wait) -> Ready {
-        let waiting = self.waiting.lock(rt);
-        Ready {
-            bytes: waiting.merge.ready(),
-            is_urgent: waiting.is_urgent,
-            is_over: waiting.loops == 0,
-        }
+        self.waiting.lock(rt).look()
     }
 
     // Takes the text that is ready.
     fn take(&self, rt: &impl Wait) -> Vec<u8> {
-        let mut waiting = self.waiting.lock(rt);
-        let text = waiting.merge.take();
-        waiting.is_urgent &= waiting.merge.waiting() > 0;
-        text
+        self.waiting.lock(rt).take()
     }
 
     // Writes the bytes. A refused write is tried again each second; after all loops have ended, only for

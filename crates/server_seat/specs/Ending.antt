@@ -1,10 +1,10 @@
 -- The causes that peers are told when the server ends, or an event has no answer.
 use Rattle.attach_proto.specs.declared.why.Why.{Why}
 use Rattle.attach_proto.specs.declared.why.Why.TheVariants as why
-use Rattle.server_connections.specs.declared.seat.End.{End}
-use Rattle.server_connections.specs.declared.seat.End.TheVariants as end
-use Rattle.server_connections.specs.declared.seat.SeatFault.{SeatFault}
-use Rattle.server_connections.specs.declared.seat.SeatFault.TheVariants as fault
+use Rattle.server_seat.specs.declared.seat.End.{End}
+use Rattle.server_seat.specs.declared.seat.End.TheVariants as end
+use Rattle.server_seat.specs.declared.seat.SeatFault.{SeatFault}
+use Rattle.server_seat.specs.declared.seat.SeatFault.TheVariants as fault
 
 abbrev pub why_of_end : End → Why
 why_of_end end.Quit = why.Quit

@@ -1,7 +1,7 @@
 //! The seat that a loop has in the session which the loops share.
 
 ghost use Rattle.std.specs.Prelude.{◌≡◌};
-ghost use Rattle.server_connections.specs.Ending.{why_of_end, why_of_fault};
+ghost use Rattle.server_seat.specs.Ending.{why_of_end, why_of_fault};
 
 use acl::UserId;
 use attach_proto::Why;
@@ -84,12 +84,13 @@ impl SeatFault {
 
 /// A loop's seat in the session that all loops share.
 pub trait SessionSeat {
-    ghost use Rattle.std.specs.Prelude.{◌≡◌, Bool, List, Option, Result};
+    ghost use Rattle.std.specs.Prelude.{◌≡◌, ℕ, Bool, List, Option, Result};
     ghost use Rattle.acl.specs.declared.user_id.UserId.{UserId as User};
     ghost use Rattle.session.specs.Trace.{EventValue, happening};
     ghost use Rattle.session.specs.event.Effect.{Effect as Effected};
-    ghost use Rattle.server_connections.specs.declared.seat.SeatAnswer.{SeatAnswer as Answered};
-    ghost use Rattle.server_connections.specs.declared.seat.SeatFault.{SeatFault as Faulted};
+    ghost use Rattle.server_seat.specs.declared.seat.GuestKind.{GuestKind as Kind};
+    ghost use Rattle.server_seat.specs.declared.seat.SeatAnswer.{SeatAnswer as Answered};
+    ghost use Rattle.server_seat.specs.declared.seat.SeatFault.{SeatFault as Faulted};
     ghost use Rattle.server_users.specs.Entries.{Entry};
 
     // The users who may connect when the server starts.
@@ -102,6 +103,21 @@ pub trait SessionSeat {
     // The seat before effects were taken, these, each with the user who typed it, whether a step other than
     // a draw was made, and the seat after that. Only a call of `take` shows that they were taken.
     ghost takes: { Self → List (Effected × Option User) → Bool → Self → Type 0 };
+
+    // The seat, a user, a window, and whether what that user typed may go into that window. Only a call of
+    // `may_type` shows that.
+    ghost lets_type: { Self → User → ℕ → Bool → Type 0 };
+
+    // The seat, a window, and whether what is typed into it next has to wait. Only a call of `is_full` shows
+    // that.
+    ghost finds_full: { Self → ℕ → Bool → Type 0 };
+
+    // The seat, a user, a kind, and what `add` answered. Only a call of `add` shows that one more was counted
+    // (None).
+    ghost counts: { Self → User → Kind → Option ℕ → Type 0 };
+
+    // The seat, a user and a kind. Only a call of `remove` shows that one less was counted.
+    ghost uncounts: { Self → User → Kind → Type 0 };
 
     /// The users who may connect when the server starts.
     fn users(&self) -> &Users
@@ -121,10 +137,12 @@ pub trait SessionSeat {
 
     /// Counts one more client or window of a user. If the user has as many as a user may have, none
     /// is counted, and that number is returned.
-    fn add<R: Wait>(&self, rt: &R, user: UserId, kind: GuestKind) -> Option<u8>;
+    fn add<R: Wait>(&self, rt: &R, user: UserId, kind: GuestKind) -> Option<u8>
+        ensures { counts self.now user kind result };
 
     /// Counts one client or window less of a user.
-    fn remove<R: Wait>(&self, rt: &R, user: UserId, kind: GuestKind);
+    fn remove<R: Wait>(&self, rt: &R, user: UserId, kind: GuestKind)
+        ensures { uncounts self.now user kind };
 
     /// Says the time to the trail's file, for the entries of the steps that follow.
     fn set_time<R: Clock>(&self, rt: &R);
@@ -139,11 +157,14 @@ pub trait SessionSeat {
         ensures known { known self.new ≡ known self.old };
 
     /// Whether what this user typed may go into this window.
-    fn may_type<R: Wait>(&self, rt: &R, user: UserId, window: u32) -> bool;
+    fn may_type<R: Wait>(&self, rt: &R, user: UserId, window: u32) -> bool
+        ensures { lets_type self.now user window result };
 
-    /// Tells all loops that much waits for a window, or that little does again.
+    /// Tells all loops whether much waits for a window, as its loop sees it now.
     fn set_full<R: Wait>(&self, rt: &R, window: u32, is_full: bool);
 
-    /// Whether much waits for a window: what is typed into it has to wait.
-    fn is_full<R: Wait>(&self, rt: &R, window: u32) -> bool;
+    /// Whether much waits for a window, with what was typed into it since its loop told: what is typed next
+    /// has to wait.
+    fn is_full<R: Wait>(&self, rt: &R, window: u32) -> bool
+        ensures { finds_full self.now window result };
 }

@@ -1,0 +1,34 @@
+use Rattle.std.proofs.Common.{◌≡◌, ◌∙◌, Option, Some, true, ap, inl, refl, sym, subst, rules}
+use Rattle.std.specs.Prelude.{codes}
+use Rattle.slab.specs.Slab.{get}
+use Rattle.server_steps.specs.Meaning.{may_judge, shown_in}
+use Rattle.server_steps.specs.declared.progress.Progress.TheVariants.{Done, Held}
+use Rattle.server_users.specs.Entries.{Entry}
+use Rattle.server_loop.specs.Beginning.{BeginsWith, Judges, TurnsAway, known_of}
+use Rattle.server_loop.specs.Submitting.{State, state_of}
+use Rattle.server_loop.specs.declared.own.Loop.{Loop}
+use Rattle.server_loop.proofs.Telling.{if_true}
+use Rattle.server_loop.proofs.own.Loop.begin.Goals as goal
+
+pub returns-in-None : goal.returns-in-None
+returns-in-None g c =
+    let J = g.J.SessionSeat in
+    let old = state_of c.args.self.now in
+    let new = state_of c.turn_away.new.self in
+    let known = known_of J.known c.args.self.now in
+    let entry : Entry = record { name = c.in-Some.name.now; token = c.in-Some.token.now } in
+    let shown : shown_in c.args.message.now ≡ Some entry = search rules in
+    let yes : c.may_judge.result ≡ true = search rules in
+    let may : may_judge known.looked (get c.args.self.now.connections.peers c.args.key) ≡ true =
+    sym c.may_judge.ensures ∙ yes in
+    let told : TurnsAway J.submits (codes "unknown user or wrong token") c.args.key old new = subst
+    (λ (s : State g.row.S.Denot g.row.J.Denot). TurnsAway J.submits (codes "unknown user or wrong token")
+    c.args.key s new) (ap (λ (l : Loop g.row.S.Denot g.row.G.Denot g.row.J.Denot). state_of l) c.tell.ensures)
+    c.turn_away.ensures in
+    let judged : Judges J.submits J.counts J.uncounts known.users entry c.args.message.now c.args.key old Done new =
+    inl (c.user_of.ensures.none c.in-None.is, refl, told) in
+    subst (λ (o : Option Entry). BeginsWith J.submits J.counts J.uncounts J.takes known o c.args.message.now
+    c.args.key old Done new) (sym shown)
+    (if_true (may_judge known.looked (get c.args.self.now.connections.peers c.args.key))
+    (Judges J.submits J.counts J.uncounts known.users entry c.args.message.now c.args.key old Done new)
+    ((Done ≡ Held) × (new ≡ old)) may judged)

@@ -1,0 +1,10 @@
+use Rattle.std.proofs.Common.{◌-◌}
+use Rattle.server_loop.specs.Submitting.{state_of}
+use Rattle.server_loop.specs.Writing.{DropsAfter, DropsAll}
+use Rattle.server_loop.proofs.own.Loop.drop_typed.Given as goal
+
+-- whatever comes of the other users' frames, it comes of all
+abbrev pub invariant-typists : goal.invariant-typists
+invariant-typists g l = (new : _)
+    → DropsAfter g.J.SessionSeat.lets_type (4294967295 - l.counter) l.key l.window l.last (state_of l.self) new
+    → DropsAll g.J.SessionSeat.lets_type l.key l.window (state_of l.fn.self) new

@@ -1,0 +1,41 @@
+use Rattle.std.proofs.Common.{◌≡◌, ◌∙◌, ℕ, Bool, List, ap, subst}
+use Rattle.session.specs.Trace.{Keys}
+use Rattle.server_connections.specs.Changing.{changed}
+use Rattle.server_connections.specs.declared.connections.Connections.{Connections}
+use Rattle.server_steps.specs.Settling.{is_refused, progress_of, settled}
+use Rattle.server_steps.specs.Typing.{answered, typed_at}
+use Rattle.server_typing.specs.Typed.{Typed}
+use Rattle.server_loop.specs.Submitting.{Tries, state_of}
+use Rattle.server_loop.specs.Typing.{FaultsIf, peer_at}
+use Rattle.server_loop.proofs.own.Loop.judge_for.Goals as goal
+
+pub returns : goal.returns
+returns g c =
+    let keys : c.keys-bytes.result.now ≡ (typed_at (peer_at c.args.key (state_of c.args.self.now))).keys =
+    c.keys-bytes.ensures ∙ ap (λ (t : Typed). t.keys) c.take_keys-typed.ensures.keys in
+    let answer = c.try_for-answer.result in
+    let left : c.answer_keys-progress.new.connections ≡ changed
+    (answered answer (typed_at (peer_at c.args.key (state_of c.args.self.now)))) c.args.key
+    c.try_for-answer.new.self.connections =
+    c.answer_keys-progress.ensures.keys
+    ∙ ap (λ (t : Typed). changed (answered answer t) c.args.key c.try_for-answer.new.self.connections)
+    c.take_keys-typed.ensures.keys in
+    record {
+      answer = answer;
+      mid = state_of c.try_for-answer.new.self;
+      step = subst (λ (s : Connections g.row.S.Denot). Tries g.J.SessionSeat.submits
+          (Keys c.args.client (typed_at (peer_at c.args.key (state_of c.args.self.now))).keys)
+          (record { seat = c.args.self.now.seat; connections = s }) answer (state_of c.try_for-answer.new.self))
+          c.take_keys-typed.ensures.rest
+          (subst (λ (ks : List ℕ). Tries g.J.SessionSeat.submits (Keys c.args.client ks)
+          (record { seat = c.args.self.now.seat; connections = c.take_keys-typed.new.connections }) answer
+          (state_of c.try_for-answer.new.self)) keys c.try_for-answer.ensures);
+      left = subst (λ (s : Connections g.row.S.Denot). FaultsIf g.J.SessionSeat.submits g.J.SessionSeat.takes
+          (is_refused answer) c.args.key (record { seat = c.try_for-answer.new.self.seat; connections = s })
+          (state_of c.fault_if.new.self)) left
+          (subst (λ (b : Bool). FaultsIf g.J.SessionSeat.submits g.J.SessionSeat.takes b c.args.key
+          (record { seat = c.try_for-answer.new.self.seat; connections = c.answer_keys-progress.new.connections })
+          (state_of c.fault_if.new.self)) c.is_refused.ensures c.fault_if.ensures);
+      progress_is = c.answer_keys-progress.ensures.progress
+          ∙ ap (λ (t : Typed). progress_of answer (settled answer t)) c.take_keys-typed.ensures.keys;
+    }

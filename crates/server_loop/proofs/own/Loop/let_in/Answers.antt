@@ -1,0 +1,28 @@
+use Rattle.std.proofs.Common.{◌≡◌, ◌∙◌, ap, subst}
+use Rattle.attach_proto.specs.declared.message.Message.TheVariants.{Welcome}
+use Rattle.server_connections.specs.Changing.{changed}
+use Rattle.server_connections.specs.declared.connections.Connections.{Connections}
+use Rattle.server_connections.specs.declared.peer.Role.{Role}
+use Rattle.server_seat.specs.declared.news.Guest.{Guest}
+use Rattle.server_steps.specs.Meaning.{guest_of, joined, role_of}
+use Rattle.server_loop.specs.Beginning.{Tells}
+use Rattle.server_loop.specs.Submitting.{State, state_of}
+use Rattle.server_loop.specs.declared.own.Loop.{Loop}
+use Rattle.server_loop.proofs.own.Loop.let_in.Goals as goal
+
+pub returns : goal.returns
+returns g c =
+    let own = λ (l : Loop g.row.S.Denot g.row.G.Denot g.row.J.Denot). state_of l in
+    let made = λ (role : Role) (guest : Guest). record (state_of c.args.self.now) {
+      connections = changed (joined c.args.newcomer.user role guest) c.args.newcomer.key
+          c.args.self.now.connections;
+    } in
+    let is : state_of c.tell.new.self
+    ≡ made (role_of c.args.newcomer.kind c.args.done.now)
+    (guest_of c.args.newcomer.kind c.args.newcomer.user c.args.done.now) =
+    ap own c.tell.ensures ∙ ap (λ (s : Connections g.row.S.Denot). record (state_of c.args.self.now) { connections = s }) c.make_guest.ensures
+    ∙ ap (λ (role : Role). made role c.guest_of-guest.result) c.role_of.ensures
+    ∙ ap (λ (guest : Guest). made (role_of c.args.newcomer.kind c.args.done.now) guest)
+    c.guest_of-guest.ensures in
+    subst (λ (s : State g.row.S.Denot g.row.J.Denot). Tells g.J.SessionSeat.submits (Welcome c.args.done.now.number)
+    c.args.newcomer.key s (state_of c.send.new.self)) is c.send.ensures

@@ -1,0 +1,16 @@
+use Rattle.std.proofs.Common.{ap, inr}
+use Rattle.server_connections.specs.declared.connections.Connections.{Connections}
+use Rattle.server_loop.specs.Submitting.{state_of}
+use Rattle.server_loop.proofs.own.Loop.obey_step.Goals as goal
+
+pub returns : goal.returns
+returns g c = inr (
+  c.obey_first-progress.result,
+  state_of c.obey_first-progress.new.self,
+  c.obey_first-progress.ensures,
+  c.go_on.ensures.goes,
+  ap (λ (s : Connections g.row.S.Denot). record {
+    seat = c.obey_first-progress.new.self.seat;
+    connections = s;
+  }) c.go_on.ensures.held,
+)

@@ -1,0 +1,34 @@
+use Rattle.std.proofs.Common.{◌≡◌, Bool, true, false, refl, rules}
+use Rattle.server_loop.specs.Leaving.{TellsLeaving}
+use Rattle.server_loop.specs.Submitting.{State, state_of}
+use Rattle.server_loop.proofs.Telling.{if_false, if_true}
+use Rattle.server_loop.proofs.own.Loop.write_to.Goals as goal
+
+pub returns-then-not-write : goal.returns-then-not-write
+returns-then-not-write g c =
+    let no : c.write.result ≡ false = search rules in
+    let mid : State g.row.S.Denot g.row.J.Denot = record {
+      seat = c.args.self.now.seat;
+      connections = c.write.new.connections;
+    } in (
+      c.write.result,
+      c.write.new.connections,
+      c.write.ensures,
+      if_false c.write.result ((told : Bool) × TellsLeaving g.J.SessionSeat.submits c.args.key mid told mid) (mid ≡ mid)
+          no refl,
+    )
+
+pub returns : goal.returns
+returns g c =
+    let yes : c.write.result ≡ true = search rules in
+    let mid : State g.row.S.Denot g.row.J.Denot = record {
+      seat = c.args.self.now.seat;
+      connections = c.write.new.connections;
+    } in (
+      c.write.result,
+      c.write.new.connections,
+      c.write.ensures,
+      if_true c.write.result
+          ((told : Bool) × TellsLeaving g.J.SessionSeat.submits c.args.key mid told (state_of c.tell_leaving.new.self))
+          (state_of c.tell_leaving.new.self ≡ mid) yes (c.tell_leaving.result, c.tell_leaving.ensures),
+    )

@@ -1,0 +1,157 @@
+-- What becomes of a connection by its first message.
+use Rattle.std.specs.Prelude.{◌≡◌, ◌⊎◌, ℕ, Bool, true, false, List, Option, Some, None, Result, Ok, Err, Contains}
+use Rattle.std.specs.Prelude.{codes, unwrap_or}
+use Rattle.acl.specs.Names.{name_of}
+use Rattle.acl.specs.declared.user_id.UserId.{UserId}
+use Rattle.attach_proto.specs.declared.message.Message.{Message}
+use Rattle.attach_proto.specs.declared.message.Message.TheVariants as message
+use Rattle.attach_proto.specs.declared.why.Why.{Why}
+use Rattle.attach_proto.specs.declared.why.Why.TheVariants as why
+use Rattle.session.specs.Texts.{text_of}
+use Rattle.session.specs.Trace.{EventValue, Reply}
+use Rattle.session.specs.event.Done.{Done}
+use Rattle.slab.specs.Slab.{get}
+use Rattle.server_connections.specs.Changing.{changed, told_to_go}
+use Rattle.server_seat.specs.Ending.{why_of_fault}
+use Rattle.server_seat.specs.declared.seat.GuestKind.{GuestKind}
+use Rattle.server_seat.specs.declared.seat.SeatAnswer.{SeatAnswer}
+use Rattle.server_seat.specs.declared.seat.SeatFault.{SeatFault}
+use Rattle.server_sending.specs.Frames.{PutsMessage}
+use Rattle.server_steps.specs.Meaning.{event_of, guest_of, is_extra_at, joined, kind_of, may_judge, role_of, shown_in}
+use Rattle.server_steps.specs.declared.progress.Progress.{Progress}
+use Rattle.server_steps.specs.declared.progress.Progress.TheVariants as progress
+use Rattle.server_users.specs.Entries.{Entry}
+use Rattle.server_users.specs.declared.user.Shown.{Shown}
+use Rattle.server_loop.specs.Handing.{Faults, SendsTo, Sent}
+use Rattle.server_loop.specs.Leaving.{IfBool}
+use Rattle.server_loop.specs.Submitting.{Answer, State, Submits}
+use Rattle.server_loop.specs.declared.own.Loop.{Loop}
+
+-- what a loop knows of the users' file: who may connect, and the number of the look that found them, if somebody looks
+pub record Known : Type 0 where
+  pub users : List Entry
+  pub looked : Option ℕ
+
+abbrev pub known_of : {S G J : Type 0} → (J → List Entry) → Loop S G J → Known
+known_of known own = record { users = unwrap_or own.users (known own.seat); looked = own.looked }
+
+-- this user is the one whose name and token these are
+pub record IsShown (users : List Entry) (entry : Entry) (shown : Shown) : Type 0 where
+  pub named : name_of shown.user ≡ entry.name
+  pub listed : Contains users entry
+
+module _ {S J : Type 0} where
+  -- it was told to go, if it wasn't before
+  abbrev pub Dismisses : Why → ℕ → State S J → State S J → Type 0
+  Dismisses cause key old new = new ≡ record old { connections = changed (told_to_go cause) key old.connections }
+
+module _ {S J : Type 0} (submits : J → EventValue → Answer → J → Type 0) where
+  -- it was sent a message
+  abbrev pub Tells : Message → ℕ → State S J → State S J → Type 0
+  Tells m key old new = SendsTo submits key (PutsMessage m) (λ was now. now ≡ was) old new
+
+  -- it was told a text, and to go
+  abbrev pub TurnsAway : List ℕ → ℕ → State S J → State S J → Type 0
+  TurnsAway text key old new =
+      (mid : State S J) × Tells (message.Say text) key old mid × Dismisses why.Fault key mid new
+
+  -- so it was; without memory for the text it was only told to go
+  abbrev pub SendsAway : List ℕ → ℕ → State S J → State S J → Type 0
+  SendsAway text key old new = TurnsAway text key old new ⊎ Dismisses why.Fault key old new
+
+  -- it became the client or the window that the session made, and was welcomed by its number
+  abbrev pub LetsIn : Shown → GuestKind → Done → ℕ → State S J → State S J → Type 0
+  LetsIn shown kind done key old new = Tells (message.Welcome done.number) key (record old {
+    connections = changed (joined shown (role_of kind done) (guest_of kind shown done)) key old.connections;
+  }) new
+
+  -- it was told what its command lists, if that lists something
+  abbrev pub Lists : Option (List ℕ) → ℕ → State S J → State S J → Type 0
+  Lists None key old new = new ≡ old
+  Lists (Some text) key old new = Tells (message.Say text) key old new
+
+  -- its command was done, or it was told why not; and it was told to go
+  abbrev pub Ends : Reply → ℕ → State S J → State S J → Type 0
+  Ends (Ok done) key old new =
+      (mid : State S J) × Lists done.text key old mid × Dismisses why.Detached key mid new
+  Ends (Err refusal) key old new = SendsAway (text_of refusal) key old new
+
+  -- it was welcomed, and told the answer
+  abbrev pub Answers : Reply → ℕ → State S J → State S J → Type 0
+  Answers reply key old new = (mid : State S J) × Tells (message.Welcome 0) key old mid × Ends reply key mid new
+
+  -- An event was tried: one step was made and answered; or its user has to wait, and nothing was submitted; or its step
+  -- has no answer, and its connection was told why it goes.
+  abbrev pub Attempts : EventValue → ℕ → State S J → Result SeatAnswer Progress → State S J → Type 0
+  Attempts event key old (Ok answer) new = Submits submits event old (Ok answer) new
+  Attempts event key old (Err progress.Held) new = new ≡ old
+  Attempts event key old (Err progress.Done) new = (fault : SeatFault) × (mid : State S J)
+      × Submits submits event old (Err fault) mid × Dismisses (why_of_fault fault) key mid new
+  Attempts event key old (Err progress.Part) new = ⊥
+
+  -- Without memory to look whether a command is `quit`, it was told to go. Else its event was tried, and it was told the
+  -- answer.
+  abbrev pub Commands : EventValue → ℕ → State S J → Progress → State S J → Type 0
+  Commands event key old far new = ((far ≡ progress.Done) × Dismisses why.Fault key old new)
+      ⊎ (Attempts event key old (Err far) new
+      ⊎ ((far ≡ progress.Done) × (answer : SeatAnswer) × (mid : State S J)
+      × Attempts event key old (Ok answer) mid × Answers answer.reply key mid new))
+
+module _ {S J : Type 0} (submits : J → EventValue → Answer → J → Type 0)
+    (counts : J → UserId → GuestKind → Option ℕ → Type 0) (uncounts : J → UserId → GuestKind → Type 0)
+  where
+    -- what came of it by the answer to its event: it was let in; or it was told why not, and isn't counted any more
+    abbrev pub Enters : Shown → GuestKind → Reply → ℕ → State S J → State S J → Type 0
+    Enters shown kind (Ok done) key old new = LetsIn submits shown kind done key old new
+    Enters shown kind (Err refusal) key old new =
+        SendsAway submits (text_of refusal) key old new × uncounts new.seat shown.user kind
+
+    -- its user has as many as a user may have, and it was told so
+    abbrev pub HasMost : Shown → GuestKind → ℕ → State S J → Progress → State S J → Type 0
+    HasMost shown kind key old far new = (most : ℕ) × counts old.seat shown.user kind (Some most)
+        × (far ≡ progress.Done) × (text : List ℕ) × SendsAway submits text key old new
+
+    -- it was counted, and its event was tried; if there was no answer, it isn't counted any more
+    abbrev pub IsCounted : Shown → GuestKind → EventValue → ℕ → State S J → Progress → State S J → Type 0
+    IsCounted shown kind event key old far new = counts old.seat shown.user kind None
+        × ((Attempts submits event key old (Err far) new × uncounts new.seat shown.user kind)
+        ⊎ ((far ≡ progress.Done) × (answer : SeatAnswer) × (mid : State S J)
+        × Attempts submits event key old (Ok answer) mid × Enters shown kind answer.reply key mid new))
+
+    -- no more are to stay, and it was told so; or it is as above
+    abbrev pub Joins : Shown → GuestKind → EventValue → ℕ → State S J → Progress → State S J → Type 0
+    Joins shown kind event key old far new = IfBool (is_extra_at (get old.connections.peers key))
+        ((far ≡ progress.Done) × TurnsAway submits (codes "the server has no room for more connections") key old new)
+        (HasMost shown kind key old far new ⊎ IsCounted shown kind event key old far new)
+
+    -- what it asks for was tried, for the user who showed their token
+    abbrev pub BeginsBy : Shown → Option GuestKind → Option EventValue → ℕ
+        → State S J → Progress → State S J → Type 0
+    BeginsBy shown kind None key old far new = (far ≡ progress.Done) × (new ≡ old)
+    BeginsBy shown None (Some event) key old far new = Commands submits event key old far new
+    BeginsBy shown (Some kind) (Some event) key old far new = Joins shown kind event key old far new
+
+    abbrev pub BeginsAs : Shown → Message → ℕ → State S J → Progress → State S J → Type 0
+    BeginsAs shown m = BeginsBy shown (kind_of m) (event_of shown m)
+
+    -- Nobody has this name and this token, and it was told so, without a step. Or somebody has, and is the user for whom
+    -- its event was tried.
+    abbrev pub Judges : List Entry → Entry → Message → ℕ → State S J → Progress → State S J → Type 0
+    Judges users entry m key old far new =
+        (¬ (Contains users entry) × (far ≡ progress.Done)
+        × TurnsAway submits (codes "unknown user or wrong token") key old new)
+        ⊎ ((shown : Shown) × IsShown users entry shown × BeginsAs shown m key old far new)
+
+    -- If it is no first message, it was told to go. Else it waits for a look at the users' file, or it was judged.
+    abbrev pub BeginsWith : (J → List Sent → Bool → J → Type 0) → Known → Option Entry → Message → ℕ
+        → State S J → Progress → State S J → Type 0
+    BeginsWith takes known None m key old far new = (far ≡ progress.Done) × Faults submits takes key old new
+    BeginsWith takes known (Some entry) m key old far new =
+        IfBool (may_judge known.looked (get old.connections.peers key))
+        (Judges known.users entry m key old far new)
+        ((far ≡ progress.Held) × (new ≡ old))
+
+    -- what became of a connection by its first message
+    abbrev pub Begins : (J → List Sent → Bool → J → Type 0) → Known → Message → ℕ
+        → State S J → Progress → State S J → Type 0
+    Begins takes known m = BeginsWith takes known (shown_in m) m

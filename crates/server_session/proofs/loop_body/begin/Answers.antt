@@ -1,0 +1,12 @@
+use Rattle.std.proofs.Common.{arith}
+use Rattle.server_session.proofs.SettingUp.{begun_by}
+use Rattle.server_session.proofs.loop_body.begin.Goals as goal
+
+pub returns-in-Ok-set_up-clause-set_up : goal.returns-in-Ok-set_up-clause-set_up
+returns-in-Ok-set_up-clause-set_up g c =
+    let parts = c.requires.blank.2 in
+    let some = c.requires.blank.3 in
+    let seats = c.in-Ok-new.ensures.seats.0 in
+    begun_by c.args.parts.owner c.args.setup.now c.in-Ok-new.seats.items c.index_mut-first.result.now
+    c.ask_for_entries.new.self c.set_up.new.seat (omega arith) c.in-Ok-new.ensures.seats.1
+    c.index_mut-first.ensures.value c.ask_for_entries.ensures c.in-Ok-set_up.ensures.done

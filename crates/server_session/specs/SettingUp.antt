@@ -1,0 +1,68 @@
+-- What a setup commands before anybody connects.
+use Rattle.std.specs.Prelude.{◌≡◌, ◌⊎◌, ℕ, zero, suc, true, List, [], length, Some, Ok, Err, slice_get}
+use Rattle.acl.specs.declared.user_id.UserId.{UserId}
+use Rattle.program_words.specs.SetupLines.{Line, commands_in, first_fault}
+use Rattle.program_words.specs.declared.setup.SetupFault.TheVariants.{NoMemory as OfMemory}
+use Rattle.session.specs.Setup.{command_of}
+use Rattle.session.specs.Texts.{text_of}
+use Rattle.session.specs.Trace.{Reply}
+use Rattle.session.specs.event.Done.{Done}
+use Rattle.session.specs.refusal.Refusal.{Refusal}
+use Rattle.hub.specs.Seats.{Answers, Sitting, Told}
+use Rattle.server_session.specs.declared.loop_body.LoopsFault.{LoopsFault}
+use Rattle.server_session.specs.declared.loop_body.LoopsFault.TheVariants as fault
+
+-- a line was submitted: the session answered its command by one step for the seat
+pub record IsGiven (owner : UserId) (line : Line) (reply : Reply) (old new : Sitting) : Type 0 where
+  pub told : Told
+  pub answers : Answers (command_of owner line) told old new
+  pub reply_is : told.reply ≡ reply
+
+-- the first n lines were submitted, in order and each once, and all were done
+abbrev pub AreDone : UserId → List Line → ℕ → Sitting → Sitting → Type 0
+AreDone owner lines zero old new = new ≡ old
+AreDone owner lines (suc n) old new =
+    (mid : Sitting) × AreDone owner lines n old mid
+    × (line : Line) × (slice_get lines n ≡ Some line) × (done : Done) × IsGiven owner line (Ok done) mid new
+
+-- the fault is that a line was refused with this text, if memory didn't run out
+abbrev pub IfRefused : LoopsFault → (ℕ → List ℕ → Type 0) → Type 0
+IfRefused fault.NoMemory P = Unit {0}
+IfRefused (fault.Setup why) P = ⊥
+IfRefused (fault.Refused number said) P = P number said.items
+
+-- a line was submitted and refused, which its number and the refusal's text tell
+pub record IsStopped (owner : UserId) (line : Line) (number : ℕ) (said : List ℕ) (old new : Sitting) : Type 0 where
+  pub number_is : number ≡ line.number
+  pub refusal : Refusal
+  pub text : said ≡ text_of refusal
+  pub given : IsGiven owner line (Err refusal) old new
+
+-- the lines before one of them were done, and that one was refused
+pub record Stops (owner : UserId) (lines : List Line) (number : ℕ) (said : List ℕ) (old new : Sitting) : Type 0 where
+  pub before : ℕ
+  pub mid : Sitting
+  pub done : AreDone owner lines before old mid
+  pub line : Line
+  pub is_next : slice_get lines before ≡ Some line
+  pub stopped : IsStopped owner line number said mid new
+
+-- why the lines of a file weren't all done; nothing is submitted if one can be no command
+abbrev pub Fails : UserId → List ℕ → LoopsFault → Sitting → Sitting → Type 0
+Fails owner file fault.NoMemory old new = Unit {0}
+Fails owner file (fault.Setup why) old new =
+    (new ≡ old) × ((why ≡ OfMemory) ⊎ (first_fault (commands_in file) ≡ Some why))
+Fails owner file (fault.Refused number said) old new = Stops owner (commands_in file) number said.items old new
+
+-- all lines of a file were done
+abbrev pub IsSetUp : UserId → List ℕ → Sitting → Sitting → Type 0
+IsSetUp owner file old new = AreDone owner (commands_in file) (length (commands_in file)) old new
+
+-- the first of these seats, which had no receipts and asked for entries, did all lines of the setup
+pub record HasBegun (owner : UserId) (file : List ℕ) (seats : List Sitting) : Type 0 where
+  pub first : Sitting
+  pub fresh : first.receipts ≡ []
+  pub asks : first.asks ≡ true
+  pub seat : Sitting
+  pub is_first : slice_get seats 0 ≡ Some seat
+  pub done : IsSetUp owner file first seat

@@ -1,0 +1,15 @@
+use Rattle.std.proofs.Common.{refl, sym, inr}
+use Rattle.server_steps.proofs.asking.read.Goals as goal
+
+pub returns : goal.returns
+returns g c = inr (
+  c.in-Some.peer.now,
+  c.read.new.self,
+  sym c.in-Some.ensures.value,
+  record {
+    not_read = c.read.ensures.held;
+    bytes = c.read.ensures.bytes;
+    same = c.read.ensures.same;
+  },
+  refl,
+)

@@ -1,0 +1,68 @@
+-- The users' file: when it is read, and what is taken from it.
+use Rattle.std.specs.Prelude.{◌≡◌, ℕ, ◌+◌, ◌-◌, ◌^◌, ◌<◌, ◌≤◌, List, length, Option, Some, None, Result, Ok, Err}
+use Rattle.std.specs.Prelude.{bit_and, if◌then◌else◌, min, slice_get}
+use Rattle.acl.specs.Names.{name_of}
+use Rattle.acl.specs.Same.{same_user}
+use Rattle.acl.specs.declared.user_id.UserId.{UserId}
+use Rattle.server_users.specs.Entries.{Entry, IsFileOf, names}
+use Rattle.server_users.specs.Stands.{Breaks}
+use Rattle.server_system.specs.declared.fault.ServeFault.{ServeFault}
+use Rattle.server_system.specs.declared.fault.ServeFault.TheVariants as fault
+use Rattle.server_system.specs.declared.users_file.LastLook.{LastLook}
+use Rattle.server_system.specs.declared.users_file.Stamp.{Stamp}
+use Rattle.server_system.specs.declared.watched.Looks.{Looks}
+use Rattle.server_system.specs.declared.watched.UsersNews.TheVariants as news
+
+-- ---- what is read
+
+-- its group and others may not write it
+abbrev pub IsSafe : Stamp → Type 0
+IsSafe stamp = bit_and stamp.mode 0o022 ≡ 0
+
+-- a file of at most 1,048,576 bytes, which others may not write, is the file of these users
+pub record AreOf (stamp : Stamp) (file : List ℕ) (users : List Entry) : Type 0 where
+  pub safe : IsSafe stamp
+  pub small : length file ≤ 1048576
+  pub lines : IsFileOf users file
+
+abbrev pub IsWrong : Stamp → List ℕ → ServeFault → Type 0
+IsWrong stamp file (fault.Writable path) = IsSafe stamp → ⊥
+IsWrong stamp file (fault.TooLarge path) = 1048576 < length file
+IsWrong stamp file (fault.Users path why) = Breaks file why
+IsWrong stamp file fault.NoMemory = Unit {0}
+IsWrong stamp file other = ⊥
+
+-- what is remembered of a look, which found the file so, and this fault
+abbrev pub after_look : Option Stamp → Option ServeFault → LastLook → LastLook
+after_look found (Some fault.NoMemory) seen = seen
+after_look found (Some (fault.NoFile path error)) seen = record { stamp = None; failed = Some found }
+after_look found other seen = record { stamp = found; failed = None }
+
+-- such a fault isn't news if it has been told
+abbrev pub MayBeTold : Option ServeFault → Type 0
+MayBeTold (Some (fault.NoFile path error)) = Unit {0}
+MayBeTold other = ⊥
+
+-- ---- what is known
+
+abbrev pub later : ℕ → ℕ
+later count = min (count + 1) (2 ^ 64 - 1)
+
+-- users of a file are taken if the first of them is the session's owner
+abbrev pub with_users : UserId → UserId → List Entry → Looks → Looks
+with_users owner first users looks =
+    if same_user first owner then
+    record looks { users = Some users; count = later looks.count; news = Some news.Anew }
+    else record looks { news = Some news.OtherOwner }
+
+-- what is known after a file was read, or wasn't for this fault
+abbrev pub Takes : UserId → Result (List Entry) ServeFault → Looks → Looks → Type 0
+Takes owner (Ok users) old new =
+    (first : UserId) × (slice_get (names users) 0 ≡ Some (name_of first))
+    × (new ≡ with_users owner first users old)
+Takes owner (Err why) old new = new ≡ record old { news = Some (news.Faulty why) }
+
+-- the look that was begun is done; what it found is taken, if anything
+abbrev pub Ends : UserId → Option (Result (List Entry) ServeFault) → Looks → Looks → Type 0
+Ends owner None old new = new ≡ record old { done = old.begun }
+Ends owner (Some found) old new = Takes owner found (record old { done = old.begun }) new
