@@ -6,9 +6,9 @@ use Prim.Native.Char.{code}
 use Rattle.std.specs.List.{AllByRecursion, concat}
 use Rattle.charsets.specs.Units.{is_plain}
 use Rattle.charsets.specs.Utf8.{is_lead, continues}
-use Rattle.draw_check.specs.declared.place.Place.{Place}
-use Rattle.draw_check.specs.declared.place.Place.TheVariants.{Between, Escape, Coding, Control, Values}
-use Rattle.draw_check.specs.declared.place.Place.TheVariants.{Mode, Cursor, Switch, Off, Lead, Third, Last}
+use Rattle.draw_check.specs.declared.place.DrawPlace.{DrawPlace}
+use Rattle.draw_check.specs.declared.place.DrawPlace.TheVariants.{Between, Escape, Coding, Control, Values}
+use Rattle.draw_check.specs.declared.place.DrawPlace.TheVariants.{Mode, Cursor, Switch, Off, Lead, Third, Last}
 use Rattle.draw_check.specs.Functions.{is_empty, is_second, is_value, is_last, is_short, is_function, IsFunction}
 use Rattle.draw_check.specs.Functions.{ends_last, ends_third, ends_lead, ends_switch, ends_off, ends_cursor, ends_mode}
 use Rattle.draw_check.specs.Functions.{ends_values, ends_control, ends_coding, ends_escape, AreDraws, BeginDraws}
@@ -16,7 +16,7 @@ use Rattle.draw_check.specs.Places.{between_if, place_if, next, next_in, after, 
 use Rattle.draw_check.proofs.Joining.{none_draw, one_draws, draws_append}
 
 -- the bytes end a function after this place
-abbrev ends : Place → List ℕ → Bool
+abbrev ends : DrawPlace → List ℕ → Bool
 ends Between bytes = is_function bytes
 ends Escape bytes = ends_escape bytes
 ends Coding bytes = ends_coding bytes
@@ -31,7 +31,7 @@ ends Third bytes = ends_third bytes
 ends Last bytes = ends_last bytes
 
 -- the bytes end what has begun: nothing between functions
-abbrev left : Place → List ℕ → Bool
+abbrev left : DrawPlace → List ℕ → Bool
 left Between bytes = is_empty bytes
 left Escape bytes = ends_escape bytes
 left Coding bytes = ends_coding bytes
@@ -45,7 +45,7 @@ left (Lead a) bytes = ends_lead a bytes
 left Third bytes = ends_third bytes
 left Last bytes = ends_last bytes
 
-abbrev left_in : Option Place → List ℕ → Bool
+abbrev left_in : Option DrawPlace → List ℕ → Bool
 left_in None bytes = false
 left_in (Some place) bytes = left place bytes
 
@@ -53,7 +53,7 @@ between : (is : Bool) (bytes : List ℕ) → (is && is_empty bytes) ≡ left_in 
 between true bytes = refl
 between false bytes = refl
 
-placed : (is : Bool) (place : Place) (bytes : List ℕ) → (is && left place bytes) ≡ left_in (place_if is place) bytes
+placed : (is : Bool) (place : DrawPlace) (bytes : List ℕ) → (is && left place bytes) ≡ left_in (place_if is place) bytes
 placed true place bytes = refl
 placed false place bytes = refl
 
@@ -99,7 +99,7 @@ second true false true bytes = refl
 second true false false bytes = refl
 
 -- one more byte
-step : (place : Place) (b : ℕ) (bytes : List ℕ) → ends place (b ∷ bytes) ≡ left_in (next place b) bytes
+step : (place : DrawPlace) (b : ℕ) (bytes : List ℕ) → ends place (b ∷ bytes) ≡ left_in (next place b) bytes
 step Between b bytes = begun (is_plain b || b == 0x18) (b == 0x1B) (is_lead b) b bytes
 step Escape b bytes = escaped (b == code "[") (b == code "%") (is_short b) bytes
 step Coding b bytes = between (b == code "G") bytes
@@ -113,7 +113,7 @@ step (Lead a) b bytes = second (is_second a b) (nat_lt a 0xE0) (nat_lt a 0xF0) b
 step Third b bytes = placed (continues b) Last bytes
 step Last b bytes = between (continues b) bytes
 
-none_ends : (place : Place) → ends place [] ≡ false
+none_ends : (place : DrawPlace) → ends place [] ≡ false
 none_ends Between = refl
 none_ends Escape = refl
 none_ends Coding = refl
@@ -133,7 +133,7 @@ empty : (bytes : List ℕ) → is_empty bytes ≡ true → bytes ≡ []
 empty [] h = refl
 empty (b ∷ bytes) h = absurd (cc)
 
-to_between : (place : Place) (bytes : List ℕ) → (ends place bytes ≡ true → after (Some place) bytes ≡ Some Between)
+to_between : (place : DrawPlace) (bytes : List ℕ) → (ends place bytes ≡ true → after (Some place) bytes ≡ Some Between)
     → left place bytes ≡ true → after (Some place) bytes ≡ Some Between
 to_between Between bytes go h = ap (after (Some Between)) (empty bytes h)
 to_between Escape bytes go h = go h
@@ -148,16 +148,16 @@ to_between (Lead a) bytes go h = go h
 to_between Third bytes go h = go h
 to_between Last bytes go h = go h
 
-ended : (bytes : List ℕ) (place : Place) → ends place bytes ≡ true → after (Some place) bytes ≡ Some Between
+ended : (bytes : List ℕ) (place : DrawPlace) → ends place bytes ≡ true → after (Some place) bytes ≡ Some Between
 ended [] place h = absurd (let none = none_ends place in cc)
 ended (b ∷ bytes) place h = go (next place b) (sym (step place b bytes) ∙ h) (ended bytes)
   where
-    go : (q : Option Place) → left_in q bytes ≡ true
-        → ((p : Place) → ends p bytes ≡ true → after (Some p) bytes ≡ Some Between) → after q bytes ≡ Some Between
+    go : (q : Option DrawPlace) → left_in q bytes ≡ true
+        → ((p : DrawPlace) → ends p bytes ≡ true → after (Some p) bytes ≡ Some Between) → after q bytes ≡ Some Between
     go None k later = absurd (cc)
     go (Some q) k later = to_between q bytes (later q) k
 
-after_append : (front later : List ℕ) (place : Option Place)
+after_append : (front later : List ℕ) (place : Option DrawPlace)
     → after place (front ++ later) ≡ after (after place front) later
 after_append [] later place = refl
 after_append (b ∷ front) later place = after_append front later (next_in place b)
@@ -166,7 +166,7 @@ after_none : (bytes : List ℕ) → after None bytes ≡ None
 after_none [] = refl
 after_none (b ∷ bytes) = after_none bytes
 
-pub after_one : (bytes : List ℕ) (b : ℕ) (place : Option Place)
+pub after_one : (bytes : List ℕ) (b : ℕ) (place : Option DrawPlace)
     → after place (bytes ++ b ∷ []) ≡ next_in (after place bytes) b
 after_one bytes b place = after_append bytes (b ∷ []) place
 
@@ -192,11 +192,11 @@ beginning_is_read bytes begins none =
 -- ---- what is read begins a list of functions
 
 -- whatever ends what has begun makes the bytes a list of functions
-abbrev Opened : Place → List ℕ → Type 0
+abbrev Opened : DrawPlace → List ℕ → Type 0
 Opened place bytes = (more : List ℕ) → left place more ≡ true → AreDraws (bytes ++ more)
 
 -- a function may begin, or goes on
-goes_on : (place : Place) (bytes : List ℕ) → Opened place bytes → (more : List ℕ) → ends place more ≡ true
+goes_on : (place : DrawPlace) (bytes : List ℕ) → Opened place bytes → (more : List ℕ) → ends place more ≡ true
     → AreDraws (bytes ++ more)
 goes_on Between bytes opened more h =
     draws_append bytes more (subst AreDraws (append-nil bytes) (opened [] refl)) (one_draws more h)
@@ -212,13 +212,13 @@ goes_on (Lead a) bytes opened more h = opened more h
 goes_on Third bytes opened more h = opened more h
 goes_on Last bytes opened more h = opened more h
 
-opened_next : (place q : Place) (b : ℕ) (came : List ℕ) → Opened place came → next place b ≡ Some q
+opened_next : (place q : DrawPlace) (b : ℕ) (came : List ℕ) → Opened place came → next place b ≡ Some q
     → Opened q (came ++ b ∷ [])
 opened_next place q b came opened is more h =
     subst AreDraws (sym (append_assoc came (b ∷ []) more))
     (goes_on place came opened (b ∷ more) (step place b more ∙ ap (λ p. left_in p more) is ∙ h))
 
-opened_after : (bytes came : List ℕ) (place q : Place) → Opened place came → after (Some place) bytes ≡ Some q
+opened_after : (bytes came : List ℕ) (place q : DrawPlace) → Opened place came → after (Some place) bytes ≡ Some q
     → Opened q (came ++ bytes)
 opened_after [] came place q opened is =
     let same : place ≡ q = cc in
@@ -226,8 +226,8 @@ opened_after [] came place q opened is =
 opened_after (b ∷ bytes) came place q opened is =
     go (next place b) refl is (λ p o e. opened_after bytes (came ++ b ∷ []) p q o e)
   where
-    go : (p : Option Place) → next place b ≡ p → after p bytes ≡ Some q
-        → ((p : Place) → Opened p (came ++ b ∷ []) → after (Some p) bytes ≡ Some q
+    go : (p : Option DrawPlace) → next place b ≡ p → after p bytes ≡ Some q
+        → ((p : DrawPlace) → Opened p (came ++ b ∷ []) → after (Some p) bytes ≡ Some q
         → Opened q ((came ++ b ∷ []) ++ bytes))
         → Opened q (came ++ b ∷ bytes)
     go None k e later = absurd (let none = after_none bytes in cc)
@@ -253,7 +253,7 @@ some_second a = go (a == 0xC2) (a == 0xE0) (a == 0xED) (a == 0xF0) (a == 0xF4) r
     go false false false false false e f g h i = (0x80, rw (e, f, g, h, i) refl)
 
 -- each place can be left
-closes : (place : Place) → (more : List ℕ) × (left place more ≡ true)
+closes : (place : DrawPlace) → (more : List ℕ) × (left place more ≡ true)
 closes Between = ([], refl)
 closes Escape = (code "E" ∷ [], refl)
 closes Coding = (code "G" ∷ [], refl)
@@ -275,12 +275,12 @@ closes Last = (0x80 ∷ [], refl)
 opened_first : Opened Between []
 opened_first more h = subst AreDraws (sym (empty more h)) none_draw
 
-pub read_is_beginning : (bytes : List ℕ) (place : Place) → place_after bytes ≡ Some place → BeginDraws bytes
+pub read_is_beginning : (bytes : List ℕ) (place : DrawPlace) → place_after bytes ≡ Some place → BeginDraws bytes
 read_is_beginning bytes place is =
     let last = closes place in
     record { more = last.0; draws = opened_after bytes [] Between place opened_first is last.0 last.1 }
 
-pub decides : (place : Option Place) (bytes : List ℕ) → place ≡ place_after bytes
+pub decides : (place : Option DrawPlace) (bytes : List ℕ) → place ≡ place_after bytes
     → IsTrue (is_some place) ↔ BeginDraws bytes
 decides None bytes is = (λ h. absurd (cc), λ begins. absurd (beginning_is_read bytes begins (sym is)))
 decides (Some place) bytes is = (λ h. read_is_beginning bytes place (sym is), λ begins. refl)

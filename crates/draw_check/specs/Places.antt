@@ -4,26 +4,26 @@ use Rattle.std.specs.Prelude.{List, [], ◌∷◌, Option, Some, None}
 use Prim.Native.Char.{code}
 use Rattle.charsets.specs.Units.{is_plain}
 use Rattle.charsets.specs.Utf8.{is_lead, continues}
-use Rattle.draw_check.specs.declared.place.Place.{Place}
-use Rattle.draw_check.specs.declared.place.Place.TheVariants.{Between, Escape, Coding, Control, Values}
-use Rattle.draw_check.specs.declared.place.Place.TheVariants.{Mode, Cursor, Switch, Off, Lead, Third, Last}
+use Rattle.draw_check.specs.declared.place.DrawPlace.{DrawPlace}
+use Rattle.draw_check.specs.declared.place.DrawPlace.TheVariants.{Between, Escape, Coding, Control, Values}
+use Rattle.draw_check.specs.declared.place.DrawPlace.TheVariants.{Mode, Cursor, Switch, Off, Lead, Third, Last}
 use Rattle.draw_check.specs.Functions.{is_second, is_value, is_last, is_short}
 
-abbrev pub between_if : Bool → Option Place
+abbrev pub between_if : Bool → Option DrawPlace
 between_if is = if is then Some Between else None
 
-abbrev pub place_if : Bool → Place → Option Place
+abbrev pub place_if : Bool → DrawPlace → Option DrawPlace
 place_if is place = if is then Some place else None
 
 -- the place after the second byte of a character that begins with a
-abbrev pub after_second : ℕ → Place
+abbrev pub after_second : ℕ → DrawPlace
 after_second a = if nat_lt a 0xE0 then Between else (if nat_lt a 0xF0 then Last else Third)
 
-abbrev pub next_value : ℕ → ℕ → Option Place
+abbrev pub next_value : ℕ → ℕ → Option DrawPlace
 next_value n b = if is_value b then place_if (nat_lt n 79) (Values (n + 1)) else between_if (is_last b)
 
 -- the place after one more byte; None if no function goes on with it
-abbrev pub next : Place → ℕ → Option Place
+abbrev pub next : DrawPlace → ℕ → Option DrawPlace
 next Between b =
     if is_plain b || b == 0x18 then Some Between
     else (if b == 0x1B then Some Escape else place_if (is_lead b) (Lead b))
@@ -43,15 +43,15 @@ next (Lead a) b = place_if (is_second a b) (after_second a)
 next Third b = place_if (continues b) Last
 next Last b = between_if (continues b)
 
-abbrev pub next_in : Option Place → ℕ → Option Place
+abbrev pub next_in : Option DrawPlace → ℕ → Option DrawPlace
 next_in None b = None
 next_in (Some place) b = next place b
 
 -- the place after some bytes; None if no function goes on with one of them
-abbrev pub after : Option Place → List ℕ → Option Place
+abbrev pub after : Option DrawPlace → List ℕ → Option DrawPlace
 after place [] = place
 after place (b ∷ bytes) = after (next_in place b) bytes
 
 -- the place after these bytes, from the beginning on
-abbrev pub place_after : List ℕ → Option Place
+abbrev pub place_after : List ℕ → Option DrawPlace
 place_after bytes = after (Some Between) bytes

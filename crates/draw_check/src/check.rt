@@ -4,21 +4,21 @@ ghost use Rattle.std.specs.Prelude.{◌≡◌, ◌↔◌, ◌++◌, [], ℕ, Lis
 ghost use Rattle.draw_check.specs.Functions.{BeginDraws};
 ghost use Rattle.draw_check.specs.Places.{place_after};
 
-use crate::place::Place;
+use crate::place::DrawPlace;
 use std::marker::Model;
 
 /// Checks whether bytes consist of the functions that draws use.
 #[derive(Drop)]
 pub struct DrawCheck {
     /// `None` once a byte came that no such function has there.
-    place: Option<Place>,
+    place: Option<DrawPlace>,
 }
 
 impl Model for DrawCheck {
     ghost use Rattle.std.specs.Prelude.{Option};
-    ghost use Rattle.draw_check.specs.declared.place.Place.{Place};
+    ghost use Rattle.draw_check.specs.declared.place.DrawPlace.{DrawPlace};
 
-    ghost Value = { Option Place };
+    ghost Value = { Option DrawPlace };
 
     ghost view = { λ c. c.place };
 }
@@ -29,7 +29,7 @@ impl DrawCheck {
         ensures { result ≡ place_after [] }
     {
         DrawCheck {
-            place: Some(Place::Between),
+            place: Some(DrawPlace::Between),
         }
     }
 

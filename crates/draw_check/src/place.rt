@@ -3,13 +3,13 @@
 ghost use Rattle.std.specs.Prelude.{◌≡◌};
 ghost use Rattle.draw_check.specs.Functions.{is_second, is_value, is_last, is_short};
 ghost use Rattle.draw_check.specs.Places.{next, next_value, after_second, between_if, place_if};
-ghost use Rattle.draw_check.specs.declared.place.Place.TheVariants.{Between, Escape, Mode};
+ghost use Rattle.draw_check.specs.declared.place.DrawPlace.TheVariants.{Between, Escape, Mode};
 ghost use Rattle.charsets.specs.Units.{is_plain};
 ghost use Rattle.charsets.specs.Utf8.{is_lead, follows, continues};
 
 /// Where in a function some bytes end.
 #[derive(Clone, Copy, Debug, PartialEq, Eq)]
-pub enum Place {
+pub enum DrawPlace {
     Between,
     /// After ESC.
     Escape,
@@ -66,46 +66,46 @@ fn is_second(first: u8, byte: u8) -> bool
     }
 }
 
-fn place_if(is: bool, place: Place) -> Option<Place>
+fn place_if(is: bool, place: DrawPlace) -> Option<DrawPlace>
     ensures { result ≡ place_if is place }
 {
     if is { Some(place) } else { None }
 }
 
-fn between_if(is: bool) -> Option<Place>
+fn between_if(is: bool) -> Option<DrawPlace>
     ensures { result ≡ between_if is }
 {
-    place_if(is, Place::Between)
+    place_if(is, DrawPlace::Between)
 }
 
-fn begin(byte: u8) -> Option<Place>
+fn begin(byte: u8) -> Option<DrawPlace>
     ensures { result ≡ next Between byte }
 {
     if is_plain(byte) || byte == CAN {
-        Some(Place::Between)
+        Some(DrawPlace::Between)
     } else if byte == ESC {
-        Some(Place::Escape)
+        Some(DrawPlace::Escape)
     } else {
-        place_if(0xC1 < byte && byte < 0xF5, Place::Lead(byte))
+        place_if(0xC1 < byte && byte < 0xF5, DrawPlace::Lead(byte))
     }
 }
 
-fn after_escape(byte: u8) -> Option<Place>
+fn after_escape(byte: u8) -> Option<DrawPlace>
     ensures { result ≡ next Escape byte }
 {
     match byte {
-        b'[' => Some(Place::Control),
-        b'%' => Some(Place::Coding),
+        b'[' => Some(DrawPlace::Control),
+        b'%' => Some(DrawPlace::Coding),
         _ => between_if(matches!(byte, b'E' | b'=' | b'>' | b'c')),
     }
 }
 
-fn after_values(count: u8, byte: u8) -> Option<Place>
+fn after_values(count: u8, byte: u8) -> Option<DrawPlace>
     ensures { result ≡ next_value count byte }
 {
     if byte.is_ascii_digit() || byte == b';' {
         if count < MOST_VALUES {
-            Some(Place::Values(count + 1))
+            Some(DrawPlace::Values(count + 1))
         } else {
             None
         }
@@ -114,47 +114,47 @@ fn after_values(count: u8, byte: u8) -> Option<Place>
     }
 }
 
-fn after_mark(byte: u8) -> Option<Place>
+fn after_mark(byte: u8) -> Option<DrawPlace>
     ensures { result ≡ next Mode byte }
 {
     match byte {
-        b'1' => Some(Place::Switch),
-        b'2' => Some(Place::Cursor),
-        _ => place_if(byte == b'7', Place::Off),
+        b'1' => Some(DrawPlace::Switch),
+        b'2' => Some(DrawPlace::Cursor),
+        _ => place_if(byte == b'7', DrawPlace::Off),
     }
 }
 
-fn after_second(first: u8) -> Place
+fn after_second(first: u8) -> DrawPlace
     ensures { result ≡ after_second first }
 {
     if first < 0xE0 {
-        Place::Between
+        DrawPlace::Between
     } else if first < 0xF0 {
-        Place::Last
+        DrawPlace::Last
     } else {
-        Place::Third
+        DrawPlace::Third
     }
 }
 
-impl Place {
+impl DrawPlace {
     /// The place after one more byte; `None` if no function goes on with it.
-    pub fn next(self, byte: u8) -> Option<Place>
+    pub fn next(self, byte: u8) -> Option<DrawPlace>
         ensures { result ≡ next self byte }
     {
         match self {
-            Place::Between => begin(byte),
-            Place::Escape => after_escape(byte),
-            Place::Coding => between_if(byte == b'G'),
-            Place::Control if byte == b'?' => Some(Place::Mode),
-            Place::Control => after_values(0, byte),
-            Place::Values(count) => after_values(count, byte),
-            Place::Mode => after_mark(byte),
-            Place::Cursor => place_if(byte == b'5', Place::Switch),
-            Place::Switch => between_if(byte == b'h' || byte == b'l'),
-            Place::Off => between_if(byte == b'l'),
-            Place::Lead(first) => place_if(is_second(first, byte), after_second(first)),
-            Place::Third => place_if(continues(byte), Place::Last),
-            Place::Last => between_if(continues(byte)),
+            DrawPlace::Between => begin(byte),
+            DrawPlace::Escape => after_escape(byte),
+            DrawPlace::Coding => between_if(byte == b'G'),
+            DrawPlace::Control if byte == b'?' => Some(DrawPlace::Mode),
+            DrawPlace::Control => after_values(0, byte),
+            DrawPlace::Values(count) => after_values(count, byte),
+            DrawPlace::Mode => after_mark(byte),
+            DrawPlace::Cursor => place_if(byte == b'5', DrawPlace::Switch),
+            DrawPlace::Switch => between_if(byte == b'h' || byte == b'l'),
+            DrawPlace::Off => between_if(byte == b'l'),
+            DrawPlace::Lead(first) => place_if(is_second(first, byte), after_second(first)),
+            DrawPlace::Third => place_if(continues(byte), DrawPlace::Last),
+            DrawPlace::Last => between_if(continues(byte)),
         }
     }
 }

@@ -14,7 +14,7 @@ use acl::{
     AclFault, Act, Bit, BitChange, LeaderChange, MaskChange, MaskEntry, MaskScope, NewLeader,
     Object, PresetKind, RightsChange, UserId,
 };
-use hub_runs::Run;
+use hub_runs::BitRun;
 use std::alloc::AllocError;
 
 /// Whether a list command was done; an error if memory was refused.
@@ -127,7 +127,7 @@ fn set_all(
 /// and returns the acts after them; `None` if the first act isn't one of them.
 pub fn follow_run<'a>(
     replay: &mut Replay,
-    run: &mut Run,
+    run: &mut BitRun,
     acts: &'a [Act],
 ) -> Result<Option<&'a [Act]>, AllocError>
     ensures some { IfOk result (λ r. IfSome r

@@ -13,7 +13,7 @@ use crate::clients::is_client_of;
 use crate::lists::{follow_run, forget, group, know, mask, preset, set};
 use crate::moves::{attach, close, enter, leave, open, part, set_default, set_mode};
 use acl::{Acl, Act, Bit, Edition, Leaders, Object, UserId};
-use hub_runs::Run;
+use hub_runs::BitRun;
 use session::Verdict;
 use std::alloc::{AllocError, Global};
 use writelock::Locks;
@@ -169,7 +169,7 @@ impl Replay {
     pub fn follow_all(&mut self, acts: &[Act]) -> Result<bool, AllocError>
         ensures { RedoesAll self.old self.new result acts.now }
     {
-        let mut run = Run::new(*self.scratch.allocator());
+        let mut run = BitRun::new(*self.scratch.allocator());
         let mut rest = acts;
         'acts: while let Some((act, behind)) = rest.split_first() {
             match follow_run(self, &mut run, rest)? {

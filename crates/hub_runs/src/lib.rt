@@ -3,4 +3,4 @@
 
 mod runs;
 
-pub use runs::Run;
+pub use runs::BitRun;

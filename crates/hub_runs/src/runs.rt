@@ -15,7 +15,7 @@ const MOST: usize = 3;
 
 /// Changes of a user's bits, and the objects on which they are made, one after another.
 #[derive(Drop)]
-pub struct Run {
+pub struct BitRun {
     pub changes: Vec<BitChange>,
     pub objects: Vec<Object>,
 }
@@ -110,10 +110,10 @@ fn change_beside(act: Act, first: Act) -> Option<BitChange> {
     }
 }
 
-impl Run {
+impl BitRun {
     /// No change, and no object.
-    pub fn new(alloc: Global) -> Run {
-        Run {
+    pub fn new(alloc: Global) -> BitRun {
+        BitRun {
             changes: Vec::new(alloc),
             objects: Vec::new(alloc),
         }

@@ -6,7 +6,7 @@ use std::io::{self, Write};
 
 /// How the new terminal prints by now.
 #[derive(Clone, Copy)]
-pub struct Pen {
+pub struct CellPrinter {
     rendition: Rendition,
     is_protecting: bool,
 }
@@ -63,10 +63,10 @@ pub fn put_marks(marks: Marks, out: &mut Vec<u8>) -> io::Result<()> {
     Ok(())
 }
 
-impl Pen {
+impl CellPrinter {
     /// The pen of a new terminal.
-    pub fn new() -> Pen {
-        Pen {
+    pub fn new() -> CellPrinter {
+        CellPrinter {
             rendition: Rendition::PLAIN,
             is_protecting: false,
         }

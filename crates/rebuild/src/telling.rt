@@ -1,6 +1,6 @@
 //! Tells a screen as bytes.
 
-use crate::pen::{Pen, put_character, put_marks, put_rendition};
+use crate::pen::{CellPrinter, put_character, put_marks, put_rendition};
 use crate::settings::{
     put_place, put_saved, put_set, put_settings, put_shifts, put_stops, single_shift,
 };
@@ -23,7 +23,7 @@ const SETS: [CharacterSet; 4] = [
 
 // The kept lines and those of the page, one below the other: the kept ones leave the page at its top.
 fn put_lines(screen: &Screen, out: &mut Vec<u8>) -> io::Result<()> {
-    let mut pen = Pen::new();
+    let mut pen = CellPrinter::new();
     for n in (0..screen.kept_count()).rev() {
         if let Some(line) = screen.kept(n) {
             pen.put_line(line, out)?;

@@ -2,7 +2,7 @@ use Rattle.std.proofs.Common.{◌≡◌, ◌+◌, ◌++◌, ◌∷◌, [], ℕ, 
 use Rattle.std.proofs.Common.{IsTrue, ◌↔◌, subst}
 use Rattle.std.proofs.lemmas.Grind.{common_steps}
 use Rattle.std.proofs.lemmas.List.{take_more}
-use Rattle.draw_check.specs.declared.place.Place.{Place}
+use Rattle.draw_check.specs.declared.place.DrawPlace.{DrawPlace}
 use Rattle.draw_check.specs.Functions.{BeginDraws}
 use Rattle.draw_check.specs.Places.{next_in, after}
 use Rattle.draw_check.proofs.Reading.{after_one, one_more, decides}
@@ -14,7 +14,7 @@ loop-byte-preserved c =
     let bytes : List ℕ = c.args.bytes.now in
     let i : ℕ = c.loop-byte.byte-index in
     let byte : ℕ = get_or bytes i 0 in
-    let before : Option Place = c.args.self.now in
+    let before : Option DrawPlace = c.args.self.now in
     let more : take (i + 1) bytes ≡ take i bytes ++ byte ∷ [] = take_more bytes i 0 c.loop-byte-test.true in
     let now : after before (take (i + 1) bytes) ≡ next_in c.loop-byte.self-inside.place byte = ap (after before) more
     ∙ after_one (take i bytes) byte before ∙ ap (λ place. next_in place byte) (sym c.loop-byte.invariant) in

@@ -2,7 +2,7 @@ use Rattle.std.specs.Prelude.{◌≡◌, ◌++◌, length}
 use Rattle.std.specs.List.{AllByRecursion}
 use Rattle.acl.specs.Commands.{sets}
 use Rattle.hub_runs.specs.Runs.{IsUnlocked}
-use Rattle.hub_runs.proofs.runs.Run.read.Given as goal
+use Rattle.hub_runs.proofs.runs.BitRun.read.Given as goal
 
 -- the acts so far, and what is left
 abbrev pub invariant-objects : goal.invariant-objects

@@ -3,7 +3,7 @@ use Rattle.std.specs.List.{AllByRecursion}
 use Rattle.acl.specs.Commands.{sets, sets_on}
 use Rattle.hub_runs.specs.Runs.{IsUnlocked}
 use Rattle.hub_runs.proofs.Reading.{all_more, read_more}
-use Rattle.hub_runs.proofs.runs.Run.read.Goals as goal
+use Rattle.hub_runs.proofs.runs.BitRun.read.Goals as goal
 
 pub objects-preserved : goal.objects-preserved
 objects-preserved c =
