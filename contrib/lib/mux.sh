@@ -150,6 +150,17 @@ take_lock() {
     exec 9<"$1"
     flock -w 60 9 || fault "another mux-console, mux-rights or mux-guest has held the lock for a minute: $1: try again"
 }
+# make_folder: sets folder to a new one for files of this script.
+make_folder() {
+    folder=$(mktemp -d "${TMPDIR:-/tmp}/$program.XXXXXX" 2>&1) || no_folder "$folder"
+}
+no_folder() {
+    fault "can't make a folder for its files in ${TMPDIR:-/tmp}: ${1##*: }: set TMPDIR to another one"
+}
+# visible TEXT: prints it with ? for all but ASCII's visible characters, whoever named a file in it.
+visible() {
+    printf '%s\n' "$1" | LC_ALL=C tr -c '\n -~' '?'
+}
 # exit_on_signals: on a signal the script ends by its trap EXIT.
 exit_on_signals() {
     trap 'exit 129' HUP
