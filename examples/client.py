@@ -126,7 +126,7 @@ def attach(server, user, token):
                             # A SAY before reason 6 says what was refused.
                             return payload[0] in (0, 4), said if said and payload[0] == 6 else WHY[payload[0]]
     finally:
-        termios.tcsetattr(0, termios.TCSADRAIN, saved)
+        termios.tcsetattr(0, termios.TCSAFLUSH, saved)
         # Resets arrow keys, keypad, wrapping, the cursor and renditions, and clears the page.
         os.write(1, b"\x1b[?1l\x1b>\x1b[?7h\x1b[?25h\x1b[m\x1b[H\x1b[J")
 
