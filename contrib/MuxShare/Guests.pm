@@ -98,6 +98,7 @@ sub add {
     @first = ("aclchg $name -w #") if $guest && !$types;
     @first = () if $guest && $types;
     my $fault = $self->give_all(@first, "aclchg $name +r" . ($types ? 'w' : '') . ' 0');
+    $self->{session}->drop_typed if $fault eq '' && $guest && $guest->{types} && !$types;
     # The token comes last: before it, the session takes nothing that the guest sends.
     $fault = $self->{session}->add_user($name) if $fault eq '';
     if ($fault ne '') {
@@ -122,16 +123,25 @@ sub drop {
     # doesn't know the name any more.
     $self->{session}->remove_user($guest->{name});
     $self->{session}->give("acldel $guest->{name}");
+    $self->{session}->drop_typed if $guest->{types};
     $self->{session}->tell("$guest->{account} $why");
     $self->show_typing if $guest->{types};
     log_line("$guest->{account} $why");
 }
 
-# Takes w from all guests.  Returns a fault, or ''.
+# Sends away whoever has a link: by the time somebody opens it, its port may be that of another account, and nobody may
+# come by the token in it.
+sub drop_browsers {
+    my ($self) = @_;
+    $self->drop($_, 'has gone: mux-web has ended') for grep { $self->{guests}{$_}{is_web} } keys %{ $self->{guests} };
+}
+
+# Takes w from all guests, with what they have typed and no program has read.  Returns a fault, or ''.
 sub take {
     my ($self) = @_;
     my $fault = %{ $self->{guests} } ? $self->give_all('aclchg * -w #') : '';
     return $fault if $fault ne '';
+    $self->{session}->drop_typed if $self->typists;
     $_->{types} = 0 for values %{ $self->{guests} };
     $self->show_typing;
     return '';

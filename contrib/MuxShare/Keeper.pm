@@ -176,6 +176,7 @@ sub reap {
     while ((my $gone = waitpid(-1, WNOHANG)) > 0) {
         next if delete $self->{relays}{$gone};
         if ($gone == $self->{guard}) { $self->start_guard }
+        elsif ($self->{session}->is_web($gone)) { $self->{guests}->drop_browsers }
         elsif ($self->{session}->is_ended_by($gone, $?)) { $self->{ending} = 1 }
     }
     $self->{look_at} = now() + BACK if $self->{session}->is_anew;

@@ -8,14 +8,16 @@ use Socket qw(PF_INET SOCK_STREAM INADDR_LOOPBACK pack_sockaddr_in unpack_sockad
 use MuxShare::Place;
 use MuxShare::Wire;
 
-# How long muxd, the shell and the end may take, in seconds.
-use constant { START => 10, STOP => 3, STEP => 0.01 };
+# How long muxd, the shell and the end may take, and a command that ended at once to be gone, in seconds.
+use constant { START => 10, STOP => 3, STEP => 0.01, ENDED => 5 };
 # How long the shell and its terminals may take to come back when muxd was killed, and how often in a session.
 use constant { STAY => 60, OFTEN => 100 };
 # How many terminals one user may have, so that no guest takes all 64, and how long a title is at most.
 use constant { CLIENTS => 8, LONGEST_TITLE => 40 };
-# The request by which a terminal tells its size, except on alpha, mips, powerpc and sparc.
-use constant TIOCGWINSZ => 0x5413;
+# The requests by which a terminal tells its size and how many bytes wait in it, except on alpha, mips, powerpc and sparc.
+use constant { TIOCGWINSZ => 0x5413, FIONREAD => 0x541B };
+# How many looks at the shell's terminal find nothing typed until nothing more comes, and how many there are at most.
+use constant { QUIET => 10, LOOKS => 500, LOOK => 0.004 };
 
 # PLACE is the folder, OWNER the owner's name in the session, TITLE the shell's, KEEP the number of its kept lines,
 # SCRIPTS the folder of mux-shell.
@@ -259,6 +261,8 @@ sub start_shell {
     my @in_window = ("$self->{scripts}/mux-door", 'run', $self->{own}, @command);
     $self->{shell} = spawn($prepare, "$self->{scripts}/mux-shell", @words, '--', @in_window);
     return if wait_for($self->{shell}, sub { !-e "$self->{own}/environment" }, START);
+    # It may have ended between two looks.
+    die "$command[0] ended at once\n" unless -e "$self->{own}/environment";
     die "can't open a window for $command[0]: " . $self->last_line_of_log . "\n";
 }
 
@@ -284,6 +288,23 @@ sub size {
     my $size = pack 'S4', 0, 0, 0, 0;
     ioctl($terminal, TIOCGWINSZ, $size) or return;
     return (unpack 'S4', $size)[0, 1];
+}
+
+# Drops what was typed in the shell and no program has read.  More of it is on its way from muxd, which has room for it
+# only now.
+sub drop_typed {
+    my ($self) = @_;
+    sysopen(my $terminal, content("$self->{own}/terminal"), O_RDONLY | O_NOCTTY | O_NONBLOCK) or return;
+    my $quiet = 0;
+    for (1 .. LOOKS) {
+        my $waiting = pack 'i', 0;
+        ioctl($terminal, FIONREAD, $waiting) or return;
+        $quiet = unpack('i', $waiting) ? 0 : $quiet + 1;
+        # Also a line without its end, which isn't counted.
+        POSIX::tcflush(fileno $terminal, POSIX::TCIFLUSH);
+        return if $quiet > QUIET;
+        pause(LOOK);
+    }
 }
 
 # Returns whether a process runs in the shared shell, as far as its terminal tells.
@@ -325,12 +346,19 @@ sub web_address {
 sub end_web { my ($self) = @_; kill 'TERM', $self->{web} if $self->{web} }
 
 # Returns whether the command ended by itself a moment after it began.
-sub ended_at_once { my ($self) = @_; return !wait_for($self->{shell}, sub { 0 }, 1) && !kill(0, $self->{shell}) }
+sub ended_at_once { my ($self) = @_; return !wait_for($self->{shell}, sub { 0 }, ENDED) && !kill(0, $self->{shell}) }
+
+# Returns whether a process that has ended was mux-web, whose port anybody can take then.
+sub is_web {
+    my ($self, $process) = @_;
+    return 0 if $process != ($self->{web} // 0);
+    delete @$self{qw(web address)};
+    return 1;
+}
 
 # Notes that a process has ended, and returns whether this ends the session: so it is if muxd has status 0, after quit.
 sub is_ended_by {
     my ($self, $process, $status) = @_;
-    delete @$self{qw(web address)} if $process == ($self->{web} // 0);
     return $process == $self->{shell} if $process != ($self->{server} // 0);
     $self->{server} = undef;
     return 1 if $status == 0 || ++$self->{starts} > OFTEN;
@@ -370,6 +398,7 @@ sub close_to_guests {
     my ($web) = content("$self->{own}/web") =~ /^(\d+)$/m;
     kill 'TERM', $web if defined $web && $self->is_own($web);
     my ($is_done) = $self->give('multiuser off');
+    $self->drop_typed if $is_done;
     return $is_done;
 }
 
