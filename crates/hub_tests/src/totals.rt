@@ -92,8 +92,10 @@ fn four<L: Begun + Send + Sync, R: Threads + Wait + Sync>(
     Some(trail.len())
 }
 
+/// Refuses a hub that gives up for want of memory, or as if its trail were full or a seat strange,
+/// though nothing of this is so: each command is answered, and each entry has its receipt.
 #[test]
-fn each_entry_has_its_receipt(rt: HostRuntime) {
+fn gives_up_for_memory(rt: HostRuntime) {
     let Some(owner) = UserId::of(b"root") else {
         panic!(rt; "a name")
     };

@@ -1,5 +1,5 @@
 use Rattle.acl.specs.declared.edition.Edition.TheVariants.{Second}
-use Rattle.hub_tests.proofs.totals.each_entry_has_its_receipt.Given as goal
+use Rattle.hub_tests.proofs.totals.gives_up_for_memory.Given as goal
 
 abbrev pub ghosts-four-L-Ledger : goal.ghosts-four-L-Ledger
 ghosts-four-L-Ledger g a = record { name = a.blank.name; parts = a.blank.parts }
