@@ -201,20 +201,23 @@ impl Comeback {
     }
 }
 
-// Takes the session's name for the peer. The server's mark may come a moment after its socket.
+// Takes the session's name for the peer. The server's mark may come a moment after its socket. Returns whether no more
+// tries are needed.
 fn learn<R: PeerHost + Wait + Files<File = File> + AllocGlobal>(
     rt: &R,
     shared: &SharedPeer,
     words: &Words<'_>,
-) {
-    for _ in 0..LEARNING {
+    tries: u32,
+) -> bool {
+    for _ in 0..tries {
         let mark = mark_of(rt, words);
         if words.way.is_attach() || mark.is_current || mark.name.is_empty() {
-            shared.seat.lock(rt).peer.learn(mark);
-            break;
+            shared.learn(rt, mark);
+            return true;
         }
         thread::sleep(rt, Duration::from_millis(PAUSE));
     }
+    false
 }
 
 // Comes back to a server of the same session.
@@ -276,11 +279,13 @@ pub fn wait<R: PeerHost + Threads + Wait + Files<File = File> + AllocGlobal, I: 
             Step::Send => send(rt, shared),
             Step::Reopen => comeback.reopen(rt, shared, words),
             Step::Begin => {
+                // Input that is sent may end the server, so the first try comes before it.
+                let is_known = words.again == 0 || learn(rt, shared, words, 1);
                 if sources.start(rt, shared).is_err() {
                     shared.seat.lock(rt).peer.end_by(Err(Fault::NoMemory));
                 }
-                if words.again > 0 {
-                    learn(rt, shared, words);
+                if !is_known {
+                    learn(rt, shared, words, LEARNING);
                 }
             }
             Step::Ask => ask(rt, shared, words, now(rt, began), &mut comeback),
