@@ -25,7 +25,7 @@ pub struct PeerSeat {
 pub struct SharedPeer {
     pub alloc: Global,
     pub seat: Mutex<PeerSeat>,
-    /// Signals that the peer's next step may be another one.
+    /// Signals that the peer's next task may be another one.
     pub news: Condvar,
     /// Signals that something waits for standard output, or that there is room for more.
     pub work: Condvar,
