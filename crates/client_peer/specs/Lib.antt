@@ -1,3 +1,4 @@
+pub mod Ending
 pub mod Meeting
 pub mod Showing
 pub mod Reopening

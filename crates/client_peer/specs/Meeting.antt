@@ -1,5 +1,5 @@
 -- Which session a peer comes back to.
-use Rattle.std.specs.Prelude.{◌≡◌, ◌≢◌, ◌↔◌, Bool, true, false, [], ◌⊎◌, Some, Err, IsSome}
+use Rattle.std.specs.Prelude.{◌≡◌, ◌≢◌, ◌↔◌, Bool, true, false, [], ◌⊎◌, Some, None, Err, IsSome}
 use Rattle.client_words.specs.declared.fault.Fault.TheVariants.{OtherSession}
 use Rattle.client_words.specs.declared.words.Way.TheVariants.{Window}
 use Rattle.client_peer.specs.declared.meeting.Meeting.{Meeting}
@@ -27,10 +27,16 @@ pub record Meets (p : Peer) (m : SessionMark) (x : Meeting) : Type 0 where
   pub older : x ≡ Older → (p.session.items ≡ m.name.items) × (m.is_current ≡ false)
   pub unnamed : x ≡ Unnamed → (p.session.items ≡ []) ⊎ (m.name.items ≡ [])
 
--- a window takes no name that may be that of an earlier server
-pub record Learns (old : Peer) (m : SessionMark) (new : Peer) : Type 0 where
-  pub takes : (m.is_current ≡ true) ⊎ (old.way ≡ Window → ⊥) → new.session ≡ m.name
-  pub keeps : old.way ≡ Window → m.is_current ≡ false → new ≡ old
+-- The mark is that of the server which let the peer in: this server was still there after the mark was read, and the
+-- mark isn't older than its socket.
+abbrev pub IsOwn : Peer → SessionMark → Bool → Type 0
+IsOwn p m is_here = (p.end ≡ None) × (is_here ≡ true) × (m.is_current ≡ true)
+
+-- a window takes no name that may be that of an earlier server, or of a later one
+pub record Learns (old : Peer) (m : SessionMark) (is_here : Bool) (new : Peer) : Type 0 where
+  pub window : old.way ≡ Window → IsOwn old m is_here → new.session ≡ m.name
+  pub other : (old.way ≡ Window → ⊥) → new.session ≡ m.name
+  pub keeps : old.way ≡ Window → (IsOwn old m is_here → ⊥) → new ≡ old
   pub rest : new ≡ record old { session = new.session }
 
 -- the peer ends, and is never let in again

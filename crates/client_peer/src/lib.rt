@@ -10,7 +10,7 @@ mod peer;
 mod taking;
 mod typing;
 
-pub use looking::Step;
+pub use looking::PeerTask;
 pub use meeting::{Meeting, SessionMark};
 pub use outgoing::Batch;
 pub use peer::Peer;

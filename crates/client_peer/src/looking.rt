@@ -1,13 +1,13 @@
 //! What a peer does by itself, as time goes by.
 
-ghost use Rattle.std.specs.Prelude.{◌≡◌, true, false};
+ghost use Rattle.std.specs.Prelude.{◌≡◌, ◌↔◌, true, false, IsSome, IsTrue};
 ghost use Rattle.client_peer.specs.Sending.{HasServer};
 ghost use Rattle.client_peer.specs.Typing.{Fits};
 
 use crate::notice::NoticeStage;
 use crate::peer::Peer;
 use attach_proto::Why;
-use client_words::{Fault, InputStage};
+use client_words::{Fault, InputStage, Words};
 
 // How long the server may take to let a client in that can leave, before its input is read anyway, in
 // milliseconds. Keys that are typed meanwhile wait.
@@ -32,7 +32,11 @@ const SETTLED: u64 = 150;
 
 /// What a peer is waiting for.
 #[derive(Drop)]
-pub struct Times {
+pub struct Timers {
+    /// For how many seconds the peer tries to come back.
+    pub again: u16,
+    /// For how many seconds an answer is waited for; 0 is without limit.
+    wait: u16,
     /// Standard input is being read.
     has_begun: bool,
     /// The byte that leaves was read last at this time, as this read.
@@ -49,9 +53,11 @@ pub struct Times {
     pub fit_at: Option<u64>,
 }
 
-impl Times {
-    pub fn new() -> Times {
-        Times {
+impl Timers {
+    pub fn new(words: &Words<'_>) -> Timers {
+        Timers {
+            again: words.again,
+            wait: words.wait,
             has_begun: false,
             paired: None,
             left_at: None,
@@ -66,7 +72,7 @@ impl Times {
 
 /// What is to be done next.
 #[derive(Clone, Copy, PartialEq, Eq, Debug)]
-pub enum Step {
+pub enum PeerTask {
     /// Wait for news.
     Wait,
     /// Wait for news, or for a moment.
@@ -85,7 +91,7 @@ pub enum Step {
 
 impl Peer {
     /// Looks at the time, in milliseconds, and says what is to be done next.
-    pub fn look(&mut self, now: u64) -> Step {
+    pub fn look(&mut self, now: u64) -> PeerTask {
         self.look_at_leaving(now);
         if let Some(left) = self.times.left_at {
             return self.look_left(now, left);
@@ -96,24 +102,24 @@ impl Peer {
         }
         if self.is_late(now) {
             self.end_by(Err(Fault::NoAnswer));
-            return Step::WaitShortly;
+            return PeerTask::WaitShortly;
         }
         if self.is_to_begin(now) {
             self.times.has_begun = true;
-            return Step::Begin;
+            return PeerTask::Begin;
         }
         if self.is_reopening {
-            return Step::Reopen;
+            return PeerTask::Reopen;
         }
         self.look_at_notice(now);
         self.look_at_fit(now);
         if self.can_send() {
-            return Step::Send;
+            return PeerTask::Send;
         }
         if self.waits_for_time() {
-            Step::WaitShortly
+            PeerTask::WaitShortly
         } else {
-            Step::Wait
+            PeerTask::Wait
         }
     }
 
@@ -137,60 +143,55 @@ impl Peer {
     fn look_at_pair(&mut self, now: u64) {
         let reads = self.typing.reads;
         match self.times.paired {
-            Some((since, read)) if read == reads => {
-                if now.saturating_sub(since) >= PAIR {
-                    self.typing.leave();
-                }
-            }
+            Some((since, read)) if read == reads && now.saturating_sub(since) < PAIR => {}
+            Some((_, read)) if read == reads => self.typing.leave(),
             _ => self.times.paired = Some((now, reads)),
         }
     }
 
-    fn look_left(&mut self, now: u64, left: u64) -> Step {
+    fn look_left(&self, now: u64, left: u64) -> PeerTask {
         if self.end.is_some() || self.is_lost() || now.saturating_sub(left) >= ANSWER {
-            Step::End
+            PeerTask::End
         } else if self.can_send() {
-            Step::Send
+            PeerTask::Send
         } else {
-            Step::WaitShortly
+            PeerTask::WaitShortly
         }
     }
 
     // Gives up a server that doesn't come back in time.
     fn look_at_loss(&mut self, now: u64) {
-        let waited = now.saturating_sub(self.times.lost_at);
-        if self.is_lost() && self.again < u16::MAX && waited >= u64::from(self.again) * 1000 {
-            self.is_final = true;
-            self.end = self.loss;
-        }
-        if self.is_final && self.end.is_none() {
+        let (again, waited) = (self.times.again, now.saturating_sub(self.times.lost_at));
+        let gives_up = self.is_lost() && again < u16::MAX && waited >= u64::from(again) * 1000;
+        self.is_final |= gives_up;
+        if gives_up || self.is_final && self.end.is_none() {
             self.end = self.loss;
         }
     }
 
-    fn look_at_end(&mut self, now: u64) -> Step {
+    fn look_at_end(&mut self, now: u64) -> PeerTask {
         if !self.is_final {
-            return Step::Ask;
+            return PeerTask::Ask;
         }
         let ended = self.times.ended_at.unwrap_or(now);
         self.times.ended_at = Some(ended);
         let is_written = !self.is_writing && !self.has_output();
         if is_written || self.is_lost() {
-            Step::End
+            PeerTask::End
         } else if !self.way.is_window() {
-            Step::Wait
+            PeerTask::Wait
         } else if now.saturating_sub(ended) >= LAST_WRITING {
-            Step::End
+            PeerTask::End
         } else {
-            Step::WaitShortly
+            PeerTask::WaitShortly
         }
     }
 
     // Whether an answer was waited for too long.
     fn is_late(&self, now: u64) -> bool {
         (self.way.is_command() || self.way.is_ping())
-            && self.wait > 0
-            && now >= u64::from(self.wait) * 1000
+            && self.times.wait > 0
+            && now >= u64::from(self.times.wait) * 1000
     }
 
     // Whether standard input is to be read now.
@@ -218,8 +219,7 @@ impl Peer {
         }
     }
 
-    // Gives the window in focus its region's size, once the terminal's stays the same and the session
-    // waits for no key.
+    // Gives the window in focus its region's size, once the terminal's stays the same and the session waits for no key.
     fn look_at_fit(&mut self, now: u64)
         ensures { Fits self.old self.new }
     {
@@ -240,7 +240,9 @@ impl Peer {
     }
 
     /// Whether the user left.
-    pub fn has_left(&self) -> bool {
+    pub fn has_left(&self) -> bool
+        ensures { IsTrue result ↔ IsSome self.now.times.left_at }
+    {
         self.times.left_at.is_some()
     }
 
@@ -253,7 +255,7 @@ impl Peer {
     fn waits_for_time(&self) -> bool {
         let has_notice = matches!(self.notice.stage, NoticeStage::New | NoticeStage::Due(_));
         let waits_for_input = self.typing.can_leave() && !self.times.has_begun;
-        let is_asked = (self.way.is_command() || self.way.is_ping()) && self.wait > 0;
+        let is_asked = (self.way.is_command() || self.way.is_ping()) && self.times.wait > 0;
         has_notice
             || waits_for_input
             || is_asked
@@ -262,9 +264,8 @@ impl Peer {
             || self.is_lost()
     }
 
-    // Whether an end is one after which the server may come back. One that was planned is followed by
-    // another server. A peer that tries to come back may be refused for a while, but not for ever if it
-    // isn't known any more.
+    // Whether an end is one after which the server may come back. One that was planned is followed by another server. A
+    // peer that tries to come back may be refused for a while, but not for ever if it isn't known any more.
     fn may_return(&self, end: Result<Why, Fault>, is_planned: bool) -> bool {
         match end {
             Ok(why) => why == Why::Quit && is_planned,
@@ -276,10 +277,8 @@ impl Peer {
     }
 
     fn is_unknown(&self) -> bool {
-        match &self.said {
-            Some(said) => said.as_str().starts_with("unknown user") && self.way.is_attach(),
-            None => false,
-        }
+        matches!(&self.said, Some(said) if said.as_str().starts_with("unknown user"))
+            && self.way.is_attach()
     }
 
     /// Decides whether the peer comes back, after its connection has ended: if the socket's folder is
@@ -292,7 +291,7 @@ impl Peer {
             return false;
         };
         let may_return = has_place && self.may_return(end, is_planned);
-        self.is_final |= self.again == 0 || !self.was_welcome || !may_return;
+        self.is_final |= self.times.again == 0 || !self.was_welcome || !may_return;
         if !self.is_final && self.loss.is_none() {
             self.loss = Some(end);
             self.times.lost_at = now;

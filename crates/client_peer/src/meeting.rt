@@ -28,11 +28,13 @@ pub enum Meeting {
 }
 
 impl Peer {
-    /// Takes the session's name. A window takes none that may be that of an earlier server.
-    pub fn learn(&mut self, mark: SessionMark)
-        ensures { Learns self.old mark self.new }
+    /// Takes the session's name. A window takes it only from the server that let it in: that server was still there after
+    /// the mark was read (`is_here`), and the connection hasn't ended.
+    pub fn learn(&mut self, mark: SessionMark, is_here: bool)
+        ensures { Learns self.old mark is_here self.new }
     {
-        if mark.is_current || !self.way.is_window() {
+        let is_own = self.end.is_none() && is_here && mark.is_current;
+        if is_own || !self.way.is_window() {
             self.session = mark.name;
         }
     }

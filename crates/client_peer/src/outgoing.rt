@@ -172,6 +172,7 @@ impl Peer {
     pub fn detach(&mut self) -> Result<(), AllocError>
         ensures ok { OnOk result (Puts self.old self.new (frame Detach [])) }
         ensures err { OnErr result (Puts self.old self.new []) }
+        ensures same { self.new ≡ record self.old { frames = self.new.frames } }
     {
         self.frames.extend_from_slice(&head_of(Kind::Detach, &[]))
     }

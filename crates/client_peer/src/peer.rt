@@ -1,14 +1,15 @@
 //! The state of a peer.
 
-ghost use Rattle.std.specs.Prelude.{◌≡◌, ◌↔◌, ◌++◌, [], false, true, IsSome, IsTrue, OnOk};
+ghost use Rattle.std.specs.Prelude.{◌≡◌, ◌↔◌, ◌++◌, [], false, true, Some, None, IsSome, IsTrue, OnOk};
 ghost use Rattle.attach_proto.specs.Spelling.{spelling};
 ghost use Rattle.draw_check.specs.Places.{place_after};
+ghost use Rattle.client_peer.specs.Ending.{ending_of};
 ghost use Rattle.client_peer.specs.Meeting.{Meets};
 ghost use Rattle.client_peer.specs.Sending.{HasServer};
 ghost use Rattle.client_peer.specs.Showing.{BeginsAnew};
 ghost use Rattle.client_peer.specs.declared.meeting.Meeting.TheVariants.{Same};
 
-use crate::looking::Times;
+use crate::looking::Timers;
 use crate::meeting::{Meeting, SessionMark};
 use crate::notice::Notice;
 use attach_proto::{Message, Why};
@@ -29,10 +30,6 @@ pub struct Peer {
     pub columns: u16,
     /// Whether the window in focus follows the terminal's size.
     pub fits: bool,
-    /// For how many seconds the peer tries to come back.
-    pub again: u16,
-    /// For how many seconds an answer is waited for; 0 is without limit.
-    pub wait: u16,
     /// Bytes for standard output.
     pub bytes: Vec<u8>,
     /// Checks what the server sends for a client's terminal.
@@ -93,7 +90,7 @@ pub struct Peer {
     pub fault: Option<Fault>,
     /// A line of the sizes' file wasn't a size.
     pub has_dropped: bool,
-    pub times: Times,
+    pub times: Timers,
 }
 
 impl Peer {
@@ -108,8 +105,6 @@ impl Peer {
             rows: words.rows,
             columns: words.columns,
             fits: words.fit,
-            again: words.again,
-            wait: words.wait,
             bytes: Vec::new(alloc),
             draws: DrawCheck::new(),
             has_drawn: false,
@@ -141,7 +136,7 @@ impl Peer {
             is_final: false,
             fault: None,
             has_dropped: false,
-            times: Times::new(),
+            times: Timers::new(words),
         }
     }
 
@@ -193,7 +188,8 @@ impl Peer {
 
     /// Notes how the connection ended. Only the first call counts.
     pub fn end_by(&mut self, end: Result<Why, Fault>)
-        ensures ends { IsSome self.new.end }
+        ensures ends { self.old.end ≡ None → self.new.end ≡ Some end }
+        ensures some { IsSome self.new.end }
         ensures first { IsSome self.old.end → self.new ≡ self.old }
         ensures same { self.new ≡ record self.old { end = self.new.end } }
     {
@@ -203,7 +199,9 @@ impl Peer {
     }
 
     /// How the peer ended. A fault of its input or output replaces a good end.
-    pub fn ending(&self) -> Result<Why, Fault> {
+    pub fn ending(&self) -> Result<Why, Fault>
+        ensures { result ≡ ending_of self.now.end self.now.fault }
+    {
         match (self.end, self.fault) {
             (Some(Ok(_)), Some(fault)) => Err(fault),
             (Some(end), _) => end,
@@ -258,7 +256,11 @@ impl Peer {
 
     /// Notes that it was written, or why it wasn't: then the peer ends. A window that has ended anyway
     /// may have a program that reads no more.
-    pub fn end_writing(&mut self, fault: Option<Fault>) {
+    pub fn end_writing(&mut self, fault: Option<Fault>)
+        ensures written { fault ≡ None → self.new ≡ record self.old { is_writing = false } }
+        ensures failed { IsSome fault → (self.new.is_final ≡ true) × IsSome self.new.end
+            × (self.old.end ≡ None → self.new.fault ≡ fault) }
+    {
         self.is_writing = false;
         let Some(fault) = fault else {
             return;

@@ -1,7 +1,9 @@
 //! Sorts the messages that come from the server.
 
-ghost use Rattle.std.specs.Prelude.{◌≡◌, ◌++◌, OnOk, OnErr, IfOk};
-ghost use Rattle.client_words.specs.declared.words.Way.TheVariants.{Attach};
+ghost use Rattle.std.specs.Prelude.{◌≡◌, ◌++◌, [], Ok, Err, Some, OnOk, OnErr, IfOk};
+ghost use Rattle.client_words.specs.declared.words.Way.TheVariants.{Attach, Ping};
+ghost use Rattle.client_words.specs.declared.fault.Fault.TheVariants.{Ended};
+ghost use Rattle.client_peer.specs.Ending.{end_for};
 ghost use Rattle.client_peer.specs.Meeting.{Meets, Opens, StaysClosed};
 ghost use Rattle.client_peer.specs.Showing.{Keeps, Adds, PassesOn, StopsAt};
 ghost use Rattle.client_peer.specs.declared.meeting.Meeting.TheVariants.{Same};
@@ -17,7 +19,9 @@ use std::io::Write;
 const MOST_WAITING: usize = 65_536;
 
 // How a peer ends after the server's GONE.
-fn ended(way: Way, why: Why) -> Result<Why, Fault> {
+fn ended(way: Way, why: Why) -> Result<Why, Fault>
+    ensures { result ≡ end_for way why }
+{
     match why {
         Why::Detached | Why::Quit => Ok(why),
         Why::Killed if way.is_window() => Ok(why),
@@ -112,15 +116,6 @@ impl Peer {
         Ok(())
     }
 
-    // A text after the client was let in puts down no draw.
-    fn hear_more(&mut self, text: &str) -> Result<(), Fault>
-        ensures ok { OnOk result (PassesOn self.old self.new) }
-        ensures err { OnErr result (StopsAt self.old self.new) }
-        ensures closed { StaysClosed self.old self.new }
-    {
-        self.hear_later(text)
-    }
-
     // Notes that the peer is let in. A window gets its first size. One that is opened again has to know first whether
     // its page may be told.
     fn welcome(&mut self) -> Result<(), Fault>
@@ -191,7 +186,7 @@ impl Peer {
     {
         match message {
             Message::Draw(bytes) if self.way.is_attach() => self.show(bytes.as_slice()),
-            Message::Say(text) if self.way.is_attach() && self.is_welcome => self.hear_more(
+            Message::Say(text) if self.way.is_attach() && self.is_welcome => self.hear_later(
                 text.as_str(),
             ),
             Message::Input(bytes) if self.way.is_window() => self.put(bytes.as_slice()),
@@ -252,21 +247,6 @@ impl Peer {
         }
     }
 
-    fn take_bytes(
-        &mut self,
-        alloc: Global,
-        reader: &mut Reader,
-        bytes: &[u8],
-    ) -> Result<Option<Why>, Fault>
-        ensures ok { OnOk result (PassesOn self.old self.new) }
-        ensures err { OnErr result (StopsAt self.old self.new) }
-        ensures closed { StaysClosed self.old self.new }
-    {
-        let mut messages = Vec::new(alloc);
-        let fed = reader.feed(bytes, &mut messages);
-        self.take_all(alloc, messages.as_slice(), fed)
-    }
-
     /// Whether so much waits for standard output that the server isn't read.
     pub fn is_behind(&self) -> bool {
         self.bytes.len() > MOST_WAITING
@@ -285,15 +265,18 @@ impl Peer {
         ensures ok { OnOk result (PassesOn self.old self.new) }
         ensures err { OnErr result (StopsAt self.old self.new) }
         ensures closed { StaysClosed self.old self.new }
+        ensures ends { (self.old.way ≡ Ping → ⊥) → bytes.now ≡ [] → result ≡ Ok (Some (Err Ended)) }
     {
         // Any answer to `mux ping` shows that there is a server.
-        if self.way.is_ping() {
+        if matches!(self.way, Way::Ping) {
             return Ok(Some(Ok(Why::Detached)));
         }
         if bytes.is_empty() {
             return Ok(Some(Err(Fault::Ended)));
         }
-        match self.take_bytes(alloc, reader, bytes)? {
+        let mut messages = Vec::new(alloc);
+        let fed = reader.feed(bytes, &mut messages);
+        match self.take_all(alloc, messages.as_slice(), fed)? {
             Some(why) => Ok(Some(ended(self.way, why))),
             None => Ok(None),
         }

@@ -102,7 +102,7 @@ impl Peer {
             self.fault = fault;
         }
         self.is_final |= self.is_lost();
-        self.again = 0;
+        self.times.again = 0;
         self.detach()
     }
 }

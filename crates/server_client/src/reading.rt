@@ -2,11 +2,11 @@
 
 use crate::host::PeerHost;
 use crate::opening::Door;
-use crate::shared::{PeerSeat, SharedPeer};
+use crate::shared::{PeerSeat, SharedPeer, is_open};
 use attach_proto::{LONGEST, Why};
 use client_words::{Fault, RefusedPart};
 use std::alloc::Global;
-use std::io::{ErrorKind, Read, Write};
+use std::io::{ErrorKind, Read};
 use std::os::unix::net::UnixStream;
 use std::sync::{Arc, Wait};
 use std::time::Duration;
@@ -45,10 +45,9 @@ fn take<R: Wait>(
     Ok(end)
 }
 
-// Waits while too much waits for standard output. Returns whether the server has hung up, which a write of no
-// bytes tells: then the rest is read, so that the cause is known although nobody takes the output.
+// Waits while too much waits for standard output. Returns whether the server has hung up: then the rest is read, so
+// that the cause is known although nobody takes the output.
 fn wait_for_room<R: PeerHost + Wait>(rt: &R, shared: &SharedPeer, stream: &UnixStream) -> bool {
-    let mut stream = stream;
     for _ in rt.forever() {
         let seat = shared.seat.lock(rt);
         let (seat, waited) = shared.work.wait_timeout_while(
@@ -61,7 +60,7 @@ fn wait_for_room<R: PeerHost + Wait>(rt: &R, shared: &SharedPeer, stream: &UnixS
         if !waited.timed_out() {
             return false;
         }
-        if stream.write(b"").is_err() {
+        if !is_open(stream) {
             return true;
         }
     }

@@ -5,6 +5,7 @@ use attach_proto::{Reader, Side};
 use client_peer::{Meeting, Peer, SessionMark};
 use client_words::Words;
 use std::alloc::{AllocError, Global};
+use std::io::Write;
 use std::os::unix::net::UnixStream;
 use std::sync::{Arc, Condvar, Mutex, Wait};
 use std::thread;
@@ -24,7 +25,7 @@ pub struct PeerSeat {
 pub struct SharedPeer {
     pub alloc: Global,
     pub seat: Mutex<PeerSeat>,
-    /// Signals that the peer's next step may be another one.
+    /// Signals that the peer's next task may be another one.
     pub news: Condvar,
     /// Signals that something waits for standard output, or that there is room for more.
     pub work: Condvar,
@@ -55,11 +56,27 @@ impl SharedPeer {
         met
     }
 
+    /// Takes the session's name for the peer, as long as its server is there.
+    pub fn learn<R: Wait>(&self, rt: &R, mark: SessionMark) {
+        let mut seat = self.seat.lock(rt);
+        let is_here = match &seat.stream {
+            Some(stream) => is_open(stream),
+            None => false,
+        };
+        seat.peer.learn(mark, is_here);
+    }
+
     /// Wakes all threads.
     pub fn tell(&self) {
         self.news.notify_all();
         self.work.notify_all();
     }
+}
+
+/// Whether the server hasn't hung up, which a write of no bytes tells.
+pub fn is_open(stream: &UnixStream) -> bool {
+    let mut stream = stream;
+    stream.write(b"").is_ok()
 }
 
 /// Starts a thread for a peer. Nobody joins it: it may wait for its source for ever, and the program

@@ -7,7 +7,7 @@ use crate::opening::{Door, another_door};
 use crate::reading::serve;
 use crate::shared::{SharedPeer, start_thread};
 use crate::writing::send;
-use client_peer::{Meeting, SessionMark, Step};
+use client_peer::{Meeting, PeerTask, SessionMark};
 use client_words::{Fault, Words};
 use std::alloc::Global;
 use std::fs::{File, Files};
@@ -42,22 +42,22 @@ fn now<R: PeerHost>(rt: &R, began: Option<Instant>) -> u64 {
 }
 
 // Looks at the time. Waits if there is nothing to do.
-fn look<R: PeerHost + Wait>(rt: &R, shared: &SharedPeer, began: Option<Instant>) -> Step {
+fn look<R: PeerHost + Wait>(rt: &R, shared: &SharedPeer, began: Option<Instant>) -> PeerTask {
     let mut seat = shared.seat.lock(rt);
-    let step = seat.peer.look(now(rt, began));
+    let task = seat.peer.look(now(rt, began));
     if seat.peer.has_output() {
         shared.work.notify_all();
     }
-    match step {
-        Step::Wait => drop(shared.news.wait(rt, seat)),
-        Step::WaitShortly => drop(
+    match task {
+        PeerTask::Wait => drop(shared.news.wait(rt, seat)),
+        PeerTask::WaitShortly => drop(
             shared
                 .news
                 .wait_timeout(rt, seat, Duration::from_millis(SHORTLY)),
         ),
         _ => drop(seat),
     }
-    step
+    task
 }
 
 // What stands beside the socket about the session that is served there. A mark is made anew for each server, so one
@@ -201,20 +201,23 @@ impl Comeback {
     }
 }
 
-// Takes the session's name for the peer. The server's mark may come a moment after its socket.
+// Takes the session's name for the peer. The server's mark may come a moment after its socket. Returns whether no more
+// tries are needed.
 fn learn<R: PeerHost + Wait + Files<File = File> + AllocGlobal>(
     rt: &R,
     shared: &SharedPeer,
     words: &Words<'_>,
-) {
-    for _ in 0..LEARNING {
+    tries: u32,
+) -> bool {
+    for _ in 0..tries {
         let mark = mark_of(rt, words);
         if words.way.is_attach() || mark.is_current || mark.name.is_empty() {
-            shared.seat.lock(rt).peer.learn(mark);
-            break;
+            shared.learn(rt, mark);
+            return true;
         }
         thread::sleep(rt, Duration::from_millis(PAUSE));
     }
+    false
 }
 
 // Comes back to a server of the same session.
@@ -272,19 +275,21 @@ pub fn wait<R: PeerHost + Threads + Wait + Files<File = File> + AllocGlobal, I: 
     let mut comeback = Comeback { held: 0, older: 0 };
     for _ in rt.forever() {
         match look(rt, shared, began) {
-            Step::Wait | Step::WaitShortly => {}
-            Step::Send => send(rt, shared),
-            Step::Reopen => comeback.reopen(rt, shared, words),
-            Step::Begin => {
+            PeerTask::Wait | PeerTask::WaitShortly => {}
+            PeerTask::Send => send(rt, shared),
+            PeerTask::Reopen => comeback.reopen(rt, shared, words),
+            PeerTask::Begin => {
+                // Input that is sent may end the server, so the first try comes before it.
+                let is_known = words.again == 0 || learn(rt, shared, words, 1);
                 if sources.start(rt, shared).is_err() {
                     shared.seat.lock(rt).peer.end_by(Err(Fault::NoMemory));
                 }
-                if words.again > 0 {
-                    learn(rt, shared, words);
+                if !is_known {
+                    learn(rt, shared, words, LEARNING);
                 }
             }
-            Step::Ask => ask(rt, shared, words, now(rt, began), &mut comeback),
-            Step::End => break,
+            PeerTask::Ask => ask(rt, shared, words, now(rt, began), &mut comeback),
+            PeerTask::End => break,
         }
     }
     PeerEnding::take(&mut shared.seat.lock(rt).peer)

@@ -1,6 +1,8 @@
 use Rattle.std.proofs.Common.{refl}
+use Rattle.client_peer.specs.declared.peer.Peer.{Peer}
+use Rattle.client_peer.specs.Showing.{PassesOn, StopsAt}
 use Rattle.client_peer.proofs.Closing.{closed_same}
-use Rattle.client_peer.proofs.Passing.{passes_keeps, passes_same}
+use Rattle.client_peer.proofs.Passing.{passes_keeps, passes_same, stops_keeps, on_ok_given, on_err_given}
 use Rattle.client_peer.proofs.peer.Peer.put_message.Goals as goal
 
 pub returns-in_default : goal.returns-in_default
@@ -13,3 +15,15 @@ returns-in_default-3 c =
 
 pub returns-in-Welcome-clause-ok : goal.returns-in-Welcome-clause-ok
 returns-in-Welcome-clause-ok c = passes_keeps c.args.self.now _ (record { way = refl; draws = refl; kept = refl })
+
+pub returns-in-Say-clause-ok : goal.returns-in-Say-clause-ok
+returns-in-Say-clause-ok c =
+    let old : Peer = c.args.self.now in
+    let new : Peer = c.hear_later.new.self in
+    on_ok_given {P = PassesOn old new} c.hear_later.result (passes_keeps old new c.hear_later.ensures.keeps)
+
+pub returns-in-Say-clause-err : goal.returns-in-Say-clause-err
+returns-in-Say-clause-err c =
+    let old : Peer = c.args.self.now in
+    let new : Peer = c.hear_later.new.self in
+    on_err_given {P = StopsAt old new} c.hear_later.result (stops_keeps old new c.hear_later.ensures.keeps)

@@ -1,8 +1,8 @@
 use Rattle.client_peer.proofs.Passing.{passes_same}
 use Rattle.client_peer.proofs.peer.Peer.take_read.Goals as goal
 
-pub returns-then-is_ping-clause-ok : goal.returns-then-is_ping-clause-ok
-returns-then-is_ping-clause-ok c = passes_same c.args.self.now
+pub returns-then-matches-clause-ok : goal.returns-then-matches-clause-ok
+returns-then-matches-clause-ok c = passes_same c.args.self.now
 
 pub returns-then-is_empty-clause-ok : goal.returns-then-is_empty-clause-ok
 returns-then-is_empty-clause-ok c = passes_same c.args.self.now
