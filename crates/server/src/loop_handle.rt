@@ -4,7 +4,7 @@ use crate::acceptor::Acceptor;
 use crate::latch::Latch;
 use mio::net::UnixStream;
 use mio::{Poll, Registry, Waker};
-use server_loop::End;
+use server_loop::ServerEnd;
 use server_system::{LastLook, Log, ServeFault, WatchedUsers};
 use std::alloc::Global;
 use std::collections::VecDeque;
@@ -100,7 +100,7 @@ pub struct Shared {
     pub loop_handles: Arc<Vec<LoopHandle>, Global>,
     /// Where the loops wait until all are ready.
     pub latch: Latch,
-    pub over: OnceLock<End>,
+    pub over: OnceLock<ServerEnd>,
     /// How many loops much comes to.
     pub busy: AtomicU64,
     pub watched: Arc<WatchedUsers, Global>,
@@ -137,7 +137,7 @@ impl Shared {
     }
 
     /// The server ends: the first cause holds. All loops are woken.
-    pub fn end(&self, end: End) -> io::Result<()> {
+    pub fn end(&self, end: ServerEnd) -> io::Result<()> {
         let _ = self.over.try_set(end);
         for loop_handle in self.loop_handles.iter() {
             loop_handle.wake()?;

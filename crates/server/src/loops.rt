@@ -4,7 +4,7 @@ use crate::disk_line::DiskLog;
 use crate::loop_handle::{LoopStart, Shared};
 use crate::ready::ReadyLine;
 use crate::turns::run_loop;
-use server_loop::{End, Gate};
+use server_loop::{Gate, ServerEnd};
 use server_session::{
     Accounts, Begun, LoopBody, LoopsFault, Recorder, Seat, Seated, SharedSession, Start, Trail,
     keep,
@@ -123,7 +123,7 @@ where
         let left = match run_loop(rt, &self.shared, self.gate, seated, start) {
             Ok(seated) => Some(seated.into_inner()),
             Err(_) => {
-                let _ = self.shared.end(End::Fault);
+                let _ = self.shared.end(ServerEnd::Fault);
                 self.shared.latch.fail(rt, Unready::NoMemory);
                 None
             }
@@ -133,7 +133,7 @@ where
     }
 
     fn fail(&self, rt: &R) {
-        let _ = self.shared.end(End::Fault);
+        let _ = self.shared.end(ServerEnd::Fault);
         self.shared.latch.fail(rt, Unready::NoThread);
         self.leave(rt);
     }

@@ -40,7 +40,7 @@ impl GuestKind {
 
 /// Why a server ends.
 #[derive(Clone, Copy, Debug, PartialEq, Eq)]
-pub enum End {
+pub enum ServerEnd {
     /// A user gave the command `quit`.
     Quit,
     /// No entry goes into the session's trail any more.
@@ -49,15 +49,15 @@ pub enum End {
     Fault,
 }
 
-impl End {
+impl ServerEnd {
     /// The cause that the peers are told.
     pub fn why(self) -> Why
         ensures { result ≡ why_of_end self }
     {
         match self {
-            End::Quit => Why::Quit,
-            End::TrailFull => Why::TrailFull,
-            End::Fault => Why::Fault,
+            ServerEnd::Quit => Why::Quit,
+            ServerEnd::TrailFull => Why::TrailFull,
+            ServerEnd::Fault => Why::Fault,
         }
     }
 }
@@ -67,7 +67,7 @@ impl End {
 pub enum SeatFault {
     NoMemory,
     /// The server ends for this cause.
-    Over(End),
+    Over(ServerEnd),
 }
 
 impl SeatFault {

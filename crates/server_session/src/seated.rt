@@ -11,7 +11,7 @@ use crate::accounts::Accounts;
 use crate::shared_session::SharedSession;
 use acl::UserId;
 use hub::{Answer, Begun, HubFault, Seat};
-use server_seat::{End, GuestKind, SeatAnswer, SeatFault, SessionSeat};
+use server_seat::{GuestKind, SeatAnswer, SeatFault, ServerEnd, SessionSeat};
 use server_users::{Outcome, Users};
 use session::{Effect, Event, Peer, Refusal, Reply};
 use std::sync::Wait;
@@ -157,8 +157,8 @@ impl<L: Begun> SessionSeat for Seated<'_, L> {
                 })
             }
             Err(HubFault::NoMemory) => Err(SeatFault::NoMemory),
-            Err(HubFault::TrailFull(_)) => Err(SeatFault::Over(End::TrailFull)),
-            Err(HubFault::Strange(_)) => Err(SeatFault::Over(End::Fault)),
+            Err(HubFault::TrailFull(_)) => Err(SeatFault::Over(ServerEnd::TrailFull)),
+            Err(HubFault::Strange(_)) => Err(SeatFault::Over(ServerEnd::Fault)),
         }
     }
 

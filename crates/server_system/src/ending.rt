@@ -5,7 +5,7 @@ ghost use Rattle.std.specs.Duration.{as_nanos};
 ghost use Rattle.server_system.specs.Ending.{cause_of, is_late, outcome_of, served, sleep_for, why_unready};
 
 use crate::fault::ServeFault;
-use server_seat::End;
+use server_seat::ServerEnd;
 use server_trail::Cause;
 use std::io;
 use std::time::Duration;
@@ -33,27 +33,27 @@ pub enum Unready {
 }
 
 /// The cause that the last line of the trail's file names; None if a fault leaves the file without one.
-pub fn cause_of(end: Option<End>) -> Option<Cause>
+pub fn cause_of(end: Option<ServerEnd>) -> Option<Cause>
     ensures { result ≡ cause_of end }
 {
     match end {
-        Some(End::Quit) => Some(Cause::Quit),
-        Some(End::TrailFull) => Some(Cause::Full),
-        Some(End::Fault) | None => None,
+        Some(ServerEnd::Quit) => Some(Cause::Quit),
+        Some(ServerEnd::TrailFull) => Some(Cause::Full),
+        Some(ServerEnd::Fault) | None => None,
     }
 }
 
 /// How a server ended that served, from the fault of the trail's file. `agrees` says whether every answer
 /// stands in the trail.
 pub fn outcome_of(
-    end: Option<End>,
+    end: Option<ServerEnd>,
     wrong: Option<ServeFault>,
     agrees: bool,
 ) -> Result<(), ServeFault>
     ensures { result ≡ outcome_of end wrong agrees }
 {
     match (end, wrong) {
-        (Some(End::Quit), wrong) => {
+        (Some(ServerEnd::Quit), wrong) => {
             if !agrees {
                 return Err(ServeFault::Trail);
             }
@@ -62,9 +62,9 @@ pub fn outcome_of(
                 None => Ok(()),
             }
         }
-        (Some(End::TrailFull), Some(wrong)) => Err(wrong),
-        (Some(End::TrailFull), None) => Err(ServeFault::TrailFull),
-        (Some(End::Fault) | None, _) => Err(ServeFault::Loop),
+        (Some(ServerEnd::TrailFull), Some(wrong)) => Err(wrong),
+        (Some(ServerEnd::TrailFull), None) => Err(ServeFault::TrailFull),
+        (Some(ServerEnd::Fault) | None, _) => Err(ServeFault::Loop),
     }
 }
 
