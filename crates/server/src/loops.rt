@@ -6,8 +6,8 @@ use crate::ready::ReadyLine;
 use crate::turns::run_loop;
 use server_loop::{Gate, ServerEnd};
 use server_session::{
-    Accounts, Begun, LoopBody, LoopsFault, Recorder, Seat, Seated, SharedSession, Start, Trail,
-    keep,
+    Accounts, Begun, Books, LoopBody, LoopsFault, Recorder, Seat, Seated, SharedSession, Start,
+    Trail, keep,
 };
 use server_system::{
     Host, LastLine, ServeFault, Setup, SocketPath, Unready, cause_of, outcome_of, served,
@@ -34,7 +34,7 @@ pub struct Server<'a, G, O> {
     pub files: HostRuntime,
     pub place: &'a SocketPath<'a>,
     /// What each user may still try, and how many clients and windows they have.
-    pub accounts: Accounts,
+    pub accounts: Accounts<Books>,
     /// The owner's commands that are given before anybody connects.
     pub setup: Setup<'a>,
     /// Where lines are written about who comes and goes.
@@ -115,7 +115,7 @@ where
     fn run<L: Begun>(
         &self,
         rt: &R,
-        session: &SharedSession<L>,
+        session: &SharedSession<L, Recorder>,
         seat: Seat<L>,
         start: LoopStart,
     ) -> Option<Seat<L>> {
