@@ -5,7 +5,7 @@ use crate::latch::Latch;
 use mio::net::UnixStream;
 use mio::{Poll, Registry, Waker};
 use server_loop::ServerEnd;
-use server_system::{LastLook, Log, ServeFault, WatchedUsers};
+use server_system::{LastLook, Log, ServeFault, UsersFile, WatchedUsers};
 use std::alloc::Global;
 use std::collections::VecDeque;
 use std::sync::atomic::{AtomicBool, AtomicU64, Ordering};
@@ -103,7 +103,7 @@ pub struct Shared {
     pub over: OnceLock<ServerEnd>,
     /// How many loops much comes to.
     pub busy: AtomicU64,
-    pub watched: Arc<WatchedUsers, Global>,
+    pub watched: Arc<WatchedUsers<UsersFile>, Global>,
     /// How many connections had a wrong token, and the second in which that was told last.
     pub wrong_tokens: AtomicU64,
     pub wrong_tokens_told: AtomicU64,
@@ -149,7 +149,7 @@ impl Shared {
 // Looks at the users' file whenever that is asked for, until nobody can ask any more.
 fn watch<R: Clock + Wait>(
     rt: &R,
-    watched: &WatchedUsers,
+    watched: &WatchedUsers<UsersFile>,
     seen: LastLook,
     loop_handles: &[LoopHandle],
 ) {

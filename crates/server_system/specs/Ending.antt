@@ -1,6 +1,6 @@
 -- How a server ends, and how long its loops wait.
-use Rattle.std.specs.Prelude.{ℕ, ◌-◌, Bool, true, false, Option, Some, None, Result, Ok, Err, ⊤}
-use Rattle.std.specs.Prelude.{if◌then◌else◌, nat_le}
+use Rattle.std.specs.Prelude.{ℕ, ◌-◌, ◌/◌, Bool, true, false, Option, Some, None, Result, Ok, Err, ⊤}
+use Rattle.std.specs.Prelude.{if◌then◌else◌, max, min, nat_le}
 use Rattle.std.specs.declared.io.Error.{Error}
 use Rattle.server_seat.specs.declared.seat.ServerEnd.{ServerEnd}
 use Rattle.server_seat.specs.declared.seat.ServerEnd.TheVariants as end
@@ -51,3 +51,9 @@ sleep_for true retries waits longest = Some 0
 sleep_for false retries waits (Some longest) = Some longest
 sleep_for false true waits None = Some 20000000
 sleep_for false false waits None = if waits then Some 1000000000 else None
+
+-- how many connections of a loop may wait for their first message: 256 by all loops together, but one at least; of
+-- those that aren't to stay one
+abbrev pub most_new : ℕ → Bool → ℕ
+most_new loops true = 1
+most_new loops false = 256 / min 256 (max 1 loops)

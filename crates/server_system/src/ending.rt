@@ -1,8 +1,9 @@
 //! How a server ends, and how long its loops wait.
 
-ghost use Rattle.std.specs.Prelude.{◌≡◌, ◌<◌, ◌≤◌, ◌*◌, false, option_map, true};
+ghost use Rattle.std.specs.Prelude.{◌≡◌, option_map};
 ghost use Rattle.std.specs.Duration.{as_nanos};
-ghost use Rattle.server_system.specs.Ending.{cause_of, is_late, outcome_of, served, sleep_for, why_unready};
+ghost use Rattle.server_system.specs.Ending.{cause_of, is_late, most_new, outcome_of, served, sleep_for};
+ghost use Rattle.server_system.specs.Ending.{why_unready};
 
 use crate::fault::ServeFault;
 use server_seat::ServerEnd;
@@ -128,9 +129,7 @@ pub fn sleep_for(
 /// How many connections of one of this many loops may wait for their first message. Of extra ones, which
 /// aren't to stay, one may.
 pub fn most_new(loops: usize, is_extra: bool) -> usize
-    ensures some { 0 < result }
-    ensures all { loops ≤ 256 → is_extra ≡ false → result * loops ≤ 256 }
-    ensures extra { is_extra ≡ true → result ≡ 1 }
+    ensures { result ≡ most_new loops is_extra }
 {
     if is_extra {
         1
