@@ -4,8 +4,8 @@ use crate::acceptor::Acceptor;
 use crate::latch::Latch;
 use mio::net::UnixStream;
 use mio::{Poll, Registry, Waker};
-use server_loop::End;
-use server_system::{LastLook, Log, ServeFault, WatchedUsers};
+use server_loop::ServerEnd;
+use server_system::{LastLook, Log, ServeFault, UsersFile, WatchedUsers};
 use std::alloc::Global;
 use std::collections::VecDeque;
 use std::sync::atomic::{AtomicBool, AtomicU64, Ordering};
@@ -100,10 +100,10 @@ pub struct Shared {
     pub loop_handles: Arc<Vec<LoopHandle>, Global>,
     /// Where the loops wait until all are ready.
     pub latch: Latch,
-    pub over: OnceLock<End>,
+    pub over: OnceLock<ServerEnd>,
     /// How many loops much comes to.
     pub busy: AtomicU64,
-    pub watched: Arc<WatchedUsers, Global>,
+    pub watched: Arc<WatchedUsers<UsersFile>, Global>,
     /// How many connections had a wrong token, and the second in which that was told last.
     pub wrong_tokens: AtomicU64,
     pub wrong_tokens_told: AtomicU64,
@@ -137,7 +137,7 @@ impl Shared {
     }
 
     /// The server ends: the first cause holds. All loops are woken.
-    pub fn end(&self, end: End) -> io::Result<()> {
+    pub fn end(&self, end: ServerEnd) -> io::Result<()> {
         let _ = self.over.try_set(end);
         for loop_handle in self.loop_handles.iter() {
             loop_handle.wake()?;
@@ -149,7 +149,7 @@ impl Shared {
 // Looks at the users' file whenever that is asked for, until nobody can ask any more.
 fn watch<R: Clock + Wait>(
     rt: &R,
-    watched: &WatchedUsers,
+    watched: &WatchedUsers<UsersFile>,
     seen: LastLook,
     loop_handles: &[LoopHandle],
 ) {

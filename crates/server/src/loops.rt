@@ -4,10 +4,10 @@ use crate::disk_line::DiskLog;
 use crate::loop_handle::{LoopStart, Shared};
 use crate::ready::ReadyLine;
 use crate::turns::run_loop;
-use server_loop::{End, Gate};
+use server_loop::{Gate, ServerEnd};
 use server_session::{
-    Accounts, Begun, LoopBody, LoopsFault, Recorder, Seat, Seated, SharedSession, Start, Trail,
-    keep,
+    Accounts, Begun, Books, LoopBody, LoopsFault, Recorder, Seat, Seated, SharedSession, Start,
+    Trail, keep,
 };
 use server_system::{
     Host, LastLine, ServeFault, Setup, SocketPath, Unready, cause_of, outcome_of, served,
@@ -34,7 +34,7 @@ pub struct Server<'a, G, O> {
     pub files: HostRuntime,
     pub place: &'a SocketPath<'a>,
     /// What each user may still try, and how many clients and windows they have.
-    pub accounts: Accounts,
+    pub accounts: Accounts<Books>,
     /// The owner's commands that are given before anybody connects.
     pub setup: Setup<'a>,
     /// Where lines are written about who comes and goes.
@@ -115,7 +115,7 @@ where
     fn run<L: Begun>(
         &self,
         rt: &R,
-        session: &SharedSession<L>,
+        session: &SharedSession<L, Recorder>,
         seat: Seat<L>,
         start: LoopStart,
     ) -> Option<Seat<L>> {
@@ -123,7 +123,7 @@ where
         let left = match run_loop(rt, &self.shared, self.gate, seated, start) {
             Ok(seated) => Some(seated.into_inner()),
             Err(_) => {
-                let _ = self.shared.end(End::Fault);
+                let _ = self.shared.end(ServerEnd::Fault);
                 self.shared.latch.fail(rt, Unready::NoMemory);
                 None
             }
@@ -133,7 +133,7 @@ where
     }
 
     fn fail(&self, rt: &R) {
-        let _ = self.shared.end(End::Fault);
+        let _ = self.shared.end(ServerEnd::Fault);
         self.shared.latch.fail(rt, Unready::NoThread);
         self.leave(rt);
     }

@@ -116,8 +116,8 @@ fn shared<R: Host + Threads + Wait>(
     loop_handles: Vec<LoopHandle>,
 ) -> Result<Shared, ServeFault> {
     let alloc = rt.alloc();
-    let file = UsersFile::new(files, alloc, options.users);
-    let watched = Arc::new(alloc, WatchedUsers::new(file, owner)?)?;
+    let file = UsersFile::new(files, alloc, options.users)?;
+    let watched = Arc::new(alloc, WatchedUsers::new(alloc, file, owner))?;
     let loop_handles = Arc::new(alloc, loop_handles)?;
     let shared = Shared {
         alloc,
@@ -208,7 +208,7 @@ where
     E: Write,
 {
     let alloc = rt.alloc();
-    let (users, seen) = UsersFile::new(handles.files, alloc, options.users).read()?;
+    let (users, seen) = UsersFile::new(handles.files, alloc, options.users)?.read()?;
     if seen.is_open() {
         let path = options.users;
         let _ = writeln!(

@@ -1,7 +1,7 @@
 //! How a loop ends.
 
 use crate::turns::{Inlet, tell_news};
-use server_loop::{End, Gate, Loop, SessionSeat};
+use server_loop::{Gate, Loop, ServerEnd, SessionSeat};
 use server_system::{Wired, is_late};
 use std::io;
 use std::sync::Wait;
@@ -16,7 +16,7 @@ pub fn wind_up<J: SessionSeat + Drop, G: Gate + Drop, R: Clock + Wait>(
     rt: &R,
     inlet: &mut Inlet,
     own: &mut Loop<Wired, G, J>,
-    end: End,
+    end: ServerEnd,
 ) -> io::Result<()> {
     inlet.close();
     let began = rt.monotonic().ok();

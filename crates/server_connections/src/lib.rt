@@ -14,7 +14,9 @@ mod walk;
 pub use connections::Connections;
 pub use peer::{Awaits, Peer, Role, Stage};
 pub use server_inbox::{Asked, PIECE, Size, Sizing, Typeahead};
-pub use server_seat::{End, Guest, GuestKind, Name, News, SeatAnswer, SeatFault, SessionSeat};
+pub use server_seat::{
+    Guest, GuestKind, Name, News, SeatAnswer, SeatFault, ServerEnd, SessionSeat,
+};
 pub use server_sending::{Sending, Turn, put, why_of};
 pub use stream::Arrival;
 pub use walk::{HasConnections, each_awake};

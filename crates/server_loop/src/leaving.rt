@@ -12,7 +12,7 @@ ghost use Rattle.server_loop.specs.Walking.{VisitsAll};
 
 use crate::own::Loop;
 use attach_proto::Why;
-use server_connections::{End, News, Role, SeatFault, SessionSeat, each_awake};
+use server_connections::{News, Role, SeatFault, ServerEnd, SessionSeat, each_awake};
 use server_steps::Gate;
 use session::Event;
 use std::io::{Read, Write};
@@ -202,7 +202,7 @@ impl<S: Read + Write + Drop, G: Gate + Drop, J: SessionSeat + Drop> Loop<S, G, J
     }
 
     /// The server ends: guests are told so, and strangers are closed.
-    pub fn finish(&mut self, rt: &impl Wait, end: End) {
+    pub fn finish(&mut self, rt: &impl Wait, end: ServerEnd) {
         self.hand_out(rt);
         for key in 0..self.connections.end() {
             if let Some(peer) = self.connections.touch(key) {

@@ -11,6 +11,6 @@ mod turn;
 mod typing;
 
 pub use own::Loop;
-pub use server_connections::{Connections, End, Name, News, SessionSeat};
+pub use server_connections::{Connections, Name, News, ServerEnd, SessionSeat};
 pub use server_pace::Pace;
 pub use server_steps::{Gate, Open, Pending, Reads, Submitted, Writes};

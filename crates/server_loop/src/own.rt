@@ -3,7 +3,7 @@
 ghost use Rattle.std.specs.Prelude.{◌≡◌};
 
 use crate::turn::OUTPUT;
-use server_connections::{Awaits, Connections, End, HasConnections, News, SessionSeat};
+use server_connections::{Awaits, Connections, HasConnections, News, ServerEnd, SessionSeat};
 use server_steps::{Gate, Pending, Submitted};
 use server_users::{Rations, Users};
 use std::alloc::{AllocError, Global};
@@ -62,7 +62,7 @@ pub struct Loop<S, G, J> {
     pub(crate) draws: Draws,
     // A step other than a draw was made since it was looked who may still type.
     pub(crate) may_have_lost: bool,
-    pub(crate) end: Option<End>,
+    pub(crate) end: Option<ServerEnd>,
     /// Whether news is told.
     pub tells: bool,
     news: Vec<News>,
@@ -164,9 +164,9 @@ impl<S: Drop, G: Gate + Drop, J: SessionSeat + Drop> Loop<S, G, J> {
 
     /// Why the server is to end, if it is. It ends as at a full trail if nothing is written to the
     /// trail's file any more.
-    pub fn end(&self) -> Option<End> {
+    pub fn end(&self) -> Option<ServerEnd> {
         match self.end {
-            None if self.seat.has_stopped() => Some(End::TrailFull),
+            None if self.seat.has_stopped() => Some(ServerEnd::TrailFull),
             end => end,
         }
     }

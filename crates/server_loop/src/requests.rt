@@ -16,7 +16,7 @@ ghost use Rattle.server_steps.specs.Meaning.{meaning_of};
 use crate::own::Loop;
 use attach_proto::{Message, Text, Token, Why};
 use server_connections::{
-    Asked, End, GuestKind, Name, News, SeatAnswer, SeatFault, Sending, SessionSeat,
+    Asked, GuestKind, Name, News, SeatAnswer, SeatFault, Sending, ServerEnd, SessionSeat,
 };
 use server_steps::{
     Gate, Meaning, Progress, event_of, guest_of, is_extra, kind_of, make_guest, may_judge,
@@ -295,14 +295,14 @@ impl<S: Read + Write + Drop, G: Gate + Drop, J: SessionSeat + Drop> Loop<S, G, J
     // Tells a connection the answer to its command.
     fn tell_answer(&mut self, rt: &impl Wait, key: usize, reply: &Reply, is_quit: bool)
         ensures answers { Answers J.submits reply.now key (state_of self.old) (state_of self.new) }
-        ensures quits { is_quit ≡ true → IsOk reply.now → self.new.end ≡ Some End.Quit }
+        ensures quits { is_quit ≡ true → IsOk reply.now → self.new.end ≡ Some ServerEnd.Quit }
     {
         self.send(rt, key, Sending::Message(&Message::Welcome(0)));
         match reply {
             Ok(done) => {
                 self.say_done(rt, key, done);
                 if is_quit {
-                    self.end = Some(End::Quit);
+                    self.end = Some(ServerEnd::Quit);
                 }
             }
             Err(refusal) => self.refuse(rt, key, refusal),

@@ -15,7 +15,7 @@ ghost use Rattle.server_loop.specs.Writing.{DropsAt, DropsLaggard, DropsOf, Drop
 use crate::own::Loop;
 use acl::UserId;
 use attach_proto::{Message, Why};
-use server_connections::{End, Role, SeatFault, Sending, SessionSeat, each_awake, why_of};
+use server_connections::{Role, SeatFault, Sending, ServerEnd, SessionSeat, each_awake, why_of};
 use server_steps::{Gate, cut_off, drop_typed, is_laggard, typist_after, wanting, write};
 use session::{Effect, Event, Reason};
 use std::io::{Read, Write};
@@ -42,7 +42,7 @@ impl<S: Read + Write + Drop, G: Gate + Drop, J: SessionSeat + Drop> Loop<S, G, J
         ensures { Ends role (told_of reason) (state_of self.old) (state_of self.new) }
     {
         if reason == Reason::Quit {
-            self.end = Some(End::Quit);
+            self.end = Some(ServerEnd::Quit);
         }
         self.connections.let_go(role, why_of(reason));
     }

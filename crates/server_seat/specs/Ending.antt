@@ -1,12 +1,12 @@
 -- The causes that peers are told when the server ends, or an event has no answer.
 use Rattle.attach_proto.specs.declared.why.Why.{Why}
 use Rattle.attach_proto.specs.declared.why.Why.TheVariants as why
-use Rattle.server_seat.specs.declared.seat.End.{End}
-use Rattle.server_seat.specs.declared.seat.End.TheVariants as end
+use Rattle.server_seat.specs.declared.seat.ServerEnd.{ServerEnd}
+use Rattle.server_seat.specs.declared.seat.ServerEnd.TheVariants as end
 use Rattle.server_seat.specs.declared.seat.SeatFault.{SeatFault}
 use Rattle.server_seat.specs.declared.seat.SeatFault.TheVariants as fault
 
-abbrev pub why_of_end : End → Why
+abbrev pub why_of_end : ServerEnd → Why
 why_of_end end.Quit = why.Quit
 why_of_end end.TrailFull = why.TrailFull
 why_of_end end.Fault = why.Fault

@@ -5,4 +5,4 @@ mod news;
 mod seat;
 
 pub use news::{Guest, Name, News};
-pub use seat::{End, GuestKind, SeatAnswer, SeatFault, SessionSeat};
+pub use seat::{GuestKind, SeatAnswer, SeatFault, ServerEnd, SessionSeat};

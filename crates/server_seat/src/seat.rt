@@ -40,7 +40,7 @@ impl GuestKind {
 
 /// Why a server ends.
 #[derive(Clone, Copy, Debug, PartialEq, Eq)]
-pub enum End {
+pub enum ServerEnd {
     /// A user gave the command `quit`.
     Quit,
     /// No entry goes into the session's trail any more.
@@ -49,15 +49,15 @@ pub enum End {
     Fault,
 }
 
-impl End {
+impl ServerEnd {
     /// The cause that the peers are told.
     pub fn why(self) -> Why
         ensures { result ≡ why_of_end self }
     {
         match self {
-            End::Quit => Why::Quit,
-            End::TrailFull => Why::TrailFull,
-            End::Fault => Why::Fault,
+            ServerEnd::Quit => Why::Quit,
+            ServerEnd::TrailFull => Why::TrailFull,
+            ServerEnd::Fault => Why::Fault,
         }
     }
 }
@@ -67,7 +67,7 @@ impl End {
 pub enum SeatFault {
     NoMemory,
     /// The server ends for this cause.
-    Over(End),
+    Over(ServerEnd),
 }
 
 impl SeatFault {
@@ -92,6 +92,8 @@ pub trait SessionSeat {
     ghost use Rattle.server_seat.specs.declared.seat.SeatAnswer.{SeatAnswer as Answered};
     ghost use Rattle.server_seat.specs.declared.seat.SeatFault.{SeatFault as Faulted};
     ghost use Rattle.server_users.specs.Entries.{Entry};
+    ghost use Rattle.server_users.specs.declared.allowance.Outcome.{Outcome as CameOf};
+    ghost use Rattle.std.specs.declared.time.Duration.{Duration as Time};
 
     // The users who may connect when the server starts.
     ghost known: { Self → List Entry };
@@ -112,6 +114,16 @@ pub trait SessionSeat {
     // that.
     ghost finds_full: { Self → ℕ → Bool → Type 0 };
 
+    // The seat, a window, and whether much waits for it. Only a call of `set_full` shows that all loops were
+    // told.
+    ghost sets_full: { Self → ℕ → Bool → Type 0 };
+
+    // The seat, a user, the time, a cost, and whether the user paid it. Only a call of `pay` shows that.
+    ghost pays: { Self → User → Time → ℕ → Bool → Type 0 };
+
+    // The seat, a user, a cost, and what came of the step. Only a call of `settle` shows that it was settled.
+    ghost settles: { Self → User → ℕ → CameOf → Type 0 };
+
     // The seat, a user, a kind, and what `add` answered. Only a call of `add` shows that one more was counted
     // (None).
     ghost counts: { Self → User → Kind → Option ℕ → Type 0 };
@@ -130,10 +142,12 @@ pub trait SessionSeat {
 
     /// Pays `cost` thousandths of a unit for a step that a user is about to try, unless the user has
     /// to wait. Returns whether it was paid.
-    fn pay<R: Wait>(&self, rt: &R, user: UserId, now: Duration, cost: u32) -> bool;
+    fn pay<R: Wait>(&self, rt: &R, user: UserId, now: Duration, cost: u32) -> bool
+        ensures { pays self.now user now cost result };
 
     /// Settles what was paid for a step, by what came of it.
-    fn settle<R: Wait>(&self, rt: &R, user: UserId, cost: u32, outcome: Outcome);
+    fn settle<R: Wait>(&self, rt: &R, user: UserId, cost: u32, outcome: Outcome)
+        ensures { settles self.now user cost outcome };
 
     /// Counts one more client or window of a user. If the user has as many as a user may have, none
     /// is counted, and that number is returned.
@@ -161,7 +175,8 @@ pub trait SessionSeat {
         ensures { lets_type self.now user window result };
 
     /// Tells all loops whether much waits for a window, as its loop sees it now.
-    fn set_full<R: Wait>(&self, rt: &R, window: u32, is_full: bool);
+    fn set_full<R: Wait>(&self, rt: &R, window: u32, is_full: bool)
+        ensures { sets_full self.now window is_full };
 
     /// Whether much waits for a window, with what was typed into it since its loop told: what is typed next
     /// has to wait.

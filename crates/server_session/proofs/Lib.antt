@@ -1,3 +1,2 @@
 pub mod Crossing
 mod SettingUp
-mod Steps

@@ -1,5 +1,5 @@
+pub mod Counting
 pub mod Loading
 pub mod Outcomes
 pub mod Seating
 pub mod SettingUp
-pub mod Tallying

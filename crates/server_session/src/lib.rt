@@ -3,6 +3,7 @@
 #![tactic(auto)]
 
 mod accounts;
+mod books;
 mod closing;
 mod loads;
 mod loop_body;
@@ -11,10 +12,11 @@ mod setting_up;
 mod shared_session;
 mod trail_size;
 
-pub use accounts::{Accounts, Limits};
+pub use accounts::Accounts;
+pub use books::{Books, Counting, Limits};
 pub use closing::Agreement;
 pub use hub::{Begun, Seat, Trail};
 pub use loop_body::{LoopBody, LoopsFault, Start, keep};
 pub use seated::Seated;
 pub use server_trail::Recorder;
-pub use shared_session::SharedSession;
+pub use shared_session::{SharedSession, Sharing, TrailLines};

@@ -48,7 +48,7 @@ pub trait LoopBody<P: Drop, R> {
     fn run<L: Begun>(
         &self,
         rt: &R,
-        shared: &SharedSession<L>,
+        shared: &SharedSession<L, Recorder>,
         seat: Seat<L>,
         place: P,
     ) -> Option<Seat<L>>;
@@ -84,7 +84,7 @@ pub struct Start<'a, P: Drop> {
 // A session while its loops run, and the seats of the loops that ended well.
 #[derive(Drop)]
 struct RunningSession<L: Begun> {
-    shared: SharedSession<L>,
+    shared: SharedSession<L, Recorder>,
     left: Mutex<Vec<Seat<L>>>,
 }
 
@@ -126,7 +126,7 @@ where
                 running.leave(rt, None);
             }
         }
-        if let Some(recorder) = &running.shared.recorder {
+        if let Some(recorder) = running.shared.recorder() {
             let writing = scope.spawn(move || loop_body.write_trail(rt, recorder));
             if writing.is_err() {
                 loop_body.fail(rt);
@@ -198,11 +198,8 @@ where
     let Ok((hub, mut seats)) = Hub::<L>::new(alloc, blank, session, loops) else {
         return Err(LoopsFault::NoMemory);
     };
-    let shared = SharedSession {
-        hub,
-        users,
-        recorder: recorder::<P, K, R>(rt, alloc, loops, loop_body),
-    };
+    let recorder = recorder::<P, K, R>(rt, alloc, loops, loop_body);
+    let shared = SharedSession::new(hub, users, recorder);
     let first = &mut seats[0];
     first.ask_for_entries();
     match set_up(rt, Giver { alloc, owner }, &shared, first, setup) {
@@ -235,8 +232,7 @@ where
     let (running, seats) = begin::<L, P, K, R>(rt, parts, users, setup, loop_body)?;
     run_all(rt, &running, seats, places, loop_body);
     let RunningSession { shared, left } = running;
-    let SharedSession { hub, .. } = shared;
-    let (trail, agreement) = close(hub, left.into_inner());
+    let (trail, agreement) = close(shared.into_hub(), left.into_inner());
     loop_body.compare(rt, &trail);
     Ok(agreement)
 }

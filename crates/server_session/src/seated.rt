@@ -2,16 +2,17 @@
 
 ghost use Rattle.std.specs.Prelude.{◌≡◌, true};
 ghost use Rattle.session.specs.Trace.{happening};
-ghost use Rattle.hub.specs.Seats.{with_handed};
 ghost use Rattle.server_session.specs.Loading.{closed_by, opened_by, size_of};
+ghost use Rattle.server_session.specs.Counting.{millis_of};
 ghost use Rattle.server_session.specs.Outcomes.{checked, outcome_of};
-ghost use Rattle.server_session.specs.Seating.{Steps};
+ghost use Rattle.server_session.specs.Seating.{IsCounted, Steps};
 
 use crate::accounts::Accounts;
-use crate::shared_session::SharedSession;
+use crate::books::Counting;
+use crate::shared_session::Sharing;
 use acl::UserId;
 use hub::{Answer, Begun, HubFault, Seat};
-use server_seat::{End, GuestKind, SeatAnswer, SeatFault, SessionSeat};
+use server_seat::{GuestKind, SeatAnswer, SeatFault, ServerEnd, SessionSeat};
 use server_users::{Outcome, Users};
 use session::{Effect, Event, Peer, Refusal, Reply};
 use std::sync::Wait;
@@ -75,19 +76,15 @@ fn closed_by(effect: &Effect) -> Option<u32>
 
 /// A seat in a session, with the session and its users' accounts.
 #[derive(Drop)]
-pub struct Seated<'a, L: Begun> {
-    shared: &'a SharedSession<L>,
-    accounts: &'a Accounts,
+pub struct Seated<'a, L: Begun, S, B> {
+    shared: &'a S,
+    accounts: &'a Accounts<B>,
     seat: Seat<L>,
 }
 
-impl<'a, L: Begun> Seated<'a, L> {
+impl<'a, L: Begun, S, B> Seated<'a, L, S, B> {
     /// A seat in this session, which asks for entries: an entry tells what came of a step.
-    pub fn new(
-        shared: &'a SharedSession<L>,
-        accounts: &'a Accounts,
-        mut seat: Seat<L>,
-    ) -> Seated<'a, L>
+    pub fn new(shared: &'a S, accounts: &'a Accounts<B>, mut seat: Seat<L>) -> Seated<'a, L, S, B>
         ensures { result.seat ≡ record seat { asks = true } }
     {
         seat.ask_for_entries();
@@ -104,38 +101,49 @@ impl<'a, L: Begun> Seated<'a, L> {
     {
         self.seat
     }
+}
 
+impl<L: Begun, S, B: Counting> Seated<'_, L, S, B> {
     // Counts what an answered event typed. A window that it opened is counted from now on.
-    fn count(&self, rt: &impl Wait, answer: &Answer) {
+    fn count(&self, rt: &impl Wait, answer: &Answer)
+        ensures { IsCounted B.types_in B.opens answer.now }
+    {
         if let Some(window) = answer.typed() {
             self.accounts.type_in(rt, window, size_of(answer.event()));
         }
         if let Some(window) = opened_by(answer.event(), answer.reply()) {
-            self.accounts.open(rt, window);
+            let _ = self.accounts.open(rt, window);
         }
     }
 }
 
-impl<L: Begun> SessionSeat for Seated<'_, L> {
-    ghost known = { λ s. s.shared.now.users };
+impl<L: Begun, S: Sharing<L>, B: Counting> SessionSeat for Seated<'_, L, S, B> {
+    ghost known = { λ s. S.known s.shared.now };
 
-    // The hub answered by one step for this seat, or refused.
-    ghost submits = { λ s event result left. Steps s.seat event result left.seat };
+    // The session answered by one step for this seat, or refused.
+    ghost submits = { λ s event result left.
+        Steps B.types_in B.opens (S.answers s.shared.now) s.seat event result left.seat };
 
-    // The hub handed these effects to this seat.
-    ghost takes = { λ s effects told left. left.seat ≡ with_handed effects told s.seat };
+    // The session handed these effects to this seat.
+    ghost takes = { λ s effects told left. S.hands s.shared.now s.seat effects told left.seat };
 
-    // A lock hides the rest.
-    ghost lets_type = { λ s user window may. Unit {0} };
+    ghost lets_type = { λ s user window may. S.rules s.shared.now user window may };
 
-    ghost finds_full = { λ s window is_full. Unit {0} };
+    ghost finds_full = { λ s window is_full. (books : B) × B.finds_full books window is_full };
 
-    ghost counts = { λ s user kind most. Unit {0} };
+    ghost sets_full = { λ s window is_full. (was : B) × (then : B) × B.sets_full was window is_full then };
 
-    ghost uncounts = { λ s user kind. Unit {0} };
+    ghost pays = { λ s user now cost is_paid.
+        (was : B) × (then : B) × B.pays was user (millis_of now) cost is_paid then };
+
+    ghost settles = { λ s user cost outcome. (was : B) × (then : B) × B.settles was user cost outcome then };
+
+    ghost counts = { λ s user kind most. (was : B) × (then : B) × B.adds was user kind most then };
+
+    ghost uncounts = { λ s user kind. (was : B) × (then : B) × B.removes was user kind then };
 
     fn users(&self) -> &Users {
-        &self.shared.users
+        self.shared.users()
     }
 
     fn submit<R: Wait>(&mut self, rt: &R, event: Event<'_>) -> Result<SeatAnswer, SeatFault> {
@@ -157,8 +165,8 @@ impl<L: Begun> SessionSeat for Seated<'_, L> {
                 })
             }
             Err(HubFault::NoMemory) => Err(SeatFault::NoMemory),
-            Err(HubFault::TrailFull(_)) => Err(SeatFault::Over(End::TrailFull)),
-            Err(HubFault::Strange(_)) => Err(SeatFault::Over(End::Fault)),
+            Err(HubFault::TrailFull(_)) => Err(SeatFault::Over(ServerEnd::TrailFull)),
+            Err(HubFault::Strange(_)) => Err(SeatFault::Over(ServerEnd::Fault)),
         }
     }
 
@@ -179,9 +187,7 @@ impl<L: Begun> SessionSeat for Seated<'_, L> {
     }
 
     fn set_time<R: Clock>(&self, rt: &R) {
-        if let Some(recorder) = &self.shared.recorder {
-            recorder.set_time(rt);
-        }
+        self.shared.set_time(rt);
     }
 
     fn has_stopped(&self) -> bool {
@@ -189,7 +195,7 @@ impl<L: Begun> SessionSeat for Seated<'_, L> {
     }
 
     fn take<R: Wait>(&mut self, rt: &R) -> (Vec<(Effect, Option<UserId>)>, bool) {
-        let (handed, is_told) = self.shared.hub.take(rt, &mut self.seat);
+        let (handed, is_told) = self.shared.take(rt, &mut self.seat);
         for (effect, _) in handed.as_slice() {
             if let Some(window) = closed_by(effect) {
                 self.accounts.close(rt, window);
@@ -199,7 +205,7 @@ impl<L: Begun> SessionSeat for Seated<'_, L> {
     }
 
     fn may_type<R: Wait>(&self, rt: &R, user: UserId, window: u32) -> bool {
-        self.shared.hub.may_type(rt, user, window)
+        self.shared.may_type(rt, user, window)
     }
 
     fn set_full<R: Wait>(&self, rt: &R, window: u32, is_full: bool) {

@@ -12,6 +12,7 @@ use crate::shared_session::SharedSession;
 use acl::UserId;
 use hub::{Begun, Seat};
 use program_words::{SetupLine, read_setup};
+use server_trail::Recorder;
 use session::{Event, Refusal, spoken};
 use std::alloc::Global;
 use std::sync::Wait;
@@ -40,7 +41,7 @@ fn refused(alloc: Global, number: usize, refusal: &Refusal) -> LoopsFault
 fn give<L: Begun, R: Wait>(
     rt: &R,
     giver: Giver,
-    shared: &SharedSession<L>,
+    shared: &SharedSession<L, Recorder>,
     seat: &mut Seat<L>,
     line: &SetupLine,
 ) -> Result<(), LoopsFault>
@@ -69,7 +70,7 @@ fn give<L: Begun, R: Wait>(
 fn give_all<L: Begun, R: Wait>(
     rt: &R,
     giver: Giver,
-    shared: &SharedSession<L>,
+    shared: &SharedSession<L, Recorder>,
     seat: &mut Seat<L>,
     lines: &[SetupLine],
 ) -> Result<(), LoopsFault>
@@ -89,7 +90,7 @@ fn give_all<L: Begun, R: Wait>(
 pub fn set_up<L: Begun, R: Wait>(
     rt: &R,
     giver: Giver,
-    shared: &SharedSession<L>,
+    shared: &SharedSession<L, Recorder>,
     seat: &mut Seat<L>,
     file: &[u8],
 ) -> Result<(), LoopsFault>

@@ -1,37 +1,156 @@
 //! What the loops share.
 
-ghost use Rattle.std.specs.Prelude.{◌≡◌, ◌+◌, ◌%◌, ◌^◌, IfOk, OnErr};
+ghost use Rattle.std.specs.Prelude.{◌≡◌, IfOk, IfSome, OnErr};
+ghost use Rattle.std.specs.Option.{option_copied};
 ghost use Rattle.session.specs.Trace.{happening};
-ghost use Rattle.hub.specs.Seats.{Answers};
+ghost use Rattle.hub.specs.Seats.{Answers, with_handed};
+ghost use Rattle.server_session.specs.Seating.{IsFiled};
 
-use hub::{Answer, Begun, Hub, HubFault, Seat};
+use acl::UserId;
+use hub::{Answer, Begun, Handed, Hub, HubFault, Seat, TrailEntry};
 use server_trail::Recorder;
 use server_users::Users;
 use session::Event;
 use std::sync::Wait;
+use std::time::Clock;
+
+/// What takes the lines of a session's trail.
+pub trait TrailLines {
+    ghost use Rattle.std.specs.Prelude.{ℕ, Option};
+    ghost use Rattle.hub.specs.Trails.{Entry};
+
+    // The place of an entry, and the entry unless memory was refused for its copy. Only a call of `put`
+    // shows that it was put down.
+    ghost puts: { Self → ℕ → Option Entry → Type 0 };
+
+    /// Puts down the line of an entry, which stands at this place in the trail.
+    fn put<R: Wait>(&self, rt: &R, place: usize, entry: Option<&TrailEntry>)
+        ensures { puts self.now place (option_copied entry.entry) };
+
+    /// Says the time, for the lines that follow.
+    fn set_time<R: Clock>(&self, rt: &R);
+
+    /// Whether no line is taken any more.
+    fn has_stopped(&self) -> bool;
+
+    /// A loop has ended.
+    fn leave<R: Wait>(&self, rt: &R);
+}
+
+impl TrailLines for Recorder {
+    // A lock hides the lines.
+    ghost puts = { λ recorder place entry. Unit {0} };
+
+    fn put<R: Wait>(&self, rt: &R, place: usize, entry: Option<&TrailEntry>) {
+        Recorder::put(self, rt, place, entry);
+    }
+
+    fn set_time<R: Clock>(&self, rt: &R) {
+        Recorder::set_time(self, rt);
+    }
+
+    fn has_stopped(&self) -> bool {
+        self.stopped().is_some()
+    }
+
+    fn leave<R: Wait>(&self, rt: &R) {
+        Recorder::leave(self, rt);
+    }
+}
+
+/// A session that loops share, as the seat of a loop knows it. Each relation is shown by a call of its
+/// function alone.
+pub trait Sharing<L: Begun> {
+    ghost use Rattle.std.specs.Prelude.{ℕ, Bool, List, Option};
+    ghost use Rattle.acl.specs.declared.user_id.UserId.{UserId as User};
+    ghost use Rattle.session.specs.Trace.{EventValue};
+    ghost use Rattle.session.specs.event.Effect.{Effect as Effected};
+    ghost use Rattle.hub.specs.Seats.{Sitting, Told};
+    ghost use Rattle.server_users.specs.Entries.{Entry};
+
+    // The users who may connect when the server starts.
+    ghost known: { Self → List Entry };
+
+    // The seat before a step, its event, what the session answered, and the seat after it.
+    ghost answers: { Self → Sitting → EventValue → Told → Sitting → Type 0 };
+
+    // The seat before effects were taken, these, whether a step other than a draw was made, and the seat
+    // after that.
+    ghost hands: { Self → Sitting → List (Effected × Option User) → Bool → Sitting → Type 0 };
+
+    // A user, a window, and whether the user may type into it.
+    ghost rules: { Self → User → ℕ → Bool → Type 0 };
+
+    fn users(&self) -> &Users
+        ensures { result.now ≡ known self.now };
+
+    /// Submits an event to the session. If that makes an entry, its line goes to the trail's file.
+    fn submit<'e, R: Wait>(
+        &self,
+        rt: &R,
+        seat: &mut Seat<L>,
+        event: Event<'e>,
+    ) -> Result<Answer<'e>, HubFault>
+        ensures answer { IfOk result (λ told. answers self.now seat.old (happening event.entry) told seat.new) }
+        ensures same { OnErr result (seat.new ≡ seat.old) };
+
+    /// Takes the effects that wait for a seat, and says whether a step other than a draw was made.
+    fn take<R: Wait>(&self, rt: &R, seat: &mut Seat<L>) -> (Handed, bool)
+        ensures { hands self.now seat.old result.0 result.1 seat.new };
+
+    /// Whether a user may type into a window.
+    fn may_type<R: Wait>(&self, rt: &R, user: UserId, window: u32) -> bool
+        ensures { rules self.now user window result };
+
+    /// Says the time to the trail's file, for the entries that follow.
+    fn set_time<R: Clock>(&self, rt: &R);
+
+    /// Whether the trail has a file to which nothing is written any more.
+    fn has_stopped(&self) -> bool;
+}
 
 /// The session that the loops share, who may connect, and what writes its trail to a file.
 #[derive(Drop)]
-pub struct SharedSession<L: Begun> {
-    pub hub: Hub<L>,
-    pub users: Users,
-    /// None if no file is written.
-    pub recorder: Option<Recorder>,
+pub struct SharedSession<L: Begun, T> {
+    hub: Hub<L>,
+    users: Users,
+    // None if no file is written.
+    recorder: Option<T>,
 }
 
-impl<L: Begun> SharedSession<L> {
-    #[tactic(auto, using(crate::proofs::Steps::one_step))]
+impl<L: Begun, T> SharedSession<L, T> {
+    pub(crate) fn new(hub: Hub<L>, users: Users, recorder: Option<T>) -> SharedSession<L, T> {
+        SharedSession {
+            hub,
+            users,
+            recorder,
+        }
+    }
+
+    /// What takes the trail's lines, if a file is written.
+    pub(crate) fn recorder(&self) -> Option<&T> {
+        self.recorder.as_ref()
+    }
+}
+
+impl<L: Begun, T: Drop> SharedSession<L, T> {
+    pub(crate) fn into_hub(self) -> Hub<L> {
+        let SharedSession { hub, .. } = self;
+        hub
+    }
+}
+
+impl<L: Begun, T: TrailLines> SharedSession<L, T> {
     /// Submits an event to the session. If that makes an entry, its line goes to the trail's file.
-    pub fn submit<'a>(
+    pub fn submit<'e>(
         &self,
         rt: &impl Wait,
         seat: &mut Seat<L>,
-        event: Event<'a>,
-    ) -> Result<Answer<'a>, HubFault>
+        event: Event<'e>,
+    ) -> Result<Answer<'e>, HubFault>
         ensures answer { IfOk result (λ told. Answers (happening event.entry) told seat.old
             seat.new) }
-        ensures steps { IfOk result (λ told. seat.new.steps ≡ (seat.old.steps + 1) % 2 ^ 64) }
-        ensures handed { seat.new.handed ≡ seat.old.handed }
+        ensures filed { IfOk result (IsFiled T.puts self.now.recorder) }
         ensures same { OnErr result (seat.new ≡ seat.old) }
     {
         let answer = match self.hub.submit(rt, seat, event) {
@@ -44,18 +163,58 @@ impl<L: Begun> SharedSession<L> {
         Ok(answer)
     }
 
-    // Whether the trail has a file to which nothing is written any more.
-    pub(crate) fn has_stopped(&self) -> bool {
-        match &self.recorder {
-            Some(recorder) => recorder.stopped().is_some(),
-            None => false,
-        }
-    }
-
     // A loop has ended.
     pub(crate) fn leave(&self, rt: &impl Wait) {
         if let Some(recorder) = &self.recorder {
             recorder.leave(rt);
+        }
+    }
+}
+
+impl<L: Begun, T: TrailLines> Sharing<L> for SharedSession<L, T> {
+    ghost known = { λ shared. shared.users };
+
+    // The hub answered by one step for this seat, and the entry was put down.
+    ghost answers = { λ shared old event told new.
+        Answers event told old new × IsFiled T.puts shared.recorder told };
+
+    // The hub handed these effects to this seat.
+    ghost hands = { λ shared old effects told new. new ≡ with_handed effects told old };
+
+    // A lock hides the rest.
+    ghost rules = { λ shared user window may. Unit {0} };
+
+    fn users(&self) -> &Users {
+        &self.users
+    }
+
+    fn submit<'e, R: Wait>(
+        &self,
+        rt: &R,
+        seat: &mut Seat<L>,
+        event: Event<'e>,
+    ) -> Result<Answer<'e>, HubFault> {
+        SharedSession::submit(self, rt, seat, event)
+    }
+
+    fn take<R: Wait>(&self, rt: &R, seat: &mut Seat<L>) -> (Handed, bool) {
+        self.hub.take(rt, seat)
+    }
+
+    fn may_type<R: Wait>(&self, rt: &R, user: UserId, window: u32) -> bool {
+        self.hub.may_type(rt, user, window)
+    }
+
+    fn set_time<R: Clock>(&self, rt: &R) {
+        if let Some(recorder) = &self.recorder {
+            recorder.set_time(rt);
+        }
+    }
+
+    fn has_stopped(&self) -> bool {
+        match &self.recorder {
+            Some(recorder) => recorder.has_stopped(),
+            None => false,
         }
     }
 }

@@ -1,7 +1,7 @@
 //! What happens on a stage, and what is seen of it.
 
 use crate::streams::{Habit, StreamLog};
-use server_loop::End;
+use server_loop::ServerEnd;
 
 /// What happens. Connections count from 0, in the order in which they came.
 #[derive(Clone, Copy)]
@@ -26,7 +26,7 @@ pub enum StageAct<'a> {
     /// If the first message of this many connections or more isn't done, the oldest of them goes.
     LetOldestGo(usize),
     /// The server ends for this cause.
-    Finish(End),
+    Finish(ServerEnd),
     /// How the loop stands is noted, and what is seen of the connections from this one on.
     Note(usize),
 }
@@ -40,7 +40,7 @@ pub struct LoopState {
     pub is_due: bool,
     /// Whether it is to try something again soon.
     pub has_waiting: bool,
-    pub end: Option<End>,
+    pub end: Option<ServerEnd>,
 }
 
 /// What is seen at a moment.

@@ -19,7 +19,7 @@ pub use frames::{
     WINDOW,
 };
 pub use pages::{are_alike, shows};
-pub use server_loop::End;
+pub use server_loop::ServerEnd;
 pub use stage::{System, perform};
 pub use stop::Stop;
 pub use streams::{Habit, StreamLog};

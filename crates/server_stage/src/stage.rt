@@ -9,7 +9,8 @@ use crate::streams::{Habit, Near};
 use hub::{Kept, TrailEntry};
 use server_loop::{Gate, Loop, SessionSeat};
 use server_session::{
-    Accounts, Begun, Limits, LoopBody, LoopsFault, Seat, Seated, SharedSession, Start, Trail, keep,
+    Accounts, Begun, Books, Limits, LoopBody, LoopsFault, Recorder, Seat, Seated, SharedSession,
+    Start, Trail, keep,
 };
 use server_users::{Users, UsersFault};
 use std::alloc::Global;
@@ -186,7 +187,7 @@ struct Playing<'a> {
     acts: &'a [StageAct<'a>],
     loops: usize,
     calls: Calls,
-    accounts: Accounts,
+    accounts: Accounts<Books>,
     left: Mutex<LoopsLeft>,
 }
 
@@ -194,15 +195,14 @@ impl<R: Clock + Wait> LoopBody<usize, R> for Playing<'_> {
     fn run<L: Begun>(
         &self,
         rt: &R,
-        shared: &SharedSession<L>,
+        shared: &SharedSession<L, Recorder>,
         seat: Seat<L>,
         place: usize,
     ) -> Option<Seat<L>> {
         let latch = self.calls.latch(rt, place == 0);
         let seated = Seated::new(shared, &self.accounts, seat);
-        let mut own: Loop<Near, LatchGate<R>, Seated<L>> = Loop::new(
-            self.alloc, seated, latch, self.loops,
-        ).ok()?;
+        let mut own: Loop<Near, LatchGate<R>, Seated<L, SharedSession<L, Recorder>, Books>> =
+            Loop::new(self.alloc, seated, latch, self.loops).ok()?;
         let mut outside = Outside::new(self.alloc);
         let played = perform_all(rt, &mut own, &mut outside, self.acts);
         let mut left = self.left.lock(rt);

@@ -1,7 +1,7 @@
 //! What a turn of a loop brought, and what is to be done next.
 
 use crate::submitted::Submitted;
-use server_connections::End;
+use server_connections::ServerEnd;
 
 /// What a loop has to do, though no event will tell of it.
 #[derive(Clone, Copy, PartialEq, Eq)]
@@ -32,5 +32,5 @@ pub struct Writes {
     pub drawn: usize,
     pub submitted: Submitted,
     /// Why the server is to end, if it is.
-    pub end: Option<End>,
+    pub end: Option<ServerEnd>,
 }

@@ -1,5 +1,6 @@
 -- The users' file: when it is read, and what is taken from it.
-use Rattle.std.specs.Prelude.{◌≡◌, ℕ, ◌+◌, ◌-◌, ◌^◌, ◌<◌, ◌≤◌, List, length, Option, Some, None, Result, Ok, Err}
+use Rattle.std.specs.Prelude.{◌≡◌, ◌⊎◌, ◌==◌, ℕ, ◌+◌, ◌-◌, ◌^◌, ◌<◌, ◌≤◌, List, length, Option, Some, None}
+use Rattle.std.specs.Prelude.{Result, Ok, Err}
 use Rattle.std.specs.Prelude.{bit_and, if◌then◌else◌, min, slice_get}
 use Rattle.acl.specs.Names.{name_of}
 use Rattle.acl.specs.Same.{same_user}
@@ -10,6 +11,7 @@ use Rattle.server_system.specs.declared.fault.ServeFault.{ServeFault}
 use Rattle.server_system.specs.declared.fault.ServeFault.TheVariants as fault
 use Rattle.server_system.specs.declared.users_file.LastLook.{LastLook}
 use Rattle.server_system.specs.declared.users_file.Stamp.{Stamp}
+use Rattle.server_system.specs.declared.watched.KnownUsers.{KnownUsers}
 use Rattle.server_system.specs.declared.watched.Looks.{Looks}
 use Rattle.server_system.specs.declared.watched.UsersNews.TheVariants as news
 
@@ -43,10 +45,39 @@ abbrev pub MayBeTold : Option ServeFault → Type 0
 MayBeTold (Some (fault.NoFile path error)) = Unit {0}
 MayBeTold other = ⊥
 
+-- the fault of what was read, if there is one
+abbrev pub fault_of : Result (List Entry) ServeFault → Option ServeFault
+fault_of (Ok users) = None
+fault_of (Err why) = Some why
+
+-- what was read is the news, unless it is a fault that has been told
+abbrev pub Tells : Option Stamp → LastLook → Result (List Entry) ServeFault
+    → Option (Result (List Entry) ServeFault) → Type 0
+Tells found seen read None = MayBeTold (fault_of read) × (seen.failed ≡ Some found)
+Tells found seen read (Some news) = news ≡ read
+
+module _ {F : Type 0} (finds : F → Option Stamp → Type 0) (reads : F → Result (List Entry) ServeFault → Type 0) where
+  -- The file was found as it was at the last look, and there is no news. Or it was read, and that is the news.
+  abbrev pub LooksAt : F → LastLook → Option (Result (List Entry) ServeFault) → LastLook → Type 0
+  LooksAt file old news new = (found : Option Stamp) × finds file found
+      × (((found ≡ old.stamp) × (news ≡ None) × (new ≡ old))
+      ⊎ ((read : Result (List Entry) ServeFault) × reads file read
+      × (new ≡ after_look found (fault_of read) old) × Tells found old read news))
+
 -- ---- what is known
 
 abbrev pub later : ℕ → ℕ
 later count = min (count + 1) (2 ^ 64 - 1)
+
+-- a look is asked for that begins after those that were begun; the answer is its number
+abbrev pub Asks : Looks → ℕ → Looks → Type 0
+Asks old number new = (number ≡ later old.begun) × (new ≡ record old { wanted = number })
+
+-- what a loop learns that has the users of this count: the users if they are others
+pub record Knows (looks : Looks) (count : ℕ) (known : KnownUsers) : Type 0 where
+  pub look : known.look ≡ looks.done
+  pub count_is : known.count ≡ looks.count
+  pub users : known.users ≡ (if looks.count == count then None else looks.users)
 
 -- users of a file are taken if the first of them is the session's owner
 abbrev pub with_users : UserId → UserId → List Entry → Looks → Looks

@@ -1,11 +1,12 @@
 //! How a server ends, and how long its loops wait.
 
-ghost use Rattle.std.specs.Prelude.{◌≡◌, ◌<◌, ◌≤◌, ◌*◌, false, option_map, true};
+ghost use Rattle.std.specs.Prelude.{◌≡◌, option_map};
 ghost use Rattle.std.specs.Duration.{as_nanos};
-ghost use Rattle.server_system.specs.Ending.{cause_of, is_late, outcome_of, served, sleep_for, why_unready};
+ghost use Rattle.server_system.specs.Ending.{cause_of, is_late, most_new, outcome_of, served, sleep_for};
+ghost use Rattle.server_system.specs.Ending.{why_unready};
 
 use crate::fault::ServeFault;
-use server_seat::End;
+use server_seat::ServerEnd;
 use server_trail::Cause;
 use std::io;
 use std::time::Duration;
@@ -33,27 +34,27 @@ pub enum Unready {
 }
 
 /// The cause that the last line of the trail's file names; None if a fault leaves the file without one.
-pub fn cause_of(end: Option<End>) -> Option<Cause>
+pub fn cause_of(end: Option<ServerEnd>) -> Option<Cause>
     ensures { result ≡ cause_of end }
 {
     match end {
-        Some(End::Quit) => Some(Cause::Quit),
-        Some(End::TrailFull) => Some(Cause::Full),
-        Some(End::Fault) | None => None,
+        Some(ServerEnd::Quit) => Some(Cause::Quit),
+        Some(ServerEnd::TrailFull) => Some(Cause::Full),
+        Some(ServerEnd::Fault) | None => None,
     }
 }
 
 /// How a server ended that served, from the fault of the trail's file. `agrees` says whether every answer
 /// stands in the trail.
 pub fn outcome_of(
-    end: Option<End>,
+    end: Option<ServerEnd>,
     wrong: Option<ServeFault>,
     agrees: bool,
 ) -> Result<(), ServeFault>
     ensures { result ≡ outcome_of end wrong agrees }
 {
     match (end, wrong) {
-        (Some(End::Quit), wrong) => {
+        (Some(ServerEnd::Quit), wrong) => {
             if !agrees {
                 return Err(ServeFault::Trail);
             }
@@ -62,9 +63,9 @@ pub fn outcome_of(
                 None => Ok(()),
             }
         }
-        (Some(End::TrailFull), Some(wrong)) => Err(wrong),
-        (Some(End::TrailFull), None) => Err(ServeFault::TrailFull),
-        (Some(End::Fault) | None, _) => Err(ServeFault::Loop),
+        (Some(ServerEnd::TrailFull), Some(wrong)) => Err(wrong),
+        (Some(ServerEnd::TrailFull), None) => Err(ServeFault::TrailFull),
+        (Some(ServerEnd::Fault) | None, _) => Err(ServeFault::Loop),
     }
 }
 
@@ -128,9 +129,7 @@ pub fn sleep_for(
 /// How many connections of one of this many loops may wait for their first message. Of extra ones, which
 /// aren't to stay, one may.
 pub fn most_new(loops: usize, is_extra: bool) -> usize
-    ensures some { 0 < result }
-    ensures all { loops ≤ 256 → is_extra ≡ false → result * loops ≤ 256 }
-    ensures extra { is_extra ≡ true → result ≡ 1 }
+    ensures { result ≡ most_new loops is_extra }
 {
     if is_extra {
         1

@@ -24,6 +24,6 @@ pub use room::LastLine;
 pub use setup_file::Setup;
 pub use socket::SocketPath;
 pub use unread::bound_unread;
-pub use users_file::{LastLook, Stamp, UsersFile};
+pub use users_file::{LastLook, Stamp, UsersFile, UsersSource, look_at};
 pub use watched::{KnownUsers, WatchedUsers};
 pub use wired::Wired;

@@ -1,12 +1,13 @@
 //! The users' file, and whether it has changed.
 
-ghost use Rattle.std.specs.Prelude.{◌≡◌, ◌==◌, IfErr, IfOk, IfSome, bit_and, false, not, true};
+ghost use Rattle.std.specs.Prelude.{◌≡◌, ◌==◌, Err, IfErr, IfOk, List, Some, ℕ, bit_and, false, not, true};
 ghost use Rattle.std.specs.Option.{option_copied};
-ghost use Rattle.server_system.specs.Looking.{AreOf, IsSafe, IsWrong, MayBeTold, after_look};
+ghost use Rattle.server_system.specs.Looking.{AreOf, IsSafe, IsWrong, LooksAt, MayBeTold, after_look};
+ghost use Rattle.server_system.specs.declared.fault.ServeFault.TheVariants.{NoMemory};
 
 use crate::fault::{ServeFault, SystemError};
 use server_users::{Users, UsersFault};
-use std::alloc::Global;
+use std::alloc::{AllocError, Global};
 use std::fs::Metadata;
 use std::io::Read;
 use std::os::unix::fs::MetadataExt;
@@ -24,20 +25,26 @@ const OTHERS_WRITE: u32 = 0o022;
 /// What tells a file from the one that was read.
 #[derive(Clone, Copy, Debug, PartialEq, Eq)]
 pub struct Stamp {
-    file: (u64, u64),
+    device: u64,
+    inode: u64,
     size: u64,
-    written: (i64, i64),
-    changed: (i64, i64),
+    written: i64,
+    written_nanos: i64,
+    changed: i64,
+    changed_nanos: i64,
     mode: u32,
 }
 
 impl Stamp {
     fn of(found: &Metadata) -> Stamp {
         Stamp {
-            file: (found.dev(), found.ino()),
+            device: found.dev(),
+            inode: found.ino(),
             size: found.size(),
-            written: (found.mtime(), found.mtime_nsec()),
-            changed: (found.ctime(), found.ctime_nsec()),
+            written: found.mtime(),
+            written_nanos: found.mtime_nsec(),
+            changed: found.ctime(),
+            changed_nanos: found.ctime_nsec(),
             mode: found.mode(),
         }
     }
@@ -76,33 +83,59 @@ fn users_of(alloc: Global, path: String, stamp: &Stamp, file: &[u8]) -> Result<U
     }
 }
 
-/// A file of users.
-#[derive(Clone, Copy)]
-pub struct UsersFile<'p> {
-    pub(crate) files: HostRuntime,
-    pub(crate) alloc: Global,
-    pub(crate) path: &'p str,
+/// What gives the users who may connect. Only a call of `find` or of `read` shows what was found or read.
+pub trait UsersSource {
+    ghost use Rattle.std.specs.Prelude.{List, Option, Result};
+    ghost use Rattle.server_users.specs.Entries.{Entry};
+    ghost use Rattle.server_system.specs.declared.users_file.Stamp.{Stamp as Stamped};
+    ghost use Rattle.server_system.specs.declared.fault.ServeFault.{ServeFault as Faulty};
+
+    // Its stamp; None if there is no file.
+    ghost finds: { Self → Option Stamped → Type 0 };
+
+    // Its users, or why they can't be read.
+    ghost reads: { Self → Result (List Entry) Faulty → Type 0 };
+
+    /// Where it is.
+    fn path(&self) -> &str;
+
+    fn find(&self) -> Option<Stamp>
+        ensures { finds self.now result };
+
+    fn read(&self) -> Result<Users, ServeFault>
+        ensures { reads self.now result };
 }
 
-impl<'p> UsersFile<'p> {
+/// A file of users.
+#[derive(Drop)]
+pub struct UsersFile {
+    files: HostRuntime,
+    alloc: Global,
+    path: String,
+}
+
+impl UsersFile {
     /// The users' file of this path.
-    pub fn new(files: HostRuntime, alloc: Global, path: &'p str) -> UsersFile<'p> {
-        UsersFile { files, alloc, path }
+    pub fn new(files: HostRuntime, alloc: Global, path: &str) -> Result<UsersFile, AllocError> {
+        let path = String::from_str(alloc, path)?;
+        Ok(UsersFile { files, alloc, path })
     }
 
     // The file's bytes, of which at most one too many is read.
     fn bytes(&self) -> io::Result<Vec<u8>> {
         let mut bytes = Vec::new(self.alloc);
-        let mut file = fs::open(&self.files, self.path)?.take(MOST as u64 + 1);
+        let mut file = fs::open(&self.files, self.path.as_str())?.take(MOST as u64 + 1);
         file.read_to_end(&mut bytes)?;
         Ok(bytes)
     }
 
-    /// Reads the users. Only a plain file is read, of at most 1,048,576 bytes, and only if others may not
-    /// write it.
-    pub fn read(&self) -> Result<(Users, Stamp), ServeFault> {
-        let path = String::from_str(self.alloc, self.path)?;
-        let stamp = match fs::metadata(&self.files, self.path) {
+    /// Reads the users, with the file's stamp. Only a plain file is read, of at most 1,048,576 bytes, and
+    /// only if others may not write it.
+    pub fn read(&self) -> Result<(Users, Stamp), ServeFault>
+        ensures ok { IfOk result (λ read. (file : List ℕ) × AreOf read.1 file read.0) }
+    {
+        let path = String::from_str(self.alloc, self.path.as_str())?;
+        let stamp = match fs::metadata(&self.files, self.path.as_str()) {
             Ok(found) if found.is_file() => Stamp::of(&found),
             Ok(_) => return Err(ServeFault::NotPlain(path)),
             Err(error) => return Err(ServeFault::NoFile(path, SystemError(error))),
@@ -115,6 +148,26 @@ impl<'p> UsersFile<'p> {
             Ok(users) => Ok((users, stamp)),
             Err(fault) => Err(fault),
         }
+    }
+}
+
+impl UsersSource for UsersFile {
+    // What is on a disk, no clause can say.
+    ghost finds = { λ file found. Unit {0} };
+
+    ghost reads = { λ file read. Unit {0} };
+
+    fn path(&self) -> &str {
+        self.path.as_str()
+    }
+
+    fn find(&self) -> Option<Stamp> {
+        let found = fs::metadata(&self.files, self.path.as_str()).ok();
+        found.map(|found| Stamp::of(&found))
+    }
+
+    fn read(&self) -> Result<Users, ServeFault> {
+        UsersFile::read(self).map(|(users, _stamp)| users)
     }
 }
 
@@ -140,7 +193,8 @@ impl LastLook {
     // whether that is news. A file that can't be read is told once, and read again at the next look.
     fn is_news(&mut self, found: Option<Stamp>, fault: Option<&ServeFault>) -> bool
         ensures seen { self.new ≡ after_look found (option_copied fault.entry) self.old }
-        ensures told { result ≡ false → MayBeTold (option_copied fault.entry) }
+        ensures told { result ≡ false
+            → MayBeTold (option_copied fault.entry) × (self.old.failed ≡ Some found) }
     {
         match fault {
             Some(ServeFault::NoMemory) => true,
@@ -159,24 +213,24 @@ impl LastLook {
     }
 }
 
-impl UsersFile<'_> {
-    /// The users, or why they can't be read. None if the file is as it was at the last look, or if
-    /// the fault has been told.
-    pub fn look(&self, seen: &mut LastLook) -> Option<Result<Users, ServeFault>> {
-        let found = fs::metadata(&self.files, self.path).ok();
-        let found = found.map(|found| Stamp::of(&found));
-        if found == seen.stamp {
-            return None;
-        }
-        let read = self.read().map(|(users, _stamp)| users);
-        let fault = match &read {
-            Ok(_) => None,
-            Err(fault) => Some(fault),
-        };
-        if seen.is_news(found, fault) {
-            Some(read)
-        } else {
-            None
-        }
+/// Looks at the users' file. The answer is its users, or why they can't be read; None if the file is as it
+/// was at the last look, or if the fault has been told.
+pub fn look_at<F: UsersSource>(file: &F, seen: &mut LastLook) -> Option<Result<Users, ServeFault>>
+    ensures looks { LooksAt F.finds F.reads file.now seen.old result seen.new }
+    ensures memory { result ≡ Some (Err NoMemory) → seen.new ≡ seen.old }
+{
+    let found = file.find();
+    if found == seen.stamp {
+        return None;
+    }
+    let read = file.read();
+    let fault = match &read {
+        Ok(_) => None,
+        Err(fault) => Some(fault),
+    };
+    if seen.is_news(found, fault) {
+        Some(read)
+    } else {
+        None
     }
 }

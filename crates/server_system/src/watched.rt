@@ -1,16 +1,18 @@
 //! The users' file while a server runs.
 
-ghost use Rattle.std.specs.Prelude.{◌≡◌, ◌==◌, IfSome, None, if◌then◌else◌};
-ghost use Rattle.server_system.specs.Looking.{Ends, Takes, later};
+ghost use Rattle.std.specs.Prelude.{◌≡◌, IfSome, List, None, Option, Result, true};
+ghost use Rattle.server_users.specs.Entries.{Entry};
+ghost use Rattle.server_system.specs.Looking.{Asks, Ends, Knows, LooksAt, Takes, later};
+ghost use Rattle.server_system.specs.declared.fault.ServeFault.{ServeFault as Faulty};
+ghost use Rattle.server_system.specs.declared.watched.Looks.{Looks as Looked};
 
 use crate::fault::ServeFault;
 use crate::log::Log;
-use crate::users_file::{LastLook, UsersFile};
+use crate::users_file::{LastLook, UsersSource, look_at};
 use acl::UserId;
 use server_users::Users;
-use std::alloc::{AllocError, Global};
+use std::alloc::Global;
 use std::fmt::{Display, Formatter};
-use std::rt::HostRuntime;
 use std::sync::{Condvar, Mutex, Wait};
 use std::time::{Clock, Duration};
 use std::{fmt, thread};
@@ -80,8 +82,7 @@ impl Looks {
 
     // Asks for a look that begins after this, and gives its number.
     fn ask(&mut self) -> u64
-        ensures number { result ≡ later self.old.begun }
-        ensures asked { self.new ≡ record self.old { wanted = result } }
+        ensures { Asks self.old result self.new }
     {
         self.wanted = self.begun.saturating_add(1);
         self.wanted
@@ -107,8 +108,7 @@ impl Looks {
     // What is known now, for a loop that has the users of this count; None if there is no memory for a
     // copy of the users.
     fn newest(&self, alloc: Global, count: u64) -> Option<KnownUsers>
-        ensures known { IfSome result (λ known. (known.look ≡ self.now.done) × (known.count ≡ self.now.count)
-            × (known.users ≡ (if self.now.count == count then None else self.now.users))) }
+        ensures known { IfSome result (Knows self.now count) }
         ensures none { result ≡ None → self.now.count ≡ count → ⊥ }
     {
         let (look, count_now) = (self.done, self.count);
@@ -144,22 +144,20 @@ pub struct KnownUsers {
 /// The users' file. When somebody connects, a separate thread looks at it, so that no loop waits for
 /// the file's disk.
 #[derive(Drop)]
-pub struct WatchedUsers {
-    files: HostRuntime,
+pub struct WatchedUsers<F> {
     alloc: Global,
-    path: String,
+    file: F,
     owner: UserId,
     looks: Mutex<Looks>,
     asked: Condvar,
 }
 
-impl WatchedUsers {
+impl<F: UsersSource> WatchedUsers<F> {
     /// A file that was read once. Its owner is the session's.
-    pub fn new(file: UsersFile, owner: UserId) -> Result<WatchedUsers, AllocError> {
-        Ok(WatchedUsers {
-            files: file.files,
-            alloc: file.alloc,
-            path: String::from_str(file.alloc, file.path)?,
+    pub fn new(alloc: Global, file: F, owner: UserId) -> WatchedUsers<F> {
+        WatchedUsers {
+            alloc,
+            file,
             owner,
             looks: Mutex::new(Looks {
                 wanted: 0,
@@ -171,11 +169,13 @@ impl WatchedUsers {
                 is_over: false,
             }),
             asked: Condvar::new(),
-        })
+        }
     }
 
     /// Asks for a look that begins after this call, and gives its number.
-    pub fn ask(&self, rt: &impl Wait) -> u64 {
+    pub fn ask(&self, rt: &impl Wait) -> u64
+        ensures { (was : Looked) × (then : Looked) × Asks was result then }
+    {
         let look = self.looks.lock(rt).ask();
         self.asked.notify_one();
         look
@@ -198,7 +198,9 @@ impl WatchedUsers {
     }
 
     // Ends a look, which found this if anything is new.
-    fn end(&self, rt: &impl Wait, found: Option<Result<Users, ServeFault>>) {
+    fn end(&self, rt: &impl Wait, found: Option<Result<Users, ServeFault>>)
+        ensures { (was : Looked) × (then : Looked) × Ends self.now.owner found was then }
+    {
         self.looks.lock(rt).end(self.owner, found);
     }
 
@@ -207,10 +209,11 @@ impl WatchedUsers {
         &self,
         rt: &R,
         seen: &mut LastLook,
-    ) -> Option<Result<Users, ServeFault>> {
-        let file = UsersFile::new(self.files, self.alloc, self.path.as_str());
-        for _ in rt.forever() {
-            let found = file.look(seen);
+    ) -> Option<Result<Users, ServeFault>>
+        ensures { LooksAt F.finds F.reads self.now.file seen.old result seen.new }
+    {
+        'looks: for _ in rt.forever() {
+            let found = look_at(&self.file, seen);
             if !matches!(&found, Some(Err(ServeFault::NoMemory))) {
                 return found;
             }
@@ -221,7 +224,11 @@ impl WatchedUsers {
 
     /// Looks at the file as soon as somebody asks for it. The answer is false once nobody waits any
     /// more.
-    pub fn look<R: Clock + Wait>(&self, rt: &R, seen: &mut LastLook) -> bool {
+    pub fn look<R: Clock + Wait>(&self, rt: &R, seen: &mut LastLook) -> bool
+        ensures { result ≡ true → (found : Option (Result (List Entry) Faulty))
+            × LooksAt F.finds F.reads self.now.file seen.old found seen.new
+            × (was : Looked) × (then : Looked) × Ends self.now.owner found was then }
+    {
         if !self.begin(rt) {
             return false;
         }
@@ -232,18 +239,19 @@ impl WatchedUsers {
 
     /// What is known now, for a loop that has the users of this count; None if there is no memory for
     /// a copy of the users.
-    pub fn newest<R: Clock + Wait>(
-        &self,
-        rt: &R,
-        log: &Log,
-        count: &mut u64,
-    ) -> Option<KnownUsers> {
+    pub fn newest<R: Clock + Wait>(&self, rt: &R, log: &Log, count: &mut u64) -> Option<KnownUsers>
+        ensures known { IfSome result (λ known. (count.new ≡ known.count)
+            × (looks : Looked) × Knows looks count.old known) }
+        ensures none { result ≡ None → (looks : Looked) × (looks.count ≡ count.old → ⊥) }
+    {
         let mut looks = self.looks.lock(rt);
         if let Some(news) = looks.news.take() {
-            let path = self.path.as_str();
+            let path = self.file.path();
             log.put(rt, &UsersLine { path, news: &news });
         }
-        let known = looks.newest(self.alloc, *count)?;
+        let Some(known) = looks.newest(self.alloc, *count) else {
+            return None;
+        };
         *count = known.count;
         Some(known)
     }

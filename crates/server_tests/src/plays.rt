@@ -2,12 +2,18 @@
 
 use crate::rows::{Expected, NoteRow, first_wrong, is_played};
 use server_stage::{
-    ATTACH, End, GONE_FAULT, Habit, QUIT, StageAct, System, WALL, WINDOW, Why, perform,
+    ATTACH, GONE_FAULT, Habit, QUIT, ServerEnd, StageAct, System, WALL, WINDOW, Why, perform,
 };
 
 // Whether a server with a window, a client, which types these frames, and a connection that sends
 // nothing says that it is to end so, if it does; and whether all are told why it ends.
-fn ends(rt: &impl System, keys: &'static [u8], said: Option<End>, end: End, why: Why) -> bool {
+fn ends(
+    rt: &impl System,
+    keys: &'static [u8],
+    said: Option<ServerEnd>,
+    end: ServerEnd,
+    why: Why,
+) -> bool {
     let acts = [
         StageAct::Connect(Habit::Whole, WINDOW),
         StageAct::Turns(2),
@@ -32,9 +38,9 @@ fn ends(rt: &impl System, keys: &'static [u8], said: Option<End>, end: End, why:
 #[test]
 fn all_are_told_why(rt: HostRuntime) {
     let keys = b"K\0\x07\x01:quit\r";
-    assert!(rt; ends(&rt, keys, Some(End::Quit), End::Quit, Why::Quit));
-    assert!(rt; ends(&rt, b"", None, End::Fault, Why::Fault));
-    assert!(rt; ends(&rt, b"", None, End::TrailFull, Why::TrailFull));
+    assert!(rt; ends(&rt, keys, Some(ServerEnd::Quit), ServerEnd::Quit, Why::Quit));
+    assert!(rt; ends(&rt, b"", None, ServerEnd::Fault, Why::Fault));
+    assert!(rt; ends(&rt, b"", None, ServerEnd::TrailFull, Why::TrailFull));
 }
 
 // The frames that a connection is sent whose command was done.
@@ -42,7 +48,7 @@ const DONE: &[u8] = b"y\0\x01\0g\0\x01\0";
 
 static ENDED: [NoteRow; 2] = [
     (0, Expected::Sent(0, DONE)),
-    (0, Expected::End(Some(End::Quit))),
+    (0, Expected::End(Some(ServerEnd::Quit))),
 ];
 
 // A `quit` while no window is open.

@@ -1,6 +1,6 @@
 //! Plays, and rows that say what is to be seen of them.
 
-use server_stage::{End, LoopState, Received, Seen, StageAct, System, Why, perform, shows};
+use server_stage::{LoopState, Received, Seen, ServerEnd, StageAct, System, Why, perform, shows};
 use std::alloc::Global;
 
 /// What is to be seen at a note. Connections count from 0, in the order in which they came.
@@ -25,7 +25,7 @@ pub enum Expected {
     /// Whether the loop is to try something again soon.
     HasWaiting(bool),
     /// How the server is to end, if it is.
-    End(Option<End>),
+    End(Option<ServerEnd>),
     /// The trail's entries at last, a letter for each.
     Entries(&'static [u8]),
     /// The trail's last entries, a letter for each.

@@ -1,0 +1,96 @@
+-- What is counted of users and of windows.
+use Rattle.std.specs.Prelude.{◌≡◌, ◌<◌, ◌++◌, ◌∷◌, ◌^◌, ◌-◌, ◌/◌, ℕ, Bool, true, false, [], Option, Some, None}
+use Rattle.std.specs.Prelude.{IfSome, if◌then◌else◌, min, option_map, unwrap_or}
+use Rattle.std.specs.Duration.{as_nanos}
+use Rattle.std.specs.declared.time.Duration.{Duration}
+use Rattle.acl.specs.History.{without_user}
+use Rattle.acl.specs.declared.user_id.UserId.{UserId}
+use Rattle.server_seat.specs.declared.seat.GuestKind.{GuestKind}
+use Rattle.server_seat.specs.declared.seat.GuestKind.TheVariants as kind
+use Rattle.server_users.specs.Accounts.{account_of, guests_of, judged}
+use Rattle.server_users.specs.Allowances.{MayPay, Purse, fresh, paid, settled, stands_at}
+use Rattle.server_users.specs.declared.allowance.Outcome.{Outcome}
+use Rattle.server_users.specs.declared.tally.Tally.{Tally}
+use Rattle.server_session.specs.Loading.{IsFull, SameBut, typed_into}
+use Rattle.server_session.specs.declared.books.Books.{Books}
+
+-- ---- steps that are paid for
+
+-- a time in whole milliseconds
+abbrev pub millis_of : Duration → ℕ
+millis_of now = min (as_nanos now / 1000000) (2 ^ 64 - 1)
+
+-- the purse of a user, and what they have of it at a time in milliseconds
+abbrev pub purse_of : Books → UserId → Option Purse
+purse_of books user = account_of books.allowances.accounts.items user
+
+abbrev pub purse_at : ℕ → Books → UserId → Purse
+purse_at now books user = stands_at now (unwrap_or (purse_of books user) fresh)
+
+-- the purses of others, and all else, are as they were
+abbrev pub SameButFor : UserId → Books → Books → Type 0
+SameButFor user old new = ((u : UserId) → (u ≡ user → ⊥) → purse_of new u ≡ purse_of old u)
+    × (new ≡ record old { allowances = new.allowances })
+
+-- the user paid, as they might; or they have to wait, since they might not
+pub record HasPaid (old : Books) (user : UserId) (now cost : ℕ) (is_paid : Bool) (new : Books) : Type 0 where
+  pub may : is_paid ≡ true → MayPay (purse_at now old user)
+  pub pays : is_paid ≡ true → purse_of new user ≡ Some (paid cost (purse_at now old user))
+  pub may_not : is_paid ≡ false → IfSome (purse_of old user) (λ purse. ¬ (MayPay (stands_at now purse)))
+  pub waits : is_paid ≡ false → purse_of new user ≡ option_map (stands_at now) (purse_of old user)
+  pub others : SameButFor user old new
+
+-- what the user paid was settled by what came of the step
+pub record HasSettled (old : Books) (user : UserId) (cost : ℕ) (outcome : Outcome) (new : Books) : Type 0 where
+  pub own : purse_of new user
+      ≡ option_map (settled (judged old.allowances.owner user outcome) cost) (purse_of old user)
+  pub others : SameButFor user old new
+
+-- ---- clients and windows
+
+-- One more was counted, below the bound if there is one; or the user has as many as a user may have, or there is no
+-- memory for one more.
+pub record HasAdded (old : Tally) (user : UserId) (most : Option ℕ) (new : Tally) : Type 0 where
+  pub unbounded : old.most ≡ None → (most ≡ None) × (new.guests.items ≡ old.guests.items)
+  pub counted : (bound : ℕ) → old.most ≡ Some bound → most ≡ None
+      → (guests_of old.guests.items user < bound) × (new.guests.items ≡ old.guests.items ++ user ∷ [])
+  pub refused : IfSome most (λ bound. (old.most ≡ Some bound) × (new.guests.items ≡ old.guests.items))
+  pub bound_is : new.most ≡ old.most
+
+abbrev pub Adds : Books → UserId → GuestKind → Option ℕ → Books → Type 0
+Adds old user kind.Client most new =
+    HasAdded old.clients user most new.clients × (new ≡ record old { clients = new.clients })
+Adds old user kind.Window most new =
+    HasAdded old.windows user most new.windows × (new ≡ record old { windows = new.windows })
+
+-- one less was counted
+abbrev pub HasRemoved : Tally → UserId → Tally → Type 0
+HasRemoved old user new =
+    (new.guests.items ≡ without_user user old.guests.items) × (new.most ≡ old.most)
+
+abbrev pub Removes : Books → UserId → GuestKind → Books → Type 0
+Removes old user kind.Client new =
+    HasRemoved old.clients user new.clients × (new ≡ record old { clients = new.clients })
+Removes old user kind.Window new =
+    HasRemoved old.windows user new.windows × (new ≡ record old { windows = new.windows })
+
+-- ---- what is typed into windows
+
+-- how many bytes count as typed into a window; None if nothing is counted for it
+abbrev pub load_of : Books → ℕ → Option ℕ
+load_of books window = typed_into books.loads window
+
+-- of a window that opened, if there is memory for it
+abbrev pub load_opened : Bool → Option ℕ → Option ℕ
+load_opened done load = if done then Some 0 else load
+
+-- so many count for the window now; other windows, and all else, are as they were
+pub record IsLoaded (old : Books) (window : ℕ) (load : Option ℕ) (new : Books) : Type 0 where
+  pub own : load_of new window ≡ load
+  pub others : SameBut window old.loads new.loads
+  pub rest : new ≡ record old { loads = new.loads }
+
+-- what is typed into a window next has to wait, or not
+pub record FindsFull (books : Books) (window : ℕ) (is_full : Bool) : Type 0 where
+  pub waits : is_full ≡ true → IsFull (load_of books window)
+  pub goes_on : is_full ≡ false → IsFull (load_of books window) → ⊥

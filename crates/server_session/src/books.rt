@@ -1,0 +1,195 @@
+//! What is counted of users and of windows, under the lock of all loops.
+
+ghost use Rattle.std.specs.Prelude.{◌≡◌, ℕ, None, [], option_map};
+ghost use Rattle.acl.specs.declared.user_id.UserId.{UserId as User};
+ghost use Rattle.server_session.specs.Counting.{Adds, FindsFull, HasPaid, HasSettled, IsLoaded, Removes};
+ghost use Rattle.server_session.specs.Counting.{load_of, load_opened, purse_of};
+ghost use Rattle.server_session.specs.Loading.{looked_at, with_typed};
+
+use crate::loads::Loads;
+use acl::UserId;
+use server_seat::GuestKind;
+use server_users::{Allowances, Outcome, Tally};
+use std::alloc::Global;
+
+/// How many clients and windows one user may have; None if only the session bounds them.
+#[derive(Clone, Copy, Debug, PartialEq, Eq)]
+pub struct Limits {
+    pub clients: Option<u8>,
+    pub windows: Option<u8>,
+}
+
+impl Limits {
+    /// No bounds but the session's.
+    pub fn none() -> Limits {
+        Limits {
+            clients: None,
+            windows: None,
+        }
+    }
+}
+
+/// What is counted. Each relation is shown by a call of its function alone, so an answer that is given
+/// without a call shows nothing.
+pub trait Counting {
+    ghost use Rattle.std.specs.Prelude.{ℕ, Bool, Option};
+    ghost use Rattle.acl.specs.declared.user_id.UserId.{UserId as User};
+    ghost use Rattle.server_seat.specs.declared.seat.GuestKind.{GuestKind as Kind};
+    ghost use Rattle.server_users.specs.declared.allowance.Outcome.{Outcome as CameOf};
+
+    // A user, the time in milliseconds, a cost, and whether it was paid.
+    ghost pays: { Self → User → ℕ → ℕ → Bool → Self → Type 0 };
+
+    // A user, a cost, and what came of the step.
+    ghost settles: { Self → User → ℕ → CameOf → Self → Type 0 };
+
+    // A user, a kind, and how many a user may have if one more wasn't counted.
+    ghost adds: { Self → User → Kind → Option ℕ → Self → Type 0 };
+
+    ghost removes: { Self → User → Kind → Self → Type 0 };
+
+    // A window, and whether there was memory to count for it.
+    ghost opens: { Self → ℕ → Bool → Self → Type 0 };
+
+    ghost closes: { Self → ℕ → Self → Type 0 };
+
+    // A window, and how many bytes were typed into it.
+    ghost types_in: { Self → ℕ → ℕ → Self → Type 0 };
+
+    // A window, and whether much waits for it.
+    ghost sets_full: { Self → ℕ → Bool → Self → Type 0 };
+
+    // A window, and whether what is typed into it next has to wait.
+    ghost finds_full: { Self → ℕ → Bool → Type 0 };
+
+    /// Pays for a step that a user is about to try, as `Allowances::pay` does.
+    fn pay(&mut self, user: UserId, now: u64, cost: u32) -> bool
+        ensures { pays self.old user now cost result self.new };
+
+    /// Settles what came of a step that was paid for, as `Allowances::settle` does.
+    fn settle(&mut self, user: UserId, cost: u32, outcome: Outcome)
+        ensures { settles self.old user cost outcome self.new };
+
+    /// Counts one more client or window of a user, as `Tally::add` does.
+    fn add(&mut self, user: UserId, kind: GuestKind) -> Option<u8>
+        ensures { adds self.old user kind result self.new };
+
+    /// Counts one client or window less of a user.
+    fn remove(&mut self, user: UserId, kind: GuestKind)
+        ensures { removes self.old user kind self.new };
+
+    /// A window opened. Returns whether there is memory to count for it.
+    fn open(&mut self, window: u32) -> bool
+        ensures { opens self.old window result self.new };
+
+    /// A window is gone.
+    fn close(&mut self, window: u32)
+        ensures { closes self.old window self.new };
+
+    /// Counts bytes that a step typed into a window.
+    fn type_in(&mut self, window: u32, bytes: usize)
+        ensures { types_in self.old window bytes self.new };
+
+    /// A window's loop looked at what waits for it: whether that is much.
+    fn set_full(&mut self, window: u32, is_full: bool)
+        ensures { sets_full self.old window is_full self.new };
+
+    /// Whether what is typed into a window has to wait.
+    fn is_full(&self, window: u32) -> bool
+        ensures { finds_full self.now window result };
+}
+
+/// What each user may still try in vain, how many clients and windows they have, and how much was typed
+/// into each window.
+#[derive(Drop)]
+pub struct Books {
+    allowances: Allowances,
+    clients: Tally,
+    windows: Tally,
+    loads: Loads,
+}
+
+impl Books {
+    /// Nobody has tried or opened anything yet in the session of this owner.
+    pub fn new(alloc: Global, owner: UserId, limits: Limits) -> Books
+        ensures clients { (result.clients.most ≡ limits.clients) × (result.clients.guests.items ≡ []) }
+        ensures windows { (result.windows.most ≡ limits.windows) × (result.windows.guests.items ≡ []) }
+        ensures purses { (user : User) → purse_of result user ≡ None }
+        ensures loads { (window : ℕ) → load_of result window ≡ None }
+        ensures owner { result.allowances.owner ≡ owner }
+    {
+        Books {
+            allowances: Allowances::new(alloc, owner),
+            clients: Tally::new(alloc, limits.clients),
+            windows: Tally::new(alloc, limits.windows),
+            loads: Loads::new(alloc),
+        }
+    }
+}
+
+impl Counting for Books {
+    ghost pays = { λ old user now cost is_paid new. HasPaid old user now cost is_paid new };
+
+    ghost settles = { λ old user cost outcome new. HasSettled old user cost outcome new };
+
+    ghost adds = { λ old user kind most new. Adds old user kind most new };
+
+    ghost removes = { λ old user kind new. Removes old user kind new };
+
+    ghost opens = { λ old window done new. IsLoaded old window (load_opened done (load_of old window)) new };
+
+    ghost closes = { λ old window new. IsLoaded old window None new };
+
+    ghost types_in = { λ old window bytes new.
+        IsLoaded old window (option_map (with_typed bytes) (load_of old window)) new };
+
+    ghost sets_full = { λ old window full new.
+        IsLoaded old window (option_map (looked_at full) (load_of old window)) new };
+
+    ghost finds_full = { λ books window full. FindsFull books window full };
+
+    fn pay(&mut self, user: UserId, now: u64, cost: u32) -> bool {
+        self.allowances.pay(user, now, cost)
+    }
+
+    fn settle(&mut self, user: UserId, cost: u32, outcome: Outcome) {
+        self.allowances.settle(user, cost, outcome);
+    }
+
+    fn add(&mut self, user: UserId, kind: GuestKind) -> Option<u8> {
+        match kind {
+            GuestKind::Client => self.clients.add(user),
+            GuestKind::Window => self.windows.add(user),
+        }
+    }
+
+    fn remove(&mut self, user: UserId, kind: GuestKind) {
+        match kind {
+            GuestKind::Client => self.clients.remove(user),
+            GuestKind::Window => self.windows.remove(user),
+        }
+    }
+
+    fn open(&mut self, window: u32) -> bool {
+        match self.loads.open(window) {
+            Ok(()) => true,
+            Err(_) => false,
+        }
+    }
+
+    fn close(&mut self, window: u32) {
+        self.loads.close(window);
+    }
+
+    fn type_in(&mut self, window: u32, bytes: usize) {
+        self.loads.add(window, bytes);
+    }
+
+    fn set_full(&mut self, window: u32, is_full: bool) {
+        self.loads.set(window, is_full);
+    }
+
+    fn is_full(&self, window: u32) -> bool {
+        self.loads.is_full(window)
+    }
+}
