@@ -5,8 +5,9 @@ use crate::loop_handle::{LoopHandle, LoopStart, Shared};
 use crate::news_line::NewsLine;
 use crate::winding::wind_up;
 use mio::{Events, Poll, Registry, Token};
+use server_connections::Awaits;
 use server_loop::{
-    Connections, Gate, Loop, News, Pace, Pending, Reads, SessionSeat, Submitted, Writes,
+    Connections, Gate, Loop, News, Pace, Pending, Reads, SessionSeat, Submitted, Writes, set_look,
 };
 use server_system::{Wired, most_new, sleep_for};
 use std::io;
@@ -223,9 +224,9 @@ fn turn<J: SessionSeat + Drop, G: Gate + Drop, R: Clock + Wait>(
 ) -> io::Result<()> {
     own.seat.set_time(rt);
     let reads = own.read_all(rt);
-    if own.awaits_look() {
+    if own.connections.any_awaits(Awaits::Look) {
         inlet.loop_handle.await_look();
-        own.set_look(inlet.shared.watched.ask(rt));
+        set_look(&mut own.connections, inlet.shared.watched.ask(rt));
     }
     let holds_draws = inlet.end_reads(now, reads)?;
     own.expire();
@@ -263,7 +264,7 @@ fn take_turns<'a, J: SessionSeat + Drop, G: Gate + Drop, R: Clock + Wait>(
     own.looked = Some(0);
     for _ in rt.forever() {
         let now = begin_turn(rt, inlet, own)?;
-        if own.has_held() {
+        if own.connections.any_awaits(Awaits::Ration) {
             // A look that ends after this wakes the loop.
             inlet.loop_handle.await_look();
             look_at_users(rt, inlet.shared, &mut count, own);

@@ -5,8 +5,7 @@ use Rattle.server_connections.specs.declared.peer.Role.{Role}
 use Rattle.server_connections.specs.declared.peer.Role.TheVariants as role
 use Rattle.server_sending.specs.Typists.{HasNoTypist, IsNextTypist}
 use Rattle.server_steps.specs.Sending.{frames_at}
-use Rattle.server_loop.specs.Submitting.{State}
-use Rattle.server_loop.specs.Typing.{peer_at}
+use Rattle.server_loop.specs.Submitting.{State, peer_at}
 use Rattle.server_loop.specs.Writing.{DropsAfter, DropsOf, DropsTyped}
 
 module _ {S J : Type 0} (lets_type : J → UserId → ℕ → Bool → Type 0) (key window : ℕ) where

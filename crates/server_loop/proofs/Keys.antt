@@ -7,8 +7,8 @@ use Rattle.acl.specs.declared.user_id.UserId.{UserId}
 use Rattle.server_steps.specs.Typing.{freed_keys, held_keys, target_at}
 use Rattle.server_steps.specs.declared.typing.Target.{Target}
 use Rattle.server_loop.specs.Leaving.{IfBool}
-use Rattle.server_loop.specs.Submitting.{State}
-use Rattle.server_loop.specs.Typing.{MustWait, Stops, WaitsFor, peer_at, with_peer}
+use Rattle.server_loop.specs.Submitting.{State, peer_at, with_peer}
+use Rattle.server_loop.specs.Typing.{MustWait, Stops, WaitsFor}
 use Rattle.server_loop.proofs.Telling.{if_false, if_true}
 
 pub match_none : {A : Type 0} (o : Option A) (X : Type 0) (Y : A → Type 0) → o ≡ None → X → MatchOption o X Y

@@ -1,6 +1,6 @@
 -- What becomes of a connection by its first message.
-use Rattle.std.specs.Prelude.{◌≡◌, ◌⊎◌, ℕ, Bool, true, false, List, Option, Some, None, Result, Ok, Err, Contains}
-use Rattle.std.specs.Prelude.{codes, unwrap_or}
+use Rattle.std.specs.Prelude.{◌≡◌, ◌⊎◌, ℕ, Bool, List, Option, Some, None, Result, Ok, Err, Contains}
+use Rattle.std.specs.Prelude.{◌↔◌, IsTrue, codes, if◌then◌else◌, unwrap_or}
 use Rattle.acl.specs.Names.{name_of}
 use Rattle.acl.specs.declared.user_id.UserId.{UserId}
 use Rattle.attach_proto.specs.declared.message.Message.{Message}
@@ -10,21 +10,22 @@ use Rattle.attach_proto.specs.declared.why.Why.TheVariants as why
 use Rattle.session.specs.Texts.{text_of}
 use Rattle.session.specs.Trace.{EventValue, Reply}
 use Rattle.session.specs.event.Done.{Done}
-use Rattle.slab.specs.Slab.{get}
-use Rattle.server_connections.specs.Changing.{changed, told_to_go}
+use Rattle.server_connections.specs.Changing.{told_to_go}
 use Rattle.server_seat.specs.Ending.{why_of_fault}
 use Rattle.server_seat.specs.declared.seat.GuestKind.{GuestKind}
+use Rattle.server_seat.specs.declared.seat.ServerEnd.TheVariants as cause
 use Rattle.server_seat.specs.declared.seat.SeatAnswer.{SeatAnswer}
 use Rattle.server_seat.specs.declared.seat.SeatFault.{SeatFault}
 use Rattle.server_sending.specs.Frames.{PutsMessage}
 use Rattle.server_steps.specs.Meaning.{event_of, guest_of, is_extra_at, joined, kind_of, may_judge, role_of, shown_in}
+use Rattle.server_steps.specs.Submitted.{IsQuit}
 use Rattle.server_steps.specs.declared.progress.Progress.{Progress}
 use Rattle.server_steps.specs.declared.progress.Progress.TheVariants as progress
 use Rattle.server_users.specs.Entries.{Entry}
 use Rattle.server_users.specs.declared.user.Shown.{Shown}
 use Rattle.server_loop.specs.Handing.{Faults, SendsTo, Sent}
 use Rattle.server_loop.specs.Leaving.{IfBool}
-use Rattle.server_loop.specs.Submitting.{Answer, State, Submits}
+use Rattle.server_loop.specs.Submitting.{Answer, State, Submits, peer_at, with_peer}
 use Rattle.server_loop.specs.declared.own.Loop.{Loop}
 
 -- what a loop knows of the users' file: who may connect, and the number of the look that found them, if somebody looks
@@ -43,7 +44,7 @@ pub record IsShown (users : List Entry) (entry : Entry) (shown : Shown) : Type 0
 module _ {S J : Type 0} where
   -- it was told to go, if it wasn't before
   abbrev pub Dismisses : Why → ℕ → State S J → State S J → Type 0
-  Dismisses cause key old new = new ≡ record old { connections = changed (told_to_go cause) key old.connections }
+  Dismisses cause key old new = new ≡ with_peer (told_to_go cause) key old
 
 module _ {S J : Type 0} (submits : J → EventValue → Answer → J → Type 0) where
   -- it was sent a message
@@ -61,32 +62,38 @@ module _ {S J : Type 0} (submits : J → EventValue → Answer → J → Type 0)
 
   -- it became the client or the window that the session made, and was welcomed by its number
   abbrev pub LetsIn : Shown → GuestKind → Done → ℕ → State S J → State S J → Type 0
-  LetsIn shown kind done key old new = Tells (message.Welcome done.number) key (record old {
-    connections = changed (joined shown (role_of kind done) (guest_of kind shown done)) key old.connections;
-  }) new
+  LetsIn shown kind done key old new = Tells (message.Welcome done.number) key
+      (with_peer (joined shown (role_of kind done) (guest_of kind shown done)) key old) new
 
   -- it was told what its command lists, if that lists something
   abbrev pub Lists : Option (List ℕ) → ℕ → State S J → State S J → Type 0
   Lists None key old new = new ≡ old
   Lists (Some text) key old new = Tells (message.Say text) key old new
 
-  -- its command was done, or it was told why not; and it was told to go
-  abbrev pub Ends : Reply → ℕ → State S J → State S J → Type 0
-  Ends (Ok done) key old new =
-      (mid : State S J) × Lists done.text key old mid × Dismisses why.Detached key mid new
-  Ends (Err refusal) key old new = SendsAway (text_of refusal) key old new
+  -- what its command lists was told, and it was told to go
+  abbrev pub SaysDone : Option (List ℕ) → ℕ → State S J → State S J → Type 0
+  SaysDone text key old new = (mid : State S J) × Lists text key old mid × Dismisses why.Detached key mid new
+
+  -- its command was done, or it was told why not; and it was told to go. After `quit` the server is to end.
+  abbrev pub Ends : Bool → Reply → ℕ → State S J → State S J → Type 0
+  Ends quits (Ok done) key old new = (mid : State S J) × SaysDone done.text key old mid
+      × (new ≡ record mid { end = if quits then Some cause.Quit else mid.end })
+  Ends quits (Err refusal) key old new = SendsAway (text_of refusal) key old new
 
   -- it was welcomed, and told the answer
-  abbrev pub Answers : Reply → ℕ → State S J → State S J → Type 0
-  Answers reply key old new = (mid : State S J) × Tells (message.Welcome 0) key old mid × Ends reply key mid new
+  abbrev pub Answers : Bool → Reply → ℕ → State S J → State S J → Type 0
+  Answers quits reply key old new =
+      (mid : State S J) × Tells (message.Welcome 0) key old mid × Ends quits reply key mid new
 
   -- An event was tried: one step was made and answered; or its user has to wait, and nothing was submitted; or its step
   -- has no answer, and its connection was told why it goes.
   abbrev pub Attempts : EventValue → ℕ → State S J → Result SeatAnswer Progress → State S J → Type 0
-  Attempts event key old (Ok answer) new = Submits submits event old (Ok answer) new
-  Attempts event key old (Err progress.Held) new = new ≡ old
+  Attempts event key old (Ok answer) new =
+      Submits submits event (record old { rations = new.rations }) (Ok answer) new
+  Attempts event key old (Err progress.Held) new = new ≡ record old { rations = new.rations }
   Attempts event key old (Err progress.Done) new = (fault : SeatFault) × (mid : State S J)
-      × Submits submits event old (Err fault) mid × Dismisses (why_of_fault fault) key mid new
+      × Submits submits event (record old { rations = mid.rations }) (Err fault) mid
+      × Dismisses (why_of_fault fault) key mid new
   Attempts event key old (Err progress.Part) new = ⊥
 
   -- Without memory to look whether a command is `quit`, it was told to go. Else its event was tried, and it was told the
@@ -94,8 +101,8 @@ module _ {S J : Type 0} (submits : J → EventValue → Answer → J → Type 0)
   abbrev pub Commands : EventValue → ℕ → State S J → Progress → State S J → Type 0
   Commands event key old far new = ((far ≡ progress.Done) × Dismisses why.Fault key old new)
       ⊎ (Attempts event key old (Err far) new
-      ⊎ ((far ≡ progress.Done) × (answer : SeatAnswer) × (mid : State S J)
-      × Attempts event key old (Ok answer) mid × Answers answer.reply key mid new))
+      ⊎ ((far ≡ progress.Done) × (quits : Bool) × (IsTrue quits ↔ IsQuit event) × (answer : SeatAnswer)
+      × (mid : State S J) × Attempts event key old (Ok answer) mid × Answers quits answer.reply key mid new))
 
 module _ {S J : Type 0} (submits : J → EventValue → Answer → J → Type 0)
     (counts : J → UserId → GuestKind → Option ℕ → Type 0) (uncounts : J → UserId → GuestKind → Type 0)
@@ -120,7 +127,7 @@ module _ {S J : Type 0} (submits : J → EventValue → Answer → J → Type 0)
 
     -- no more are to stay, and it was told so; or it is as above
     abbrev pub Joins : Shown → GuestKind → EventValue → ℕ → State S J → Progress → State S J → Type 0
-    Joins shown kind event key old far new = IfBool (is_extra_at (get old.connections.peers key))
+    Joins shown kind event key old far new = IfBool (is_extra_at (peer_at key old))
         ((far ≡ progress.Done) × TurnsAway submits (codes "the server has no room for more connections") key old new)
         (HasMost shown kind key old far new ⊎ IsCounted shown kind event key old far new)
 
@@ -147,7 +154,7 @@ module _ {S J : Type 0} (submits : J → EventValue → Answer → J → Type 0)
         → State S J → Progress → State S J → Type 0
     BeginsWith takes known None m key old far new = (far ≡ progress.Done) × Faults submits takes key old new
     BeginsWith takes known (Some entry) m key old far new =
-        IfBool (may_judge known.looked (get old.connections.peers key))
+        IfBool (may_judge known.looked (peer_at key old))
         (Judges known.users entry m key old far new)
         ((far ≡ progress.Held) × (new ≡ old))
 

@@ -1,42 +1,36 @@
 -- Where the effects go that a loop takes.
-use Rattle.std.specs.Prelude.{◌≡◌, ◌⊎◌, ℕ, Bool, false, List, [], ◌∷◌, Option, Some, None}
+use Rattle.std.specs.Prelude.{◌≡◌, ◌⊎◌, ◌||◌, ℕ, Bool, false, List, [], ◌∷◌, Option, None}
 use Rattle.acl.specs.declared.user_id.UserId.{UserId}
 use Rattle.attach_proto.specs.declared.kind.Kind.TheVariants as kind
 use Rattle.attach_proto.specs.declared.message.Message.TheVariants as message
-use Rattle.attach_proto.specs.declared.why.Why.{Why}
 use Rattle.attach_proto.specs.declared.why.Why.TheVariants as why
-use Rattle.slab.specs.Slab.{get}
 use Rattle.session.specs.Trace.{EventValue}
 use Rattle.session.specs.event.Effect.{Effect}
 use Rattle.session.specs.event.Effect.TheVariants as effect
 use Rattle.session.specs.event.Peer.TheVariants as peer
+use Rattle.session.specs.event.Reason.{Reason}
 use Rattle.server_connections.specs.Changing.{IsPutInto, LetsGo, hears}
-use Rattle.server_connections.specs.Peers.{is_open}
 use Rattle.server_connections.specs.Putting.{IsPutAt, PutsFor}
 use Rattle.server_connections.specs.declared.connections.Connections.{Connections}
-use Rattle.server_connections.specs.declared.peer.Peer.{Peer}
 use Rattle.server_connections.specs.declared.peer.Role.{Role}
 use Rattle.server_connections.specs.declared.peer.Role.TheVariants as role
 use Rattle.server_loop.specs.Leaving.{Expels, IfBool}
-use Rattle.server_loop.specs.Submitting.{Answer, State}
+use Rattle.server_loop.specs.Submitting.{Answer, State, peer_at}
 use Rattle.server_sending.specs.Causes.{told_of}
 use Rattle.server_sending.specs.Frames.{PutsFrames, PutsFront, PutsMessage}
 use Rattle.server_sending.specs.Written.{Waiting}
+use Rattle.server_steps.specs.Ending.{end_after}
+use Rattle.server_steps.specs.Typing.{is_open_at}
 
 -- an effect, with the user who typed it
 abbrev pub Sent : Type 0
 Sent = Effect × Option UserId
 
-module _ {S : Type 0} where
-  -- a connection has this key, and is read
-  abbrev pub is_open_at : Option (Peer S) → Bool
-  is_open_at None = false
-  is_open_at (Some p) = is_open p.stage
-
 module _ {S J : Type 0} where
-  -- its connection was told why it goes
-  abbrev pub Ends : Role → Why → State S J → State S J → Type 0
-  Ends role cause old new = LetsGo old.connections role cause new.connections × (new.seat ≡ old.seat)
+  -- its connection was told why it goes; after `quit` the server is to end
+  abbrev pub Ends : Role → Reason → State S J → State S J → Type 0
+  Ends role reason old new = LetsGo old.connections role (told_of reason) new.connections
+      × (new ≡ record old { connections = new.connections; end = end_after reason old.end })
 
 module _ {S J : Type 0} (submits : J → EventValue → Answer → J → Type 0) where
   -- Something was put for a role, into the first connection that has it and into no other. If only the front of it
@@ -44,7 +38,7 @@ module _ {S J : Type 0} (submits : J → EventValue → Answer → J → Type 0)
   abbrev pub HandsFor : Role → (Waiting → Waiting → Type 0) → (Waiting → Waiting → Type 0)
       → State S J → State S J → Type 0
   HandsFor role puts front old new =
-      (PutsFor old.connections role puts new.connections × (new.seat ≡ old.seat))
+      (PutsFor old.connections role puts new.connections × (new ≡ record old { connections = new.connections }))
       ⊎ ((key : ℕ) × (mid : Connections S) × IsPutAt old.connections role front mid key
       × Expels submits why.Fault key (record old { connections = mid }) new)
 
@@ -53,8 +47,8 @@ module _ {S J : Type 0} (submits : J → EventValue → Answer → J → Type 0)
   abbrev pub SendsTo : ℕ → (Waiting → Waiting → Type 0) → (Waiting → Waiting → Type 0)
       → State S J → State S J → Type 0
   SendsTo key puts front old new =
-      ((hears (get old.connections.peers key) ≡ false) × (new ≡ old))
-      ⊎ ((IsPutInto old.connections key puts new.connections × (new.seat ≡ old.seat))
+      ((hears (peer_at key old) ≡ false) × (new ≡ old))
+      ⊎ ((IsPutInto old.connections key puts new.connections × (new ≡ record old { connections = new.connections }))
       ⊎ ((mid : Connections S) × IsPutInto old.connections key front mid
       × Expels submits why.Fault key (record old { connections = mid }) new))
 
@@ -68,26 +62,30 @@ module _ {S J : Type 0} (submits : J → EventValue → Answer → J → Type 0)
       HandsFor (role.Client client) (PutsMessage (message.Say text)) (λ old new. new ≡ old)
   Hands (effect.Size window rows columns) typist =
       HandsFor (role.Window window) (PutsMessage (message.Size rows columns)) (λ old new. new ≡ old)
-  Hands (effect.Gone (peer.Window window) reason) typist = Ends (role.Window window) (told_of reason)
-  Hands (effect.Gone (peer.Client client) reason) typist = Ends (role.Client client) (told_of reason)
+  Hands (effect.Gone (peer.Window window) reason) typist = Ends (role.Window window) reason
+  Hands (effect.Gone (peer.Client client) reason) typist = Ends (role.Client client) reason
 
   -- these effects did, in order and each once
   abbrev pub HandsAll : List Sent → State S J → State S J → Type 0
   HandsAll [] old new = new ≡ old
   HandsAll (sent ∷ rest) old new = (mid : State S J) × Hands sent.0 sent.1 old mid × HandsAll rest mid new
 
-  -- The effects that waited were taken once, and went to their connections, in order and each once. It is said whether
-  -- a step other than a draw was made.
-  pub record HandsOut (takes : J → List Sent → Bool → J → Type 0) (old : State S J) (told : Bool) (new : State S J)
-      : Type 0 where
+  -- The effects that waited were taken once, and went to their connections, in order and each once. If a step other
+  -- than a draw was made, there is something to draw, and it is to be looked who may still type.
+  pub record HandsOut (takes : J → List Sent → Bool → J → Type 0) (old new : State S J) : Type 0 where
     pub effects : List Sent
+    pub is_told : Bool
     pub seat : J
-    pub taken : takes old.seat effects told seat
-    pub handed : HandsAll effects (record old { seat = seat }) new
+    pub taken : takes old.seat effects is_told seat
+    pub mid : State S J
+    pub handed : HandsAll effects (record old { seat = seat; is_behind = false }) mid
+    pub told : new ≡ record mid {
+      draws = record mid.draws { is_told = mid.draws.is_told || is_told };
+      may_have_lost = mid.may_have_lost || is_told;
+    }
 
   -- What it sent before was answered, and it was told to go, if it wasn't before.
   pub record Faults (takes : J → List Sent → Bool → J → Type 0) (key : ℕ) (old new : State S J) : Type 0 where
-    pub told : Bool
     pub mid : State S J
-    pub handed : HandsOut takes old told mid
-    pub goes : IfBool (is_open_at (get mid.connections.peers key)) (Expels submits why.Fault key mid new) (new ≡ mid)
+    pub handed : HandsOut takes old mid
+    pub goes : IfBool (is_open_at (peer_at key mid)) (Expels submits why.Fault key mid new) (new ≡ mid)

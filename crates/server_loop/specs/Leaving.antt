@@ -3,13 +3,11 @@ use Rattle.std.specs.Prelude.{◌≡◌, ℕ, Bool, true, false, Option, Some, N
 use Rattle.attach_proto.specs.declared.why.Why.{Why}
 use Rattle.attach_proto.specs.declared.why.Why.TheVariants as why
 use Rattle.session.specs.Trace.{EventValue}
-use Rattle.slab.specs.Slab.{get}
-use Rattle.server_connections.specs.Changing.{asked_to_go, changed, expelled, known_gone}
+use Rattle.server_connections.specs.Changing.{asked_to_go, expelled, known_gone}
 use Rattle.server_connections.specs.Life.{given_up, parting}
-use Rattle.server_connections.specs.declared.connections.Connections.{Connections}
 use Rattle.server_connections.specs.declared.peer.Peer.{Peer}
 use Rattle.server_seat.specs.declared.seat.SeatFault.TheVariants as fault
-use Rattle.server_loop.specs.Submitting.{Answer, State}
+use Rattle.server_loop.specs.Submitting.{Answer, State, Submits, peer_at, with_peer}
 
 module _ {S : Type 0} where
   -- the event by which a connection leaves the session, if it left and the session wasn't told
@@ -17,29 +15,31 @@ module _ {S : Type 0} where
   leaving None = None
   leaving (Some peer) = parting peer.leaves
 
-  -- once the session was told, that is noted; without memory it is still to be told
-  abbrev pub Notes : Answer → ℕ → Connections S → Bool → Connections S → Type 0
-  Notes (Err fault.NoMemory) key old told new = (told ≡ false) × (new ≡ old)
-  Notes (Err (fault.Over end)) key old told new = (told ≡ true) × (new ≡ changed known_gone key old)
-  Notes (Ok answer) key old told new = (told ≡ true) × (new ≡ changed known_gone key old)
-
 -- one of two facts
 abbrev pub IfBool : Bool → Type 0 → Type 0 → Type 0
 IfBool true a b = a
 IfBool false a b = b
+
+module _ {S J : Type 0} where
+  -- once the session was told, that is noted; without memory it is still to be told, in the next turn
+  abbrev pub Notes : Answer → ℕ → State S J → Bool → State S J → Type 0
+  Notes (Err fault.NoMemory) key old told new = (told ≡ false) × (new ≡ record old { has_refused = true })
+  Notes (Err (fault.Over end)) key old told new = (told ≡ true) × (new ≡ with_peer known_gone key old)
+  Notes (Ok answer) key old told new = (told ≡ true) × (new ≡ with_peer known_gone key old)
 
 module _ {S J : Type 0} (submits : J → EventValue → Answer → J → Type 0) where
   -- the session was told by this event, in one step
   pub record LeavesBy (event : EventValue) (key : ℕ) (old : State S J) (told : Bool) (new : State S J)
       : Type 0 where
     pub answer : Answer
-    pub step : submits old.seat event answer new.seat
-    pub noted : Notes answer key old.connections told new.connections
+    pub mid : State S J
+    pub step : Submits submits event old answer mid
+    pub noted : Notes answer key mid told new
 
   -- If the connection of a key left, the session was told once, by its own event, and that is noted. Else nothing was
   -- done.
   abbrev pub TellsLeaving : ℕ → State S J → Bool → State S J → Type 0
-  TellsLeaving key old told new = MatchOption (leaving (get old.connections.peers key))
+  TellsLeaving key old told new = MatchOption (leaving (peer_at key old))
       ((told ≡ true) × (new ≡ old))
       (λ event. LeavesBy event key old told new)
 
@@ -49,8 +49,7 @@ module _ {S J : Type 0} (submits : J → EventValue → Answer → J → Type 0)
 
   -- the connection of a key was changed, and if it left, the session was told so
   abbrev pub Changes : (Peer S → Peer S) → ℕ → State S J → Bool → State S J → Type 0
-  Changes change key old told new =
-      TellsLeaving key (record old { connections = changed change key old.connections }) told new
+  Changes change key old told new = TellsLeaving key (with_peer change key old) told new
 
   -- it was told to go
   abbrev pub Expels : Why → ℕ → State S J → State S J → Type 0

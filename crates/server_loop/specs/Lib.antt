@@ -6,6 +6,7 @@ pub mod Naming
 pub mod Obeying
 pub mod Serving
 pub mod Submitting
+pub mod Turning
 pub mod Typing
 pub mod Walking
 pub mod Writing

@@ -1,9 +1,6 @@
 -- What a message of a connection means, and what is done by it.
-use Rattle.std.specs.Prelude.{◌≡◌, ◌==◌, ℕ, Bool, List, Option, Some, None, Ok, Err, if◌then◌else◌, length}
+use Rattle.std.specs.Prelude.{◌≡◌, ◌==◌, ◌-◌, ℕ, Bool, List, Ok, Err, if◌then◌else◌, length}
 use Rattle.session.specs.Trace.{EventValue, Output}
-use Rattle.server_connections.specs.declared.peer.Peer.{Peer}
-use Rattle.server_connections.specs.declared.peer.Role.{Role}
-use Rattle.server_connections.specs.declared.peer.Role.TheVariants as role
 use Rattle.server_seat.specs.declared.seat.SeatFault.TheVariants as fault
 use Rattle.server_inbox.specs.Asking.{advanced, piece_of, rest_of}
 use Rattle.server_inbox.specs.declared.asked.Asked.{Asked}
@@ -24,12 +21,6 @@ abbrev pub OnFirst : Meaning → Type 0 → Type 0
 OnFirst meaning.First fact = fact
 OnFirst other fact = Unit {0}
 
-module _ {S : Type 0} where
-  -- what the connection of a key is to the session
-  abbrev pub role_at : Option (Peer S) → Role
-  role_at None = role.Stranger
-  role_at (Some peer) = peer.role
-
 module _ {S J : Type 0} (submits : J → EventValue → Answer → J → Type 0) (takes : J → List Sent → Bool → J → Type 0)
   where
     -- if there was no memory for a step, its connection was told to go
@@ -45,11 +36,17 @@ module _ {S J : Type 0} (submits : J → EventValue → Answer → J → Type 0)
       pub step : Submits submits event old answer mid
       pub after : FollowsUp key answer mid new
 
+    -- a piece of a window's output was submitted; of the output that may still be done in this turn it is taken off
+    abbrev pub Prints : ℕ → Asked → ℕ → State S J → State S J → Type 0
+    Prints window asked key old new = (mid : State S J)
+        × SubmitsFor (Output window (piece_of asked.message asked.done)) key old mid
+        × (new ≡ record mid { output_left = mid.output_left - length (piece_of asked.message asked.done) })
+
     -- what was done by a message, and how far it is done; of a first one `Begins` says more
     abbrev pub ObeysBy : Meaning → ℕ → Asked → Asked → State S J → Progress → State S J → Type 0
     ObeysBy meaning.First key was asked old far new = asked ≡ was
     ObeysBy (meaning.Output window) key was asked old far new = (asked ≡ advanced was) × (far ≡ printed asked)
-        × SubmitsFor (Output window (piece_of was.message was.done)) key old new
+        × Prints window was key old new
     ObeysBy meaning.Leave key was asked old far new =
         (asked ≡ was) × (far ≡ progress.Done) × Detaches submits key old new
     ObeysBy meaning.Misfit key was asked old far new =

@@ -1,30 +1,90 @@
 -- What a loop submits.
-use Rattle.std.specs.Prelude.{◌≡◌, Option, Some, None, Result, Ok, Err}
+use Rattle.std.specs.Prelude.{◌≡◌, ℕ, Bool, true, Option, Some, None, Result, Ok, Err, vec_len}
+use Rattle.std.specs.declared.time.Duration.{Duration}
+use Rattle.slab.specs.Slab.{get}
 use Rattle.session.specs.Trace.{EventValue}
+use Rattle.server_connections.specs.Changing.{changed}
 use Rattle.server_connections.specs.declared.connections.Connections.{Connections}
+use Rattle.server_connections.specs.declared.peer.Peer.{Peer}
 use Rattle.server_seat.specs.declared.seat.SeatAnswer.{SeatAnswer}
 use Rattle.server_seat.specs.declared.seat.SeatFault.{SeatFault}
+use Rattle.server_seat.specs.declared.seat.SeatFault.TheVariants as fault
+use Rattle.server_seat.specs.declared.seat.ServerEnd.{ServerEnd}
+use Rattle.server_steps.specs.Submitted.{noted}
+use Rattle.server_steps.specs.declared.submitted.Submitted.{Submitted}
+use Rattle.server_users.specs.declared.ration.Rations.{Rations}
+use Rattle.server_loop.specs.declared.own.Drawn.{Drawn}
 use Rattle.server_loop.specs.declared.own.Loop.{Loop}
 
 -- what the session answers
 abbrev pub Answer : Type 0
 Answer = Result SeatAnswer SeatFault
 
--- what a loop has of the session, and its connections
+-- what a loop has of the session, its connections, the time, what it counts, and what it still has to do
 pub record State (S J : Type 0) : Type 0 where
   pub seat : J
   pub connections : Connections S
+  pub rations : Rations
+  pub now : Duration
+  -- so many bytes a read takes at most
+  pub room : ℕ
+  pub output_left : ℕ
+  pub next : ℕ
+  pub submitted : Submitted
+  pub is_behind : Bool
+  pub has_refused : Bool
+  pub draws : Drawn
+  pub may_have_lost : Bool
+  pub end : Option ServerEnd
 
 abbrev pub state_of : {S G J : Type 0} → Loop S G J → State S J
-state_of own = record { seat = own.seat; connections = own.connections }
+state_of own = record {
+  seat = own.seat;
+  connections = own.connections;
+  rations = own.rations;
+  now = own.now;
+  room = vec_len own.reading.buffer;
+  output_left = own.reading.output_left;
+  next = own.reading.next;
+  submitted = own.submitted;
+  is_behind = own.is_behind;
+  has_refused = own.has_refused;
+  draws = own.draws;
+  may_have_lost = own.may_have_lost;
+  end = own.end;
+}
+
+-- why the server is to end, after an answer
+abbrev pub end_by : Answer → Option ServerEnd → Option ServerEnd
+end_by (Err (fault.Over end)) was = Some end
+end_by other was = was
+
+module _ {S J : Type 0} where
+  -- its peer
+  abbrev pub peer_at : ℕ → State S J → Option (Peer S)
+  peer_at key s = get s.connections.peers key
+
+  -- the connection of a key is changed, and nothing else
+  abbrev pub with_peer : (Peer S → Peer S) → ℕ → State S J → State S J
+  with_peer change key s = record s { connections = changed change key s.connections }
+
+  -- after a step with this event: effects may wait
+  abbrev pub after_step : EventValue → Answer → J → State S J → State S J
+  after_step event answer seat s = record s {
+    seat = seat;
+    submitted = noted event s.submitted;
+    is_behind = true;
+    end = end_by answer s.end;
+  }
 
 module _ {S J : Type 0} (submits : J → EventValue → Answer → J → Type 0) where
   -- one step was made, with this event; no connection changed
   abbrev pub Submits : EventValue → State S J → Answer → State S J → Type 0
-  Submits event old answer new = submits old.seat event answer new.seat × (new.connections ≡ old.connections)
+  Submits event old answer new =
+      submits old.seat event answer new.seat × (new ≡ after_step event answer new.seat old)
 
-  -- the user has to wait, and nothing was submitted; or one step was made, with this event
+  -- the user has to wait, and nothing was submitted; or one step was made, with this event, after it was counted
   abbrev pub Tries : EventValue → State S J → Result (Option SeatAnswer) SeatFault → State S J → Type 0
-  Tries event old (Ok None) new = new ≡ old
-  Tries event old (Ok (Some answer)) new = Submits event old (Ok answer) new
-  Tries event old (Err fault) new = Submits event old (Err fault) new
+  Tries event old (Ok None) new = new ≡ record old { rations = new.rations }
+  Tries event old (Ok (Some answer)) new = Submits event (record old { rations = new.rations }) (Ok answer) new
+  Tries event old (Err refusal) new = Submits event (record old { rations = new.rations }) (Err refusal) new

@@ -5,11 +5,8 @@ use Rattle.std.specs.Duration.{as_nanos}
 use Rattle.std.specs.declared.time.Duration.{Duration}
 use Rattle.acl.specs.declared.user_id.UserId.{UserId}
 use Rattle.attach_proto.specs.declared.message.Message.TheVariants as message
-use Rattle.slab.specs.Slab.{get}
 use Rattle.session.specs.Trace.{EventValue, Keys, Resize}
-use Rattle.server_connections.specs.Changing.{changed}
 use Rattle.server_connections.specs.declared.connections.Connections.{Connections}
-use Rattle.server_connections.specs.declared.peer.Peer.{Peer}
 use Rattle.server_sending.specs.Frames.{PutsMessage}
 use Rattle.server_sending.specs.Written.{Waiting}
 use Rattle.server_steps.specs.Settling.{Tried, is_refused, progress_of, settled}
@@ -24,10 +21,11 @@ use Rattle.server_steps.specs.declared.typing.Target.{Target}
 use Rattle.server_typing.specs.Typed.{is_idle, untyped}
 use Rattle.server_users.specs.Rationed.{MayCause, end_of}
 use Rattle.server_users.specs.declared.ration.Rations.{Rations}
+use Rattle.server_users.specs.declared.user.Shown.{Shown}
 use Rattle.server_loop.specs.Handing.{Faults, SendsTo, Sent}
 use Rattle.server_loop.specs.Leaving.{IfBool}
 use Rattle.server_loop.specs.Obeying.{SubmitsFor}
-use Rattle.server_loop.specs.Submitting.{Answer, State, Tries}
+use Rattle.server_loop.specs.Submitting.{Answer, State, Tries, peer_at, with_peer}
 
 -- the time of a turn
 abbrev pub millis_of : Duration → ℕ
@@ -37,15 +35,6 @@ millis_of now = min (as_nanos now / 1000000) (2 ^ 64 - 1)
 abbrev pub IsSpent : Rations → Duration → UserId → Type 0
 IsSpent rations now user =
     IfSome (end_of rations.list.items user) (λ end. ¬ (MayCause (as_nanos now) (as_nanos rations.period) end))
-
-module _ {S J : Type 0} where
-  -- the connection of a key is changed, and nothing else
-  abbrev pub with_peer : (Peer S → Peer S) → ℕ → State S J → State S J
-  with_peer change key s = record s { connections = changed change key s.connections }
-
-  -- its peer
-  abbrev pub peer_at : ℕ → State S J → Option (Peer S)
-  peer_at key s = get s.connections.peers key
 
 -- the window of a target takes no more for now; a command doesn't wait for that
 abbrev pub Stops : {J : Type 0} → (J → ℕ → Bool → Type 0) → Target → J → Bool → Type 0
@@ -98,22 +87,27 @@ module _ {S J : Type 0} (submits : J → EventValue → Answer → J → Type 0)
       pub left : FaultsIf (is_refused answer) key (with_peer (answered answer (typed_at (peer_at key old))) key mid) new
       pub progress_is : progress ≡ progress_of answer (settled answer (typed_at (peer_at key old)))
 
-    -- this was done for a user who showed their token, and who may cause one more entry
-    abbrev pub Judges : Rations → Duration → ℕ → ℕ → State S J → Progress → State S J → Type 0
-    Judges rations now key client old progress new = MatchOption (user_at (peer_at key old))
+    -- this was done for a user who may cause one more entry
+    abbrev pub JudgesFor : ℕ → ℕ → Shown → State S J → Progress → State S J → Type 0
+    JudgesFor key client shown old progress new = (IsSpent old.rations old.now shown.user × (progress ≡ made.Held)
+        × (new ≡ record old { rations = new.rations }))
+        ⊎ ((rations : Rations) × JudgesKeys key client (record old { rations = rations }) progress new)
+
+    -- and who showed their token
+    abbrev pub Judges : ℕ → ℕ → State S J → Progress → State S J → Type 0
+    Judges key client old progress new = MatchOption (user_at (peer_at key old))
         ((progress ≡ made.Done) × (new ≡ old))
-        (λ shown. (IsSpent rations now shown.user × (progress ≡ made.Held) × (new ≡ old))
-        ⊎ JudgesKeys key client old progress new)
+        (λ shown. JudgesFor key client shown old progress new)
 
 module _ {S J : Type 0} (submits : J → EventValue → Answer → J → Type 0) (takes : J → List Sent → Bool → J → Type 0)
     (finds_full : J → ℕ → Bool → Type 0) (lets_type : J → UserId → ℕ → Bool → Type 0)
   where
     -- the keys that wait have to wait on, or a step of them was made
-    abbrev pub JudgesOrWaits : Rations → Duration → ℕ → ℕ → State S J → Progress → State S J → Type 0
-    JudgesOrWaits rations now key client old progress new = (waits : Bool) × (mid : State S J)
+    abbrev pub JudgesOrWaits : ℕ → ℕ → State S J → Progress → State S J → Type 0
+    JudgesOrWaits key client old progress new = (waits : Bool) × (mid : State S J)
         × MustWait finds_full lets_type key old waits mid
         × IfBool waits ((progress ≡ made.Held) × (new ≡ mid))
-        ((judged : State S J) × Judges submits takes rations now key client mid progress judged
+        ((judged : State S J) × Judges submits takes key client mid progress judged
         × (new ≡ record judged { connections = strayed progress key judged.connections }))
 
     -- a size and dropped keys were told, and if keys wait, a step of them was made or they wait on
@@ -122,8 +116,7 @@ module _ {S J : Type 0} (submits : J → EventValue → Answer → J → Type 0)
         × Resizes submits takes now key client old resized × TellsDropped submits now key resized mid
         × IfBool (is_idle (typed_at (peer_at key mid)))
         ((result ≡ idle_at is_through (peer_at key mid)) × (new ≡ mid))
-        ((rations : Rations) × (at : Duration) × (progress : Progress)
-        × JudgesOrWaits rations at key client mid progress new
+        ((progress : Progress) × JudgesOrWaits key client mid progress new
         × (result ≡ Some (unless_more is_through progress)))
 
     abbrev pub TypesBy : Gathered → ℕ → ℕ → ℕ → State S J → Option Progress → State S J → Type 0

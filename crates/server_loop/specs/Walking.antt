@@ -1,5 +1,5 @@
--- The connections of a loop that are awake have their turn.
-use Rattle.std.specs.Prelude.{◌≡◌, ◌⊎◌, ◌<◌, ◌≤◌, ◌+◌, ℕ, zero, suc}
+-- The connections of a loop that are awake have their turn, and what is done again and again.
+use Rattle.std.specs.Prelude.{◌≡◌, ◌⊎◌, ◌<◌, ◌≤◌, ◌+◌, ℕ, zero, suc, Bool, true, false}
 use Rattle.server_connections.specs.Marked.{IsMarked, IsNext}
 use Rattle.server_loop.specs.Submitting.{State}
 
@@ -15,3 +15,10 @@ module _ {S J : Type 0} (visits : ℕ → State S J → State S J → Type 0) wh
   -- each connection that is awake was visited once, in the order of the keys
   abbrev pub VisitsAll : State S J → State S J → Type 0
   VisitsAll old new = Passes old.connections.peers.capacity 0 old.connections.peers.capacity old new
+
+module _ {T : Type 0} (steps : T → Bool → T → Type 0) where
+  -- a step was made after the other while each says that it is to go on, but at most so many
+  abbrev pub Repeats : ℕ → T → T → Type 0
+  Repeats zero old new = new ≡ old
+  Repeats (suc count) old new =
+      steps old false new ⊎ ((mid : T) × steps old true mid × Repeats count mid new)

@@ -7,11 +7,10 @@ use Rattle.server_connections.specs.declared.connections.Connections.{Connection
 use Rattle.server_connections.specs.declared.peer.Role.{Role}
 use Rattle.server_connections.specs.declared.peer.Role.TheVariants as role
 use Rattle.server_sending.specs.Typists.{HasNoTypist, IsNextTypist}
+use Rattle.server_steps.specs.Meaning.{role_at}
 use Rattle.server_steps.specs.Sending.{IsLaggard, WritesAt, cut, frames_at, without_user}
 use Rattle.server_loop.specs.Leaving.{Expels, IfBool, TellsLeaving}
-use Rattle.server_loop.specs.Obeying.{role_at}
-use Rattle.server_loop.specs.Submitting.{Answer, State}
-use Rattle.server_loop.specs.Typing.{peer_at, with_peer}
+use Rattle.server_loop.specs.Submitting.{Answer, State, peer_at, with_peer}
 
 module _ {S J : Type 0} (lets_type : J → UserId → ℕ → Bool → Type 0) where
   -- The session was asked whether a user may type into a window. If they may not, what they typed, and of which nothing
@@ -42,10 +41,12 @@ module _ {S J : Type 0} (lets_type : J → UserId → ℕ → Bool → Type 0) w
 
 module _ {S J : Type 0} (submits : J → EventValue → Answer → J → Type 0) (contents : S → Option (List ℕ)) where
   -- what waits for a connection was written as far as it takes it; if it was closed, the session was told that it left
-  abbrev pub Writes : ℕ → State S J → State S J → Type 0
-  Writes key old new = (closed : Bool) × (mid : Connections S) × WritesAt contents key old.connections closed mid
-      × IfBool closed ((told : Bool) × TellsLeaving submits key (record old { connections = mid }) told new)
-      (new ≡ record old { connections = mid })
+  pub record Writes (key : ℕ) (old new : State S J) : Type 0 where
+    pub closed : Bool
+    pub mid : Connections S
+    pub written : WritesAt contents key old.connections closed mid
+    pub told : IfBool closed ((told : Bool) × TellsLeaving submits key (record old { connections = mid }) told new)
+        (new ≡ record old { connections = mid })
 
   -- one for which too much waits was told so, written to and is closed once it takes no more
   pub record DropsLaggard (key : ℕ) (old new : State S J) : Type 0 where

@@ -4,16 +4,21 @@ ghost use Rattle.std.specs.Prelude.{◌≡◌, IfSome, option_map};
 ghost use Rattle.slab.specs.Slab.{get};
 ghost use Rattle.session.specs.Trace.{happening};
 ghost use Rattle.server_connections.specs.Changing.{changed, told_to_go};
-ghost use Rattle.server_loop.specs.Handing.{Faults, is_open_at};
+ghost use Rattle.server_steps.specs.Ending.{told_full};
+ghost use Rattle.server_loop.specs.Handing.{Faults};
 ghost use Rattle.server_loop.specs.Leaving.{Detaches, Expels, LeavesBy, Loses, TellsLeaving, TriesLeaving, leaving};
 ghost use Rattle.server_loop.specs.Naming.{NamesNobody};
-ghost use Rattle.server_loop.specs.Submitting.{state_of};
+ghost use Rattle.server_loop.specs.Submitting.{state_of, with_peer};
+ghost use Rattle.server_loop.specs.Turning.{Expires, Finishes, LetsOldestGo, PartsWith, Settles};
 ghost use Rattle.server_loop.specs.Walking.{VisitsAll};
 
 use crate::own::Loop;
 use attach_proto::Why;
-use server_connections::{News, Role, SeatFault, ServerEnd, SessionSeat, each_awake};
-use server_steps::Gate;
+use server_connections::{News, SeatFault, ServerEnd, SessionSeat, each_awake};
+use server_steps::{
+    Gate, count_new, expire, finish, is_open_at, oldest_new, role_at, take_fullness, take_guest,
+    write,
+};
 use session::Event;
 use std::io::{Read, Write};
 use std::sync::Wait;
@@ -89,21 +94,11 @@ impl<S: Read + Write + Drop, G: Gate + Drop, J: SessionSeat + Drop> Loop<S, G, J
         self.connections.dismiss(key, why);
     }
 
-    // Whether a connection is read, and sent what the session says.
-    fn is_open_at(&self, key: usize) -> bool
-        ensures { result ≡ is_open_at (get self.entry.now.connections.peers key) }
-    {
-        match self.connections.get(key) {
-            Some(peer) => peer.stage.is_open(),
-            None => false,
-        }
-    }
-
     // A connection that is no guest sent something else than a first message.
     fn note_misfit(&mut self, key: usize)
         ensures { state_of self.new ≡ state_of self.old }
     {
-        if self.role_of(key).is_stranger() {
+        if role_at(&self.connections, key).is_stranger() {
             self.tell(News::Misfit);
         }
     }
@@ -114,7 +109,7 @@ impl<S: Read + Write + Drop, G: Gate + Drop, J: SessionSeat + Drop> Loop<S, G, J
         ensures { Faults J.submits J.takes key (state_of self.old) (state_of self.new) }
     {
         self.hand_out(rt);
-        if !self.is_open_at(key) {
+        if !is_open_at(&self.connections, key) {
             return;
         }
         self.note_misfit(key);
@@ -142,81 +137,72 @@ impl<S: Read + Write + Drop, G: Gate + Drop, J: SessionSeat + Drop> Loop<S, G, J
 
     /// If the first message of `most` connections or more isn't done, the one that came first is told
     /// to go, and closed.
-    pub fn let_oldest_go(&mut self, rt: &impl Wait, most: usize) {
-        let mut count = 0usize;
-        let mut oldest: Option<(u64, usize)> = None;
-        for key in 0..self.connections.end() {
-            let Some(peer) = self.connections.get(key) else {
-                continue;
-            };
-            if peer.is_new() {
-                count = count.saturating_add(1);
-                if oldest.is_none_or(|(number, _)| peer.number < number) {
-                    oldest = Some((peer.number, key));
-                }
-            }
+    pub fn let_oldest_go(&mut self, rt: &impl Wait, most: usize)
+        ensures { LetsOldestGo J.submits S.contents J.uncounts most (state_of self.old) (state_of self.new) }
+    {
+        if count_new(&self.connections) < most {
+            return;
         }
-        if let Some((_, key)) = oldest {
-            if count >= most {
-                self.dismiss(key, Why::Fault);
-                if let Some(peer) = self.connections.touch(key) {
-                    peer.write();
-                    peer.close();
-                }
-                self.sweep(rt);
-            }
-        }
+        let Some(key) = oldest_new(&self.connections) else {
+            return;
+        };
+        self.dismiss(key, Why::Fault);
+        let _ = write(&mut self.connections, key);
+        self.lose(rt, key);
+        self.sweep(rt);
     }
 
     /// Connections whose first message didn't come in time are told to go, and those that were told
     /// so and didn't read it in time are closed.
-    pub fn expire(&mut self) {
-        each_awake(self, |own, key| {
-            let now = own.now;
-            if let Some(peer) = own.connections.touch(key) {
-                peer.expire(now);
-            }
-        });
+    pub fn expire(&mut self)
+        ensures { VisitsAll (Expires self.old.now) (state_of self.old) (state_of self.new) }
+    {
+        let now = self.now;
+        each_awake(self, |own, key| expire(&mut own.connections, key, now));
     }
 
-    // What is closed goes, and what has nothing to do rests. If it was a guest, its user may have
-    // another one. Windows become full or aren't any more.
-    fn settle(&mut self, rt: &impl Wait, key: usize) {
-        let news = self
-            .connections
-            .touch(key)
-            .and_then(|peer| peer.take_fullness());
-        if let Some((window, is_full)) = news {
+    // All loops are told whether a window is full, if that is news.
+    fn tell_full(&mut self, rt: &impl Wait, key: usize)
+        ensures { state_of self.new ≡ with_peer told_full key (state_of self.old) }
+    {
+        if let Some((window, is_full)) = take_fullness(&mut self.connections, key) {
             self.seat.set_full(rt, window, is_full);
         }
-        let gone = self.connections.touch(key).and_then(|peer| peer.farewell());
-        if let Some((guest, why)) = gone {
-            self.seat.remove(rt, guest.user, guest.kind);
-            self.tell(News::Went(guest, why));
-        }
+    }
+
+    // If it was a guest, its user may have another one.
+    fn part_with(&mut self, rt: &impl Wait, key: usize)
+        ensures { PartsWith J.uncounts key (state_of self.old) (state_of self.new) }
+    {
+        let Some((guest, why)) = take_guest(&mut self.connections, key) else {
+            return;
+        };
+        self.seat.remove(rt, guest.user, guest.kind);
+        self.tell(News::Went(guest, why));
+    }
+
+    // What is closed goes, and what has nothing to do rests.
+    fn settle(&mut self, rt: &impl Wait, key: usize)
+        ensures { Settles J.uncounts key (state_of self.old) (state_of self.new) }
+    {
+        self.tell_full(rt, key);
+        self.part_with(rt, key);
         self.connections.settle(key);
     }
 
-    pub(crate) fn sweep(&mut self, rt: &impl Wait) {
+    pub(crate) fn sweep(&mut self, rt: &impl Wait)
+        ensures { VisitsAll (Settles J.uncounts) (state_of self.old) (state_of self.new) }
+    {
         each_awake(self, |own, key| own.settle(rt, key));
     }
 
     /// The server ends: guests are told so, and strangers are closed.
-    pub fn finish(&mut self, rt: &impl Wait, end: ServerEnd) {
+    pub fn finish(&mut self, rt: &impl Wait, end: ServerEnd)
+        ensures { Finishes J.submits J.takes S.contents J.uncounts end
+            (state_of self.old) (state_of self.new) }
+    {
         self.hand_out(rt);
-        for key in 0..self.connections.end() {
-            if let Some(peer) = self.connections.touch(key) {
-                match peer.role {
-                    Role::Client(_) | Role::Window(_) => peer.end(end.why()),
-                    Role::Stranger if peer.stage.is_open() => peer.close(),
-                    Role::Stranger => {}
-                }
-                peer.role = Role::Stranger;
-                peer.leaves = Role::Stranger;
-                peer.mark_room();
-                peer.write();
-            }
-        }
+        finish(&mut self.connections, end.why());
         self.sweep(rt);
     }
 }

@@ -1,5 +1,4 @@
-//! One loop of the server: its connections and its seat in the session, what it reads and does, what it
-//! sends and draws, and how connections leave.
+//! One loop of the server: what it reads, does, sends and draws, and how its connections leave.
 #![tactic(auto)]
 
 mod leaving;
@@ -13,4 +12,4 @@ mod typing;
 pub use own::Loop;
 pub use server_connections::{Connections, Name, News, ServerEnd, SessionSeat};
 pub use server_pace::Pace;
-pub use server_steps::{Gate, Open, Pending, Reads, Submitted, Writes};
+pub use server_steps::{Gate, Open, Pending, Reads, Submitted, Writes, set_look};

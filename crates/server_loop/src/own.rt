@@ -1,6 +1,6 @@
 //! One loop: its connections, its seat in the session, and what it still has to do.
 
-ghost use Rattle.std.specs.Prelude.{◌≡◌};
+ghost use Rattle.std.specs.Prelude.{◌≡◌, IfOk, IfSome, None, Some, vec_len};
 
 use crate::turn::OUTPUT;
 use server_connections::{Awaits, Connections, HasConnections, News, ServerEnd, SessionSeat};
@@ -30,7 +30,7 @@ pub(crate) struct ReadState {
 
 // The draws that a loop asks for.
 #[derive(Clone, Copy)]
-pub(crate) struct Draws {
+pub(crate) struct Drawn {
     // A step other than a draw was made, by any loop, since draws were last asked for.
     pub(crate) is_told: bool,
     // While draws are asked for: the first key that wasn't looked at yet.
@@ -59,7 +59,7 @@ pub struct Loop<S, G, J> {
     pub(crate) is_behind: bool,
     // Something was refused for want of memory, and is tried again in the next turn.
     pub(crate) has_refused: bool,
-    pub(crate) draws: Draws,
+    pub(crate) draws: Drawn,
     // A step other than a draw was made since it was looked who may still type.
     pub(crate) may_have_lost: bool,
     pub(crate) end: Option<ServerEnd>,
@@ -78,7 +78,10 @@ impl<S, G, J> HasConnections<S> for Loop<S, G, J> {
 
 impl<S: Drop, G: Gate + Drop, J: SessionSeat + Drop> Loop<S, G, J> {
     /// One of this many loops.
-    pub fn new(alloc: Global, seat: J, gate: G, loops: usize) -> Result<Loop<S, G, J>, AllocError> {
+    pub fn new(alloc: Global, seat: J, gate: G, loops: usize) -> Result<Loop<S, G, J>, AllocError>
+        ensures { IfOk result (λ own. (own.seat ≡ seat) × (own.end ≡ None)
+            × (vec_len own.reading.buffer ≡ 32768)) }
+    {
         Ok(Loop {
             alloc,
             seat,
@@ -98,7 +101,7 @@ impl<S: Drop, G: Gate + Drop, J: SessionSeat + Drop> Loop<S, G, J> {
             submitted: Submitted::NOTHING,
             is_behind: false,
             has_refused: false,
-            draws: Draws {
+            draws: Drawn {
                 is_told: false,
                 from: None,
                 made: 0,
@@ -121,15 +124,9 @@ impl<S: Drop, G: Gate + Drop, J: SessionSeat + Drop> Loop<S, G, J> {
         is_begun || self.connections.any_awaits(Awaits::Work)
     }
 
-    /// Whether something is to be tried again soon, though no event will tell of it.
+    /// Whether something is to be tried again soon: there was no memory, or a message has to wait.
     pub fn has_waiting(&self) -> bool {
-        self.has_refused || self.has_held()
-    }
-
-    /// Whether a message waits: for a look at the users' file, or until its user may cause more
-    /// entries.
-    pub fn has_held(&self) -> bool {
-        self.connections.any_awaits(Awaits::Ration)
+        self.has_refused || self.connections.any_awaits(Awaits::Ration)
     }
 
     /// What the loop is to do next, if no event comes.
@@ -145,29 +142,16 @@ impl<S: Drop, G: Gate + Drop, J: SessionSeat + Drop> Loop<S, G, J> {
         }
     }
 
-    /// Whether a first message waits for a look at the users' file that nobody asked for yet.
-    pub fn awaits_look(&self) -> bool {
-        self.connections.any_awaits(Awaits::Look)
-    }
-
-    /// The first messages that came wait for the look of this number.
-    pub fn set_look(&mut self, look: u64) {
-        for key in 0..self.connections.end() {
-            let peer = self.connections.get(key);
-            if peer.is_some_and(|peer| peer.awaits(Awaits::Look)) {
-                if let Some(peer) = self.connections.touch(key) {
-                    peer.look = Some(look);
-                }
-            }
-        }
-    }
-
     /// Why the server is to end, if it is. It ends as at a full trail if nothing is written to the
     /// trail's file any more.
-    pub fn end(&self) -> Option<ServerEnd> {
+    pub fn end(&self) -> Option<ServerEnd>
+        ensures known { IfSome self.entry.now.end (λ end. result ≡ Some end) }
+        ensures stopped { self.entry.now.end ≡ None → IfSome result (λ end. end ≡ ServerEnd.TrailFull) }
+    {
         match self.end {
+            Some(end) => Some(end),
             None if self.seat.has_stopped() => Some(ServerEnd::TrailFull),
-            end => end,
+            None => None,
         }
     }
 

@@ -1,26 +1,26 @@
 //! What peers ask for.
 
-ghost use Rattle.std.specs.Prelude.{◌≡◌, ℕ, List, IfSome, IsOk, None, Ok, Some, true, Contains, length, unwrap_or};
+ghost use Rattle.std.specs.Prelude.{◌≡◌, ℕ, List, IfSome, None, Contains, length, unwrap_or};
 ghost use Rattle.slab.specs.Slab.{get};
 ghost use Rattle.session.specs.Texts.{text_of};
 ghost use Rattle.session.specs.Trace.{Output, happening};
 ghost use Rattle.server_inbox.specs.Asking.{advanced, piece_of};
-ghost use Rattle.server_loop.specs.Beginning.{Answers, Attempts, Begins, BeginsAs, Commands, Ends};
-ghost use Rattle.server_loop.specs.Beginning.{Enters, IsShown, Joins, LetsIn, SendsAway, TurnsAway};
+ghost use Rattle.server_loop.specs.Beginning.{Answers, Attempts, Begins, BeginsAs, Commands};
+ghost use Rattle.server_loop.specs.Beginning.{Enters, IsShown, Joins, LetsIn, SaysDone, SendsAway, TurnsAway};
 ghost use Rattle.server_loop.specs.Beginning.{known_of};
 ghost use Rattle.server_loop.specs.Naming.{IsOf, NamesNobody};
-ghost use Rattle.server_loop.specs.Obeying.{FollowsUp, ObeysBy, OnFirst, SubmitsFor, printed, role_at};
+ghost use Rattle.server_loop.specs.Obeying.{FollowsUp, ObeysBy, OnFirst, Prints, SubmitsFor, printed};
 ghost use Rattle.server_loop.specs.Submitting.{state_of};
-ghost use Rattle.server_steps.specs.Meaning.{meaning_of};
+ghost use Rattle.server_steps.specs.Meaning.{meaning_of, role_at};
 
 use crate::own::Loop;
 use attach_proto::{Message, Text, Token, Why};
 use server_connections::{
-    Asked, GuestKind, Name, News, SeatAnswer, SeatFault, Sending, ServerEnd, SessionSeat,
+    Asked, GuestKind, Name, News, SeatAnswer, SeatFault, Sending, SessionSeat,
 };
 use server_steps::{
     Gate, Meaning, Progress, event_of, guest_of, is_extra, kind_of, make_guest, may_judge,
-    meaning_of, news_of, quits, role_of, shown_in,
+    meaning_of, news_of, quit_if, quits, role_at, role_of, shown_in,
 };
 use server_users::{Shown, Users, authenticate};
 use session::{Done, Event, Refusal, Reply};
@@ -48,7 +48,7 @@ impl<S: Read + Write + Drop, G: Gate + Drop, J: SessionSeat + Drop> Loop<S, G, J
             (Begins J.submits J.counts J.uncounts J.takes (known_of J.known self.old) asked.old.message key
             (state_of self.old) result (state_of self.new)) }
     {
-        match meaning_of(self.role_of(key), &asked.message) {
+        match meaning_of(role_at(&self.connections, key), &asked.message) {
             Meaning::First => self.begin(rt, key, &asked.message),
             Meaning::Output(window) => self.output(rt, key, window, asked),
             Meaning::Leave => {
@@ -97,8 +97,7 @@ impl<S: Read + Write + Drop, G: Gate + Drop, J: SessionSeat + Drop> Loop<S, G, J
 
     // A step takes a piece of a window's output.
     fn output(&mut self, rt: &impl Wait, key: usize, window: u32, asked: &mut Asked) -> Progress
-        ensures step { SubmitsFor J.submits J.takes
-            (Output window (piece_of asked.old.message asked.old.done)) key
+        ensures step { Prints J.submits J.takes window asked.old key
             (state_of self.old) (state_of self.new) }
         ensures asked { asked.new ≡ advanced asked.old }
         ensures progress { result ≡ printed asked.new }
@@ -284,7 +283,7 @@ impl<S: Read + Write + Drop, G: Gate + Drop, J: SessionSeat + Drop> Loop<S, G, J
 
     // Tells a connection what its command lists, and lets it go.
     fn say_done(&mut self, rt: &impl Wait, key: usize, done: &Done)
-        ensures { Ends J.submits (Ok done.now) key (state_of self.old) (state_of self.new) }
+        ensures { SaysDone J.submits done.now.text key (state_of self.old) (state_of self.new) }
     {
         if let Some(text) = &done.text {
             self.send(rt, key, Sending::Say(text.as_slice()));
@@ -294,16 +293,13 @@ impl<S: Read + Write + Drop, G: Gate + Drop, J: SessionSeat + Drop> Loop<S, G, J
 
     // Tells a connection the answer to its command.
     fn tell_answer(&mut self, rt: &impl Wait, key: usize, reply: &Reply, is_quit: bool)
-        ensures answers { Answers J.submits reply.now key (state_of self.old) (state_of self.new) }
-        ensures quits { is_quit ≡ true → IsOk reply.now → self.new.end ≡ Some ServerEnd.Quit }
+        ensures { Answers J.submits is_quit reply.now key (state_of self.old) (state_of self.new) }
     {
         self.send(rt, key, Sending::Message(&Message::Welcome(0)));
         match reply {
             Ok(done) => {
                 self.say_done(rt, key, done);
-                if is_quit {
-                    self.end = Some(ServerEnd::Quit);
-                }
+                self.end = quit_if(is_quit, self.end);
             }
             Err(refusal) => self.refuse(rt, key, refusal),
         }

@@ -1,22 +1,24 @@
 //! What connections are sent, and when they are drawn.
 
-ghost use Rattle.std.specs.Prelude.{◌≡◌, ◌-◌, Bool, true};
+ghost use Rattle.std.specs.Prelude.{◌-◌};
 ghost use Rattle.slab.specs.Slab.{get};
-ghost use Rattle.server_sending.specs.Causes.{told_of};
 ghost use Rattle.server_sending.specs.Frames.{Sends, SendsFront};
-ghost use Rattle.server_loop.specs.Drawing.{Draws, DrawsFrom, DrawsNext};
+ghost use Rattle.server_steps.specs.Meaning.{role_at};
+ghost use Rattle.server_loop.specs.Drawing.{Draws, DrawsAll, DrawsFrom, DrawsNext, DrawsRound, HandsOn, TellsAll};
 ghost use Rattle.server_loop.specs.Handing.{Ends, Hands, HandsAll, HandsFor, HandsOut, SendsTo};
-ghost use Rattle.server_loop.specs.Leaving.{IfBool};
-ghost use Rattle.server_loop.specs.Obeying.{role_at};
 ghost use Rattle.server_loop.specs.Submitting.{state_of};
+ghost use Rattle.server_loop.specs.Turning.{DropsLost};
 ghost use Rattle.server_loop.specs.Walking.{VisitsAll};
-ghost use Rattle.server_loop.specs.Writing.{DropsAt, DropsLaggard, DropsOf, DropsTyped, Writes};
+ghost use Rattle.server_loop.specs.Writing.{DropsLaggard, DropsOf, DropsTyped, Writes};
 
 use crate::own::Loop;
 use acl::UserId;
 use attach_proto::{Message, Why};
-use server_connections::{Role, SeatFault, Sending, ServerEnd, SessionSeat, each_awake, why_of};
-use server_steps::{Gate, cut_off, drop_typed, is_laggard, typist_after, wanting, write};
+use server_connections::{Role, SeatFault, Sending, SessionSeat, each_awake, why_of};
+use server_steps::{
+    Gate, cut_off, drawn_from, drop_typed, end_after, is_laggard, next_from, role_at, typist_after,
+    wanting, write,
+};
 use session::{Effect, Event, Reason};
 use std::io::{Read, Write};
 use std::sync::Wait;
@@ -39,11 +41,9 @@ impl<S: Read + Write + Drop, G: Gate + Drop, J: SessionSeat + Drop> Loop<S, G, J
 
     // The session ended a client or a window: its connection is told to go.
     fn let_go(&mut self, role: Role, reason: Reason)
-        ensures { Ends role (told_of reason) (state_of self.old) (state_of self.new) }
+        ensures { Ends role reason (state_of self.old) (state_of self.new) }
     {
-        if reason == Reason::Quit {
-            self.end = Some(ServerEnd::Quit);
-        }
+        self.end = end_after(reason, self.end);
         self.connections.let_go(role, why_of(reason));
     }
 
@@ -107,9 +107,7 @@ impl<S: Read + Write + Drop, G: Gate + Drop, J: SessionSeat + Drop> Loop<S, G, J
 
     // Takes the effects that wait for the loop's peers, and puts them into their connections.
     pub(crate) fn hand_out(&mut self, rt: &impl Wait)
-        ensures { (told : Bool)
-            × HandsOut J.submits J.takes (state_of self.old) told (state_of self.new)
-            × (told ≡ true → (self.new.draws.is_told ≡ true) × (self.new.may_have_lost ≡ true)) }
+        ensures { HandsOut J.submits J.takes (state_of self.old) (state_of self.new) }
     {
         self.is_behind = false;
         let (effects, is_told) = self.seat.take(rt);
@@ -133,7 +131,7 @@ impl<S: Read + Write + Drop, G: Gate + Drop, J: SessionSeat + Drop> Loop<S, G, J
         ensures { DropsTyped J.lets_type (role_at (get self.old.connections.peers key)) key
             (state_of self.old) (state_of self.new) }
     {
-        let Role::Window(window) = self.role_of(key) else {
+        let Role::Window(window) = role_at(&self.connections, key) else {
             return;
         };
         let mut last = None;
@@ -148,9 +146,7 @@ impl<S: Read + Write + Drop, G: Gate + Drop, J: SessionSeat + Drop> Loop<S, G, J
 
     // After a step that may have taken a right, what was typed by those who lost theirs isn't written.
     pub(crate) fn drop_all_typed(&mut self, rt: &impl Wait)
-        ensures { IfBool self.old.may_have_lost
-            (VisitsAll (DropsAt J.lets_type) (state_of self.old) (state_of self.new))
-            (self.new ≡ self.old) }
+        ensures { DropsLost J.lets_type (state_of self.old) (state_of self.new) }
     {
         if !self.may_have_lost {
             return;
@@ -220,27 +216,47 @@ impl<S: Read + Write + Drop, G: Gate + Drop, J: SessionSeat + Drop> Loop<S, G, J
         None
     }
 
+    // All connections are told that there is something to draw, if a step was made since they were.
+    fn tell_all(&mut self)
+        ensures { TellsAll (state_of self.old) (state_of self.new) }
+    {
+        if !self.draws.is_told {
+            return;
+        }
+        self.draws.is_told = false;
+        self.connections.tell();
+    }
+
+    // What came of steps is handed out and written.
+    fn hand_on(&mut self, rt: &impl Wait)
+        ensures { HandsOn J.submits J.takes S.contents (state_of self.old) (state_of self.new) }
+    {
+        if !self.is_behind {
+            return;
+        }
+        self.hand_out(rt);
+        self.write_all(rt);
+    }
+
+    // Asks for draws from a key on, and hands them out.
+    fn draw_round(&mut self, rt: &impl Wait, from: usize, is_held: bool)
+        ensures { DrawsRound J.submits J.takes S.contents from is_held
+            (state_of self.old) (state_of self.new) }
+    {
+        self.tell_all();
+        let next = self.draw_some(rt, from);
+        self.draws.from = next_from(next, from, is_held);
+        self.hand_on(rt);
+    }
+
     // Asks for draws unless they are held, or goes on with those that were begun, and hands them out.
-    pub(crate) fn draw_all(&mut self, rt: &impl Wait, holds_draws: bool) {
-        let from = match self.draws.from {
-            Some(from) => from,
-            None if holds_draws => return,
-            None => 0,
+    pub(crate) fn draw_all(&mut self, rt: &impl Wait, is_held: bool)
+        ensures { DrawsAll J.submits J.takes S.contents is_held (state_of self.old) (state_of self.new) }
+    {
+        let Some(from) = drawn_from(self.draws.from, is_held) else {
+            return;
         };
-        if self.draws.is_told {
-            self.draws.is_told = false;
-            self.connections.tell();
-        }
-        self.draws.from = match self.draw_some(rt, from) {
-            Some(next) => Some(next),
-            // Clients before that key may wait for one again.
-            None if 0 < from && !holds_draws => Some(0),
-            None => None,
-        };
-        if self.is_behind {
-            self.hand_out(rt);
-            self.write_all(rt);
-        }
+        self.draw_round(rt, from, is_held);
     }
 
     // A connection for which too much waits is told so, and closed once it takes no more.

@@ -2,8 +2,9 @@
 
 ghost use Rattle.std.specs.Prelude.{◌≡◌};
 ghost use Rattle.session.specs.Trace.{happening};
+ghost use Rattle.server_steps.specs.Submitted.{nothing_submitted};
 ghost use Rattle.server_loop.specs.Naming.{IsOf, NamesNobody};
-ghost use Rattle.server_loop.specs.Submitting.{Submits, Tries, state_of};
+ghost use Rattle.server_loop.specs.Submitting.{Submits, Tries, end_by, state_of};
 
 use crate::own::Loop;
 use server_connections::{News, SeatAnswer, SeatFault, SessionSeat};
@@ -43,7 +44,7 @@ impl<S: Drop, G: Gate + Drop, J: SessionSeat + Drop> Loop<S, G, J> {
 
     // Tells how full the trail is, if that is news, and notes how the server ends, if it does.
     fn note_answer(&mut self, answer: &Result<SeatAnswer, SeatFault>)
-        ensures { state_of self.new ≡ state_of self.old }
+        ensures { state_of self.new ≡ record (state_of self.old) { end = end_by answer.now self.old.end } }
     {
         match answer {
             Ok(answer) => {
@@ -89,7 +90,10 @@ impl<S: Drop, G: Gate + Drop, J: SessionSeat + Drop> Loop<S, G, J> {
     }
 
     // Which steps were submitted since the last call.
-    pub(crate) fn take_submitted(&mut self) -> Submitted {
+    pub(crate) fn take_submitted(&mut self) -> Submitted
+        ensures taken { result ≡ self.old.submitted }
+        ensures none { self.new ≡ record self.old { submitted = nothing_submitted } }
+    {
         std::mem::replace(&mut self.submitted, Submitted::NOTHING)
     }
 }

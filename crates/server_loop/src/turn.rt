@@ -2,16 +2,20 @@
 
 ghost use Rattle.std.specs.Prelude.{◌≡◌};
 ghost use Rattle.slab.specs.Slab.{get};
-ghost use Rattle.server_loop.specs.Obeying.{role_at};
-ghost use Rattle.server_loop.specs.Serving.{Obeys, ObeysNext, ObeysSome, Steps, StepsOn};
+ghost use Rattle.server_steps.specs.Asking.{is_due_at};
+ghost use Rattle.server_steps.specs.Meaning.{role_at};
+ghost use Rattle.server_loop.specs.Serving.{Obeys, ObeysNext, ObeysSome, Serves, ServesAfter};
+ghost use Rattle.server_loop.specs.Serving.{ServesOnce, ServesOther, ServesWindow, Steps};
 ghost use Rattle.server_loop.specs.Submitting.{state_of};
+ghost use Rattle.server_loop.specs.Turning.{EndsTurn};
 ghost use Rattle.server_loop.specs.Typing.{millis_of};
+ghost use Rattle.server_loop.specs.Walking.{Repeats};
 
 use crate::own::Loop;
 use server_connections::{Arrival, PIECE, Role, SessionSeat, each_awake};
 use server_steps::{
     Gate, Progress, Reads, Writes, drains, go_on, has_asked, is_due_again, is_faulty, is_window,
-    next_asked, put_back, read,
+    may_print, next_asked, put_back, read, role_at,
 };
 use std::io::{Read, Write};
 use std::sync::Wait;
@@ -27,16 +31,6 @@ const STEPS: usize = 8;
 pub(crate) const OUTPUT: usize = 4 * PIECE;
 
 impl<S: Read + Write + Drop, G: Gate + Drop, J: SessionSeat + Drop> Loop<S, G, J> {
-    // What a connection is to the session.
-    pub(crate) fn role_of(&self, key: usize) -> Role
-        ensures { result ≡ role_at (get self.entry.now.connections.peers key) }
-    {
-        match self.connections.get(key) {
-            Some(peer) => peer.role,
-            None => Role::Stranger,
-        }
-    }
-
     // Does the message of a connection that comes next, or a step of it, if there is one.
     fn obey_next(&mut self, rt: &impl Wait, key: usize) -> Option<Progress>
         ensures { ObeysNext J.submits J.takes key (state_of self.old) result (state_of self.new) }
@@ -56,7 +50,7 @@ impl<S: Read + Write + Drop, G: Gate + Drop, J: SessionSeat + Drop> Loop<S, G, J
             (role_at (get self.old.connections.peers key)) (millis_of self.old.now) key
             (state_of self.old) result (state_of self.new) }
     {
-        match self.role_of(key) {
+        match role_at(&self.connections, key) {
             Role::Client(client) => match self.typed(rt, key, client) {
                 Some(progress) => Some(progress),
                 None => self.obey_next(rt, key),
@@ -68,7 +62,8 @@ impl<S: Read + Write + Drop, G: Gate + Drop, J: SessionSeat + Drop> Loop<S, G, J
 
     // Does something that a connection asked for, if it may be done now. Returns whether to go on.
     fn obey_step(&mut self, rt: &impl Wait, key: usize) -> bool
-        ensures { Steps J.submits J.takes J.finds_full J.lets_type key self.old result self.new }
+        ensures { Steps J.submits J.takes J.finds_full J.lets_type key
+            (state_of self.old) result (state_of self.new) }
     {
         if self.reading.output_left == 0 && is_window(&self.connections, key) {
             return false;
@@ -79,7 +74,8 @@ impl<S: Read + Write + Drop, G: Gate + Drop, J: SessionSeat + Drop> Loop<S, G, J
 
     // Does so much of what a connection asked for that the others have their turn.
     fn obey_steps(&mut self, rt: &impl Wait, key: usize)
-        ensures { StepsOn J.submits J.takes J.finds_full J.lets_type 8 key self.old self.new }
+        ensures { Repeats (Steps J.submits J.takes J.finds_full J.lets_type key) 8
+            (state_of self.old) (state_of self.new) }
     {
         'steps: for _ in 0..STEPS {
             if !self.obey_step(rt, key) {
@@ -90,61 +86,101 @@ impl<S: Read + Write + Drop, G: Gate + Drop, J: SessionSeat + Drop> Loop<S, G, J
 
     // Does some of what a connection asked for. Returns whether all of it is done.
     fn obey_some(&mut self, rt: &impl Wait, key: usize) -> bool
-        ensures { ObeysSome J.submits J.takes J.finds_full J.lets_type key self.old result self.new }
+        ensures { ObeysSome J.submits J.takes J.finds_full J.lets_type key
+            (state_of self.old) result (state_of self.new) }
     {
         self.obey_steps(rt, key);
         let faulty = is_faulty(&self.connections, key);
         self.fault_if(rt, key, faulty);
-        !has_asked(&self.connections, key)
+        let is_done = !has_asked(&self.connections, key);
+        let is_much = !is_done || self.reading.output_left < OUTPUT - PIECE;
+        self.reading.has_much |= is_much && is_window(&self.connections, key);
+        is_done
+    }
+
+    // Does what a read brought. Returns whether to read on.
+    fn serve_after(&mut self, rt: &impl Wait, key: usize, arrival: Arrival) -> bool
+        ensures { ServesAfter J.submits J.takes J.finds_full J.lets_type arrival key
+            (state_of self.old) result (state_of self.new) }
+    {
+        match arrival {
+            Arrival::Some => self.obey_some(rt, key),
+            Arrival::Much => {
+                // It isn't a flood if it is dropped.
+                self.reading.has_much |= !drains(&self.connections, key);
+                let _ = self.obey_some(rt, key);
+                false
+            }
+            Arrival::Nothing => {
+                if !has_asked(&self.connections, key) {
+                    return false;
+                }
+                self.obey_some(rt, key)
+            }
+            Arrival::End => {
+                self.lose(rt, key);
+                false
+            }
+        }
     }
 
     // Reads what a connection sent, once all that it asked for before is done or is late, and does some
-    // of it.
-    fn serve(&mut self, rt: &impl Wait, key: usize) {
-        for _ in 0..READS {
-            let now = self.millis();
-            let buffer = self.reading.buffer.as_mut_slice();
-            let arrival = read(&mut self.connections, key, buffer, now);
-            match arrival {
-                Arrival::Some => {}
-                // It isn't a flood if it is dropped.
-                Arrival::Much => self.reading.has_much |= !drains(&self.connections, key),
-                Arrival::Nothing => {
-                    if !has_asked(&self.connections, key) {
-                        return;
-                    }
-                }
-                Arrival::End => {
-                    self.lose(rt, key);
-                    return;
-                }
-            }
-            let is_done = self.obey_some(rt, key);
-            let has_done_much = self.reading.output_left < OUTPUT - PIECE;
-            if is_window(&self.connections, key) && (!is_done || has_done_much) {
-                self.reading.has_much = true;
-            }
-            if !is_done || arrival == Arrival::Much {
+    // of it. Returns whether to read on.
+    fn serve_once(&mut self, rt: &impl Wait, key: usize) -> bool
+        ensures { ServesOnce S.remaining J.submits J.takes J.finds_full J.lets_type key
+            (state_of self.old) result (state_of self.new) }
+    {
+        let now = self.millis();
+        let buffer = self.reading.buffer.as_mut_slice();
+        let arrival = read(&mut self.connections, key, buffer, now);
+        self.serve_after(rt, key, arrival)
+    }
+
+    fn serve_often(&mut self, rt: &impl Wait, key: usize)
+        ensures { Repeats (ServesOnce S.remaining J.submits J.takes J.finds_full J.lets_type key) 16
+            (state_of self.old) (state_of self.new) }
+    {
+        'reads: for _ in 0..READS {
+            if !self.serve_once(rt, key) {
                 return;
             }
         }
     }
 
-    // A window has its turn if output may still be done.
-    fn serve_window(&mut self, rt: &impl Wait, key: usize) {
-        if self.reading.output_left > 0
-            && is_window(&self.connections, key)
-            && is_due_again(&mut self.connections, key)
-        {
-            self.reading.next = key.saturating_add(1);
-            self.serve(rt, key);
+    // A connection has its turn, if it has something to read or to do. Returns whether it has.
+    fn serve(&mut self, rt: &impl Wait, key: usize) -> bool
+        ensures due { result ≡ is_due_at (get self.old.connections.peers key) }
+        ensures serves { Serves S.remaining J.submits J.takes J.finds_full J.lets_type key
+            (state_of self.old) (state_of self.new) }
+    {
+        if !is_due_again(&mut self.connections, key) {
+            return false;
         }
+        self.serve_often(rt, key);
+        true
     }
 
     // A client or a stranger has its turn.
-    fn serve_other(&mut self, rt: &impl Wait, key: usize) {
-        if !is_window(&self.connections, key) && is_due_again(&mut self.connections, key) {
-            self.serve(rt, key);
+    fn serve_other(&mut self, rt: &impl Wait, key: usize)
+        ensures { ServesOther S.remaining J.submits J.takes J.finds_full J.lets_type key
+            (state_of self.old) (state_of self.new) }
+    {
+        if is_window(&self.connections, key) {
+            return;
+        }
+        let _ = self.serve(rt, key);
+    }
+
+    // A window has its turn if it is its turn by now, and if output may still be done.
+    fn serve_window(&mut self, rt: &impl Wait, key: usize, is_next: bool)
+        ensures { ServesWindow S.remaining J.submits J.takes J.finds_full J.lets_type is_next key
+            (state_of self.old) (state_of self.new) }
+    {
+        if !may_print(&self.connections, key, is_next, self.reading.output_left) {
+            return;
+        }
+        if self.serve(rt, key) {
+            self.reading.next = key.saturating_add(1);
         }
     }
 
@@ -157,16 +193,8 @@ impl<S: Read + Write + Drop, G: Gate + Drop, J: SessionSeat + Drop> Loop<S, G, J
         }
         self.reading.output_left = OUTPUT;
         let first = self.reading.next;
-        each_awake(self, |own, key| {
-            if key >= first {
-                own.serve_window(rt, key);
-            }
-        });
-        each_awake(self, |own, key| {
-            if key < first {
-                own.serve_window(rt, key);
-            }
-        });
+        each_awake(self, |own, key| own.serve_window(rt, key, first <= key));
+        each_awake(self, |own, key| own.serve_window(rt, key, key < first));
     }
 
     /// Reads what is there to be read and does it, so much of each connection that the others have
@@ -184,7 +212,10 @@ impl<S: Read + Write + Drop, G: Gate + Drop, J: SessionSeat + Drop> Loop<S, G, J
 
     /// Ends a turn: hands out what came of it, writes, asks for draws unless they are held, and lets
     /// go what is closed. It goes on with a crowd's draws that were begun, even if draws are held.
-    pub fn end_turn(&mut self, rt: &impl Wait, holds_draws: bool) -> Writes {
+    pub fn end_turn(&mut self, rt: &impl Wait, holds_draws: bool) -> Writes
+        ensures { EndsTurn J.submits J.takes J.lets_type S.contents J.uncounts holds_draws
+            (state_of self.old) result (state_of self.new) }
+    {
         self.has_refused = false;
         self.draws.made = 0;
         self.tell_all_leaving(rt);

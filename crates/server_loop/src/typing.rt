@@ -97,9 +97,7 @@ impl<S: Read + Write + Drop, G: Gate + Drop, J: SessionSeat + Drop> Loop<S, G, J
 
     // Whether the keys that wait have to wait on. If their user may not type any more, none wait.
     fn must_wait(&mut self, rt: &impl Wait, key: usize) -> bool
-        ensures waits { MustWait J.finds_full J.lets_type key (state_of self.old) result
-            (state_of self.new) }
-        ensures same { self.new ≡ record self.old { connections = self.new.connections } }
+        ensures { MustWait J.finds_full J.lets_type key (state_of self.old) result (state_of self.new) }
     {
         let Some(target) = target_at(&self.connections, key) else {
             return false;
@@ -121,8 +119,8 @@ impl<S: Read + Write + Drop, G: Gate + Drop, J: SessionSeat + Drop> Loop<S, G, J
     // Does a step of the keys that wait, unless they have to wait on. Keys that were held and can't be done
     // are as old as they are if it isn't known where they go.
     fn judge_or_wait(&mut self, rt: &impl Wait, key: usize, client: u32) -> Progress
-        ensures { JudgesOrWaits J.submits J.takes J.finds_full J.lets_type self.old.rations self.old.now
-            key client (state_of self.old) result (state_of self.new) }
+        ensures { JudgesOrWaits J.submits J.takes J.finds_full J.lets_type key client
+            (state_of self.old) result (state_of self.new) }
     {
         if self.must_wait(rt, key) {
             return Progress::Held;
@@ -135,8 +133,7 @@ impl<S: Read + Write + Drop, G: Gate + Drop, J: SessionSeat + Drop> Loop<S, G, J
     // Submits a step of the keys that wait, if their user may cause one more entry. It judges them up to
     // the first command; the rest is the next step's.
     fn judge(&mut self, rt: &impl Wait, key: usize, client: u32) -> Progress
-        ensures { Judges J.submits J.takes self.old.rations self.old.now key client
-            (state_of self.old) result (state_of self.new) }
+        ensures { Judges J.submits J.takes key client (state_of self.old) result (state_of self.new) }
     {
         let Some(shown) = user_at(&self.connections, key) else {
             return Progress::Done;

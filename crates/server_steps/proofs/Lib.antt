@@ -1,1 +1,2 @@
 mod Quitting
+mod Visiting

@@ -1,6 +1,6 @@
 -- What one connection is read, and which message of it comes next.
 use Rattle.std.specs.Prelude.{◌≡◌, ◌⊎◌, ◌&&◌, ◌++◌, ◌∷◌, ℕ, Bool, true, false, not, List, [], Option, Some, None}
-use Rattle.std.specs.Prelude.{IfSome, length}
+use Rattle.std.specs.Prelude.{IfSome, length, nat_lt}
 use Rattle.std.specs.Io.KnownBytes.{Consumes}
 use Rattle.slab.specs.Slab.{get}
 use Rattle.attach_proto.specs.declared.message.Message.{Message}
@@ -71,6 +71,10 @@ module _ {S : Type 0} where
   abbrev pub is_window_at : Option (Peer S) → Bool
   is_window_at None = false
   is_window_at (Some peer) = is_window peer.role
+
+  -- it is a window, comes next, and so much output may still be done
+  abbrev pub prints_at : Bool → ℕ → Option (Peer S) → Bool
+  prints_at is_next left peer = (is_next && nat_lt 0 left) && is_window_at peer
 
   -- what it sends is denied, and more is there than one read finds
   abbrev pub drains_at : Option (Peer S) → Bool

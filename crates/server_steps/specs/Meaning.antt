@@ -69,6 +69,11 @@ came_before looked None = false
 came_before looked (Some look) = nat_le look looked
 
 module _ {S : Type 0} where
+  -- what the connection of a key is to the session
+  abbrev pub role_at : Option (Peer S) → Role
+  role_at None = role.Stranger
+  role_at (Some peer) = peer.role
+
   -- the users' file was looked at since its first message came, or nobody looks
   abbrev pub may_judge : Option ℕ → Option (Peer S) → Bool
   may_judge None peer = true

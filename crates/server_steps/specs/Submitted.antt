@@ -1,5 +1,7 @@
 -- What a loop submitted, and what a step costs.
-use Rattle.std.specs.Prelude.{ℕ, true, length}
+use Rattle.std.specs.Prelude.{ℕ, true, false, length}
+use Rattle.command_lang.specs.Relation.{Relates}
+use Rattle.command_lang.specs.declared.command.Command.TheVariants as command
 use Rattle.session.specs.Trace.{EventValue, Attach, Command, Draw, Open, Output}
 use Rattle.server_steps.specs.declared.submitted.Submitted.{Submitted}
 
@@ -19,3 +21,12 @@ abbrev pub kept_of : EventValue → ℕ
 kept_of (Command user window line) = length line
 kept_of (Open user rows columns keep title) = length title
 kept_of other = 0
+
+-- no step
+abbrev pub nothing_submitted : Submitted
+nothing_submitted = record { is_some = false; has_acted = false }
+
+-- it is the command `quit`
+abbrev pub IsQuit : EventValue → Type 0
+IsQuit (Command user window line) = Relates line command.Quit
+IsQuit other = ⊥

@@ -4,7 +4,7 @@ ghost use Rattle.std.specs.Prelude.{◌≡◌, length};
 ghost use Rattle.slab.specs.Slab.{get};
 ghost use Rattle.server_connections.specs.Changing.{changed};
 ghost use Rattle.server_steps.specs.Asking.{AsksAt, ReadsAt, drains_at, goes_on, has_asked_at, held_after};
-ghost use Rattle.server_steps.specs.Asking.{is_due_at, is_faulty_at, is_window_at, left_over, unheld};
+ghost use Rattle.server_steps.specs.Asking.{is_due_at, is_faulty_at, is_window_at, left_over, prints_at, unheld};
 
 use crate::progress::Progress;
 use server_connections::{Arrival, Asked, Connections, Role};
@@ -74,6 +74,18 @@ pub fn is_window<S: Drop>(connections: &Connections<S>, key: usize) -> bool
         Some(peer) => matches!(peer.role, Role::Window(_)),
         None => false,
     }
+}
+
+/// Whether a window's output is to be done next: it comes next, and this much may still be done.
+pub fn may_print<S: Drop>(
+    connections: &Connections<S>,
+    key: usize,
+    is_next: bool,
+    left: usize,
+) -> bool
+    ensures { result ≡ prints_at is_next left (get connections.now.peers key) }
+{
+    is_next && 0 < left && is_window(connections, key)
 }
 
 /// Whether what a connection sends is denied, and more of it is there than one read finds.

@@ -1,11 +1,12 @@
 //! What a message of a connection means to a loop.
 
-ghost use Rattle.std.specs.Prelude.{◌≡◌, IfSome, None, Some, option_map};
+ghost use Rattle.std.specs.Prelude.{◌≡◌, ◌↔◌, IfOk, IfSome, IsTrue, None, Some, option_map};
 ghost use Rattle.slab.specs.Slab.{get};
 ghost use Rattle.session.specs.Trace.{happening};
 ghost use Rattle.server_connections.specs.Changing.{changed};
 ghost use Rattle.server_steps.specs.Meaning.{event_of, guest_of, kind_of, meaning_of};
-ghost use Rattle.server_steps.specs.Meaning.{is_extra_at, joined, may_judge, news_of, role_of, shown_in};
+ghost use Rattle.server_steps.specs.Meaning.{is_extra_at, joined, may_judge, news_of, role_at, role_of, shown_in};
+ghost use Rattle.server_steps.specs.Submitted.{IsQuit};
 
 use crate::submitted::is_quit;
 use attach_proto::{Message, Text, Token};
@@ -25,6 +26,16 @@ pub enum Meaning {
     Leave,
     /// It mustn't be sent.
     Misfit,
+}
+
+/// What a connection is to the session.
+pub fn role_at<S: Drop>(connections: &Connections<S>, key: usize) -> Role
+    ensures { result ≡ role_at (get connections.now.peers key) }
+{
+    match connections.get(key) {
+        Some(peer) => peer.role,
+        None => Role::Stranger,
+    }
 }
 
 /// What a message is, by what its connection is to the session.
@@ -136,7 +147,9 @@ pub fn news_of(shown: Shown, reply: &Reply) -> News
 }
 
 /// Whether an event is the command `quit`. `AllocError` if memory is refused.
-pub fn quits(alloc: Global, event: Event<'_>) -> Result<bool, AllocError> {
+pub fn quits(alloc: Global, event: Event<'_>) -> Result<bool, AllocError>
+    ensures { IfOk result (λ quits. IsTrue quits ↔ IsQuit (happening event.entry)) }
+{
     match event {
         Event::Command { line, .. } => is_quit(alloc, line),
         _ => Ok(false),

@@ -1,5 +1,8 @@
 //! What a turn of a loop brought, and what is to be done next.
 
+ghost use Rattle.std.specs.Prelude.{◌≡◌};
+ghost use Rattle.server_steps.specs.Turns.{drawn_from, next_from};
+
 use crate::submitted::Submitted;
 use server_connections::ServerEnd;
 
@@ -33,4 +36,26 @@ pub struct Writes {
     pub submitted: Submitted,
     /// Why the server is to end, if it is.
     pub end: Option<ServerEnd>,
+}
+
+/// From which key on draws are asked for in this turn, if they are. A round that was begun is gone on with,
+/// even if draws are held.
+pub fn drawn_from(from: Option<usize>, is_held: bool) -> Option<usize>
+    ensures { result ≡ drawn_from from is_held }
+{
+    match from {
+        None => if is_held { None } else { Some(0) },
+        Some(from) => Some(from),
+    }
+}
+
+/// From which key on draws are asked for in the next turn, if some clients are left: they follow, and clients
+/// before the key from which this turn went on may wait for one again.
+pub fn next_from(next: Option<usize>, from: usize, is_held: bool) -> Option<usize>
+    ensures { result ≡ next_from next from is_held }
+{
+    match next {
+        None => if 0 < from && !is_held { Some(0) } else { None },
+        Some(next) => Some(next),
+    }
 }

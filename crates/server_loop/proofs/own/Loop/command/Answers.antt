@@ -7,11 +7,13 @@ use Rattle.server_loop.proofs.own.Loop.command.Goals as goal
 pub returns-in-Ok-attempt : goal.returns-in-Ok-attempt
 returns-in-Ok-attempt g c = inr (inr (
   refl,
+  c.in-Ok.is_quit,
+  c.in-Ok.ensures,
   c.in-Ok-attempt.answer,
   state_of c.attempt.new.self,
   c.in-Ok-attempt.ensures,
-  subst (λ (s : State g.row.S.Denot g.row.J.Denot). Answers g.J.SessionSeat.submits c.in-Ok-attempt.answer.reply
-      c.args.key s (state_of c.tell_answer.new.self))
+  subst (λ (s : State g.row.S.Denot g.row.J.Denot). Answers g.J.SessionSeat.submits c.in-Ok.is_quit
+      c.in-Ok-attempt.answer.reply c.args.key s (state_of c.tell_answer.new.self))
       (ap (λ (l : Loop g.row.S.Denot g.row.G.Denot g.row.J.Denot). state_of l) c.tell.ensures)
-      c.tell_answer.ensures.answers,
+      c.tell_answer.ensures,
 ))

@@ -12,7 +12,7 @@ returns-then-tell_leaving g c =
       c.tell_leaving.result,
       state_of c.tell_leaving.new.self,
       subst (λ (s : Connections g.row.S.Denot). TellsLeaving g.J.SessionSeat.submits c.args.key
-          (record { seat = c.args.self.now.seat; connections = s }) c.tell_leaving.result
+          (record (state_of c.args.self.now) { connections = s }) c.tell_leaving.result
           (state_of c.tell_leaving.new.self)) c.ask_to_go.ensures c.tell_leaving.ensures,
       if_true c.tell_leaving.result (state_of c.tell_leaving.new.self ≡ state_of c.tell_leaving.new.self)
           (Expels g.J.SessionSeat.submits Fault c.args.key (state_of c.tell_leaving.new.self)
@@ -25,7 +25,7 @@ returns g c =
       c.tell_leaving.result,
       state_of c.tell_leaving.new.self,
       subst (λ (s : Connections g.row.S.Denot). TellsLeaving g.J.SessionSeat.submits c.args.key
-          (record { seat = c.args.self.now.seat; connections = s }) c.tell_leaving.result
+          (record (state_of c.args.self.now) { connections = s }) c.tell_leaving.result
           (state_of c.tell_leaving.new.self)) c.ask_to_go.ensures c.tell_leaving.ensures,
       if_false c.tell_leaving.result (state_of c.expel.new.self ≡ state_of c.tell_leaving.new.self)
           (Expels g.J.SessionSeat.submits Fault c.args.key (state_of c.tell_leaving.new.self)

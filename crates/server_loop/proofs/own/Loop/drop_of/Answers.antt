@@ -1,8 +1,7 @@
 use Rattle.std.proofs.Common.{◌≡◌, true, false, refl, ap, rules}
 use Rattle.server_connections.specs.declared.connections.Connections.{Connections}
 use Rattle.server_steps.specs.Sending.{without_user}
-use Rattle.server_loop.specs.Submitting.{State, state_of}
-use Rattle.server_loop.specs.Typing.{with_peer}
+use Rattle.server_loop.specs.Submitting.{State, state_of, with_peer}
 use Rattle.server_loop.proofs.Telling.{if_false, if_true}
 use Rattle.server_loop.proofs.own.Loop.drop_of.Goals as goal
 
@@ -19,13 +18,10 @@ pub returns : goal.returns
 returns g c =
     let no : c.may_type.result ≡ false = search rules in
     let old = state_of c.args.self.now in
-    let new : State g.row.S.Denot g.row.J.Denot = record {
-      seat = c.args.self.now.seat;
-      connections = c.drop_typed.new.connections;
-    } in (
+    let new : State g.row.S.Denot g.row.J.Denot = record (state_of c.args.self.now) { connections = c.drop_typed.new.connections } in (
       c.may_type.result,
       c.may_type.ensures,
       if_false c.may_type.result (new ≡ old) (new ≡ with_peer (without_user c.args.user) c.args.key old) no
-          (ap (λ (s : Connections g.row.S.Denot). record { seat = c.args.self.now.seat; connections = s })
+          (ap (λ (s : Connections g.row.S.Denot). record (state_of c.args.self.now) { connections = s })
           c.drop_typed.ensures),
     )

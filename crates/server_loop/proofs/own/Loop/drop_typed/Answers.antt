@@ -8,8 +8,8 @@ use Rattle.server_loop.proofs.own.Loop.drop_typed.Goals as goal
 pub returns-in_default : goal.returns-in_default
 returns-in_default g c =
     subst (λ (r : Role). DropsTyped g.J.SessionSeat.lets_type r c.args.key (state_of c.args.self.now)
-    (state_of c.args.self.now)) c.role_of.ensures
-    (no_window g.J.SessionSeat.lets_type c.args.key c.role_of.result (state_of c.args.self.now) c.in_default.not-Window)
+    (state_of c.args.self.now)) c.role_at.ensures
+    (no_window g.J.SessionSeat.lets_type c.args.key c.role_at.result (state_of c.args.self.now) c.in_default.not-Window)
 
 pub typists-init : goal.typists-init
 typists-init g c = λ new rest. record { dropped = rest }

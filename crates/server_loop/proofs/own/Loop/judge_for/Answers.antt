@@ -5,8 +5,8 @@ use Rattle.server_connections.specs.declared.connections.Connections.{Connection
 use Rattle.server_steps.specs.Settling.{is_refused, progress_of, settled}
 use Rattle.server_steps.specs.Typing.{answered, typed_at}
 use Rattle.server_typing.specs.Typed.{Typed}
-use Rattle.server_loop.specs.Submitting.{Tries, state_of}
-use Rattle.server_loop.specs.Typing.{FaultsIf, peer_at}
+use Rattle.server_loop.specs.Submitting.{Tries, peer_at, state_of}
+use Rattle.server_loop.specs.Typing.{FaultsIf}
 use Rattle.server_loop.proofs.own.Loop.judge_for.Goals as goal
 
 pub returns : goal.returns
@@ -25,16 +25,16 @@ returns g c =
       mid = state_of c.try_for-answer.new.self;
       step = subst (λ (s : Connections g.row.S.Denot). Tries g.J.SessionSeat.submits
           (Keys c.args.client (typed_at (peer_at c.args.key (state_of c.args.self.now))).keys)
-          (record { seat = c.args.self.now.seat; connections = s }) answer (state_of c.try_for-answer.new.self))
+          (record (state_of c.args.self.now) { connections = s }) answer (state_of c.try_for-answer.new.self))
           c.take_keys-typed.ensures.rest
           (subst (λ (ks : List ℕ). Tries g.J.SessionSeat.submits (Keys c.args.client ks)
-          (record { seat = c.args.self.now.seat; connections = c.take_keys-typed.new.connections }) answer
+          (record (state_of c.args.self.now) { connections = c.take_keys-typed.new.connections }) answer
           (state_of c.try_for-answer.new.self)) keys c.try_for-answer.ensures);
       left = subst (λ (s : Connections g.row.S.Denot). FaultsIf g.J.SessionSeat.submits g.J.SessionSeat.takes
-          (is_refused answer) c.args.key (record { seat = c.try_for-answer.new.self.seat; connections = s })
+          (is_refused answer) c.args.key (record (state_of c.try_for-answer.new.self) { connections = s })
           (state_of c.fault_if.new.self)) left
           (subst (λ (b : Bool). FaultsIf g.J.SessionSeat.submits g.J.SessionSeat.takes b c.args.key
-          (record { seat = c.try_for-answer.new.self.seat; connections = c.answer_keys-progress.new.connections })
+          (record (state_of c.try_for-answer.new.self) { connections = c.answer_keys-progress.new.connections })
           (state_of c.fault_if.new.self)) c.is_refused.ensures c.fault_if.ensures);
       progress_is = c.answer_keys-progress.ensures.progress
           ∙ ap (λ (t : Typed). progress_of answer (settled answer t)) c.take_keys-typed.ensures.keys;

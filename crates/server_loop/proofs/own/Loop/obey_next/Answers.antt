@@ -14,8 +14,5 @@ returns g c = record {
   left = c.obey-progress.new.asked;
   mid = state_of c.obey-progress.new.self;
   obeys = c.obey-progress.ensures.obeys;
-  back = ap (λ (s : Connections g.row.S.Denot). record {
-    seat = c.obey-progress.new.self.seat;
-    connections = s;
-  }) c.put_back.ensures;
+  back = ap (λ (s : Connections g.row.S.Denot). record (state_of c.obey-progress.new.self) { connections = s }) c.put_back.ensures;
 }

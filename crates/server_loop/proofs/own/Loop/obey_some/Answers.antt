@@ -5,9 +5,9 @@ use Rattle.server_loop.proofs.own.Loop.obey_some.Goals as goal
 
 pub returns : goal.returns
 returns g c = (
-  c.obey_steps.new.self,
+  state_of c.obey_steps.new.self,
   c.obey_steps.ensures,
   subst (λ (b : Bool). FaultsIf g.J.SessionSeat.submits g.J.SessionSeat.takes b c.args.key
       (state_of c.obey_steps.new.self) (state_of c.fault_if.new.self)) c.is_faulty-faulty.ensures c.fault_if.ensures,
-  ap not c.has_asked.ensures,
+  ap not c.has_asked-is_done.ensures,
 )

@@ -9,8 +9,5 @@ returns g c = inr (
   state_of c.obey_first-progress.new.self,
   c.obey_first-progress.ensures,
   c.go_on.ensures.goes,
-  ap (λ (s : Connections g.row.S.Denot). record {
-    seat = c.obey_first-progress.new.self.seat;
-    connections = s;
-  }) c.go_on.ensures.held,
+  ap (λ (s : Connections g.row.S.Denot). record (state_of c.obey_first-progress.new.self) { connections = s }) c.go_on.ensures.held,
 )

@@ -5,8 +5,7 @@ use Rattle.server_sending.specs.Frames.{PutsMessage}
 use Rattle.server_sending.specs.Written.{Waiting}
 use Rattle.server_steps.specs.Typing.{is_news_at, told_news}
 use Rattle.server_loop.specs.Handing.{SendsTo}
-use Rattle.server_loop.specs.Submitting.{state_of}
-use Rattle.server_loop.specs.Typing.{peer_at, with_peer}
+use Rattle.server_loop.specs.Submitting.{peer_at, state_of, with_peer}
 use Rattle.server_loop.proofs.Telling.{if_true}
 use Rattle.server_loop.proofs.own.Loop.say_dropped.Goals as goal
 
@@ -26,5 +25,5 @@ returns-then-take_news g c =
     (with_peer (told_news c.args.now) c.args.key (state_of c.args.self.now)) (state_of c.send.new.self)) text
     (subst (λ (s : Connections g.row.S.Denot). SendsTo g.J.SessionSeat.submits c.args.key
     (PutsMessage (message.Say c.as_bytes.result.now)) (λ (waited left : Waiting). left ≡ waited)
-    (record { seat = c.args.self.now.seat; connections = s }) (state_of c.send.new.self)) c.take_news.ensures.told
+    (record (state_of c.args.self.now) { connections = s }) (state_of c.send.new.self)) c.take_news.ensures.told
     c.send.ensures))

@@ -1,11 +1,9 @@
 use Rattle.std.proofs.Common.{◌≡◌, ◌∙◌, ℕ, Some, true, false, refl, ap, sym, subst, rules}
-use Rattle.std.specs.declared.time.Duration.{Duration}
 use Rattle.server_steps.specs.Typing.{idle_at, typed_at, unless_more}
 use Rattle.server_steps.specs.declared.progress.Progress.{Progress}
 use Rattle.server_typing.specs.Typed.{is_idle}
-use Rattle.server_users.specs.declared.ration.Rations.{Rations}
-use Rattle.server_loop.specs.Submitting.{state_of}
-use Rattle.server_loop.specs.Typing.{JudgesOrWaits, Resizes, TellsDropped, peer_at}
+use Rattle.server_loop.specs.Submitting.{peer_at, state_of}
+use Rattle.server_loop.specs.Typing.{JudgesOrWaits, Resizes, TellsDropped}
 use Rattle.server_loop.proofs.Telling.{if_false, if_true}
 use Rattle.server_loop.proofs.Keys.{not_false, not_true}
 use Rattle.server_loop.proofs.own.Loop.type_on.Goals as goal
@@ -22,9 +20,9 @@ returns-then-not-has_keys g c =
           c.millis-now.ensures c.say_dropped.ensures,
       if_true (is_idle (typed_at (peer_at c.args.key mid)))
           ((c.idle_at.result ≡ idle_at c.args.all (peer_at c.args.key mid)) × (mid ≡ mid))
-          ((rations : Rations) × (at : Duration) × (progress : Progress)
+          ((progress : Progress)
           × JudgesOrWaits g.J.SessionSeat.submits g.J.SessionSeat.takes g.J.SessionSeat.finds_full
-          g.J.SessionSeat.lets_type rations at c.args.key c.args.client mid progress mid
+          g.J.SessionSeat.lets_type c.args.key c.args.client mid progress mid
           × (c.idle_at.result ≡ Some (unless_more c.args.all progress)))
           (not_false (is_idle (typed_at (peer_at c.args.key mid))) (sym c.has_keys.ensures ∙ none))
           (c.idle_at.ensures, refl),
@@ -43,14 +41,12 @@ returns g c =
       if_false (is_idle (typed_at (peer_at c.args.key mid)))
           ((Some c.unless_more.result ≡ idle_at c.args.all (peer_at c.args.key mid))
           × (state_of c.judge_or_wait-progress.new.self ≡ mid))
-          ((rations : Rations) × (at : Duration) × (progress : Progress)
+          ((progress : Progress)
           × JudgesOrWaits g.J.SessionSeat.submits g.J.SessionSeat.takes g.J.SessionSeat.finds_full
-          g.J.SessionSeat.lets_type rations at c.args.key c.args.client mid progress
+          g.J.SessionSeat.lets_type c.args.key c.args.client mid progress
           (state_of c.judge_or_wait-progress.new.self)
           × (Some c.unless_more.result ≡ Some (unless_more c.args.all progress)))
           (not_true (is_idle (typed_at (peer_at c.args.key mid))) (sym c.has_keys.ensures ∙ some)) (
-            c.say_dropped.new.self.rations,
-            c.say_dropped.new.self.now,
             c.judge_or_wait-progress.result,
             c.judge_or_wait-progress.ensures,
             ap (λ (p : Progress). Some p) c.unless_more.ensures,

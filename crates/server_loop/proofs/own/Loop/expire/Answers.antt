@@ -1,0 +1,10 @@
+use Rattle.std.proofs.Common.{rules}
+use Rattle.server_loop.specs.Submitting.{state_of}
+use Rattle.server_loop.specs.Turning.{Expires}
+use Rattle.server_loop.specs.declared.own.Loop.{Loop}
+use Rattle.server_loop.proofs.Passing.{passed}
+use Rattle.server_loop.proofs.own.Loop.expire.Goals as goal
+
+pub returns : goal.returns
+returns g c = passed (λ (l : Loop g.row.S.Denot g.row.G.Denot g.row.J.Denot). state_of l)
+    (Expires c.args.self.now.now) _ _ _ _ _ _ c.each_awake.ensures (λ shown left key p. search rules)

@@ -1,0 +1,17 @@
+use Rattle.std.proofs.Common.{◌≡◌, true, rules}
+use Rattle.server_loop.specs.Handing.{HandsOut}
+use Rattle.server_loop.specs.Submitting.{State, state_of}
+use Rattle.server_loop.specs.Walking.{VisitsAll}
+use Rattle.server_loop.specs.Writing.{Writes}
+use Rattle.server_loop.proofs.Telling.{if_true}
+use Rattle.server_loop.proofs.own.Loop.hand_on.Goals as goal
+
+pub returns : goal.returns
+returns g c =
+    let yes : c.args.self.now.is_behind ≡ true = search rules in
+    let old = state_of c.args.self.now in
+    let new = state_of c.write_all.new.self in
+    if_true old.is_behind ((mid : State g.row.S.Denot g.row.J.Denot)
+    × HandsOut g.J.SessionSeat.submits g.J.SessionSeat.takes old mid
+    × VisitsAll (Writes g.J.SessionSeat.submits g.S.Write.contents) mid new) (new ≡ old) yes
+    (state_of c.hand_out.new.self, c.hand_out.ensures, c.write_all.ensures)

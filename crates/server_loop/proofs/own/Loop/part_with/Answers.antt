@@ -1,0 +1,25 @@
+use Rattle.std.proofs.Common.{◌≡◌, ◌∙◌, Option, ap, sym, subst}
+use Rattle.std.specs.Prelude.{IfSome}
+use Rattle.attach_proto.specs.declared.why.Why.{Why}
+use Rattle.server_connections.specs.declared.connections.Connections.{Connections}
+use Rattle.server_seat.specs.declared.news.Guest.{Guest}
+use Rattle.server_loop.specs.Submitting.{state_of}
+use Rattle.server_loop.specs.declared.own.Loop.{Loop}
+use Rattle.server_loop.proofs.own.Loop.part_with.Goals as goal
+
+pub returns-in_default : goal.returns-in_default
+returns-in_default g c =
+    let old = state_of c.args.self.now in (
+      subst (λ (o : Option (Guest × Option Why)). IfSome o (λ gone. g.J.SessionSeat.uncounts old.seat gone.0.user
+          gone.0.kind)) (sym (sym c.take_guest.ensures.guest ∙ c.in_default.is)) tt,
+      ap (λ (s : Connections g.row.S.Denot). record old { connections = s }) c.take_guest.ensures.once,
+    )
+
+pub returns : goal.returns
+returns g c =
+    let old = state_of c.args.self.now in (
+      subst (λ (o : Option (Guest × Option Why)). IfSome o (λ gone. g.J.SessionSeat.uncounts old.seat gone.0.user
+          gone.0.kind)) c.in-Some.ensures.guest c.remove.ensures,
+      ap (λ (l : Loop g.row.S.Denot g.row.G.Denot g.row.J.Denot). state_of l) c.tell.ensures
+          ∙ ap (λ (s : Connections g.row.S.Denot). record old { connections = s }) c.take_guest.ensures.once,
+    )

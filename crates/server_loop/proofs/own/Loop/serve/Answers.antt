@@ -1,0 +1,32 @@
+use Rattle.std.proofs.Common.{◌≡◌, ◌∙◌, true, false, ap, sym, subst, rules}
+use Rattle.server_connections.specs.declared.connections.Connections.{Connections}
+use Rattle.server_steps.specs.Asking.{is_due_at, unheld}
+use Rattle.server_loop.specs.Serving.{ServesOnce}
+use Rattle.server_loop.specs.Submitting.{State, peer_at, state_of, with_peer}
+use Rattle.server_loop.specs.Walking.{Repeats}
+use Rattle.server_loop.proofs.Telling.{if_false, if_true}
+use Rattle.server_loop.proofs.own.Loop.serve.Goals as goal
+
+pub returns-then-not-is_due_again-clause-serves : goal.returns-then-not-is_due_again-clause-serves
+returns-then-not-is_due_again-clause-serves g c =
+    let no : c.is_due_again.result ≡ false = search rules in
+    let old = state_of c.args.self.now in
+    let new : State g.row.S.Denot g.row.J.Denot = record old { connections = c.is_due_again.new.connections } in
+    if_false (is_due_at (peer_at c.args.key old))
+    (Repeats (ServesOnce g.S.Read.remaining g.J.SessionSeat.submits g.J.SessionSeat.takes g.J.SessionSeat.finds_full
+    g.J.SessionSeat.lets_type c.args.key) 16 (with_peer unheld c.args.key old) new)
+    (new ≡ with_peer unheld c.args.key old) (sym c.is_due_again.ensures.due ∙ no)
+    (ap (λ (s : Connections g.row.S.Denot). record old { connections = s }) c.is_due_again.ensures.again)
+
+pub returns-clause-serves : goal.returns-clause-serves
+returns-clause-serves g c =
+    let yes : c.is_due_again.result ≡ true = search rules in
+    let old = state_of c.args.self.now in
+    let new = state_of c.serve_often.new.self in
+    if_true (is_due_at (peer_at c.args.key old))
+    (Repeats (ServesOnce g.S.Read.remaining g.J.SessionSeat.submits g.J.SessionSeat.takes g.J.SessionSeat.finds_full
+    g.J.SessionSeat.lets_type c.args.key) 16 (with_peer unheld c.args.key old) new)
+    (new ≡ with_peer unheld c.args.key old) (sym c.is_due_again.ensures.due ∙ yes)
+    (subst (λ (s : Connections g.row.S.Denot). Repeats (ServesOnce g.S.Read.remaining g.J.SessionSeat.submits
+    g.J.SessionSeat.takes g.J.SessionSeat.finds_full g.J.SessionSeat.lets_type c.args.key) 16
+    (record old { connections = s }) new) c.is_due_again.ensures.again c.serve_often.ensures)

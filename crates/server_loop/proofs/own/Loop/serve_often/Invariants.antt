@@ -1,0 +1,13 @@
+use Rattle.std.proofs.Common.{◌-◌}
+use Rattle.server_loop.specs.Serving.{ServesOnce}
+use Rattle.server_loop.specs.Submitting.{state_of}
+use Rattle.server_loop.specs.Walking.{Repeats}
+use Rattle.server_loop.proofs.own.Loop.serve_often.Given as goal
+
+-- whatever comes of the other ones, it comes of all
+abbrev pub invariant-reads : goal.invariant-reads
+invariant-reads g l = (new : _)
+    → Repeats (ServesOnce g.S.Read.remaining g.J.SessionSeat.submits g.J.SessionSeat.takes g.J.SessionSeat.finds_full
+    g.J.SessionSeat.lets_type l.key) (16 - l.counter) (state_of l.self) new
+    → Repeats (ServesOnce g.S.Read.remaining g.J.SessionSeat.submits g.J.SessionSeat.takes g.J.SessionSeat.finds_full
+    g.J.SessionSeat.lets_type l.key) 16 (state_of l.fn.self) new
