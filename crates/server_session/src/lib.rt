@@ -19,4 +19,4 @@ pub use hub::{Begun, Seat, Trail};
 pub use loop_body::{LoopBody, LoopsFault, Start, keep};
 pub use seated::Seated;
 pub use server_trail::Recorder;
-pub use shared_session::{SharedSession, Sharing, TrailLines};
+pub use shared_session::{LoopSession, SharedSession, TrailLines};

@@ -9,7 +9,7 @@ ghost use Rattle.server_session.specs.Seating.{IsCounted, Steps};
 
 use crate::accounts::Accounts;
 use crate::books::Counting;
-use crate::shared_session::Sharing;
+use crate::shared_session::LoopSession;
 use acl::UserId;
 use hub::{Answer, Begun, HubFault, Seat};
 use server_seat::{GuestKind, SeatAnswer, SeatFault, ServerEnd, SessionSeat};
@@ -117,7 +117,7 @@ impl<L: Begun, S, B: Counting> Seated<'_, L, S, B> {
     }
 }
 
-impl<L: Begun, S: Sharing<L>, B: Counting> SessionSeat for Seated<'_, L, S, B> {
+impl<L: Begun, S: LoopSession<L>, B: Counting> SessionSeat for Seated<'_, L, S, B> {
     ghost known = { λ s. S.known s.shared.now };
 
     // The session answered by one step for this seat, or refused.

@@ -60,7 +60,7 @@ impl TrailLines for Recorder {
 
 /// A session that loops share, as the seat of a loop knows it. Each relation is shown by a call of its
 /// function alone.
-pub trait Sharing<L: Begun> {
+pub trait LoopSession<L: Begun> {
     ghost use Rattle.std.specs.Prelude.{ℕ, Bool, List, Option};
     ghost use Rattle.acl.specs.declared.user_id.UserId.{UserId as User};
     ghost use Rattle.session.specs.Trace.{EventValue};
@@ -171,7 +171,7 @@ impl<L: Begun, T: TrailLines> SharedSession<L, T> {
     }
 }
 
-impl<L: Begun, T: TrailLines> Sharing<L> for SharedSession<L, T> {
+impl<L: Begun, T: TrailLines> LoopSession<L> for SharedSession<L, T> {
     ghost known = { λ shared. shared.users };
 
     // The hub answered by one step for this seat, and the entry was put down.

@@ -167,6 +167,6 @@ fn both_are_answered(rt: &impl System) -> bool {
 /// hold the session's lock for a whole turn, from `read_all` to the end of `end_turn`. The call that
 /// is held then waits for a call that can't come.
 #[test]
-fn loops_take_no_turns(rt: HostRuntime) {
+fn loops_take_turns(rt: HostRuntime) {
     assert!(rt; both_are_answered(&rt));
 }
