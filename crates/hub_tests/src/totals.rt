@@ -92,8 +92,7 @@ fn four<L: Begun + Send + Sync, R: Threads + Wait + Sync>(
     Some(trail.len())
 }
 
-/// Refuses a hub that gives up for want of memory, or as if its trail were full or a seat strange,
-/// though nothing of this is so: each command is answered, and each entry has its receipt.
+/// No hub gives up for no reason: each command is answered, and each entry has its receipt.
 #[test]
 fn gives_up_for_memory(rt: HostRuntime) {
     let Some(owner) = UserId::of(b"root") else {
