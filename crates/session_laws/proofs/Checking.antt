@@ -43,14 +43,10 @@ module _ (shown : ℕ → Bool) (seeing : UserId → Bool) where
   refusal_cut t (must fact r) = refl
 
   passes_cut : (t : Tables) (c : Check) → passes (cut shown seeing t) c ≡ passes t c
-  passes_cut t (right user bit o) = refl
-  passes_cut t (unlocked user w) = refl
-  passes_cut t (must fact r) = refl
+  passes_cut t c = refl
 
   verdict_cut : (t : Tables) (c : Check) → verdict (cut shown seeing t) c ≡ verdict t c
-  verdict_cut t (right user bit o) = refl
-  verdict_cut t (unlocked user w) = refl
-  verdict_cut t (must fact r) = refl
+  verdict_cut t c = refl
 
   pub fault_cut : (t : Tables) (cs : List Check) → first_fault (cut shown seeing t) cs ≡ first_fault t cs
   fault_cut t [] = refl

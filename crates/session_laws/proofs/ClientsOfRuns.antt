@@ -1,7 +1,7 @@
 -- Each client of a run has exactly the keys and the deliveries that the run's entries say.
 use Rattle.std.proofs.Common.{◌≡◌, ℕ, ◌<◌, ◌≤◌, Bool, true, false, List, [], ◌∷◌, ◌++◌, Option, Some, None}
 use Rattle.std.proofs.Common.{refl, ap, sym, ◌∙◌, subst, take, length, ⊎_elim, arith}
-use Rattle.std.specs.Prelude.{◌⊎◌, if◌then◌else◌, ◌==◌, MatchOption}
+use Rattle.std.specs.Prelude.{if◌then◌else◌, ◌==◌, MatchOption}
 use Rattle.std.specs.List.{AllByRecursion}
 use Rattle.std.proofs.lemmas.Bool.Decides.{nat_tests}
 use Rattle.acl.specs.declared.user_id.UserId.{UserId}
@@ -20,6 +20,7 @@ use Rattle.session_model.specs.Run.{HasEffects, IsDraw, DrawsWhereNeeded, delive
 use Rattle.session_model.specs.Run.{after, IsStep, IsRun, IsRunFrom, tables_from, tables_of}
 use Rattle.session_model.specs.Promises.{SomeOf}
 use Rattle.session_model.specs.Sound.{Rises, AreSound, client_serials}
+use Rattle.session_laws.proofs.Lists.{some_elim}
 use Rattle.session_laws.specs.Entries.{keys_read, is_resize, delivered_by, all_keys, all_delivered}
 use Rattle.session_laws.proofs.Lists.{all_weaken, equal, row_serial}
 use Rattle.session_laws.proofs.Past.{GoesOn}
@@ -110,12 +111,6 @@ pub record Remembers (t : Tables) (past : List Entry) : Type 0 where
   pub rows : AllByRecursion
       (λ (c : Client). (c.keys ≡ all_keys past c.serial) × (c.delivered ≡ all_delivered past c.serial)) t.clients
   pub later : (n : ℕ) → t.next_client ≤ n → (all_keys past n ≡ []) × (all_delivered past n ≡ [])
-
-pub some_elim : {A : Type 0} (P Q : A → Type 0) (R : Type 0) (xs : List A) → ((x : A) → P x → Q x → R) → SomeOf P xs
-    → AllByRecursion Q xs → R
-some_elim P Q R [] on some all = absurd some
-some_elim P Q R (x ∷ xs) on some all = ⊎_elim (λ (here : P x). on x here all.0)
-    (λ later. some_elim P Q R xs on later all.1) some
 
 none_by : (event : EventValue) (reply : Reply) (effects : List Effect) (n : ℕ) (before : List ℕ) → before ≡ []
     → deliveries effects n ≡ [] → delivered_by event reply effects n before ≡ []

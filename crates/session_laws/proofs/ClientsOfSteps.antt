@@ -1,5 +1,5 @@
 -- After a step each client is new, or one of those before with the keys and deliveries of the step.
-use Rattle.std.proofs.Common.{◌≡◌, ℕ, Bool, true, false, not, List, [], ◌∷◌, ◌++◌, Option, Some, None, Ok}
+use Rattle.std.proofs.Common.{◌≡◌, ℕ, Bool, true, false, not, List, [], ◌∷◌, ◌++◌, Option, Some, None}
 use Rattle.std.proofs.Common.{Err, refl, ap, sym, ◌∙◌, subst, filter, take, length, inl, inr, arith, suc, zero}
 use Rattle.std.specs.Prelude.{◌⊎◌, if◌then◌else◌, ◌==◌, MatchOption}
 use Rattle.std.specs.List.{AllByRecursion}
@@ -11,8 +11,7 @@ use Rattle.session_model.specs.declared.refusal.Refusal.{Refusal}
 use Rattle.session_model.specs.Trace.{EventValue, Attach, Detach, Keys, Command, Open, Output, Closed, Draw, Reply}
 use Rattle.session_model.specs.Tables.{Tables, Window, Client, row_of, with_row, client_at, with_client}
 use Rattle.session_model.specs.Lines.{line_caller}
-use Rattle.session_model.specs.Deeds.{Deed, Answer, changing}
-use Rattle.session_model.specs.Commands.{does}
+use Rattle.session_model.specs.Deeds.{Deed, changing}
 use Rattle.session_model.specs.Keying.{taken, step_items, typed_bytes, command_item}
 use Rattle.session_model.specs.Events.{outcome}
 use Rattle.session_model.specs.Outcomes.{Outcome, finished, done, reply_of}
@@ -185,12 +184,6 @@ none_of t event effects other is = undelivered t event effects other
 
 -- ---- the events
 
-deed_keeps : (t : Tables) (a : Answer) (d : Deed) → a ≡ Ok d → Either (λ (e : Deed). Keeps t.clients e.tables.clients) a
-    → Keeps t.clients d.tables.clients
-deed_keeps t (Ok e) d is all = let same : e ≡ d = cc (is) in subst (λ (x : Deed). Keeps t.clients x.tables.clients) same
-    all
-deed_keeps t (Err r) d is all = absurd (cc (is))
-
 -- a refused event reads no keys
 none_read : (event : EventValue) (r : Refusal) (n : ℕ) → (keys_read event (Err r) n ≡ [])
     × (is_resize event (Err r) n ≡ false)
@@ -215,7 +208,7 @@ module _ (t : Tables) (effects : List Effect) (s : AreSound t) (none : (n : ℕ)
   happened _ _ (outcomes.keyed client bytes c at) = keys_rows t client bytes c effects at s none
   happened _ _ (outcomes.obeyed user number bytes c d known read passes is) =
       kept_rows t (Command user number bytes) (reply_of 0 0 0 d.lists) effects d.tables.clients (λ n. refl) (λ n. refl)
-      none (deed_keeps t (does t (line_caller t user number) c) d is (keeps t (line_caller t user number) c))
+      none (subst (Either (λ (e : Deed). Keeps t.clients e.tables.clients)) is (keeps t (line_caller t user number) c))
   happened _ _ (outcomes.opened user rows columns keep title passes) =
       kept_rows t (Open user rows columns keep title) (outcomes.made_by (new_window t rows columns keep title)) effects
       t.clients (λ n. refl) (λ n. refl) none (keeps_same t.clients)

@@ -1,5 +1,5 @@
 -- Which windows a step opens, and what users have on them.
-use Rattle.std.proofs.Common.{subst, ◌≡◌, ℕ, ◌+◌, Bool, true, false, List, [], ◌∷◌, Some, None, Ok, Err, refl, ap, sym}
+use Rattle.std.proofs.Common.{subst, ◌≡◌, ℕ, ◌+◌, Bool, true, false, List, [], Some, None, Ok, Err, refl, ap, sym}
 use Rattle.std.proofs.Common.{◌∙◌, inl, inr}
 use Rattle.std.specs.Prelude.{◌==◌, ◌||◌, ◌⊎◌, is_ok, Option}
 use Rattle.acl.specs.declared.user_id.UserId.{UserId}
@@ -19,19 +19,19 @@ use Rattle.session_model.specs.Checks.{first_fault, verdicts}
 use Rattle.session_model.specs.Deeds.{changing, parts, closes}
 use Rattle.session_model.specs.Events.{outcome}
 use Rattle.session_model.specs.Given.{Given, commands_of}
-use Rattle.session_model.specs.Promises.{SomeOf}
 use Rattle.session_model.specs.Outcomes.{Outcome, reply_of, finished, done, where_passed}
 use Rattle.session_model.specs.Comings.{attach_checks, attaches, new_client, open_checks, opens, new_window, outputs}
 use Rattle.session_model.specs.Run.{IsStep, after, drawn_on}
 use Rattle.session_model.specs.Trace.{EventValue, Attach, Detach, Keys, Command, Open, Output, Closed, Draw, Reply}
 use Rattle.session_model.specs.Trace.{Entry}
+use Rattle.session_laws.proofs.Lists.{some_gives}
 use Rattle.session_laws.proofs.Lists.{both_true}
 use Rattle.session_laws.proofs.Outcomes as outcomes
 use Rattle.session_laws.proofs.Outcomes.{Change, Changes, changes}
 use Rattle.session_laws.proofs.CommandActs.{IsRow}
 use Rattle.session_laws.proofs.Steps.{Did, with_clients}
 use Rattle.session_laws.proofs.Events.{gives_commands, is_open}
-use Rattle.session_laws.proofs.Gating.{Below, Steps, steps_of, row_did, first_passed, then_passed}
+use Rattle.session_laws.proofs.Gating.{Below, Steps, row_did, first_passed, then_passed}
 use Rattle.session_laws.proofs.Masking.{given_by_masks}
 use Rattle.session_laws.specs.Confined.{may_open}
 
@@ -155,16 +155,12 @@ did_next : (t : Tables) (e : Entry) (g : Given) → Did t e g → (after t e).ne
 did_next t e g d = let r : IsRow (with_clients t d.clients) g.caller g.order d.deed = row_did t e g d in
     d.tables.next_window ∙ r.next_window
 
-some_next : (t : Tables) (e : Entry) (gs : List Given) → SomeOf (Did t e) gs → (after t e).next_window ≡ t.next_window
-some_next t e [] some = absurd some
-some_next t e (g ∷ gs) (inl did) = did_next t e g did
-some_next t e (g ∷ gs) (inr later) = some_next t e gs later
-
 pub comes : Below → (t : Tables) (e : Entry) → IsStep t e → Comes t e
 comes laws t e step = on (gives_commands e.event) refl where
   obeys : Rattle.session_laws.proofs.Steps.Obeys t e → Comes t e
   obeys (inl rests) = inl rests.tables.next_window
-  obeys (inr some) = inl (some_next t e (commands_of t e.event) some)
+  obeys (inr some) = inl
+      (some_gives (Did t e) ((after t e).next_window ≡ t.next_window) (commands_of t e.event) (did_next t e) some)
 
   on : (b : Bool) → gives_commands e.event ≡ b → Comes t e
   on true is = obeys (Rattle.session_laws.proofs.Gating.obeys_of laws t e step is)

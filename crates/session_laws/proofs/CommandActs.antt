@@ -60,14 +60,7 @@ listing k c acts changes all = all_weaken (λ a. is_listing a ≡ true) (IsActOf
   one (act.Grouped user leader) is = changes
   one (act.Masked by user bit value) is = changes
   one (act.Preset kind bit value) is = changes
-  one (act.Opened by w) is = absurd (cc (is))
-  one (act.Closed w) is = absurd (cc (is))
-  one (act.Attached client user) is = absurd (cc (is))
-  one (act.Parted client) is = absurd (cc (is))
-  one (act.Entered user w) is = absurd (cc (is))
-  one (act.Left user w) is = absurd (cc (is))
-  one (act.Mode by w mode) is = absurd (cc (is))
-  one (act.Default mode) is = absurd (cc (is))
+  one a is = absurd (cc (is))
 
 -- the acts of a command's row, and what the row leaves unchanged
 pub record IsRow (t : Tables) (k : Caller) (c : Order) (d : Deed) : Type 0 where
@@ -201,22 +194,15 @@ module _ (t : Tables) (k : Caller) (by : IsCaller t k) where
       (without_windows (filter (λ (w : Window). true) t.windows) t.clients) (λ d goes. tt))) refl refl refl refl
 
   deed_row : (c : Order) (d : Deed) → shapes.Shape t k c d → IsRow t k c d
-  deed_row c d (shapes.lists bytes none tells) = row t k c _ tt refl refl refl refl
   deed_row c d (shapes.acts all none acted) = row t k c _ (acted_row c all acted) refl refl refl refl
   deed_row c d (shapes.enters_page x l of at shows) = entered t k c x l (λ w. (by x at, no_right c of.1))
-  deed_row c d (shapes.keeps_page x l of at shows same) = row t k c _ tt refl refl refl refl
-  deed_row c d (shapes.writes_to w what one at) = row t k c _ tt refl refl refl refl
   deed_row c d (shapes.opened is) = as_row c _ _ is opened_row
   deed_row c d (shapes.shut is) = as_row c _ _ is shut_row
-  deed_row c d (shapes.told bytes is) = row t k c _ tt refl refl refl refl
   deed_row c d (shapes.removed word is clear) = as_row c _ _ is (removal t k word (named_by word))
-  deed_row c d (shapes.fitted w rows columns is at) = row t k c _ tt refl refl refl refl
-  deed_row c d (shapes.titled w bytes is at) = row t k c _ tt refl refl refl refl
-  deed_row c d (shapes.numbered w n is at free) = row t k c _ tt refl refl refl refl
-  deed_row c d (shapes.typed w bytes is at) = row t k c _ tt refl refl refl refl
   deed_row c d (shapes.detached x is at) = as_row c _ _ is (detached_row x at)
   deed_row c d (shapes.killed w is at) = as_row c _ _ is (killed_row w at)
   deed_row c d (shapes.quits is) = as_row c _ _ is quit_row
+  deed_row c d kind = row t k c _ tt refl refl refl refl
 
 pub row_of : (t : Tables) (k : Caller) → IsCaller t k → (c : Order) → Either (IsRow t k c) (does t k c)
 row_of t k by c = shapes.by_shape (IsRow t k c) t k c (deed_row t k by c)

@@ -206,21 +206,15 @@ module _ (t : Tables) (k : Caller) where
 
   deed_done : (c : Order) (d : Deed) → shapes.Shape t k c d → HasDone t k c d
   deed_done c d (shapes.lists bytes none tells) = record { effects = tt; lists = λ more is. tells ∙ is }
-  deed_done c d (shapes.acts all none acted) = still t k c _ refl refl
-  deed_done c d (shapes.enters_page x l of at shows) = still t k c _ refl refl
-  deed_done c d (shapes.keeps_page x l of at shows same) = still t k c _ refl refl
-  deed_done c d (shapes.writes_to w what one at) = still t k c _ refl refl
-  deed_done c d (shapes.opened is) = still t k c _ refl refl
   deed_done c d (shapes.shut is) = as_done c _ _ is shut_done
   deed_done c d (shapes.told bytes is) = as_done c _ _ is (told_done bytes)
   deed_done c d (shapes.removed word is clear) = as_done c _ _ is (removal_done t k word (named_by word) refl)
   deed_done c d (shapes.fitted w rows columns is at) = as_done c _ _ is (fitted_done w rows columns at)
-  deed_done c d (shapes.titled w bytes is at) = still t k c _ refl refl
-  deed_done c d (shapes.numbered w n is at free) = still t k c _ refl refl
   deed_done c d (shapes.typed w bytes is at) = as_done c _ _ is (typed_done w bytes at)
   deed_done c d (shapes.detached x is at) = as_done c _ _ is (detached_done x at)
   deed_done c d (shapes.killed w is at) = as_done c _ _ is (killed_done w at)
   deed_done c d (shapes.quits is) = as_done c _ _ is quit_done
+  deed_done c d kind = still t k c _ refl refl
 
 pub done_by : (t : Tables) (k : Caller) (c : Order) → Either (HasDone t k c) (does t k c)
 done_by t k c = shapes.by_shape (HasDone t k c) t k c (deed_done t k c)

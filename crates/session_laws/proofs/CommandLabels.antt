@@ -152,14 +152,7 @@ module _ (t : Tables) (k : Caller) (row : (w : Window) → k.window ≡ Some w �
     names_it c x is names = ap (λ (y : Order). names_its_window (name_of y)) is ∙ names
 
     deed_kept : (c : Order) (d : Deed) → shapes.Shape t k c d → KeepsLabel c d
-    deed_kept c d (shapes.lists bytes none tells) = inl refl
-    deed_kept c d (shapes.acts all none acted) = inl refl
-    deed_kept c d (shapes.enters_page x l of here shows) = inl refl
-    deed_kept c d (shapes.keeps_page x l of here shows same) = inl refl
     deed_kept c d (shapes.writes_to w what one here) = writes c w what here
-    deed_kept c d (shapes.opened is) = inl refl
-    deed_kept c d (shapes.shut is) = inl refl
-    deed_kept c d (shapes.told bytes is) = inl refl
     deed_kept c d (shapes.removed word is clear) = removal c (named_by word)
     deed_kept c d (shapes.fitted w rows columns is here) = inl
         (written_label t w (record w { writing = w.writing ++ written.Size rows columns ∷ [] }) at (row w here) refl
@@ -170,11 +163,10 @@ module _ (t : Tables) (k : Caller) (row : (w : Window) → k.window ≡ Some w �
     deed_kept c d (shapes.numbered w n is here free) =
         own c (names_it c _ is refl) w here (with_window t (record w { number = n })).windows
         (elsewhere t.windows w.serial (record w { number = n }) at refl)
-    deed_kept c d (shapes.typed w bytes is here) = inl refl
-    deed_kept c d (shapes.detached x is here) = inl refl
     deed_kept c d (shapes.killed w is here) = own c (names_it c _ is refl) w here
         (filter (λ (v : Window). not (v.serial == w.serial)) t.windows) (closed t.windows w.serial at)
     deed_kept c d (shapes.quits is) = inr (inr (ap name_of is))
+    deed_kept c d kind = inl refl
 
     pub labels_kept : (c : Order) → Either (KeepsLabel c) (does t k c)
     labels_kept c = shapes.by_shape (KeepsLabel c) t k c (deed_kept c)

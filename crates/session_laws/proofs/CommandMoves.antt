@@ -2,7 +2,7 @@
 use Rattle.std.proofs.Common.{◌≡◌, ℕ, ◌+◌, ◌≤◌, Bool, true, false, not, List, [], ◌∷◌, ◌++◌, Option, Some, None, refl}
 use Rattle.std.proofs.Common.{ap, sym, ◌∙◌, subst, map, filter, length, arith, suc}
 use Rattle.std.specs.Prelude.{if◌then◌else◌, ◌==◌}
-use Rattle.std.specs.Option.{option_and_then, option_map_or}
+use Rattle.std.specs.Option.{option_map_or}
 use Rattle.acl.specs.declared.user_id.UserId.{UserId}
 use Rattle.acl.specs.declared.act.Act.{Act}
 use Rattle.acl.specs.declared.act.Act.TheVariants as act
@@ -26,11 +26,11 @@ use Rattle.session_model.specs.Deeds.{Deed, changing, acting, removes, is_of, pa
 use Rattle.session_model.specs.Deeds.{without_windows, enters, arranges, entering, input_of, hearing, tells}
 use Rattle.session_model.specs.Commands.{does, caller_client, is_taken}
 use Rattle.session_model.specs.Sound.{NumbersDiffer}
+use Rattle.session_laws.proofs.Unread.{caller_row}
 use Rattle.session_laws.proofs.Inputs.{append_nil}
 use Rattle.session_laws.proofs.Lists.{equal, filter_all, row_serial}
 use Rattle.session_laws.proofs.DifferentNumbers.{serial_of, IsFree, with_numbers, fewer_numbers, own_number}
 use Rattle.session_laws.proofs.Doing.{Either}
-use Rattle.session_laws.proofs.Unread.{row_at}
 use Rattle.session_laws.proofs.Moving.{AllAside, DeedMoves, id_of, ids, serials, closed, parted, filter_map, stays}
 use Rattle.session_laws.proofs.Moving.{acts_only, lists_only, map_with_row, filter_none, right_aside}
 use Rattle.session_laws.proofs.Shapes as shapes
@@ -61,11 +61,6 @@ length_append [] ys = omega arith
 length_append (x ∷ xs) ys = let e : length (xs ++ ys) ≡ length xs + length ys = length_append xs ys in omega (arith, e)
 
 -- ---- pages
-
-caller_row : (t : Tables) (o : Option ℕ) (c : Client) → option_and_then (client_at t) o ≡ Some c
-    → client_at t c.serial ≡ Some c
-caller_row t None c is = absurd (cc (is))
-caller_row t (Some n) c is = row_at t n c is
 
 pub client_ids : (t : Tables) (c d : Client) → client_at t c.serial ≡ Some c → id_of d ≡ id_of c
     → map id_of (with_client t d).clients ≡ map id_of t.clients

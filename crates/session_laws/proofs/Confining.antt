@@ -16,18 +16,16 @@ use Rattle.acl.specs.declared.act.Object.TheVariants as object
 use Rattle.acl.specs.Same.{same_user}
 use Rattle.acl.specs.History.{History, has, may, mask, leaders_of}
 use Rattle.acl.proofs.StandsForLemmas.{same_user-true}
-use Rattle.command_lang.specs.Names.{name_of}
-use Rattle.session_model.specs.Given.{Given, commands_of}
-use Rattle.session_model.specs.Promises.{SomeOf}
+use Rattle.session_model.specs.Given.{commands_of}
 use Rattle.session_model.specs.Rights.{may_in, has_in}
 use Rattle.session_model.specs.Run.{IsRunFrom, after, tables_from}
 use Rattle.session_model.specs.Tables.{Tables, is_known}
 use Rattle.session_model.specs.Trace.{Entry}
 use Rattle.session_laws.proofs.Lists.{contradicts, all_weaken}
-use Rattle.session_laws.specs.Changing.{SameRights, MayChangeRights, RightsAreGated}
+use Rattle.session_laws.specs.Changing.{SameRights, RightsAreGated}
 use Rattle.session_laws.specs.Contained.{AllSteps, AreGuests}
 use Rattle.session_laws.proofs.Gating.{Below, gated}
-use Rattle.session_laws.proofs.Containing.{Grows, Remains, grows, remains, not_opened, step_remains}
+use Rattle.session_laws.proofs.Containing.{Grows, Remains, grows, stays, none_granted, not_opened, step_remains}
 use Rattle.session_laws.specs.Confined.{may_open, circle, AreShutOut, GrantsAreTheirs, came, AreConfined}
 use Rattle.session_laws.proofs.Comings.{Opens, Comes, comes}
 
@@ -126,14 +124,6 @@ pub record Confines (start t : Tables) (users : UserId → Bool) (bit : Bit) : T
   pub remains : Remains start t users
   pub shut : AreShutOut t users bit
 
-none_granted : (t : Tables) (users : UserId → Bool) (gs : List Given) → AreGuests t users
-    → AllByRecursion (λ (g : Given). MayChangeRights t g → users g.caller.user ≡ true) gs
-    → SomeOf (MayChangeRights t) gs → ⊥
-none_granted t users [] are all some = some
-none_granted t users (g ∷ gs) are all (inl may) = contradicts _ may.granted
-    (are g.caller.user (name_of g.order) (all.0 may) may.changes)
-none_granted t users (g ∷ gs) are all (inr later) = none_granted t users gs are all.1 later
-
 not_both : {P : Type 0} (b : Bool) → (not b && b) ≡ true → P
 not_both true is = absurd (cc (is))
 not_both false is = absurd (cc (is))
@@ -186,28 +176,12 @@ gated_confines start t e users bit g (inr some) c theirs before = absurd
 
 -- ---- every run
 
--- on what was there, without masks
-gated_stays : (start t : Tables) (e : Entry) (guests : UserId → Bool) → Grows t e.acts (after t e)
-    → RightsAreGated t e → GrantsAreTheirs guests t e → Remains start t guests → Remains start (after t e) guests
-gated_stays start t e guests g (inl same) theirs before = step_remains start t e.acts (after t e) guests g same before
-gated_stays start t e guests g (inr some) theirs before =
-    absurd (none_granted t guests (commands_of t e.event) before.contained.as_before theirs some)
-
-pub stays : Below → (start : Tables) (later : List Entry) (guests : UserId → Bool) → AreGuests start guests
-    → IsRunFrom start later → AllSteps (GrantsAreTheirs guests) start later
-    → Remains start (tables_from start later) guests
-stays laws start [] guests are run theirs = remains laws start [] guests are tt tt
-stays laws start (e ∷ past) guests are run theirs =
-    let t : Tables = tables_from start past in
-    gated_stays start t e guests (grows laws t e run.1) (gated laws t e run.1) theirs.1
-    (stays laws start past guests are run.0 theirs.0)
-
 confines : Below → (start : Tables) (later : List Entry) (users : UserId → Bool) (bit : Bit) → AreGuests start users
     → AreShutOut start users bit → IsRunFrom start later → AllSteps (GrantsAreTheirs users) start later
     → Confines start (tables_from start later) users bit
 confines laws start [] users bit are shut run theirs = record {
   windows = λ user w is at. not_both (nat_lt w start.next_window) at;
-  remains = remains laws start [] users are tt tt;
+  remains = stays laws start [] users are tt tt;
   shut = shut;
 }
 confines laws start (e ∷ past) users bit are shut run theirs =

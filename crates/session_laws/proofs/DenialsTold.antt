@@ -14,12 +14,11 @@ use Rattle.acl.specs.declared.command_name.CommandName.TheVariants as names
 use Rattle.command_lang.specs.declared.command.Command.{Command as Order}
 use Rattle.command_lang.specs.declared.command.Command.TheVariants as command
 use Rattle.command_lang.specs.declared.fault.ParseFault.{ParseFault}
-use Rattle.keys.specs.Grammar.{Item, typed, bound, line}
+use Rattle.keys.specs.Grammar.{Item, bound, line}
 use Rattle.acl.specs.declared.act.Act.{Act}
 use Rattle.session_model.specs.declared.verdict.Verdict.{Verdict}
 use Rattle.session_model.specs.declared.event.Effect.{Effect}
-use Rattle.session_model.specs.declared.event.Effect.TheVariants.{Input, Deliver, Say, Size, Gone}
-use Rattle.session_model.specs.declared.event.Peer.TheVariants as peer
+use Rattle.session_model.specs.declared.event.Effect.TheVariants.{Say}
 use Rattle.session_model.specs.declared.refusal.Refusal.{Refusal}
 use Rattle.session_model.specs.declared.refusal.Refusal.TheVariants.{NoWindow, UnknownUser}
 use Rattle.session_model.specs.Trace.{EventValue, Keys, Command, Reply, Entry}
@@ -60,11 +59,7 @@ same_say (Say at said) to bytes is =
     let here : to ≡ at = equal to at (and_first (to == at) (bytes_eq bytes said) is) in
     let alike : bytes ≡ said = (bytes_eq-Decides bytes said).0 (and_second (to == at) (bytes_eq bytes said) is) in
     ap (λ n. Say n said) (sym here) ∙ ap (Say to) (sym alike)
-same_say (Input at said) to bytes is = absurd (cc (is))
-same_say (Deliver at said) to bytes is = absurd (cc (is))
-same_say (Size at rows columns) to bytes is = absurd (cc (is))
-same_say (Gone (peer.Window at) why) to bytes is = absurd (cc (is))
-same_say (Gone (peer.Client at) why) to bytes is = absurd (cc (is))
+same_say s to bytes is = absurd (cc (is))
 
 said_there : (to : ℕ) (bytes : List ℕ) (said : List Effect) → list_any (says_same (Say to bytes)) said ≡ true
     → Says to bytes said
@@ -250,11 +245,9 @@ module _ (t : Tables) (c : Client) (said : List Effect) (cs : List Client) (read
       (said ++ unsaid said (ordered (record t { clients = cs }) (reading read c) item).deed.effects) bs.bytes
       (why_not t bs))
       (flat_map (λ g. stuffed t g g.order) (with_order (caller_of t c) (order_in item)))
-  item_tells None = tt
-  item_tells (Some (typed b)) = tt
   item_tells (Some (bound order)) = order_tells order
-  item_tells (Some (line [])) = tt
   item_tells (Some (line (b ∷ bs))) = line_tells (read_line (b ∷ bs))
+  item_tells item = tt
 
 abbrev Told : Tables → ℕ → List Effect → Typed → Type 0
 Told t client effects bs = TellsIn client effects bs.bytes (why_not t bs)

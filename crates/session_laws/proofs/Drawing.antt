@@ -6,8 +6,7 @@ use Rattle.acl.specs.declared.user_id.UserId.{UserId}
 use Rattle.acl.specs.History.{followed_by}
 use Rattle.terminal_model.specs.Shows.{View, NeedsDraw, NeedsNoDraw}
 use Rattle.session_model.specs.declared.event.Effect.{Effect}
-use Rattle.session_model.specs.declared.event.Effect.TheVariants.{Input, Deliver, Say, Size, Gone}
-use Rattle.session_model.specs.declared.event.Peer.TheVariants as peer
+use Rattle.session_model.specs.declared.event.Effect.TheVariants.{Deliver}
 use Rattle.session_model.specs.declared.refusal.Refusal.TheVariants.{NoWindow}
 use Rattle.session_model.specs.Trace.{Draw}
 use Rattle.session_model.specs.Tables.{Tables, Client, row_of, client_at, with_client}
@@ -33,12 +32,7 @@ is_needed : (t : Tables) (c : Client) (effects : List Effect) → DrawsWhereNeed
     → Needed (is_any effects) c.drawn (granted_view t c)
 is_needed t c [] draws = draws
 is_needed t c (Deliver to bytes ∷ []) draws = draws.1
-is_needed t c (Deliver to bytes ∷ f ∷ fs) draws = absurd draws
-is_needed t c (Input w bytes ∷ fs) draws = absurd draws
-is_needed t c (Say to bytes ∷ fs) draws = absurd draws
-is_needed t c (Size w rows columns ∷ fs) draws = absurd draws
-is_needed t c (Gone (peer.Window w) why ∷ fs) draws = absurd draws
-is_needed t c (Gone (peer.Client d) why ∷ fs) draws = absurd draws
+is_needed t c effects draws = absurd draws
 
 needed_once : (a b : Bool) (last : Option View) (v : View) → Needed a last v → Needed b last v → a ≡ b
 needed_once true true last v p q = refl

@@ -7,7 +7,7 @@ use Rattle.acl.specs.declared.user_id.UserId.{UserId}
 use Rattle.command_lang.specs.declared.command.Command.{Command as Order}
 use Rattle.command_lang.specs.declared.command.Command.TheVariants as command
 use Rattle.command_lang.specs.declared.fault.ParseFault.{ParseFault}
-use Rattle.keys.specs.Grammar.{Item, typed, bound, line}
+use Rattle.keys.specs.Grammar.{Item, bound, line}
 use Rattle.terminal_model.specs.Reading.{reads}
 use Rattle.session_model.specs.declared.event.Effect.{Effect}
 use Rattle.session_model.specs.declared.event.Effect.TheVariants.{Input, Deliver, Say, Gone}
@@ -214,11 +214,9 @@ module _ (t : Tables) (client : ℕ) (bytes : List ℕ) (c : Client) (is : clien
       → commands_of t (Keys client bytes) ≡ with_order (caller_of t c) (order_in item)
       → AllByRecursion (Fits t (Keys client bytes))
       (ordered (record t { clients = cs }) (reading read c) item).deed.effects
-  item_fits cs same read None given = tt
-  item_fits cs same read (Some (typed b)) given = tt
   item_fits cs same read (Some (bound order)) given = order_fits cs same order given read
-  item_fits cs same read (Some (line [])) given = tt
   item_fits cs same read (Some (line (b ∷ bs))) given = line_read_fits cs same read (read_line (b ∷ bs)) given
+  item_fits cs same read item given = tt
 
   typing_fits : (u : Tables) (read bs : List ℕ)
       → first_fault u (typing_checks c.user (focused_window u (reading read c))) ≡ first_fault t

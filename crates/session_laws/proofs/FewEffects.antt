@@ -5,7 +5,7 @@ use Rattle.std.proofs.Common.{subst, length, take, arith}
 use Rattle.std.specs.Prelude.{◌==◌, MatchOption}
 use Rattle.command_lang.specs.declared.command.Command.{Command as Order}
 use Rattle.command_lang.specs.declared.fault.ParseFault.{ParseFault}
-use Rattle.keys.specs.Grammar.{Item, typed, bound, line}
+use Rattle.keys.specs.Grammar.{Item, bound, line}
 use Rattle.terminal_model.specs.Reading.{reads}
 use Rattle.session_model.specs.declared.event.Effect.{Effect}
 use Rattle.session_model.specs.declared.event.Effect.TheVariants.{Deliver}
@@ -33,7 +33,7 @@ use Rattle.session_laws.proofs.Moving.{DeedMoves}
 use Rattle.session_laws.proofs.CommandMoves.{moves, only_parts, closes_moves, input_few, length_append, length_filter}
 use Rattle.session_laws.proofs.CommandMoves.{length_ids}
 use Rattle.session_laws.proofs.SoundMoves.{differ}
-use Rattle.session_laws.proofs.Settling.{focus_row, line_row, deed_moves, ids_same}
+use Rattle.session_laws.proofs.Settling.{focus_row, line_row, ids_same}
 use Rattle.session_laws.proofs.Unread.{typing_clients}
 use Rattle.session_laws.proofs.Outcomes as outcomes
 
@@ -96,11 +96,9 @@ read_few v d (Ok order) = order_few v d order
 
 item_few : (v : Tables) (d : Client) (item : Option Item)
     → length (ordered v d item).deed.effects ≤ length v.windows + length v.clients + 2
-item_few v d None = omega arith
-item_few v d (Some (typed b)) = omega arith
 item_few v d (Some (bound order)) = order_few v d order
-item_few v d (Some (line [])) = omega arith
 item_few v d (Some (line (b ∷ bs))) = read_few v d (read_line (b ∷ bs))
+item_few v d item = omega arith
 
 keys_few : (t : Tables) (client : ℕ) (bytes : List ℕ) (c : Client) → client_at t client ≡ Some c
     → Few t (keys_outcome t c (take (taken c.keys bytes) bytes))
@@ -135,7 +133,7 @@ few t (Keys client bytes) s =
     (λ c is. keys_few t client bytes c is)
 few t (Command user number bytes) s =
     outcomes.by_line (Few t) t (line_caller t user number) (is_known t user) (read_line bytes) (λ vs f. none_few t)
-    (λ c d known read passes is. deed_few t d (deed_moves t (does t (line_caller t user number) c) d is
+    (λ c d known read passes is. deed_few t d (subst (Either (DeedMoves t)) is
     (moves t (line_caller t user number)
     (λ w at. line_row t number w (differ t.windows t.next_window s.windows_rise) at) c)))
 few t (Output window bytes) s =

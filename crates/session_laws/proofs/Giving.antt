@@ -10,7 +10,7 @@ use Rattle.acl.specs.declared.act.Act.{Act}
 use Rattle.acl.specs.declared.act.Act.TheVariants as act
 use Rattle.acl.specs.declared.act.Object.TheVariants as object
 use Rattle.acl.specs.Same.{same_user}
-use Rattle.acl.specs.History.{History, followed_by, may, has, leaders_of, decided}
+use Rattle.acl.specs.History.{History, followed_by, may, has, decided}
 use Rattle.writelock.specs.Holding.{holder, given, kept, releases, ends, or_else, is_off, is_auto, is_on, mode_of}
 use Rattle.writelock.specs.Holding.{default_of}
 use Rattle.session_laws.proofs.Lists.{equal, and_first, and_second}
@@ -180,7 +180,6 @@ module _ (edition : Edition) (owner : UserId) (P : UserId → Type 0) (base : Hi
         last true true false x is = absurd (cc (is))
         last true false c x is = absurd (cc (is))
         last false b c x is = absurd (cc (is))
-  own_one user p h (act.Opened by v) based is w u held at = absurd is
   own_one user p h (act.Closed v) based is w u held at = absurd (cc (at))
   own_one user p h (act.Attached client v) based is w u held at = absurd (cc (at))
   own_one user p h (act.Parted client) based is w u held at = absurd (cc (at))

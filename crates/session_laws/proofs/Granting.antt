@@ -13,7 +13,7 @@ use Rattle.acl.specs.History.{followed_by}
 use Rattle.command_lang.specs.declared.command.Command.{Command as Order}
 use Rattle.command_lang.specs.Names.{name_of}
 use Rattle.command_lang.specs.declared.fault.ParseFault.{ParseFault}
-use Rattle.keys.specs.Grammar.{Item, typed, bound, line}
+use Rattle.keys.specs.Grammar.{Item, bound, line}
 use Rattle.session_model.specs.declared.check.Check.{Check}
 use Rattle.session_model.specs.declared.check.Check.TheVariants.{Right as right, Unlocked as unlocked, Must as must}
 use Rattle.command_lang.specs.declared.needs.Needs.{Needs}
@@ -22,7 +22,7 @@ use Rattle.session_model.specs.declared.event.Effect.TheVariants.{Input}
 use Rattle.session_model.specs.declared.message.StatusMessage.{StatusMessage}
 use Rattle.session_model.specs.declared.message.StatusMessage.TheVariants.{Text}
 use Rattle.session_model.specs.declared.refusal.Refusal.{Refusal}
-use Rattle.session_model.specs.declared.refusal.Refusal.TheVariants.{EntryDenied, LockDenied, NoWindow, NotMultiuser}
+use Rattle.session_model.specs.declared.refusal.Refusal.TheVariants.{EntryDenied, NoWindow, NotMultiuser}
 use Rattle.session_model.specs.declared.refusal.Refusal.TheVariants.{UnknownUser}
 use Rattle.session_model.specs.declared.verdict.Verdict.{Verdict}
 use Rattle.session_laws.proofs.Lists.{row_serial, all_append, all_filter, all_weaken, and_first, and_second}
@@ -99,7 +99,6 @@ checks_granted t k c has =
 
 plain_other : (r : Refusal) → is_plain r ≡ true → wants_x r ≡ false
 plain_other (EntryDenied d) is = absurd (cc (is))
-plain_other (LockDenied d) is = refl
 plain_other _ is = refl
 
 answered_other : (t : Tables) (vs : List Verdict) (a : Answer) → MatchAnswer NotX (λ d. Unit {0}) a
@@ -215,11 +214,9 @@ module _ (t : Tables) (client : ℕ) (bytes : List ℕ) (c : Client) (is : clien
       (λ g. has_x t g ≡ false
       → Refused t (Keys client bytes) (ordered (record t { clients = cs }) (reading read c) item).deed)
       (with_order (caller_of t c) (order_in item))
-  item_refused cs read None only = tt
-  item_refused cs read (Some (typed b)) only = tt
   item_refused cs read (Some (bound order)) only = (order_refused cs read order only, tt)
-  item_refused cs read (Some (line [])) only = tt
   item_refused cs read (Some (line (b ∷ bs))) only = line_refused cs read (read_line (b ∷ bs)) only
+  item_refused cs read item only = tt
 
   types_answer : (u : Tables) (d : Client) (bs : List ℕ) → d.serial ≡ c.serial
       → AllByRecursion (λ f. is_answer_to (Keys client bytes) f ≡ true) (types u d bs).effects

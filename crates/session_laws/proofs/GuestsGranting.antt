@@ -50,14 +50,13 @@ module _ (t u : Tables) (windows : u.windows ≡ t.windows)
       (rights v Read (object.Window w.serial))
 
   message_same : (c : Client) (m : StatusMessage) → lists_clients m ≡ false → message_text u c m ≡ message_text t c m
-  message_same c message.Silence plain = refl
-  message_same c (message.Text bytes) plain = refl
   message_same c message.AllWindows plain =
       ap (separated (codes "  "))
       (all_same (window_item u c.user (focused c)) (window_item t c.user (focused c)) (in_order u.windows)
       (item_same c.user (focused c))
       ∙ ap (λ ws. map (window_item t c.user (focused c)) (in_order ws)) windows)
   message_same c message.AllClients plain = absurd (cc (plain))
+  message_same c m plain = refl
 
   status_same : (c : Client) → lists_clients c.message ≡ false → status_text u c ≡ status_text t c
   status_same c plain = on (open_line (items c.keys).1) where

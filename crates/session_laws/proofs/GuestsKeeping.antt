@@ -1,5 +1,5 @@
 -- The holder of a lock keeps it in the steps of others, except for the ways that the law lists.
-use Rattle.std.proofs.Common.{◌≡◌, ℕ, Bool, true, false, List, [], ◌∷◌, ◌++◌, Some, None, Ok, Err, refl, ap, sym, ◌∙◌}
+use Rattle.std.proofs.Common.{◌≡◌, ℕ, Bool, true, false, List, [], ◌∷◌, ◌++◌, Some, None, refl, ap, sym, ◌∙◌}
 use Rattle.std.proofs.Common.{subst, inl, inr}
 use Rattle.std.specs.Prelude.{◌⊎◌}
 use Rattle.std.specs.List.{AllByRecursion}
@@ -16,8 +16,6 @@ use Rattle.command_lang.specs.declared.command.Command.TheVariants as command
 use Rattle.command_lang.specs.Names.{name_of}
 use Rattle.command_lang.specs.Needs.{needs}
 use Rattle.session_model.specs.Checks.{first_fault, checks_by}
-use Rattle.session_model.specs.Commands.{does}
-use Rattle.session_model.specs.Deeds.{Deed, Answer}
 use Rattle.session_model.specs.Outcomes.{left_acts}
 use Rattle.session_model.specs.Given.{Given, commands_of}
 use Rattle.session_model.specs.Promises.{SomeOf}
@@ -30,7 +28,7 @@ use Rattle.session_laws.proofs.Lists.{all_weaken}
 use Rattle.session_laws.proofs.Doing.{Either}
 use Rattle.session_laws.specs.Contained.{stood}
 use Rattle.session_laws.specs.Locking.{user_of, HoldersMayWrite}
-use Rattle.session_laws.proofs.Steps.{Did, Obeys, with_clients}
+use Rattle.session_laws.proofs.Steps.{Did, Obeys}
 use Rattle.session_laws.proofs.Events.{gives_commands}
 use Rattle.session_laws.proofs.Gating.{Below, obeys_of, then_passed}
 use Rattle.session_laws.proofs.Holding.{kept as kept_tables, by_acts, givers}
@@ -72,10 +70,6 @@ module _ (t : Tables) (fit : AreFit t) (w : ℕ) (x : UserId) (old : stood t (ob
   abbrev Freed : Entry → Type 0 → Type 0
   Freed e why = Still e ⊎ (why × AllByRecursion Silent e.acts)
 
-  deed_of : (P : Deed → Type 0) (a : Answer) (d : Deed) → a ≡ Ok d → Either P a → P d
-  deed_of P (Ok e) d is p = let same : e ≡ d = cc (is) in subst P same p
-  deed_of P (Err r) d is p = absurd (cc (is))
-
   did_stays : (e : Entry) (g : Given) → IsOf t g.caller → same_user g.caller.user x ≡ false → Did t e g
       → Freed e (Frees t e w x g)
   did_stays e g of other d = on (subst (C g.order) (sym acts) comes) where
@@ -86,8 +80,7 @@ module _ (t : Tables) (fit : AreFit t) (w : ℕ) (x : UserId) (old : stood t (ob
     C = Affects t w x g
 
     comes : C g.order (d.deed.acts ++ left_acts d.clients d.deed.tables.clients)
-    comes = deed_of (λ y. C g.order (y.acts ++ left_acts d.clients y.tables.clients))
-        (does (with_clients t d.clients) g.caller g.order) d.deed d.does_it
+    comes = subst (Either (λ y. C g.order (y.acts ++ left_acts d.clients y.tables.clients))) d.does_it
         (does_comes t fit w x held g d.clients d.same d.by of other passed)
 
     acts : e.acts ≡ d.deed.acts ++ left_acts d.clients d.deed.tables.clients

@@ -23,8 +23,8 @@ use Rattle.session_model.specs.declared.refusal.Refusal.TheVariants.{TooManyClie
 use Rattle.session_model.specs.windows_fault.WindowsFault.TheVariants.{Full, BadTitle}
 use Rattle.session_model.specs.declared.verdict.Verdict.{Verdict}
 use Rattle.session_model.specs.Trace.{Command, Reply}
-use Rattle.session_model.specs.Tables.{Tables, Window, Client, window_at, client_at, with_client, focused}
-use Rattle.session_model.specs.Tables.{focused_window, is_in_focus, is_known}
+use Rattle.session_model.specs.Tables.{Tables, Window, Client, window_at, client_at, focused}
+use Rattle.session_model.specs.Tables.{is_in_focus, is_known}
 use Rattle.session_model.specs.Naming.{lowest, free_number, is_title}
 use Rattle.session_model.specs.Lines.{read_line, Caller, line_caller}
 use Rattle.session_model.specs.Checks.{verdicts, first_fault, checks}
@@ -35,9 +35,8 @@ use Rattle.session_model.specs.Comings.{attach_checks, new_client, attaches, has
 use Rattle.session_model.specs.Comings.{is_client_size, is_window_size, is_let_in}
 use Rattle.session_model.specs.Answering.{line_ruling, answered, commanded}
 use Rattle.session_model.specs.Events.{with_client_of, with_window_of, outcome}
-use Rattle.session_laws.proofs.Cutting.{read_all, change_all, length_cut, append_cut, cut_window, cut_client, cut}
-use Rattle.session_laws.proofs.Cutting.{cut_deed, cut_caller, client_cut, window_cut, with_client_cut}
-use Rattle.session_laws.proofs.Cutting.{with_window_cut}
+use Rattle.session_laws.proofs.Cutting.{length_cut, append_cut, cut_window, cut_client, cut}
+use Rattle.session_laws.proofs.Cutting.{cut_deed, cut_caller, client_cut, window_cut}
 use Rattle.session_laws.proofs.Finding.{lowest_cut, free_cut, in_focus_cut, given_number_cut}
 use Rattle.session_laws.proofs.Checking.{fault_cut, verdicts_cut, checks_cut}
 use Rattle.session_laws.proofs.Rows.{row_cut, cut_answer}

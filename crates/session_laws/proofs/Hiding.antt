@@ -8,7 +8,7 @@ use Rattle.terminal_model.specs.Writing.{Writing}
 use Rattle.terminal_model.specs.Writing as written
 use Rattle.session_model.specs.declared.refusal.Refusal.TheVariants.{NoWindow}
 use Rattle.session_model.specs.Trace.{EventValue, Output, Entry}
-use Rattle.session_model.specs.Tables.{Tables, Window, Client, window_at, with_window}
+use Rattle.session_model.specs.Tables.{Tables, Window, window_at, with_window}
 use Rattle.session_model.specs.Outcomes.{Outcome, refused, finished, done}
 use Rattle.session_model.specs.Events.{outcome}
 use Rattle.session_model.specs.Comings.{outputs}

@@ -29,11 +29,7 @@ pub inputs_append : (a b : List Effect) (w : ℕ) → inputs (a ++ b) w ≡ inpu
 inputs_append [] b w = refl
 inputs_append (Input at bytes ∷ a) b w = ap (λ bs. (if at == w then bytes else []) ++ bs) (inputs_append a b w)
     ∙ sym (append_assoc (if at == w then bytes else []) (inputs a w) (inputs b w))
-inputs_append (Deliver to bytes ∷ a) b w = inputs_append a b w
-inputs_append (Say to bytes ∷ a) b w = inputs_append a b w
-inputs_append (Size at rows columns ∷ a) b w = inputs_append a b w
-inputs_append (Gone (peer.Window at) why ∷ a) b w = inputs_append a b w
-inputs_append (Gone (peer.Client at) why ∷ a) b w = inputs_append a b w
+inputs_append (x ∷ a) b w = inputs_append a b w
 
 -- an effect that isn't a Say is never dropped
 never_same : (e : Effect) (said : List Effect) → is_say e ≡ false → list_any (says_same e) said ≡ false

@@ -1,5 +1,5 @@
 -- Windows keep their numbers and titles, except by granted commands on them.
-use Rattle.std.proofs.Common.{◌≡◌, ℕ, Bool, true, false, List, [], ◌∷◌, ◌++◌, Option, Some, None, Ok, Err, refl, ap}
+use Rattle.std.proofs.Common.{◌≡◌, ℕ, Bool, true, false, List, [], ◌∷◌, ◌++◌, Option, Some, None, refl, ap}
 use Rattle.std.proofs.Common.{◌∙◌, subst, inl, inr}
 use Rattle.std.specs.Prelude.{if◌then◌else◌, ◌==◌, ◌⊎◌}
 use Rattle.std.specs.List.{AllByRecursion}
@@ -15,8 +15,7 @@ use Rattle.session_model.specs.declared.event.Effect.{Effect}
 use Rattle.session_model.specs.declared.event.Reason.TheVariants as reason
 use Rattle.session_model.specs.declared.verdict.Verdict.{Verdict}
 use Rattle.session_model.specs.Checks.{first_fault, verdicts}
-use Rattle.session_model.specs.Commands.{does}
-use Rattle.session_model.specs.Deeds.{Deed, Answer, closes}
+use Rattle.session_model.specs.Deeds.{closes}
 use Rattle.session_model.specs.Events.{outcome}
 use Rattle.session_model.specs.Outcomes.{Outcome, finished, done, reply_of}
 use Rattle.session_model.specs.Comings.{open_checks, opens, new_window, outputs}
@@ -29,6 +28,7 @@ use Rattle.session_model.specs.Run.{IsStep, after, drawn_on}
 use Rattle.session_model.specs.Sound.{AreFit}
 use Rattle.session_model.specs.Tables.{Tables, Window, Client, window_at, client_at, focused, is_known}
 use Rattle.session_model.specs.Trace.{EventValue, Keys, Command, Open, Output, Closed, Draw, Reply, Entry}
+use Rattle.session_laws.proofs.Lists.{some_or, some_both}
 use Rattle.session_laws.proofs.Lists.{equal, row_serial}
 use Rattle.session_laws.proofs.Doing.{Either}
 use Rattle.session_laws.proofs.SoundMoves.{differ}
@@ -74,34 +74,19 @@ module _ (t : Tables) (w : ℕ) where
   abbrev Same : Tables → Type 0
   Same u = label_in u.windows w ≡ label_in t.windows w
 
-  deed_of : (c : Order) (a : Answer) (d : Deed) (P : Deed → Type 0) → a ≡ Ok d → Either P a → P d
-  deed_of c (Ok e) d P is p = let same : e ≡ d = cc (is) in subst P same p
-  deed_of c (Err r) d P is p = absurd (cc (is))
-
   did_named : (e : Entry) (g : Given) → IsRowOf t g.caller → Did t e g → Same (after t e) ⊎ MayName t w g
   did_named e g row d =
-      on (deed_of g.order (does (with_clients t d.clients) g.caller g.order) d.deed
-      (KeepsLabel (with_clients t d.clients) g.caller row w g.order) d.does_it
+      on (subst (Either (KeepsLabel (with_clients t d.clients) g.caller row w g.order)) d.does_it
       (labels_kept (with_clients t d.clients) g.caller row w g.order)) where
         on : KeepsLabel (with_clients t d.clients) g.caller row w g.order d.deed → Same (after t e) ⊎ MayName t w g
         on (inl same) = inl (ap (λ ws. label_in ws w) d.tables.windows ∙ same)
         on (inr names) = inr (record { granted = did_x t e g d; acts = names })
 
-  some_named : (e : Entry) (gs : List Given) → AllByRecursion (λ (g : Given). IsRowOf t g.caller) gs
-      → SomeOf (Did t e) gs → Same (after t e) ⊎ SomeOf (MayName t w) gs
-  some_named e [] rows some = absurd some
-  some_named e (g ∷ gs) rows (inl d) = on (did_named e g rows.0 d) where
-    on : Same (after t e) ⊎ MayName t w g → Same (after t e) ⊎ SomeOf (MayName t w) (g ∷ gs)
-    on (inl same) = inl same
-    on (inr names) = inr (inl names)
-  some_named e (g ∷ gs) rows (inr later) = on (some_named e gs rows.1 later) where
-    on : Same (after t e) ⊎ SomeOf (MayName t w) gs → Same (after t e) ⊎ SomeOf (MayName t w) (g ∷ gs)
-    on (inl same) = inl same
-    on (inr names) = inr (inr names)
-
   obeys_named : (e : Entry) → AreFit t → Obeys t e → Same (after t e) ⊎ SomeOf (MayName t w) (commands_of t e.event)
   obeys_named e fit (inl rests) = inl (ap (λ ws. label_in ws w) rests.tables.windows)
-  obeys_named e fit (inr some) = some_named e (commands_of t e.event) (rows_given t e.event fit) some
+  obeys_named e fit (inr some) = some_or (λ g. IsRowOf t g.caller × Did t e g) (MayName t w) (Same (after t e))
+      (commands_of t e.event) (λ g both. did_named e g both.0 both.1)
+      (some_both (λ g. IsRowOf t g.caller) (Did t e) (commands_of t e.event) (rows_given t e.event fit) some)
 
   -- ---- other events
 

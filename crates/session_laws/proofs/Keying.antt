@@ -6,7 +6,7 @@ use Rattle.std.specs.Option.{option_map}
 use Rattle.acl.specs.declared.user_id.UserId.{UserId}
 use Rattle.command_lang.specs.declared.command.Command.{Command as Order}
 use Rattle.command_lang.specs.declared.fault.ParseFault.{ParseFault}
-use Rattle.keys.specs.Grammar.{Item, typed, bound, line}
+use Rattle.keys.specs.Grammar.{Item, bound, line}
 use Rattle.terminal_model.specs.Reading.{reads}
 use Rattle.terminal_model.specs.Writing.{Writing}
 use Rattle.terminal_model.specs.Writing as written
@@ -166,11 +166,9 @@ module _ (shown : ℕ → Bool) (seeing : UserId → Bool) where
 
   ordered_cut : (t : Tables) (c : Client) (item : Option Item)
       → ordered (less t) (g c) item ≡ cut_ordered (ordered t c item)
-  ordered_cut t c None = refl
-  ordered_cut t c (Some (typed b)) = refl
   ordered_cut t c (Some (bound order)) = line_cut t c (Ok order)
-  ordered_cut t c (Some (line [])) = refl
   ordered_cut t c (Some (line (b ∷ bytes))) = line_cut t c (read_line (b ∷ bytes))
+  ordered_cut t c item = refl
 
   -- ---- a step of keys
 

@@ -91,9 +91,8 @@ group_list None leader = tt
 group_list (Some u) leader = (refl, tt)
 
 scope_list : (by : UserId) (s : MaskScope) (bit : Bit) (value : Bool) → AllListing (scope_acts by s bit value)
-scope_list by (scope.Preset kind) bit value = (refl, tt)
 scope_list by (scope.User None) bit value = tt
-scope_list by (scope.User (Some u)) bit value = (refl, tt)
+scope_list by s bit value = (refl, tt)
 
 pub mask_list : (by : UserId) (entries : List MaskEntry) → AllListing (mask_acts by entries)
 mask_list by [] = tt

@@ -33,10 +33,9 @@ use Rattle.session_model.specs.Sound.{Rises, AreFit}
 use Rattle.session_model.specs.Tables.{Tables, Window, Client}
 use Rattle.session_laws.proofs.Lists.{contradicts, equal, all_weaken, all_append, all_map}
 use Rattle.session_laws.proofs.Listing.{is_listing}
-use Rattle.session_laws.proofs.Harmless.{NoneOf}
 use Rattle.session_laws.proofs.Callers.{Own, above, all_reverse, all_mapped}
 use Rattle.session_laws.proofs.GuestsLeaving.{LeftBy}
-use Rattle.session_laws.proofs.HolderActs.{IsCalm}
+use Rattle.session_laws.proofs.HolderActs.{NoneOf, IsCalm}
 
 -- ---- lists
 
@@ -180,14 +179,7 @@ module _ (t : Tables) (w : ℕ) (x : UserId) where
   listing_calm (act.Grouped u leader) is none = none
   listing_calm (act.Masked by u bit value) is none = none
   listing_calm (act.Preset kind bit value) is none = none
-  listing_calm (act.Mode by v mode) is none = absurd (cc (is))
-  listing_calm (act.Left v y) is none = absurd (cc (is))
-  listing_calm (act.Parted client) is none = absurd (cc (is))
-  listing_calm (act.Attached client user) is none = absurd (cc (is))
-  listing_calm (act.Opened by v) is none = absurd (cc (is))
-  listing_calm (act.Closed v) is none = absurd (cc (is))
-  listing_calm (act.Entered user v) is none = absurd (cc (is))
-  listing_calm (act.Default mode) is none = absurd (cc (is))
+  listing_calm a is none = absurd (cc (is))
 
 module _ (t : Tables) (fit : AreFit t) (w : ℕ) (x : UserId) where
   none_of : (s : ℕ) → AllByRecursion (λ (c : Client). (c.serial == s) ≡ true → same_user c.user x ≡ false) t.clients

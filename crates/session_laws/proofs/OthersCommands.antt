@@ -360,24 +360,18 @@ module _ (t : Tables) (fit : AreFit t) (w : ℕ) (x : UserId) (held : holder_in 
         (closed_silent (λ (z : Window). true)) (parted_silent (λ (d : Client). true) rest)))
 
     deed_comes : (d : Deed) → shapes.Shape v g.caller g.order d → ComesOf g.order d
-    deed_comes d (shapes.lists bytes none tells) = still_calm g.order [] tt tt
     deed_comes d (shapes.acts all none is) = acted all is
     deed_comes d (shapes.enters_page y l is at shows) = page_comes g.order y l
         (entering y.user (focused (with_layout l y))) at (entering_calm y.user (focused (with_layout l y)))
         (entering_plain y.user (focused (with_layout l y)))
     deed_comes d (shapes.keeps_page y l is at shows keeps) = page_comes g.order y l [] at tt tt
-    deed_comes d (shapes.writes_to y what one at) = still_calm g.order [] tt tt
-    deed_comes d (shapes.opened is) = still_calm g.order [] tt tt
     deed_comes d (shapes.shut is) = shut_off is
     deed_comes d (shapes.told bytes is) = told _
     deed_comes d (shapes.removed word is clear) = removal (named_by word) (ap takes_rights is)
-    deed_comes d (shapes.fitted y rows columns is at) = still_calm g.order [] tt tt
-    deed_comes d (shapes.titled y bytes is at) = still_calm g.order [] tt tt
-    deed_comes d (shapes.numbered y n is at clear) = still_calm g.order [] tt tt
-    deed_comes d (shapes.typed y bytes is at) = still_calm g.order [] tt tt
     deed_comes d (shapes.detached y is at) = detached y at
     deed_comes d (shapes.killed y is at) = killed y is at
     deed_comes d (shapes.quits is) = quits is
+    deed_comes d kind = still_calm g.order [] tt tt
 
     pub does_comes : Either (ComesOf g.order) (does v g.caller g.order)
     does_comes = shapes.by_shape (ComesOf g.order) v g.caller g.order deed_comes

@@ -47,16 +47,7 @@ not_listing (a ∷ acts) all = (one a all.0, not_listing acts all.1) where
   one (act.Parted client) is = refl
   one (act.Entered v w) is = refl
   one (act.Left v w) is = refl
-  one (act.Known v) is = absurd (cc (is))
-  one (act.Gone v) is = absurd (cc (is))
-  one (act.Set v bit o value) is = absurd (cc (is))
-  one (act.Grouped v leader) is = absurd (cc (is))
-  one (act.Masked by v bit value) is = absurd (cc (is))
-  one (act.Preset kind bit value) is = absurd (cc (is))
-  one (act.Opened by w) is = absurd (cc (is))
-  one (act.Closed w) is = absurd (cc (is))
-  one (act.Mode by w mode) is = absurd (cc (is))
-  one (act.Default mode) is = absurd (cc (is))
+  one a is = absurd (cc (is))
 
 opens_none : (acts : List Act) (w : ℕ) → Presence acts → list_any (opens_window w) acts ≡ false
 opens_none [] w all = refl
@@ -64,19 +55,7 @@ opens_none (a ∷ acts) w all = ap (λ b. b || list_any (opens_window w) acts) (
     ∙ opens_none acts w all.1 where
       one : (a : Act) → is_presence a ≡ true → opens_window w a ≡ false
       one (act.Opened by v) is = absurd (cc (is))
-      one (act.Attached client v) is = refl
-      one (act.Parted client) is = refl
-      one (act.Entered v x) is = refl
-      one (act.Left v x) is = refl
-      one (act.Known v) is = refl
-      one (act.Gone v) is = refl
-      one (act.Set v bit o value) is = refl
-      one (act.Grouped v leader) is = refl
-      one (act.Masked by v bit value) is = refl
-      one (act.Preset kind bit value) is = refl
-      one (act.Closed x) is = refl
-      one (act.Mode by x mode) is = refl
-      one (act.Default mode) is = refl
+      one a is = refl
 
 pub none_opened : (acts : List Act) (o : Object) → Presence acts → opened_by acts o ≡ false
 none_opened acts (object.Window w) present = opens_none acts w present
@@ -97,16 +76,7 @@ same_locking h (a ∷ acts) all =
       one (act.Parted client) is = record { default = refl; modes = λ w. refl }
       one (act.Entered v x) is = record { default = refl; modes = λ w. refl }
       one (act.Left v x) is = record { default = refl; modes = λ w. refl }
-      one (act.Known v) is = absurd (cc (is))
-      one (act.Gone v) is = absurd (cc (is))
-      one (act.Set v bit o value) is = absurd (cc (is))
-      one (act.Grouped v leader) is = absurd (cc (is))
-      one (act.Masked by v bit value) is = absurd (cc (is))
-      one (act.Preset kind bit value) is = absurd (cc (is))
-      one (act.Opened by w) is = absurd (cc (is))
-      one (act.Closed w) is = absurd (cc (is))
-      one (act.Mode by w mode) is = absurd (cc (is))
-      one (act.Default mode) is = absurd (cc (is))
+      one a is = absurd (cc (is))
 
 pub record Laws : Type 0 where
   pub stay : HoldersStay

@@ -178,11 +178,10 @@ module _ (t : Tables) (c : Client) (windows : List Window)
       (focus_same (focused d))
 
   message_same : (m : StatusMessage) → message_text u c m ≡ message_text t c m
-  message_same message.Silence = refl
-  message_same (message.Text bytes) = refl
   message_same message.AllWindows = ap (separated (codes "  ")) (items_same t c.user windows t.windows same (focused c))
   message_same message.AllClients = ap (separated (codes "  "))
       (map_all (client_item u) (client_item t) t.clients client_same)
+  message_same m = refl
 
   status_same : status_text u c ≡ status_text t c
   status_same = on (open_line (items c.keys).1) where

@@ -56,19 +56,10 @@ quiet_removal t None v = refl
 quiet_removal t (Some u) v = gone_clients Removed (filter (is_of u) t.clients) v
 
 quiet_deed : (t : Tables) (k : Caller) (c : Command) (d : Deed) → types c ≡ false → shapes.Shape t k c d → IsQuiet d
-quiet_deed t k c d other (shapes.lists bytes none tells) v = refl
-quiet_deed t k c d other (shapes.acts all none acted) v = refl
-quiet_deed t k c d other (shapes.enters_page x l of at shows) v = refl
-quiet_deed t k c d other (shapes.keeps_page x l of at shows same) v = refl
-quiet_deed t k c d other (shapes.writes_to w what one at) v = refl
-quiet_deed t k c d other (shapes.opened is) v = refl
 quiet_deed t k c d other (shapes.shut is) v = gone_clients SingleUser
     (filter (λ (x : Client). not (is_of t.owner x)) t.clients) v
 quiet_deed t k c d other (shapes.told bytes is) v = said (name_of k.user ++ (codes ": " ++ bytes)) t.clients v
 quiet_deed t k c d other (shapes.removed word is clear) v = quiet_removal t (named_by word) v
-quiet_deed t k c d other (shapes.fitted w rows columns is at) v = refl
-quiet_deed t k c d other (shapes.titled w bytes is at) v = refl
-quiet_deed t k c d other (shapes.numbered w n is at free) v = refl
 quiet_deed t k c d other (shapes.typed w bytes is at) v = absurd (true≢false (sym (ap types is) ∙ other))
 quiet_deed t k c d other (shapes.detached x is at) v = gone_clients Detached
     (filter (λ (y : Client). y.serial == x.serial) t.clients) v
@@ -76,6 +67,7 @@ quiet_deed t k c d other (shapes.killed w is at) v = gone_windows Killed
     (filter (λ (y : Window). y.serial == w.serial) t.windows) v
 quiet_deed t k c d other (shapes.quits is) v = gone_both Quit (filter (λ (w : Window). true) t.windows)
     (filter (λ (x : Client). true) (closes (λ w. true) Quit t).tables.clients) v
+quiet_deed t k c d other kind v = refl
 
 pub quiet : (t : Tables) (k : Caller) (c : Command) → types c ≡ false → Of IsQuiet (does t k c)
 quiet t k c other = through (does t k c) (shapes.by_shape IsQuiet t k c (λ d is. quiet_deed t k c d other is)) where

@@ -36,7 +36,7 @@ use Rattle.session_model.specs.Deeds as deeds
 use Rattle.session_model.specs.Deeds.{Deed, Answer, changes, given, unless, refused_if, parts, closes, removes}
 use Rattle.session_model.specs.Deeds.{without_window, without_windows, enters, arranges, selects, former_of, writes}
 use Rattle.session_model.specs.Deeds.{fits, tells, hearing}
-use Rattle.session_model.specs.Commands.{does, caller_client, on_client, focus_of, changing_bits, is_taken, coding_of}
+use Rattle.session_model.specs.Commands.{does, caller_client, on_client, focus_of, is_taken, coding_of}
 use Rattle.session_laws.proofs.Cutting.{read_all, change_all, filter_cut, cut_window, cut_client, cut, cut_deed}
 use Rattle.session_laws.proofs.Cutting.{cut_caller, cut_writing, is_no_output, client_cut, with_window_cut}
 use Rattle.session_laws.proofs.Cutting.{with_client_cut}

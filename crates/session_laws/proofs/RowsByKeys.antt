@@ -126,11 +126,9 @@ module _ (t : Tables) (c : Client) (read : List ℕ) where
 
   by_item : (cs : List Client) (item : Option Item) → SameClients t cs
       → AllByRecursion (Ordered (record t { clients = cs }) item) (with_order (caller_of t c) (order_in item))
-  by_item cs None same = tt
-  by_item cs (Some (typed b)) same = tt
   by_item cs (Some (bound order)) same = (by_order cs order same, tt)
-  by_item cs (Some (line [])) same = tt
   by_item cs (Some (line (b ∷ bs))) same = by_read cs b bs (read_line (b ∷ bs)) same
+  by_item cs item same = tt
 
   abbrev Faulty : Tables → Option Item → Type 0
   Faulty v (Some (bound order)) = Unit {0}
@@ -149,13 +147,9 @@ module _ (t : Tables) (c : Client) (read : List ℕ) where
   read_faulty cs (Err f) same = why_said t cs c.serial (Line f) Text same
 
   by_fault : (cs : List Client) (item : Option Item) → SameClients t cs → Faulty (record t { clients = cs }) item
-  by_fault cs None same = record { acts = refl; left = nobody_left t.clients cs same; effects = refl; tables = refl }
-  by_fault cs (Some (typed b)) same = record
-      { acts = refl; left = nobody_left t.clients cs same; effects = refl; tables = refl }
   by_fault cs (Some (bound order)) same = tt
-  by_fault cs (Some (line [])) same = record
-      { acts = refl; left = nobody_left t.clients cs same; effects = refl; tables = refl }
   by_fault cs (Some (line (b ∷ bs))) same = read_faulty cs (read_line (b ∷ bs)) same
+  by_fault cs item same = record { acts = refl; left = nobody_left t.clients cs same; effects = refl; tables = refl }
 
 -- ---- entries
 

@@ -10,7 +10,7 @@ use Rattle.acl.specs.Names.{name_of}
 use Rattle.command_lang.specs.declared.command.Command.{Command as Order}
 use Rattle.command_lang.specs.declared.command.Command.TheVariants as command
 use Rattle.command_lang.specs.declared.fault.ParseFault.{ParseFault}
-use Rattle.keys.specs.Grammar.{Item, typed, bound, line}
+use Rattle.keys.specs.Grammar.{Item, bound, line}
 use Rattle.terminal_model.specs.Reading.{reads}
 use Rattle.session_model.specs.declared.event.Effect.{Effect}
 use Rattle.session_model.specs.declared.event.Effect.TheVariants.{Input, Deliver, Say, Gone}
@@ -221,11 +221,9 @@ read_once v d (Ok order) rise = order_once v d order rise
 
 item_once : (v : Tables) (d : Client) (item : Option Item) → Rises (client_serials v.clients) v.next_client
     → AreSaidOnce (ordered v d item).deed.effects
-item_once v d None rise = tt
-item_once v d (Some (typed b)) rise = tt
 item_once v d (Some (bound order)) rise = order_once v d order rise
-item_once v d (Some (line [])) rise = tt
 item_once v d (Some (line (b ∷ bs))) rise = read_once v d (read_line (b ∷ bs)) rise
+item_once v d item rise = tt
 
 keys_once : (t : Tables) (client : ℕ) (bytes : List ℕ) (c : Client) → client_at t client ≡ Some c → AreSound t
     → AreSaidOnce (keys_outcome t c (take (taken c.keys bytes) bytes)).effects
@@ -243,10 +241,6 @@ keys_once t client bytes c is s =
     (client_firsts t.clients ∙ sym (ap firsts (ids_same t cs same)) ∙ sym (client_firsts cs)) s.clients_rise)))
 
 -- ---- events
-
-deed_once : (a : Answer) (d : Deed) → a ≡ Ok d → Either SaysOnce a → AreSaidOnce d.effects
-deed_once (Ok e) d is all = let same : e ≡ d = cc (is) in subst (λ (x : Deed). AreSaidOnce x.effects) same all.effects
-deed_once (Err r) d is all = absurd (cc (is))
 
 gone_clients : (cs : List Client) → AreSaidOnce (map (λ (c : Client). Gone (peer.Client c.serial) reason.Detached) cs)
 gone_clients [] = tt
@@ -271,8 +265,8 @@ once t (Keys client bytes) s = outcomes.found Once t (λ c. keys_outcome t c (ta
     (client_at t client) tt (λ c is. keys_once t client bytes c is s)
 once t (Command user number bytes) s =
     outcomes.by_line Once t (line_caller t user number) (is_known t user) (read_line bytes) (λ vs f. tt)
-    (λ c d known read passes is. deed_once (does t (line_caller t user number) c) d is
-    (says_once t (line_caller t user number) c s.clients_rise))
+    (λ c d known read passes is. (subst (Either SaysOnce) is
+    (says_once t (line_caller t user number) c s.clients_rise)).effects)
 once t (Output window bytes) s =
     outcomes.found Once t (λ v. finished t [] done (outputs t v bytes)) (window_at t window) tt
     (λ v is. input_once v.serial (reads (terminal_of v) bytes).reports

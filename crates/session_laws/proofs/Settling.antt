@@ -7,7 +7,7 @@ use Rattle.acl.specs.declared.act.Act.{Act}
 use Rattle.acl.specs.declared.act.Act.TheVariants as act
 use Rattle.command_lang.specs.declared.command.Command.{Command as Order}
 use Rattle.command_lang.specs.declared.fault.ParseFault.{ParseFault}
-use Rattle.keys.specs.Grammar.{Item, typed, bound, line}
+use Rattle.keys.specs.Grammar.{Item, bound, line}
 use Rattle.terminal_model.specs.Writing as written
 use Rattle.session_model.specs.declared.event.Reason.TheVariants as reason
 use Rattle.session_model.specs.declared.message.StatusMessage.{StatusMessage}
@@ -156,11 +156,9 @@ read_moves v d (Ok order) = order_moves v d order
 
 item_moves : (v : Tables) (d : Client) (item : Option Item)
     → let e : Deed = (ordered v d item).deed in Moves v e.tables e.acts 0
-item_moves v d None = still_moves v
-item_moves v d (Some (typed b)) = still_moves v
 item_moves v d (Some (bound order)) = order_moves v d order
-item_moves v d (Some (line [])) = still_moves v
 item_moves v d (Some (line (b ∷ bs))) = read_moves v d (read_line (b ∷ bs))
+item_moves v d item = still_moves v
 
 -- the clients at the beginning are the same
 ids_unread : (cs : List Client) → map id_of cs ≡ map id_of (map unread cs)
@@ -229,10 +227,6 @@ pub line_row : (t : Tables) (number : Option ℕ) (w : Window) → Differ t.wind
 line_row t None w all is = absurd (cc (is))
 line_row t (Some n) w all is = number_row t.windows n w all is
 
-pub deed_moves : (t : Tables) (a : Answer) (d : Deed) → a ≡ Ok d → Either (DeedMoves t) a → DeedMoves t d
-deed_moves t (Ok e) d is m = let same : e ≡ d = cc (is) in subst (DeedMoves t) same m
-deed_moves t (Err r) d is m = absurd (cc (is))
-
 -- ---- all events but those that bring a new window or client
 
 abbrev pub is_new : EventValue → Bool
@@ -255,7 +249,7 @@ moved t _ _ (outcomes.keyed client bytes c at) s other = keys_moves t client byt
 moved t _ _ (outcomes.obeyed user number bytes c d known read passes is) s other =
     let k : Caller = line_caller t user number in
     finished_moves t d _ (verdicts t (checks t k c)) (reply_of 0 0 0 d.lists)
-    (deed_moves t (does t k c) d is
+    (subst (Either (DeedMoves t)) is
     (moves t k (λ w at. line_row t number w (differ t.windows t.next_window s.windows_rise) at) c))
 moved t _ _ (outcomes.wrote window bytes v is) s other =
     let effects : List Effect = input_of v.serial (reads (terminal_of v) bytes).reports in

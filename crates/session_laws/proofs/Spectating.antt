@@ -13,7 +13,7 @@ use Rattle.acl.specs.Same.{same_user}
 use Rattle.command_lang.specs.declared.command.Command.{Command as Order}
 use Rattle.command_lang.specs.declared.fault.ParseFault.{ParseFault}
 use Rattle.command_lang.specs.Names.{name_of}
-use Rattle.keys.specs.Grammar.{Item, typed, bound, line}
+use Rattle.keys.specs.Grammar.{Item, bound, line}
 use Rattle.session_model.specs.declared.check.Check.TheVariants.{Unlocked as unlocked}
 use Rattle.session_model.specs.declared.event.Effect.TheVariants.{Say}
 use Rattle.session_model.specs.declared.message.StatusMessage.{StatusMessage}
@@ -183,11 +183,9 @@ module _ (user : UserId) (own : Option ℕ) (t : Tables) (watches : IsSpectator 
         (answer_of v (caller_of v c) order mine s (of_own v))
 
     itemed : (v : Tables) (item : Option Item) → Still user own t v → Of (ordered v c item).deed
-    itemed v None s = record { tables = s; acts = tt; effects = tt }
-    itemed v (Some (typed b)) s = record { tables = s; acts = tt; effects = tt }
     itemed v (Some (bound order)) s = lined v (Ok order) s
-    itemed v (Some (line [])) s = record { tables = s; acts = tt; effects = tt }
     itemed v (Some (line (b ∷ bytes))) s = lined v (read_line (b ∷ bytes)) s
+    itemed v item s = record { tables = s; acts = tt; effects = tt }
 
     may_not : (v : Tables) (w : ℕ) → Still user own t v → may_in v c.user Write (object.Window w) ≡ false
     may_not v w s =

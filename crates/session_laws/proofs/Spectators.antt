@@ -19,7 +19,7 @@ use Rattle.session_model.specs.declared.check.Check.TheVariants.{Must as must}
 use Rattle.session_model.specs.Naming.{is_title}
 use Rattle.session_model.specs.windows_fault.WindowsFault.TheVariants.{Full, BadTitle}
 use Rattle.session_model.specs.declared.event.Effect.{Effect}
-use Rattle.session_model.specs.declared.event.Effect.TheVariants.{Input, Deliver, Say, Size, Gone}
+use Rattle.session_model.specs.declared.event.Effect.TheVariants.{Deliver, Say, Gone}
 use Rattle.session_model.specs.declared.event.Peer.TheVariants as peer
 use Rattle.session_model.specs.declared.event.Reason.TheVariants as reason
 use Rattle.session_model.specs.declared.refusal.Refusal.{Refusal}
@@ -68,9 +68,7 @@ for_theirs : (t : Tables) (user : UserId) (own : Option ℕ) (f : Effect)
 for_theirs t user own (Say n bytes) mine is = mine n is
 for_theirs t user own (Deliver n bytes) mine is = mine n is
 for_theirs t user own (Gone (peer.Client n) why) mine is = mine n is
-for_theirs t user own (Input w bytes) mine is = is
-for_theirs t user own (Size w rows columns) mine is = is
-for_theirs t user own (Gone (peer.Window w) why) mine is = is
+for_theirs t user own f mine is = is
 
 all_for_theirs : (t : Tables) (user : UserId) (own : Option ℕ) (fs : List Effect)
     → ((n : ℕ) → is_it own n ≡ true → is_client_of t user n ≡ true) → AllTo own fs
@@ -206,12 +204,7 @@ module _ (t : Tables) (user : UserId) (fit : AreFit t) (watches : IsSpectator t 
     drew : (effects : List Effect) → DrawsWhereNeeded t c effects → AllTo (Some client) effects
     drew [] draws = tt
     drew (Deliver to bytes ∷ []) draws = (ap (λ n. n == client) draws.0 ∙ is_own, tt)
-    drew (Deliver to bytes ∷ f ∷ fs) draws = absurd draws
-    drew (Input w bytes ∷ fs) draws = absurd draws
-    drew (Say to bytes ∷ fs) draws = absurd draws
-    drew (Size w rows columns ∷ fs) draws = absurd draws
-    drew (Gone (peer.Window w) why ∷ fs) draws = absurd draws
-    drew (Gone (peer.Client d) why ∷ fs) draws = absurd draws
+    drew effects draws = absurd draws
 
     with_own : (effects : List Effect) (v : Tables) → Still user (Some client) t v
         → Still user (Some client) t (with_client v (with_drawn effects (granted_view v c) c))

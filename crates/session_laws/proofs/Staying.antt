@@ -8,7 +8,7 @@ use Rattle.acl.specs.declared.edition.Edition.{Edition}
 use Rattle.acl.specs.declared.user_id.UserId.{UserId}
 use Rattle.command_lang.specs.declared.command.Command.{Command as Order}
 use Rattle.command_lang.specs.declared.fault.ParseFault.{ParseFault}
-use Rattle.keys.specs.Grammar.{Item, typed, bound, line}
+use Rattle.keys.specs.Grammar.{Item, bound, line}
 use Rattle.regions.specs.declared.shown.Shown.{Shown}
 use Rattle.terminal_model.specs.Shows.{View}
 use Rattle.session_model.specs.declared.event.Effect.{Effect}
@@ -82,12 +82,10 @@ read_holds v d (Ok order) small h = order_holds v d order (small order refl) h
 
 item_holds : (v : Tables) (d : Client) (item : Option Item) → is_small_order item ≡ true → Holds v
     → Holds (ordered v d item).deed.tables
-item_holds v d None small h = h
-item_holds v d (Some (typed b)) small h = h
 item_holds v d (Some (bound order)) small h = order_holds v d order small h
-item_holds v d (Some (line [])) small h = h
 item_holds v d (Some (line (b ∷ bs))) small h = read_holds v d (read_line (b ∷ bs))
     (λ order is. read_small (b ∷ bs) order is) h
+item_holds v d item small h = h
 
 -- the same clients, keys and messages aside, have the same pages
 pages_read : (ns : List ℕ) (cs : List Client) → AllByRecursion (PageIn ns) (map unread cs)
@@ -162,10 +160,6 @@ ended : (t : Tables) (d : Deed) (vs : List Rattle.session_model.specs.declared.v
     (reply : Rattle.session_model.specs.Trace.Reply) → Holds d.tables → HoldsIn (finished t vs reply d)
 ended t d vs reply h = by_deed d.tables (finished t vs reply d).tables refl refl h
 
-deed_holds : (a : Answer) (d : Deed) → a ≡ Ok d → Either (λ (e : Deed). Holds e.tables) a → Holds d.tables
-deed_holds (Ok e) d is h = let same : e ≡ d = cc (is) in subst (λ (x : Deed). Holds x.tables) same h
-deed_holds (Err r) d is h = absurd (cc (is))
-
 happened : (t : Tables) (event : EventValue) (o : Outcome) → outcomes.Happens t event o → Holds t → HoldsIn o
 happened t _ _ (outcomes.failed event vs r why) h = h
 happened t _ _ (outcomes.changed event x c is f at) h =
@@ -199,7 +193,7 @@ happened t _ _ (outcomes.keyed client bytes c is) h =
 happened t _ _ (outcomes.obeyed user number bytes c d known read passes is) h =
     let k : Caller = line_caller t user number in
     ended t d (verdicts t (checks t k c)) (reply_of 0 0 0 d.lists)
-    (deed_holds (does t k c) d is
+    (subst (Either (λ (e : Deed). Holds e.tables)) is
     (holds t k h (λ w at. number_there t.windows number w at) c (read_small bytes c read)))
 happened t _ _ (outcomes.opened user rows columns keep title passes) h =
     let v : Window = new_window t rows columns keep title in ended t (opens t user v) [] done

@@ -96,10 +96,9 @@ module _ (shown : ℕ → Bool) (seeing : UserId → Bool) (t : Tables) (c : Cli
   -- ---- the status line
 
   message_same : (m : StatusMessage) → message_text (less t) (g c) m ≡ message_text t c m
-  message_same message.Silence = refl
-  message_same (message.Text bytes) = refl
   message_same message.AllWindows = windows_text_cut shown seeing t c.user (focused c)
   message_same message.AllClients = clients_text_cut shown seeing t
+  message_same m = refl
 
   status_same : status_text (less t) (g c) ≡ status_text t c
   status_same = on (open_line (items c.keys).1) where

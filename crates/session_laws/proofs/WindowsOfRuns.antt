@@ -8,7 +8,7 @@ use Rattle.acl.specs.declared.edition.Edition.{Edition}
 use Rattle.acl.specs.declared.user_id.UserId.{UserId}
 use Rattle.command_lang.specs.declared.command.Command.{Command as Order}
 use Rattle.command_lang.specs.declared.fault.ParseFault.{ParseFault}
-use Rattle.keys.specs.Grammar.{Item, typed, bound, line}
+use Rattle.keys.specs.Grammar.{Item, bound, line}
 use Rattle.terminal_model.specs.Reading.{reads}
 use Rattle.terminal_model.specs.Writing.{Writing}
 use Rattle.terminal_model.specs.Writing as written
@@ -51,7 +51,7 @@ use Rattle.session_laws.proofs.Settling.{told_same, focus_row, line_row, moving}
 use Rattle.session_laws.proofs.SoundMoves.{differ}
 use Rattle.session_laws.proofs.Asking.{keys_given}
 use Rattle.session_laws.proofs.Sounding.{run_sound, fresh_sound}
-use Rattle.session_laws.proofs.ClientsOfRuns.{some_elim}
+use Rattle.session_laws.proofs.Lists.{some_elim}
 use Rattle.session_laws.proofs.Showing.{some_has}
 use Rattle.session_laws.proofs.CommandWritings.{GoesOn, Row, Wrote, alike, kept_same, kept_fewer, kept_wrote, row_wrote}
 use Rattle.session_laws.proofs.CommandWritings.{sizes_append, sizes_unsaid, sizes_gone, sizes_closed, sizes_input}
@@ -159,11 +159,9 @@ module _ (t : Tables) (c : Client) (read : List ℕ) (s : AreSound t) (cs : List
   read_wrote (Ok order) = order_wrote order
 
   item_wrote : (item : Option Item) → InDeed (given (order_in item)) (ordered v (reading read c) item).deed
-  item_wrote None = kept_wrote t (λ n. []) t.windows (λ n. refl) (kept_same t.windows)
-  item_wrote (Some (typed b)) = kept_wrote t (λ n. []) t.windows (λ n. refl) (kept_same t.windows)
   item_wrote (Some (bound order)) = order_wrote order
-  item_wrote (Some (line [])) = kept_wrote t (λ n. []) t.windows (λ n. refl) (kept_same t.windows)
   item_wrote (Some (line (b ∷ bs))) = read_wrote (read_line (b ∷ bs))
+  item_wrote item = kept_wrote t (λ n. []) t.windows (λ n. refl) (kept_same t.windows)
 
 types_sizes : (u : Tables) (d : Client) (bs : List ℕ) (n : ℕ) → sizes_of (types u d bs).effects n ≡ []
 types_sizes u d [] n = refl

@@ -49,7 +49,6 @@ begins : (t : Tables) (d : Client) (effects : List Effect)
     → let c : Client = record d { delivered = []; drawn = None } in IsDraw t effects c
     → (rest : List ℕ) × (effects ≡ Deliver d.serial (0x18 ∷ 0x1B ∷ 0x63 ∷ 0x1B ∷ 0x25 ∷ 0x47 ∷ rest) ∷ [])
     × ShowsFromAny (0x18 ∷ 0x1B ∷ 0x63 ∷ 0x1B ∷ 0x25 ∷ 0x47 ∷ rest) d.rows d.columns (granted_view t c)
-begins t d [] is = absurd is.drawn
 begins t d (Deliver to bytes ∷ []) is =
     let c : Client = record d { delivered = []; drawn = None } in
     let frame : IsFrame d.rows d.columns [] (granted_view t c) bytes = is.drawn.2 in
@@ -60,7 +59,7 @@ begins t d (Deliver to bytes ∷ []) is =
           (append_nil (if to == d.serial then bytes else []) ∙ ap (λ (b : Bool). if b then bytes else []) to_it
           ∙ frame.begins) is.shows,
     )
-begins t d (f ∷ effects) is = absurd is.drawn
+begins t d effects is = absurd is.drawn
 
 pub begins_anew : rows.BeginsAnew
 begins_anew bytes v effects is = begins (resized bytes v) small effects is
@@ -76,7 +75,6 @@ once t u c d (Deliver to bytes ∷ []) was same is =
 once t u c d (f ∷ later) was same is = absurd is.drawn
 
 pub drawn_once : rows.DrawnOnce
-drawn_once [] later is next = absurd is.drawn
 drawn_once (Deliver to bytes ∷ []) later is next =
     once (then_comes (several Second) (Draw 2)) (after_draw (several Second) (Deliver to bytes ∷ [])) (client 2 bob 2)
     (record (client 2 bob 2) {
@@ -84,4 +82,4 @@ drawn_once (Deliver to bytes ∷ []) later is next =
       drawn = Some
           (seen_by (then_comes (several Second) (Draw 2)));
     }) later refl refl next
-drawn_once (f ∷ effects) later is next = absurd is.drawn
+drawn_once it later is next = absurd is.drawn

@@ -29,18 +29,7 @@ module _ (P : UserId → Type 0) (u : UserId) where
   by_acts (act.Known v ∷ h) all is = by_known v (same_user v u) refl (latest (decides_known u) false h) is all.0
       (by_acts h all.1)
   by_acts (act.Gone v ∷ h) all is = by_gone (same_user v u) (latest (decides_known u) false h) is (by_acts h all)
-  by_acts (act.Set v bit o value ∷ h) all is = by_acts h all is
-  by_acts (act.Grouped v leader ∷ h) all is = by_acts h all is
-  by_acts (act.Masked by v bit value ∷ h) all is = by_acts h all is
-  by_acts (act.Preset kind bit value ∷ h) all is = by_acts h all is
-  by_acts (act.Opened by w ∷ h) all is = by_acts h all is
-  by_acts (act.Closed w ∷ h) all is = by_acts h all is
-  by_acts (act.Attached client v ∷ h) all is = by_acts h all is
-  by_acts (act.Parted client ∷ h) all is = by_acts h all is
-  by_acts (act.Entered v w ∷ h) all is = by_acts h all is
-  by_acts (act.Left v w ∷ h) all is = by_acts h all is
-  by_acts (act.Mode by w mode ∷ h) all is = by_acts h all is
-  by_acts (act.Default mode ∷ h) all is = by_acts h all is
+  by_acts (a ∷ h) all is = by_acts h all is
 
   pub each_known : (owner : UserId) (h : History) → P owner → AllByRecursion P (named h) → is_known owner h u ≡ true
       → P u
