@@ -1,29 +1,16 @@
 -- After a step each client is new, or one of those before with the keys and deliveries of the step.
-use Rattle.std.proofs.Common.{◌≡◌, ℕ, Bool, true, false, not, List, [], ◌∷◌, ◌++◌, Option, Some, None}
-use Rattle.std.proofs.Common.{Err, refl, ap, sym, ◌∙◌, subst, filter, take, length, inl, inr, arith, suc, zero}
-use Rattle.std.specs.Prelude.{◌⊎◌, if◌then◌else◌, ◌==◌, MatchOption}
-use Rattle.std.specs.List.{AllByRecursion}
-use Rattle.std.proofs.lemmas.Bool.Decides.{nat_tests}
-use Rattle.keys.specs.Grammar.{Item}
-use Rattle.session_model.specs.declared.event.Effect.{Effect}
-use Rattle.session_model.specs.declared.event.Effect.TheVariants.{Deliver}
-use Rattle.session_model.specs.declared.refusal.Refusal.{Refusal}
-use Rattle.session_model.specs.Trace.{EventValue, Attach, Detach, Keys, Command, Open, Output, Closed, Draw, Reply}
-use Rattle.session_model.specs.Tables.{Tables, Window, Client, row_of, with_row, client_at, with_client}
-use Rattle.session_model.specs.Lines.{line_caller}
-use Rattle.session_model.specs.Deeds.{Deed, changing}
-use Rattle.session_model.specs.Keying.{taken, step_items, typed_bytes, command_item}
-use Rattle.session_model.specs.Events.{outcome}
-use Rattle.session_model.specs.Outcomes.{Outcome, finished, done, reply_of}
-use Rattle.session_model.specs.Answering.{keys_outcome, reading}
-use Rattle.session_model.specs.Comings.{new_client, new_window}
-use Rattle.session_model.specs.Granted.{granted_view}
-use Rattle.session_model.specs.Run.{HasEffects, IsDraw, DrawsWhereNeeded, deliveries, drawn, drawn_on, with_drawn}
-use Rattle.session_model.specs.Promises.{SomeOf, IsEffectOf}
-use Rattle.session_model.specs.Sound.{AreSound}
-use Rattle.session_laws.specs.Entries.{keys_read, is_resize}
+use Rattle.session_laws.proofs.Vocabulary.{◌≡◌, ℕ, Bool, true, false, not, List, [], ◌∷◌, ◌++◌, Option, Some, None, Err}
+use Rattle.session_laws.proofs.Vocabulary.{refl, ap, sym, ◌∙◌, subst, filter, take, length, inl, inr, arith, suc, zero}
+use Rattle.session_laws.proofs.Vocabulary.{◌⊎◌, if◌then◌else◌, ◌==◌, MatchOption, AllByRecursion, nat_tests, Item}
+use Rattle.session_laws.proofs.Vocabulary.{Effect, Deliver, Refusal, EventValue, Attach, Detach, Keys, Command, Open}
+use Rattle.session_laws.proofs.Vocabulary.{Output, Closed, Draw, Reply, Tables, Window, Client, row_of, with_row}
+use Rattle.session_laws.proofs.Vocabulary.{client_at, with_client, line_caller, Deed, changing, taken, step_items}
+use Rattle.session_laws.proofs.Vocabulary.{typed_bytes, command_item, outcome, Outcome, finished, done, reply_of}
+use Rattle.session_laws.proofs.Vocabulary.{keys_outcome, reading, new_client, new_window, granted_view, HasEffects}
+use Rattle.session_laws.proofs.Vocabulary.{IsDraw, DrawsWhereNeeded, deliveries, drawn, drawn_on, with_drawn, SomeOf}
+use Rattle.session_laws.proofs.Vocabulary.{IsEffectOf, AreSound, keys_read, is_resize, all_weaken, all_append, itself}
+use Rattle.session_laws.proofs.Vocabulary.{row_serial}
 use Rattle.session_laws.proofs.Inputs.{append_nil}
-use Rattle.session_laws.proofs.Lists.{all_weaken, all_append, itself, row_serial}
 use Rattle.session_laws.proofs.Doing.{Either}
 use Rattle.session_laws.proofs.EffectsCaused.{Fits, step_fits}
 use Rattle.session_laws.proofs.Unread.{row_at}

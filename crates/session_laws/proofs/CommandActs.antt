@@ -1,30 +1,17 @@
 -- Which acts each command has, and what it leaves unchanged.
-use Rattle.std.proofs.Common.{◌≡◌, ℕ, Bool, true, false, not, List, [], ◌∷◌, Option, Some, None, refl, ap, sym, ◌∙◌}
-use Rattle.std.proofs.Common.{subst, map, filter}
-use Rattle.std.specs.Prelude.{◌==◌}
-use Rattle.std.specs.List.{AllByRecursion}
-use Rattle.acl.specs.declared.user_id.UserId.{UserId}
-use Rattle.acl.specs.declared.act.Act.{Act}
+use Rattle.session_laws.proofs.Vocabulary.{◌≡◌, ℕ, Bool, true, false, not, List, [], ◌∷◌, Option, Some, None, refl, ap}
+use Rattle.session_laws.proofs.Vocabulary.{sym, ◌∙◌, subst, map, filter, ◌==◌, AllByRecursion, UserId, Act, named_by}
+use Rattle.session_laws.proofs.Vocabulary.{Order, Arrangement, Detached, Killed, SingleUser, Quit, Tables, Window}
+use Rattle.session_laws.proofs.Vocabulary.{Client, with_layout, focused, known_users, names_of, new_leader_of, Caller}
+use Rattle.session_laws.proofs.Vocabulary.{Deed, removes, parts, closes, entering, without_windows, does, caller_client}
+use Rattle.session_laws.proofs.Vocabulary.{mask_entries, IsOn, not_so, equal, all_weaken, all_of, all_map, all_passed}
+use Rattle.session_laws.proofs.Vocabulary.{all_append, contradicts, name_of, changes_rights, needs}
 use Rattle.acl.specs.declared.act.Act.TheVariants as act
-use Rattle.acl.specs.Names.{named_by}
-use Rattle.command_lang.specs.declared.command.Command.{Command as Order}
 use Rattle.command_lang.specs.declared.command.Command.TheVariants as command
-use Rattle.regions.specs.Layouts.{Arrangement}
-use Rattle.session_model.specs.declared.event.Reason.TheVariants.{Detached, Killed, SingleUser, Quit}
-use Rattle.session_model.specs.Tables.{Tables, Window, Client, with_layout, focused, known_users}
-use Rattle.session_model.specs.Naming.{names_of, new_leader_of}
-use Rattle.session_model.specs.Lines.{Caller}
 use Rattle.session_model.specs.Deeds as deeds
-use Rattle.session_model.specs.Deeds.{Deed, removes, parts, closes, entering, without_windows}
-use Rattle.session_model.specs.Commands.{does, caller_client, mask_entries}
-use Rattle.session_model.specs.Promises.{IsOn}
-use Rattle.session_laws.proofs.Lists.{equal, all_weaken, all_of, all_map, all_passed, all_append, contradicts}
 use Rattle.session_laws.proofs.Doing.{Either, caller_is}
-use Rattle.command_lang.specs.Names.{name_of}
-use Rattle.session_laws.specs.Changing.{changes_rights}
 use Rattle.session_laws.proofs.Listing.{is_listing, AllListing, change_list, add_list, group_list, mask_list}
 use Rattle.session_laws.proofs.Shapes as shapes
-use Rattle.command_lang.specs.Needs.{needs}
 
 -- which acts a command of this caller has
 abbrev pub IsActOf : Caller → Order → Act → Type 0
@@ -132,10 +119,7 @@ module _ (t : Tables) (k : Caller) (by : IsCaller t k) where
   as_row c x d is r = subst (λ (y : Order). IsRow t k y d) (sym is) r
 
   no_right : (c : Order) → (needs c).multiuser ≡ false → changes_rights (name_of c) ≡ false
-  no_right c none = on (changes_rights (name_of c)) refl where
-    on : (b : Bool) → changes_rights (name_of c) ≡ b → b ≡ false
-    on true is = contradicts (needs c).multiuser (needs_mode c is) none
-    on false is = refl
+  no_right c none = not_so (changes_rights (name_of c)) (λ is. contradicts (needs c).multiuser (needs_mode c is) none)
 
   on_rights : (c x : Order) (acts : List Act) → c ≡ x → changes_rights (name_of x) ≡ true → AllListing acts
       → AllByRecursion (IsActOf k c) acts

@@ -1,31 +1,16 @@
 -- How each command moves the focus of clients, command by command.
-use Rattle.std.proofs.Common.{◌≡◌, ℕ, zero, suc, Bool, true, false, not, List, [], ◌∷◌, ◌++◌, Option, Some, None}
-use Rattle.std.proofs.Common.{refl, ap, sym, ◌∙◌, map, filter, inl, inr, ⊎_elim}
-use Rattle.std.specs.Prelude.{◌⊎◌, if◌then◌else◌, ◌==◌}
-use Rattle.std.specs.List.{AllByRecursion}
-use Rattle.acl.specs.declared.user_id.UserId.{UserId}
-use Rattle.acl.specs.declared.act.Act.{Act}
+use Rattle.session_laws.proofs.Vocabulary.{◌≡◌, ℕ, zero, suc, Bool, true, false, not, List, [], ◌∷◌, ◌++◌, Option, Some}
+use Rattle.session_laws.proofs.Vocabulary.{None, refl, ap, sym, ◌∙◌, map, filter, inl, inr, ⊎_elim, ◌⊎◌, if◌then◌else◌}
+use Rattle.session_laws.proofs.Vocabulary.{◌==◌, AllByRecursion, UserId, Act, named_by, Order, Shown, Arrangement}
+use Rattle.session_laws.proofs.Vocabulary.{emptied, Reason, Detached, Killed, Quit, SingleUser, Tables, Window, Client}
+use Rattle.session_laws.proofs.Vocabulary.{row_of, with_row, with_layout, focused, Caller, Deed, removes, parts, closes}
+use Rattle.session_laws.proofs.Vocabulary.{is_of, without_window, without_windows, enters, arranges, entering, hearing}
+use Rattle.session_laws.proofs.Vocabulary.{does, caller_client, SomeOf, Rises, client_serials, row_replaced, other_way}
+use Rattle.session_laws.proofs.Vocabulary.{entered_by, all_weaken, all_filter, all_map, members, some_weaken, itself}
 use Rattle.acl.specs.declared.act.Act.TheVariants as act
-use Rattle.acl.specs.Names.{named_by}
-use Rattle.command_lang.specs.declared.command.Command.{Command as Order}
-use Rattle.regions.specs.declared.shown.Shown.{Shown}
-use Rattle.regions.specs.Layouts.{Arrangement, emptied}
-use Rattle.session_model.specs.declared.event.Reason.{Reason}
-use Rattle.session_model.specs.declared.event.Reason.TheVariants.{Detached, Killed, Quit, SingleUser}
 use Rattle.session_model.specs.declared.message.StatusMessage.TheVariants as message
-use Rattle.session_model.specs.Tables.{Tables, Window, Client, row_of, with_row, with_layout, focused}
-use Rattle.session_model.specs.Lines.{Caller}
 use Rattle.session_model.specs.Deeds as deeds
-use Rattle.session_model.specs.Deeds.{Deed, removes, parts, closes, is_of, without_window, without_windows, enters}
-use Rattle.session_model.specs.Deeds.{arranges, entering, hearing}
-use Rattle.session_model.specs.Commands.{does, caller_client}
-use Rattle.session_model.specs.Promises.{SomeOf}
-use Rattle.session_model.specs.Sound.{Rises, client_serials}
-use Rattle.session_laws.proofs.Lists.{row_goes as row_replaced}
-use Rattle.session_laws.proofs.Lists.{other_way}
 use Rattle.session_laws.proofs.Unread.{caller_row}
-use Rattle.session_laws.specs.Focus.{entered_by}
-use Rattle.session_laws.proofs.Lists.{all_weaken, all_filter, all_map, members, some_weaken, itself}
 use Rattle.session_laws.proofs.Doing.{Either, caller_is}
 use Rattle.session_laws.proofs.Moving.{AllRights}
 use Rattle.session_laws.proofs.Inputs.{append_nil}

@@ -1,23 +1,13 @@
 -- Commands leave the numbers and titles of all windows but the one that they act on.
-use Rattle.std.proofs.Common.{◌≡◌, ℕ, Bool, true, false, not, List, [], ◌∷◌, ◌++◌, Option, Some, None, refl, ap, sym}
-use Rattle.std.proofs.Common.{◌∙◌, subst, filter, inl, inr}
-use Rattle.std.specs.Prelude.{if◌then◌else◌, ◌==◌, ◌⊎◌}
-use Rattle.std.specs.Option.{option_map}
-use Rattle.acl.specs.declared.user_id.UserId.{UserId}
+use Rattle.session_laws.proofs.Vocabulary.{◌≡◌, ℕ, Bool, true, false, not, List, [], ◌∷◌, ◌++◌, Option, Some, None}
+use Rattle.session_laws.proofs.Vocabulary.{refl, ap, sym, ◌∙◌, subst, filter, inl, inr, if◌then◌else◌, ◌==◌, ◌⊎◌}
+use Rattle.session_laws.proofs.Vocabulary.{option_map, UserId, named_by, Order, name_of, Tables, Window, row_of}
+use Rattle.session_laws.proofs.Vocabulary.{with_row, window_at, with_window, Caller, Deed, removes, does, IsOn, equal}
+use Rattle.session_laws.proofs.Vocabulary.{names_its_window}
 use Rattle.acl.specs.declared.command_name.CommandName.TheVariants as name
-use Rattle.acl.specs.Names.{named_by}
-use Rattle.command_lang.specs.declared.command.Command.{Command as Order}
-use Rattle.command_lang.specs.Names.{name_of}
 use Rattle.terminal_model.specs.Writing as written
-use Rattle.session_model.specs.Tables.{Tables, Window, row_of, with_row, window_at, with_window}
-use Rattle.session_model.specs.Lines.{Caller}
 use Rattle.session_model.specs.Deeds as deeds
-use Rattle.session_model.specs.Deeds.{Deed, removes}
-use Rattle.session_model.specs.Commands.{does}
-use Rattle.session_model.specs.Promises.{IsOn}
-use Rattle.session_laws.proofs.Lists.{equal}
 use Rattle.session_laws.proofs.Doing.{Either}
-use Rattle.session_laws.specs.Naming.{names_its_window}
 use Rattle.session_laws.proofs.Shapes as shapes
 
 abbrev pub serial : Window → ℕ

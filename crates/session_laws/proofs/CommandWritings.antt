@@ -1,34 +1,19 @@
 -- What each command writes to windows, command by command.
-use Rattle.std.proofs.Common.{◌≡◌, ℕ, ◌<◌, ◌≤◌, Bool, true, false, not, List, [], ◌∷◌, ◌++◌, Option, Some, None, Ok}
-use Rattle.std.proofs.Common.{Err, refl, ap, sym, ◌∙◌, subst, map, filter, inl, inr, ⊎_elim, arith, append_assoc}
-use Rattle.std.specs.Prelude.{◌⊎◌, if◌then◌else◌, ◌==◌, length}
-use Rattle.std.specs.List.{AllByRecursion, list_any}
-use Rattle.std.proofs.lemmas.Bool.Decides.{nat_tests}
-use Rattle.acl.specs.declared.user_id.UserId.{UserId}
-use Rattle.acl.specs.Names.{named_by}
-use Rattle.command_lang.specs.declared.command.Command.{Command as Order}
+use Rattle.session_laws.proofs.Vocabulary.{◌≡◌, ℕ, ◌<◌, ◌≤◌, Bool, true, false, not, List, [], ◌∷◌, ◌++◌, Option, Some}
+use Rattle.session_laws.proofs.Vocabulary.{None, Ok, Err, refl, ap, sym, ◌∙◌, subst, map, filter, inl, inr, ⊎_elim}
+use Rattle.session_laws.proofs.Vocabulary.{arith, append_assoc, ◌⊎◌, if◌then◌else◌, ◌==◌, length, AllByRecursion}
+use Rattle.session_laws.proofs.Vocabulary.{list_any, nat_tests, UserId, named_by, Order, Writing, Effect, Input}
+use Rattle.session_laws.proofs.Vocabulary.{Deliver, Say, Size, Gone, Reason, Detached, Killed, Quit, Removed}
+use Rattle.session_laws.proofs.Vocabulary.{SingleUser, Refusal, NoWindow, Tables, Window, Client, row_of, with_row}
+use Rattle.session_laws.proofs.Vocabulary.{window_at, with_window, Caller, Deed, given, removes, parts, closes, is_of}
+use Rattle.session_laws.proofs.Vocabulary.{does, coding_of, says_same, unsaid, SomeOf, Rises, row_goes, other_way}
+use Rattle.session_laws.proofs.Vocabulary.{order_writing, is_own, sizes_of, all_weaken, all_filter, members}
+use Rattle.session_laws.proofs.Vocabulary.{some_weaken, some_row, itself}
 use Rattle.command_lang.specs.declared.command.Command.TheVariants as command
-use Rattle.terminal_model.specs.Writing.{Writing}
 use Rattle.terminal_model.specs.Writing as written
-use Rattle.session_model.specs.declared.event.Effect.{Effect}
-use Rattle.session_model.specs.declared.event.Effect.TheVariants.{Input, Deliver, Say, Size, Gone}
 use Rattle.session_model.specs.declared.event.Peer.TheVariants as peer
-use Rattle.session_model.specs.declared.event.Reason.{Reason}
-use Rattle.session_model.specs.declared.event.Reason.TheVariants.{Detached, Killed, Quit, Removed, SingleUser}
-use Rattle.session_model.specs.declared.refusal.Refusal.{Refusal}
-use Rattle.session_model.specs.declared.refusal.Refusal.TheVariants.{NoWindow}
-use Rattle.session_model.specs.Tables.{Tables, Window, Client, row_of, with_row, window_at, with_window}
-use Rattle.session_model.specs.Lines.{Caller}
 use Rattle.session_model.specs.Deeds as deeds
-use Rattle.session_model.specs.Deeds.{Deed, given, removes, parts, closes, is_of}
-use Rattle.session_model.specs.Commands.{does, coding_of}
-use Rattle.session_model.specs.Answering.{says_same, unsaid}
-use Rattle.session_model.specs.Promises.{SomeOf}
-use Rattle.session_model.specs.Sound.{Rises}
-use Rattle.session_laws.proofs.Lists.{row_goes, other_way}
-use Rattle.session_laws.specs.Written.{order_writing, is_own, sizes_of}
 use Rattle.session_laws.proofs.Inputs.{append_nil}
-use Rattle.session_laws.proofs.Lists.{all_weaken, all_filter, members, some_weaken, some_row, itself}
 use Rattle.session_laws.proofs.DifferentNumbers.{serial_of}
 use Rattle.session_laws.proofs.Doing.{Either}
 use Rattle.session_laws.proofs.Moving.{serials}

@@ -1,32 +1,16 @@
 -- A user who is shut out of a bit by the masks of all openers doesn't get it on windows that open
 -- later.
-use Rattle.std.proofs.Common.{◌≡◌, ℕ, ◌+◌, Bool, true, false, not, List, [], ◌∷◌, refl, ap, sym, ◌∙◌, subst, inl, inr}
-use Rattle.std.proofs.Common.{arith}
-use Rattle.std.specs.Prelude.{◌||◌, ◌&&◌, nat_lt}
-use Rattle.std.specs.List.{AllByRecursion, list_any}
-use Rattle.std.proofs.lemmas.Bool.Decides.{nat_tests}
-use Rattle.acl.specs.declared.edition.Edition.{Edition}
-use Rattle.acl.specs.declared.user_id.UserId.{UserId}
-use Rattle.acl.specs.declared.bits.Bit.{Bit}
-use Rattle.acl.specs.declared.bits.Bit.TheVariants.{Execute}
+use Rattle.session_laws.proofs.Vocabulary.{◌≡◌, ℕ, ◌+◌, Bool, true, false, not, List, [], ◌∷◌, refl, ap, sym, ◌∙◌}
+use Rattle.session_laws.proofs.Vocabulary.{subst, inl, inr, arith, ◌||◌, ◌&&◌, nat_lt, AllByRecursion, list_any}
+use Rattle.session_laws.proofs.Vocabulary.{nat_tests, Edition, UserId, Bit, Execute, Act, Object, same_user, History}
+use Rattle.session_laws.proofs.Vocabulary.{has, may, mask, leaders_of, same_user-true, commands_of, may_in, has_in}
+use Rattle.session_laws.proofs.Vocabulary.{IsRunFrom, after, tables_from, Tables, is_known, Entry, not_so, contradicts}
+use Rattle.session_laws.proofs.Vocabulary.{all_weaken, SameRights, RightsAreGated, AllSteps, AreGuests, may_open}
+use Rattle.session_laws.proofs.Vocabulary.{circle, AreShutOut, GrantsAreTheirs, came, AreConfined}
 use Rattle.acl.specs.declared.command_name.CommandName.TheVariants as name
-use Rattle.acl.specs.declared.act.Act.{Act}
-use Rattle.acl.specs.declared.act.Object.{Object}
 use Rattle.acl.specs.declared.act.Object.TheVariants as object
-use Rattle.acl.specs.Same.{same_user}
-use Rattle.acl.specs.History.{History, has, may, mask, leaders_of}
-use Rattle.acl.proofs.StandsForLemmas.{same_user-true}
-use Rattle.session_model.specs.Given.{commands_of}
-use Rattle.session_model.specs.Rights.{may_in, has_in}
-use Rattle.session_model.specs.Run.{IsRunFrom, after, tables_from}
-use Rattle.session_model.specs.Tables.{Tables, is_known}
-use Rattle.session_model.specs.Trace.{Entry}
-use Rattle.session_laws.proofs.Lists.{contradicts, all_weaken}
-use Rattle.session_laws.specs.Changing.{SameRights, RightsAreGated}
-use Rattle.session_laws.specs.Contained.{AllSteps, AreGuests}
 use Rattle.session_laws.proofs.Gating.{Below, gated}
 use Rattle.session_laws.proofs.Containing.{Grows, Remains, grows, stays, none_granted, not_opened, step_remains}
-use Rattle.session_laws.specs.Confined.{may_open, circle, AreShutOut, GrantsAreTheirs, came, AreConfined}
 use Rattle.session_laws.proofs.Comings.{Opens, Comes, comes}
 
 -- ---- a user who may not
@@ -85,10 +69,8 @@ shut_still t u acts users bit same shut = record {
 
 another : (t : Tables) (opener u : UserId) → may_open t opener ≡ true → may_open t u ≡ false
     → same_user opener u ≡ false
-another t opener u may not = on (same_user opener u) refl where
-  on : (b : Bool) → same_user opener u ≡ b → b ≡ false
-  on true is = contradicts (may_open t opener) may (ap (may_open t) (same_user-true opener u is) ∙ not)
-  on false is = refl
+another t opener u may not = not_so (same_user opener u)
+    (λ is. contradicts (may_open t opener) may (ap (may_open t) (same_user-true opener u is) ∙ not))
 
 neither : (a b : Bool) → a ≡ false → b ≡ false → (a || b) ≡ false
 neither false b p q = q

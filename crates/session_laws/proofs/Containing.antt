@@ -1,28 +1,14 @@
 -- Guests are contained: they can't change rights, in any run.
-use Rattle.std.proofs.Common.{◌≡◌, ◌≤◌, ℕ, Bool, true, false, List, [], ◌∷◌, refl, ap, sym, ◌∙◌, subst, inl, inr, arith}
-use Rattle.std.specs.Prelude.{◌==◌, ◌||◌, nat_lt}
-use Rattle.std.specs.List.{AllByRecursion, list_any}
-use Rattle.std.proofs.lemmas.Bool.Decides.{nat_tests}
-use Rattle.acl.specs.declared.user_id.UserId.{UserId}
-use Rattle.acl.specs.declared.act.Act.{Act}
+use Rattle.session_laws.proofs.Vocabulary.{◌≡◌, ◌≤◌, ℕ, Bool, true, false, List, [], ◌∷◌, refl, ap, sym, ◌∙◌, subst}
+use Rattle.session_laws.proofs.Vocabulary.{inl, inr, arith, ◌==◌, ◌||◌, nat_lt, AllByRecursion, list_any, nat_tests}
+use Rattle.session_laws.proofs.Vocabulary.{UserId, Act, Object, name_of, Order, left_acts, Given, commands_of, Caller}
+use Rattle.session_laws.proofs.Vocabulary.{SomeOf, IsStep, IsRunFrom, after, tables_from, Tables, EventValue, Open}
+use Rattle.session_laws.proofs.Vocabulary.{Entry, GrantsAreTheirs, some_gives, some_elim, contradicts, all_weaken}
+use Rattle.session_laws.proofs.Vocabulary.{all_append, changes_rights, opens_window, opened_by, SameLists, SameRights}
+use Rattle.session_laws.proofs.Vocabulary.{MayChangeRights, RightsAreGated, AllSteps, AreGuests, ChangesAreTheirs}
+use Rattle.session_laws.proofs.Vocabulary.{stood, AreContained}
 use Rattle.acl.specs.declared.act.Act.TheVariants as act
-use Rattle.acl.specs.declared.act.Object.{Object}
 use Rattle.acl.specs.declared.act.Object.TheVariants as object
-use Rattle.command_lang.specs.Names.{name_of}
-use Rattle.command_lang.specs.declared.command.Command.{Command as Order}
-use Rattle.session_model.specs.Outcomes.{left_acts}
-use Rattle.session_model.specs.Given.{Given, commands_of}
-use Rattle.session_model.specs.Lines.{Caller}
-use Rattle.session_model.specs.Promises.{SomeOf}
-use Rattle.session_model.specs.Run.{IsStep, IsRunFrom, after, tables_from}
-use Rattle.session_model.specs.Tables.{Tables}
-use Rattle.session_model.specs.Trace.{EventValue, Open, Entry}
-use Rattle.session_laws.specs.Confined.{GrantsAreTheirs}
-use Rattle.session_laws.proofs.Lists.{some_gives, some_elim}
-use Rattle.session_laws.proofs.Lists.{contradicts, all_weaken, all_append}
-use Rattle.session_laws.specs.Changing.{changes_rights, opens_window, opened_by, SameLists, SameRights}
-use Rattle.session_laws.specs.Changing.{MayChangeRights, RightsAreGated}
-use Rattle.session_laws.specs.Contained.{AllSteps, AreGuests, ChangesAreTheirs, stood, AreContained}
 use Rattle.session_laws.proofs.CommandActs.{IsActOf, IsRow}
 use Rattle.session_laws.proofs.Steps.{Did, with_clients}
 use Rattle.session_laws.proofs.Events.{IsActIn, all_left}

@@ -1,47 +1,24 @@
 -- Each effect has a cause in the event, and each text that is said is true.
-use Rattle.std.proofs.Common.{◌≡◌, ℕ, Bool, true, false, List, [], ◌∷◌, Option, Some, None, Ok, Err, Result, refl, ap}
-use Rattle.std.proofs.Common.{sym, ◌∙◌, subst, filter, length, inl, inr}
-use Rattle.std.specs.Prelude.{if◌then◌else◌, ◌==◌, take, MatchOption}
-use Rattle.std.specs.List.{AllByRecursion}
-use Rattle.acl.specs.declared.user_id.UserId.{UserId}
-use Rattle.command_lang.specs.declared.command.Command.{Command as Order}
+use Rattle.session_laws.proofs.Vocabulary.{◌≡◌, ℕ, Bool, true, false, List, [], ◌∷◌, Option, Some, None, Ok, Err}
+use Rattle.session_laws.proofs.Vocabulary.{Result, refl, ap, sym, ◌∙◌, subst, filter, length, inl, inr, if◌then◌else◌}
+use Rattle.session_laws.proofs.Vocabulary.{◌==◌, take, MatchOption, AllByRecursion, UserId, Order, ParseFault, Item}
+use Rattle.session_laws.proofs.Vocabulary.{bound, line, reads, Effect, Input, Deliver, Say, Gone, StatusMessage}
+use Rattle.session_laws.proofs.Vocabulary.{Refusal, Line, EventValue, Detach, Keys, Command, Output, Closed, Draw}
+use Rattle.session_laws.proofs.Vocabulary.{Reply, Entry, Tables, Window, Client, window_at, client_at, with_client}
+use Rattle.session_laws.proofs.Vocabulary.{focused_window, is_known, terminal_of, text_of, Caller, caller_of}
+use Rattle.session_laws.proofs.Vocabulary.{line_caller, read_line, checks, first_fault, typing_checks, Answer, Deed}
+use Rattle.session_laws.proofs.Vocabulary.{changing, parts, closes, does, typed_bytes, command_item, taken, step_items}
+use Rattle.session_laws.proofs.Vocabulary.{types, says_why, input_in, ordered, message_of, keyed, with_listed, reading}
+use Rattle.session_laws.proofs.Vocabulary.{keys_outcome, outcome, refused, finished, done, unsaid, outputs}
+use Rattle.session_laws.proofs.Vocabulary.{granted_view, IsFrame, IsStep, HasEffects, IsDraw, DrawsWhereNeeded, Given}
+use Rattle.session_laws.proofs.Vocabulary.{has_x, with_order, order_in, ok_of, commands_of, SomeOf, IsOn, IsDoneBy}
+use Rattle.session_laws.proofs.Vocabulary.{IsDoneByRight, IsEffectOf, IsFrameTo, NamesTruly, ReplyNamesTruly, IsTrueSay}
+use Rattle.session_laws.proofs.Vocabulary.{TellsByRight, told_by, DenialsName, Asks, all_append, all_map, all_filter}
+use Rattle.session_laws.proofs.Vocabulary.{all_of, all_weaken, all_passed, equal, row_serial}
 use Rattle.command_lang.specs.declared.command.Command.TheVariants as command
-use Rattle.command_lang.specs.declared.fault.ParseFault.{ParseFault}
-use Rattle.keys.specs.Grammar.{Item, bound, line}
-use Rattle.terminal_model.specs.Reading.{reads}
-use Rattle.session_model.specs.declared.event.Effect.{Effect}
-use Rattle.session_model.specs.declared.event.Effect.TheVariants.{Input, Deliver, Say, Gone}
 use Rattle.session_model.specs.declared.event.Peer.TheVariants as peer
 use Rattle.session_model.specs.declared.event.Reason.TheVariants as reason
-use Rattle.session_model.specs.declared.message.StatusMessage.{StatusMessage}
-use Rattle.session_model.specs.declared.refusal.Refusal.{Refusal}
-use Rattle.session_model.specs.declared.refusal.Refusal.TheVariants.{Line}
-use Rattle.session_model.specs.Trace.{EventValue, Detach, Keys, Command, Output, Closed, Draw, Reply, Entry}
-use Rattle.session_model.specs.Tables.{Tables, Window, Client, window_at, client_at, with_client, focused_window}
-use Rattle.session_model.specs.Tables.{is_known}
-use Rattle.session_model.specs.Terminals.{terminal_of}
-use Rattle.session_model.specs.Texts.{text_of}
-use Rattle.session_model.specs.Lines.{Caller, caller_of, line_caller, read_line}
-use Rattle.session_model.specs.Checks.{checks, first_fault, typing_checks}
-use Rattle.session_model.specs.Deeds.{Answer, Deed, changing, parts, closes}
-use Rattle.session_model.specs.Commands.{does}
-use Rattle.session_model.specs.Keying.{typed_bytes, command_item, taken, step_items}
-use Rattle.session_model.specs.Answering.{types, says_why, input_in, ordered, message_of, keyed, with_listed, reading}
-use Rattle.session_model.specs.Answering.{keys_outcome}
-use Rattle.session_model.specs.Events.{outcome}
-use Rattle.session_model.specs.Outcomes.{refused, finished, done}
 use Rattle.session_model.specs.Answering as answering
-use Rattle.session_model.specs.Answering.{unsaid}
-use Rattle.session_model.specs.Comings.{outputs}
-use Rattle.session_model.specs.Granted.{granted_view}
-use Rattle.session_model.specs.Framed.{IsFrame}
-use Rattle.session_model.specs.Run.{IsStep, HasEffects, IsDraw, DrawsWhereNeeded}
-use Rattle.session_model.specs.Given.{Given, has_x, with_order, order_in, ok_of, commands_of}
-use Rattle.session_model.specs.Promises.{SomeOf, IsOn, IsDoneBy, IsDoneByRight, IsEffectOf, IsFrameTo}
-use Rattle.session_model.specs.Denying.{NamesTruly, ReplyNamesTruly, IsTrueSay, TellsByRight, told_by, DenialsName}
-use Rattle.session_model.specs.Denying.{Asks}
-use Rattle.session_laws.proofs.Lists.{all_append, all_map, all_filter, all_of, all_weaken, all_passed, equal}
-use Rattle.session_laws.proofs.Lists.{row_serial}
 use Rattle.session_laws.proofs.Doing.{giving, Either}
 use Rattle.session_laws.proofs.CommandEffects.{HasDone, done_by}
 use Rattle.session_laws.proofs.Denying.{OnFault, plain_names}

@@ -1,24 +1,12 @@
 -- Commands keep window numbers below 40, and regions show open windows or nothing.
-use Rattle.std.proofs.Common.{◌≡◌, ℕ, ◌<◌, Bool, true, false, not, List, [], ◌∷◌, Option, Some, None, refl, ap, sym}
-use Rattle.std.proofs.Common.{◌∙◌, subst, map, filter, ⊎_elim}
-use Rattle.std.specs.Prelude.{if◌then◌else◌, ◌==◌, ◌||◌, MatchOption}
-use Rattle.std.specs.List.{AllByRecursion}
-use Rattle.std.specs.Option.{option_and_then}
-use Rattle.acl.specs.declared.user_id.UserId.{UserId}
-use Rattle.acl.specs.Names.{named_by}
-use Rattle.command_lang.specs.declared.command.Command.{Command as Order}
-use Rattle.regions.specs.declared.shown.Shown.{Shown}
-use Rattle.regions.specs.Layouts.{Arrangement, emptied}
-use Rattle.session_model.specs.declared.event.Reason.{Reason}
-use Rattle.session_model.specs.declared.event.Reason.TheVariants.{Killed, Quit}
-use Rattle.session_model.specs.declared.message.StatusMessage.{StatusMessage}
+use Rattle.session_laws.proofs.Vocabulary.{◌≡◌, ℕ, ◌<◌, Bool, true, false, not, List, [], ◌∷◌, Option, Some, None, refl}
+use Rattle.session_laws.proofs.Vocabulary.{ap, sym, ◌∙◌, subst, map, filter, ⊎_elim, if◌then◌else◌, ◌==◌, ◌||◌}
+use Rattle.session_laws.proofs.Vocabulary.{MatchOption, AllByRecursion, option_and_then, UserId, named_by, Order, Shown}
+use Rattle.session_laws.proofs.Vocabulary.{Arrangement, emptied, Reason, Killed, Quit, StatusMessage, Tables, Window}
+use Rattle.session_laws.proofs.Vocabulary.{Client, client_at, with_window, with_client, with_layout, Caller, Deed}
+use Rattle.session_laws.proofs.Vocabulary.{removes, closes, without_window, without_windows, hearing, does}
+use Rattle.session_laws.proofs.Vocabulary.{caller_client, other_way, all_weaken, all_map, all_filter, some_row}
 use Rattle.session_model.specs.declared.message.StatusMessage.TheVariants as message
-use Rattle.session_model.specs.Tables.{Tables, Window, Client, client_at, with_window, with_client, with_layout}
-use Rattle.session_model.specs.Lines.{Caller}
-use Rattle.session_model.specs.Deeds.{Deed, removes, closes, without_window, without_windows, hearing}
-use Rattle.session_model.specs.Commands.{does, caller_client}
-use Rattle.session_laws.proofs.Lists.{other_way}
-use Rattle.session_laws.proofs.Lists.{all_weaken, all_map, all_filter, some_row}
 use Rattle.session_laws.proofs.DifferentNumbers.{serial_of}
 use Rattle.session_laws.proofs.Doing.{Either}
 use Rattle.session_laws.proofs.Moving.{serials}

@@ -1,50 +1,25 @@
 -- The window in a client's focus is the one that its user entered last by the client's own steps.
-use Rattle.std.proofs.Common.{◌≡◌, ℕ, ◌<◌, Bool, true, false, not, List, [], ◌∷◌, ◌++◌, Option, Some, None, Ok, Err}
-use Rattle.std.proofs.Common.{Result, refl, ap, sym, ◌∙◌, subst, take, filter, inl, inr, ⊎_elim, arith}
-use Rattle.std.specs.Prelude.{◌⊎◌, if◌then◌else◌, ◌==◌, ◌||◌}
-use Rattle.std.specs.List.{AllByRecursion}
-use Rattle.std.specs.Option.{option_or}
-use Rattle.std.proofs.lemmas.Bool.Decides.{nat_tests}
-use Rattle.acl.specs.declared.edition.Edition.{Edition}
-use Rattle.acl.specs.declared.user_id.UserId.{UserId}
-use Rattle.acl.specs.declared.act.Act.{Act}
+use Rattle.session_laws.proofs.Vocabulary.{◌≡◌, ℕ, ◌<◌, Bool, true, false, not, List, [], ◌∷◌, ◌++◌, Option, Some, None}
+use Rattle.session_laws.proofs.Vocabulary.{Ok, Err, Result, refl, ap, sym, ◌∙◌, subst, take, filter, inl, inr, ⊎_elim}
+use Rattle.session_laws.proofs.Vocabulary.{arith, ◌⊎◌, if◌then◌else◌, ◌==◌, ◌||◌, AllByRecursion, option_or, nat_tests}
+use Rattle.session_laws.proofs.Vocabulary.{Edition, UserId, Act, Order, ParseFault, Item, bound, line, View, Effect}
+use Rattle.session_laws.proofs.Vocabulary.{StatusMessage, Text, Refusal, Line, EventValue, Attach, Keys, Draw, Reply}
+use Rattle.session_laws.proofs.Vocabulary.{Entry, Trace, Tables, Window, Client, fresh, row_of, with_row, client_at}
+use Rattle.session_laws.proofs.Vocabulary.{with_client, focused, is_in_focus, text_of, caller_of, line_caller}
+use Rattle.session_laws.proofs.Vocabulary.{read_line, checks, first_fault, Deed, Answer, changing, entering, hearing}
+use Rattle.session_laws.proofs.Vocabulary.{does, taken, step_items, typed_bytes, command_item, outcome, Outcome}
+use Rattle.session_laws.proofs.Vocabulary.{finished, done, left_acts_of, left_acts, new_client, reading, types, told}
+use Rattle.session_laws.proofs.Vocabulary.{ordered, keyed, with_listed, message_of, keys_outcome, by_line, granted_view}
+use Rattle.session_laws.proofs.Vocabulary.{SomeOf, unread, drawn, drawn_on, with_drawn, after, IsStep, IsRun, IsRunFrom}
+use Rattle.session_laws.proofs.Vocabulary.{tables_from, tables_of, Rises, AreSound, client_serials, entered_by}
+use Rattle.session_laws.proofs.Vocabulary.{is_own_step, entered_in, last_entered, all_weaken, all_append, some_map}
+use Rattle.session_laws.proofs.Vocabulary.{some_mapped, some_row, row_serial, itself, some_elim}
 use Rattle.acl.specs.declared.act.Act.TheVariants as act
-use Rattle.command_lang.specs.declared.command.Command.{Command as Order}
-use Rattle.command_lang.specs.declared.fault.ParseFault.{ParseFault}
-use Rattle.keys.specs.Grammar.{Item, bound, line}
-use Rattle.terminal_model.specs.Shows.{View}
-use Rattle.session_model.specs.declared.event.Effect.{Effect}
-use Rattle.session_model.specs.declared.message.StatusMessage.{StatusMessage}
-use Rattle.session_model.specs.declared.message.StatusMessage.TheVariants.{Text}
-use Rattle.session_model.specs.declared.refusal.Refusal.{Refusal}
-use Rattle.session_model.specs.declared.refusal.Refusal.TheVariants.{Line}
-use Rattle.session_model.specs.Trace.{EventValue, Attach, Keys, Draw, Reply, Entry, Trace}
-use Rattle.session_model.specs.Tables.{Tables, Window, Client, fresh, row_of, with_row, client_at, with_client, focused}
-use Rattle.session_model.specs.Tables.{is_in_focus}
-use Rattle.session_model.specs.Texts.{text_of}
-use Rattle.session_model.specs.Lines.{caller_of, line_caller, read_line}
-use Rattle.session_model.specs.Checks.{checks, first_fault}
-use Rattle.session_model.specs.Deeds.{Deed, Answer, changing, entering, hearing}
-use Rattle.session_model.specs.Commands.{does}
-use Rattle.session_model.specs.Keying.{taken, step_items, typed_bytes, command_item}
-use Rattle.session_model.specs.Events.{outcome}
-use Rattle.session_model.specs.Outcomes.{Outcome, finished, done, left_acts_of, left_acts}
-use Rattle.session_model.specs.Comings.{new_client}
-use Rattle.session_model.specs.Answering.{reading, types, told, ordered, keyed, with_listed, message_of, keys_outcome}
-use Rattle.session_model.specs.Answering.{by_line}
-use Rattle.session_model.specs.Granted.{granted_view}
-use Rattle.session_model.specs.Promises.{SomeOf, unread}
-use Rattle.session_model.specs.Run.{drawn, drawn_on, with_drawn, after, IsStep, IsRun, IsRunFrom, tables_from}
-use Rattle.session_model.specs.Run.{tables_of}
-use Rattle.session_model.specs.Sound.{Rises, AreSound, client_serials}
-use Rattle.session_laws.specs.Focus.{entered_by, is_own_step, entered_in, last_entered}
-use Rattle.session_laws.proofs.Lists.{all_weaken, all_append, some_map, some_mapped, some_row, row_serial, itself}
 use Rattle.session_laws.proofs.Doing.{Either}
 use Rattle.session_laws.proofs.Unread.{SameClients, typing_clients, row_at}
 use Rattle.session_laws.proofs.Settling.{told_same, ids_same}
 use Rattle.session_laws.proofs.SoundMoves.{client_firsts, firsts}
 use Rattle.session_laws.proofs.Sounding.{run_sound, fresh_sound}
-use Rattle.session_laws.proofs.Lists.{some_elim}
 use Rattle.session_laws.proofs.Showing.{some_has, all_row}
 use Rattle.session_laws.proofs.CommandFocus.{GoesOn, AllGoOn, alike, Same, Kept, kept_same, kept_fewer, kept_go}
 use Rattle.session_laws.proofs.CommandFocus.{without_kept, row_goes, entered_of, HasGone, none_if, gone}

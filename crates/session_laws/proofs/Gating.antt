@@ -1,35 +1,16 @@
 -- Rights change only by a list command that is granted.
-use Rattle.std.proofs.Common.{◌≡◌, Bool, true, false, not, List, Option, Some, None, refl, ap, sym, ◌∙◌, subst}
-use Rattle.std.proofs.Common.{inl, inr}
-use Rattle.std.specs.Prelude.{if◌then◌else◌, ◌⊎◌}
-use Rattle.acl.specs.declared.act.Act.{Act}
+use Rattle.session_laws.proofs.Vocabulary.{◌≡◌, Bool, true, false, not, List, Option, Some, None, refl, ap, sym, ◌∙◌}
+use Rattle.session_laws.proofs.Vocabulary.{subst, inl, inr, if◌then◌else◌, ◌⊎◌, Act, Execute, followed_by, Order}
+use Rattle.session_laws.proofs.Vocabulary.{name_of, Effect, Verdict, Refusal, NotMultiuser, Tables, first_fault}
+use Rattle.session_laws.proofs.Vocabulary.{checks_by, left_acts, Given, commands_of, Caller, needs, KeepsPromise}
+use Rattle.session_laws.proofs.Vocabulary.{may_in, IsStep, after, EventValue, Keys, Command, Reply, Entry, some_or}
+use Rattle.session_laws.proofs.Vocabulary.{KeysDoTheirRows, StepsKeepPromise, CommandsDoTheirRows, CommandsAreRefusedSo}
+use Rattle.session_laws.proofs.Vocabulary.{contradicts, all_weaken, all_append, changes_rights, SameRights}
+use Rattle.session_laws.proofs.Vocabulary.{MayChangeRights, RightsAreGated}
 use Rattle.acl.specs.declared.act.Act.TheVariants as act
-use Rattle.acl.specs.declared.bits.Bit.TheVariants.{Execute}
 use Rattle.acl.specs.declared.act.Object.TheVariants as object
-use Rattle.acl.specs.History.{followed_by}
-use Rattle.command_lang.specs.declared.command.Command.{Command as Order}
 use Rattle.command_lang.specs.declared.command.Command.TheVariants as command
-use Rattle.command_lang.specs.Names.{name_of}
-use Rattle.session_model.specs.declared.event.Effect.{Effect}
-use Rattle.session_model.specs.declared.verdict.Verdict.{Verdict}
-use Rattle.session_model.specs.declared.refusal.Refusal.{Refusal}
-use Rattle.session_model.specs.declared.refusal.Refusal.TheVariants.{NotMultiuser}
-use Rattle.session_model.specs.Tables.{Tables}
-use Rattle.session_model.specs.Checks.{first_fault, checks_by}
-use Rattle.session_model.specs.Outcomes.{left_acts}
-use Rattle.session_model.specs.Given.{Given, commands_of}
-use Rattle.session_model.specs.Lines.{Caller}
-use Rattle.command_lang.specs.Needs.{needs}
-use Rattle.session_model.specs.Keeps.{KeepsPromise}
-use Rattle.session_model.specs.Rights.{may_in}
-use Rattle.session_model.specs.Run.{IsStep, after}
-use Rattle.session_model.specs.Trace.{EventValue, Keys, Command, Reply, Entry}
-use Rattle.session_laws.proofs.Lists.{some_or}
-use Rattle.session_laws.specs.Keyed.{KeysDoTheirRows}
-use Rattle.session_laws.specs.Laws.{StepsKeepPromise, CommandsDoTheirRows, CommandsAreRefusedSo}
-use Rattle.session_laws.proofs.Lists.{contradicts, all_weaken, all_append}
 use Rattle.session_laws.proofs.Doing.{Either}
-use Rattle.session_laws.specs.Changing.{changes_rights, SameRights, MayChangeRights, RightsAreGated}
 use Rattle.session_laws.proofs.Listing.{is_listing}
 use Rattle.session_laws.proofs.Histories.{NoListing, same_rights}
 use Rattle.session_laws.proofs.CommandActs.{IsActOf, IsRow, row_of}

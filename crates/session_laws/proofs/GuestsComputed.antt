@@ -1,17 +1,9 @@
 -- The rows of a guest among four users, proved by computing.
-use Rattle.std.proofs.Common.{◌≡◌, true, false, refl, ap, sym, ◌∙◌}
-use Rattle.std.specs.Fmt.{digits}
-use Rattle.acl.specs.declared.bits.Bit.TheVariants.{Execute}
-use Rattle.acl.specs.declared.command_name.CommandName.{CommandName}
+use Rattle.session_laws.proofs.Vocabulary.{◌≡◌, true, false, refl, ap, sym, ◌∙◌, digits, Execute, CommandName}
+use Rattle.session_laws.proofs.Vocabulary.{same_user-true, items_from, command_named, unless, refused_if, given, may_in}
+use Rattle.session_laws.proofs.Vocabulary.{changes_rights, bob}
 use Rattle.acl.specs.declared.command_name.CommandName.TheVariants as name
 use Rattle.acl.specs.declared.act.Object.TheVariants as object
-use Rattle.acl.proofs.StandsForLemmas.{same_user-true}
-use Rattle.keys.specs.Grammar.{items_from}
-use Rattle.command_lang.specs.Names.{command_named}
-use Rattle.session_model.specs.Deeds.{unless, refused_if, given}
-use Rattle.session_model.specs.Rights.{may_in}
-use Rattle.session_laws.specs.Changing.{changes_rights}
-use Rattle.session_laws.specs.WorkedSetup.{bob}
 use Rattle.session_laws.specs.WorkedGuests as rows
 
 none_of_five : (c : CommandName) → changes_rights c ≡ true

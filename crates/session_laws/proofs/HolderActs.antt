@@ -1,22 +1,13 @@
 -- Acts after which a holder still has the lock, unless they lose the window by one of them.
-use Rattle.std.proofs.Common.{◌≡◌, ℕ, Bool, true, false, not, List, [], ◌∷◌, Some, None, refl, ap, sym, ◌∙◌, filter}
-use Rattle.std.proofs.Common.{inl, inr}
-use Rattle.std.specs.Prelude.{if◌then◌else◌, ◌==◌, ◌||◌, ◌&&◌, ◌⊎◌}
-use Rattle.std.specs.List.{AllByRecursion, list_any}
-use Rattle.acl.specs.declared.edition.Edition.{Edition}
-use Rattle.acl.specs.declared.user_id.UserId.{UserId}
-use Rattle.acl.specs.declared.bits.Bit.TheVariants.{Write}
-use Rattle.acl.specs.declared.act.Act.{Act}
+use Rattle.session_laws.proofs.Vocabulary.{◌≡◌, ℕ, Bool, true, false, not, List, [], ◌∷◌, Some, None, refl, ap, sym}
+use Rattle.session_laws.proofs.Vocabulary.{◌∙◌, filter, inl, inr, if◌then◌else◌, ◌==◌, ◌||◌, ◌&&◌, ◌⊎◌, AllByRecursion}
+use Rattle.session_laws.proofs.Vocabulary.{list_any, Edition, UserId, Write, Act, same_user, History, followed_by, may}
+use Rattle.session_laws.proofs.Vocabulary.{decided, holder, kept, ends, or_else, is_off, is_auto, is_on, mode_of}
+use Rattle.session_laws.proofs.Vocabulary.{default_of, clients_of, has_client, frees, all_filter, LosesWindow}
 use Rattle.acl.specs.declared.act.Act.TheVariants as act
 use Rattle.acl.specs.declared.act.Object.TheVariants as object
-use Rattle.acl.specs.Same.{same_user}
-use Rattle.acl.specs.History.{History, followed_by, may, decided}
-use Rattle.writelock.specs.Holding.{holder, given, kept, ends, or_else, is_off, is_auto, is_on, mode_of, default_of}
-use Rattle.writelock.specs.Holding.{clients_of, has_client}
-use Rattle.writelock.specs.LockTable.{frees}
-use Rattle.session_laws.proofs.Lists.{all_filter}
+use Rattle.writelock.specs.Holding.{given}
 use Rattle.session_laws.proofs.Histories.{same_may}
-use Rattle.session_laws.specs.Keeping.{LosesWindow}
 
 -- no client with this serial belongs to the user
 abbrev pub NoneOf : UserId → ℕ → List (ℕ × UserId) → Type 0

@@ -1,39 +1,19 @@
 -- A user who holds a lock took it in a step of their own, and may write.
-use Rattle.std.proofs.Common.{◌≡◌, ℕ, Bool, true, false, List, [], ◌∷◌, ◌++◌, Option, Some, None, refl, ap, sym, ◌∙◌}
-use Rattle.std.proofs.Common.{subst, inl, inr, ⊎_elim}
-use Rattle.std.specs.Prelude.{if◌then◌else◌, ◌⊎◌}
-use Rattle.std.specs.List.{AllByRecursion}
-use Rattle.std.specs.Option.{option_map, option_map_or}
-use Rattle.acl.specs.declared.edition.Edition.{Edition}
-use Rattle.acl.specs.declared.user_id.UserId.{UserId}
-use Rattle.acl.specs.declared.bits.Bit.TheVariants.{Write, Execute}
-use Rattle.acl.specs.declared.act.Act.{Act}
+use Rattle.session_laws.proofs.Vocabulary.{◌≡◌, ℕ, Bool, true, false, List, [], ◌∷◌, ◌++◌, Option, Some, None, refl, ap}
+use Rattle.session_laws.proofs.Vocabulary.{sym, ◌∙◌, subst, inl, inr, ⊎_elim, if◌then◌else◌, ◌⊎◌, AllByRecursion}
+use Rattle.session_laws.proofs.Vocabulary.{option_map, option_map_or, Edition, UserId, Write, Execute, Act, LockMode}
+use Rattle.session_laws.proofs.Vocabulary.{Off, History, followed_by, may, holder, is_off, Order, name_of, Check}
+use Rattle.session_laws.proofs.Vocabulary.{first_fault, checks_by, window_checks, left_acts, Given, commands_of}
+use Rattle.session_laws.proofs.Vocabulary.{with_order, order_in, ok_of, step_items, command_item, Caller, caller_of}
+use Rattle.session_laws.proofs.Vocabulary.{line_caller, read_line, needs, IsOn, may_in, holder_in, IsStep, IsRunFrom}
+use Rattle.session_laws.proofs.Vocabulary.{after, tables_from, Tables, Window, Client, client_at, is_known, EventValue}
+use Rattle.session_laws.proofs.Vocabulary.{Attach, Detach, Keys, Command, Open, Closed, Entry, some_gives, some_elim}
+use Rattle.session_laws.proofs.Vocabulary.{contradicts, all_weaken, all_append, changes_rights, user_of}
+use Rattle.session_laws.proofs.Vocabulary.{HoldersMayWrite, TakesIt}
 use Rattle.acl.specs.declared.act.Act.TheVariants as act
-use Rattle.acl.specs.declared.act.LockMode.{LockMode}
-use Rattle.acl.specs.declared.act.LockMode.TheVariants.{Off}
 use Rattle.acl.specs.declared.act.Object.TheVariants as object
-use Rattle.acl.specs.History.{History, followed_by, may}
-use Rattle.writelock.specs.Holding.{holder, is_off}
-use Rattle.command_lang.specs.declared.command.Command.{Command as Order}
 use Rattle.command_lang.specs.declared.command.Command.TheVariants as command
-use Rattle.command_lang.specs.Names.{name_of}
-use Rattle.session_model.specs.declared.check.Check.{Check}
-use Rattle.session_model.specs.Checks.{first_fault, checks_by, window_checks}
-use Rattle.session_model.specs.Outcomes.{left_acts}
-use Rattle.session_model.specs.Given.{Given, commands_of, with_order, order_in, ok_of}
-use Rattle.session_model.specs.Keying.{step_items, command_item}
-use Rattle.session_model.specs.Lines.{Caller, caller_of, line_caller, read_line}
 use Rattle.command_lang.specs.Needs as need
-use Rattle.command_lang.specs.Needs.{needs}
-use Rattle.session_model.specs.Promises.{IsOn}
-use Rattle.session_model.specs.Rights.{may_in, holder_in}
-use Rattle.session_model.specs.Run.{IsStep, IsRunFrom, after, tables_from}
-use Rattle.session_model.specs.Tables.{Tables, Window, Client, client_at, is_known}
-use Rattle.session_model.specs.Trace.{EventValue, Attach, Detach, Keys, Command, Open, Closed, Entry}
-use Rattle.session_laws.proofs.Lists.{some_gives, some_elim}
-use Rattle.session_laws.proofs.Lists.{contradicts, all_weaken, all_append}
-use Rattle.session_laws.specs.Changing.{changes_rights}
-use Rattle.session_laws.specs.Locking.{user_of, HoldersMayWrite, TakesIt}
 use Rattle.session_laws.proofs.CommandActs.{IsActOf, IsRow}
 use Rattle.session_laws.proofs.Steps.{Did, with_clients}
 use Rattle.session_laws.proofs.Events.{IsActIn, all_left}

@@ -1,20 +1,12 @@
 -- Commands leave each client's keys, and what was delivered to it, unchanged.
-use Rattle.std.proofs.Common.{◌≡◌, ℕ, Bool, true, false, not, List, [], ◌∷◌, Option, Some, None, refl, ap, sym, ◌∙◌}
-use Rattle.std.proofs.Common.{map, filter, ⊎_elim}
-use Rattle.std.specs.Prelude.{if◌then◌else◌, ◌==◌}
-use Rattle.std.specs.List.{AllByRecursion}
-use Rattle.acl.specs.declared.user_id.UserId.{UserId}
-use Rattle.acl.specs.Names.{named_by}
-use Rattle.command_lang.specs.declared.command.Command.{Command as Order}
-use Rattle.regions.specs.Layouts.{one_region, empty}
+use Rattle.session_laws.proofs.Vocabulary.{◌≡◌, ℕ, Bool, true, false, not, List, [], ◌∷◌, Option, Some, None, refl, ap}
+use Rattle.session_laws.proofs.Vocabulary.{sym, ◌∙◌, map, filter, ⊎_elim, if◌then◌else◌, ◌==◌, AllByRecursion, UserId}
+use Rattle.session_laws.proofs.Vocabulary.{named_by, Order, one_region, empty, Tables, Window, Client, with_row}
+use Rattle.session_laws.proofs.Vocabulary.{client_at, with_client, Caller, Deed, removes, without_window}
+use Rattle.session_laws.proofs.Vocabulary.{without_windows, hearing, does, caller_client, SomeOf, all_weaken, all_map}
+use Rattle.session_laws.proofs.Vocabulary.{all_filter, members, some_weaken, some_row}
 use Rattle.session_model.specs.declared.message.StatusMessage.TheVariants as message
-use Rattle.session_model.specs.Tables.{Tables, Window, Client, with_row, client_at, with_client}
-use Rattle.session_model.specs.Lines.{Caller}
-use Rattle.session_model.specs.Deeds.{Deed, removes, without_window, without_windows, hearing}
-use Rattle.session_model.specs.Commands.{does, caller_client}
-use Rattle.session_model.specs.Promises.{SomeOf}
 use Rattle.session_laws.proofs.Unread.{caller_row}
-use Rattle.session_laws.proofs.Lists.{all_weaken, all_map, all_filter, members, some_weaken, some_row}
 use Rattle.session_laws.proofs.Doing.{Either}
 use Rattle.session_laws.proofs.Shapes as shapes
 

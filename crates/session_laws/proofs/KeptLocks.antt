@@ -1,24 +1,12 @@
 -- The holder of a lock keeps it in the steps of users without rights: nobody else's step takes it,
 -- and what frees it is a command that such a user may give.
-use Rattle.std.proofs.Common.{◌≡◌, ℕ, true, false, Some, None, refl, ap, sym, ◌∙◌, inl, inr}
-use Rattle.std.specs.Prelude.{◌⊎◌}
-use Rattle.acl.specs.declared.user_id.UserId.{UserId}
-use Rattle.acl.specs.declared.bits.Bit.TheVariants.{Write, Execute}
+use Rattle.session_laws.proofs.Vocabulary.{◌≡◌, ℕ, true, false, Some, None, refl, ap, sym, ◌∙◌, inl, inr, ◌⊎◌, UserId}
+use Rattle.session_laws.proofs.Vocabulary.{Write, Execute, Order, name_of, Given, commands_of, has_x, SomeOf, may_in}
+use Rattle.session_laws.proofs.Vocabulary.{holder_in, IsStep, after, AreFit, Tables, Entry, changes_rights, FreesBy}
+use Rattle.session_laws.proofs.Vocabulary.{Frees, IsFreed, user_of, HoldersMayWrite, may_free, MayFree, IsPowerless}
+use Rattle.session_laws.proofs.Vocabulary.{HoldersStayIn, contradicts, and_first, some_weaken, some_both}
 use Rattle.acl.specs.declared.act.Object.TheVariants as object
-use Rattle.command_lang.specs.declared.command.Command.{Command as Order}
 use Rattle.command_lang.specs.declared.command.Command.TheVariants as command
-use Rattle.command_lang.specs.Names.{name_of}
-use Rattle.session_model.specs.Given.{Given, commands_of, has_x}
-use Rattle.session_model.specs.Promises.{SomeOf}
-use Rattle.session_model.specs.Rights.{may_in, holder_in}
-use Rattle.session_model.specs.Run.{IsStep, after}
-use Rattle.session_model.specs.Sound.{AreFit}
-use Rattle.session_model.specs.Tables.{Tables}
-use Rattle.session_model.specs.Trace.{Entry}
-use Rattle.session_laws.specs.Changing.{changes_rights}
-use Rattle.session_laws.specs.Keeping.{FreesBy, Frees, IsFreed}
-use Rattle.session_laws.specs.Locking.{user_of, HoldersMayWrite, may_free, MayFree, IsPowerless, HoldersStayIn}
-use Rattle.session_laws.proofs.Lists.{contradicts, and_first, some_weaken, some_both}
 use Rattle.session_laws.proofs.Gating.{Below}
 use Rattle.session_laws.proofs.Holding.{givers}
 use Rattle.session_laws.proofs.GuestsKeeping.{locks_stay}

@@ -1,3 +1,4 @@
+pub mod Vocabulary
 pub mod Lists
 pub mod Quiet
 pub mod Leaving

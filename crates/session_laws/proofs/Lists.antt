@@ -20,6 +20,10 @@ itself n = grind (arith, nat_tests)
 pub other_way : (m n : ℕ) → (m == n) ≡ false → (n == m) ≡ false
 other_way m n is = grind (arith, nat_tests, is)
 
+pub not_so : (b : Bool) → (b ≡ true → ⊥) → b ≡ false
+not_so true on = absurd (on refl)
+not_so false on = refl
+
 pub and_first : (a b : Bool) → (a && b) ≡ true → a ≡ true
 and_first true b is = refl
 and_first false b is = absurd (cc (is))

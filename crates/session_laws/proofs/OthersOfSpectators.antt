@@ -1,37 +1,19 @@
 -- In each step of a spectator others keep what they have.
-use Rattle.std.proofs.Common.{◌≡◌, ℕ, true, false, List, [], ◌∷◌, Option, Some, None}
-use Rattle.std.proofs.Common.{refl, ap, sym, ◌∙◌, subst, ⊎_elim}
-use Rattle.std.specs.Prelude.{◌||◌}
-use Rattle.std.specs.List.{AllByRecursion, list_any}
-use Rattle.acl.specs.declared.user_id.UserId.{UserId}
-use Rattle.acl.specs.declared.act.Act.{Act}
+use Rattle.session_laws.proofs.Vocabulary.{◌≡◌, ℕ, true, false, List, [], ◌∷◌, Option, Some, None, refl, ap, sym, ◌∙◌}
+use Rattle.session_laws.proofs.Vocabulary.{subst, ⊎_elim, ◌||◌, AllByRecursion, list_any, UserId, Act, Object, Write}
+use Rattle.session_laws.proofs.Vocabulary.{Execute, CommandName, History, followed_by, default_of, mode_of, Order}
+use Rattle.session_laws.proofs.Vocabulary.{name_of, Entry, Tables, may_in, holder_in, Given, commands_of, SomeOf}
+use Rattle.session_laws.proofs.Vocabulary.{AreFit, IsStep, after, and_first, contradicts, opens_window, opened_by}
+use Rattle.session_laws.proofs.Vocabulary.{SameRights, changes_rights, stood, user_of, HoldersMayWrite, HoldersStay}
+use Rattle.session_laws.proofs.Vocabulary.{LocksAreTaken, TakesIt, MayFree, may_free, is_watching, IsSpectator}
+use Rattle.session_laws.proofs.Vocabulary.{LeavesOthers}
 use Rattle.acl.specs.declared.act.Act.TheVariants as act
-use Rattle.acl.specs.declared.act.Object.{Object}
 use Rattle.acl.specs.declared.act.Object.TheVariants as object
-use Rattle.acl.specs.declared.bits.Bit.TheVariants.{Write, Execute}
-use Rattle.acl.specs.declared.command_name.CommandName.{CommandName}
 use Rattle.acl.specs.declared.command_name.CommandName.TheVariants as name
-use Rattle.acl.specs.History.{History, followed_by}
-use Rattle.writelock.specs.Holding.{default_of, mode_of}
-use Rattle.command_lang.specs.declared.command.Command.{Command as Order}
 use Rattle.command_lang.specs.declared.command.Command.TheVariants as command
-use Rattle.command_lang.specs.Names.{name_of}
-use Rattle.session_model.specs.Trace.{Entry}
-use Rattle.session_model.specs.Tables.{Tables}
-use Rattle.session_model.specs.Rights.{may_in, holder_in}
-use Rattle.session_model.specs.Given.{Given, commands_of}
-use Rattle.session_model.specs.Promises.{SomeOf}
-use Rattle.session_model.specs.Sound.{AreFit}
-use Rattle.session_model.specs.Run.{IsStep, after}
-use Rattle.session_laws.proofs.Lists.{and_first, contradicts}
-use Rattle.session_laws.specs.Changing.{opens_window, opened_by, SameRights, changes_rights}
-use Rattle.session_laws.specs.Contained.{stood}
-use Rattle.session_laws.specs.Locking.{user_of, HoldersMayWrite, HoldersStay, LocksAreTaken, TakesIt, MayFree}
-use Rattle.session_laws.specs.Locking.{may_free}
 use Rattle.session_laws.proofs.Listing.{is_listing}
 use Rattle.session_laws.proofs.Histories.{NoListing, same_rights}
 use Rattle.session_laws.proofs.Holding.{givers}
-use Rattle.session_laws.specs.Watching.{is_watching, IsSpectator, LeavesOthers}
 use Rattle.session_laws.proofs.Watching.{is_presence, Presence}
 use Rattle.session_laws.proofs.GuestsGranting.{same_granted}
 use Rattle.session_laws.proofs.Spectating.{Stepped}

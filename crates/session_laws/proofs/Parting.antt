@@ -1,29 +1,15 @@
 -- The mode changes only by granted commands, and so do other users' clients part.
-use Rattle.std.proofs.Common.{◌≡◌, ℕ, Bool, true, false, not, List, [], ◌∷◌, ◌++◌, Some, refl, ap, sym, ◌∙◌, subst, inl}
-use Rattle.std.proofs.Common.{inr, map, filter, reverse}
-use Rattle.std.specs.Prelude.{if◌then◌else◌, ◌==◌, ◌||◌, ◌⊎◌, is_some}
-use Rattle.std.specs.List.{AllByRecursion, list_any}
-use Rattle.std.proofs.lemmas.List.{reverse-append}
-use Rattle.acl.specs.declared.user_id.UserId.{UserId}
-use Rattle.acl.specs.declared.act.Act.{Act}
+use Rattle.session_laws.proofs.Vocabulary.{◌≡◌, ℕ, Bool, true, false, not, List, [], ◌∷◌, ◌++◌, Some, refl, ap, sym}
+use Rattle.session_laws.proofs.Vocabulary.{◌∙◌, subst, inl, inr, map, filter, reverse, if◌then◌else◌, ◌==◌, ◌||◌, ◌⊎◌}
+use Rattle.session_laws.proofs.Vocabulary.{is_some, AllByRecursion, list_any, reverse-append, UserId, Act, History}
+use Rattle.session_laws.proofs.Vocabulary.{followed_by, clients_of, Order, name_of, left_acts, Given, commands_of}
+use Rattle.session_laws.proofs.Vocabulary.{has_x, SomeOf, IsStep, after, AreFit, ActsAgree, Tables, Client, client_at}
+use Rattle.session_laws.proofs.Vocabulary.{row_of, EventValue, Detach, Entry, some_or, some_elim, some_weaken}
+use Rattle.session_laws.proofs.Vocabulary.{TablesStayFit, equal, all_weaken, all_append, IsGranted, sets_mode}
+use Rattle.session_laws.proofs.Vocabulary.{ModeIsGated, parts_others, DetachesItself, IsParted}
 use Rattle.acl.specs.declared.act.Act.TheVariants as act
-use Rattle.acl.specs.History.{History, followed_by}
-use Rattle.writelock.specs.Holding.{clients_of}
-use Rattle.command_lang.specs.declared.command.Command.{Command as Order}
 use Rattle.command_lang.specs.declared.command.Command.TheVariants as command
-use Rattle.command_lang.specs.Names.{name_of}
-use Rattle.session_model.specs.Outcomes.{left_acts}
-use Rattle.session_model.specs.Given.{Given, commands_of, has_x}
-use Rattle.session_model.specs.Promises.{SomeOf}
-use Rattle.session_model.specs.Run.{IsStep, after}
-use Rattle.session_model.specs.Sound.{AreFit, ActsAgree}
-use Rattle.session_model.specs.Tables.{Tables, Client, client_at, row_of}
-use Rattle.session_model.specs.Trace.{EventValue, Detach, Entry}
-use Rattle.session_laws.proofs.Lists.{some_or, some_elim, some_weaken}
-use Rattle.session_laws.specs.Fit.{TablesStayFit}
-use Rattle.session_laws.proofs.Lists.{equal, all_weaken, all_append}
 use Rattle.session_laws.proofs.Passing.{passed_has_x}
-use Rattle.session_laws.specs.Gates.{IsGranted, sets_mode, ModeIsGated, parts_others, DetachesItself, IsParted}
 use Rattle.session_laws.proofs.CommandActs.{IsActOf, is_mode}
 use Rattle.session_laws.proofs.Steps.{Did}
 use Rattle.session_laws.proofs.Events.{IsActIn, all_left}
@@ -150,12 +136,6 @@ stays_attached t e before later k client is none =
 
 abbrev Why : Tables → ℕ → Given → Type 0
 Why t client g = DetachesItself t client g ⊎ IsGranted t parts_others g
-
-not_equal : (m n : ℕ) → ((m ≡ n) → ⊥) → (m == n) ≡ false
-not_equal m n other = on (m == n) refl where
-  on : (b : Bool) → (m == n) ≡ b → b ≡ false
-  on true is = absurd (other (equal m n is))
-  on false is = refl
 
 -- each element of a list passes the test, or one of them doesn't
 search_act : (p : Act → Bool) (acts : List Act) → AllByRecursion (λ a. p a ≡ false) acts ⊎ SomeOf (λ a. p a ≡ true) acts

@@ -1,31 +1,15 @@
 -- A client's row after a step: the keys and the deliveries of the step follow those before it.
-use Rattle.std.proofs.Common.{◌≡◌, ℕ, Bool, true, false, List, [], ◌∷◌, ◌++◌, Option, Some, None, Ok, Err, Result}
-use Rattle.std.proofs.Common.{refl, ap, sym, ◌∙◌, ⊎_elim}
-use Rattle.std.specs.Prelude.{if◌then◌else◌, ◌==◌}
-use Rattle.std.specs.List.{AllByRecursion}
-use Rattle.command_lang.specs.declared.command.Command.{Command as Order}
-use Rattle.command_lang.specs.declared.fault.ParseFault.{ParseFault}
-use Rattle.keys.specs.Grammar.{Item, bound, line}
-use Rattle.session_model.specs.declared.event.Effect.{Effect}
-use Rattle.session_model.specs.declared.event.Effect.TheVariants.{Deliver}
-use Rattle.session_model.specs.declared.message.StatusMessage.{StatusMessage}
-use Rattle.session_model.specs.declared.refusal.Refusal.{Refusal}
-use Rattle.session_model.specs.Trace.{EventValue, Detach, Keys, Command, Closed, Draw, Reply}
-use Rattle.session_model.specs.Tables.{Tables, Client, row_of, with_row}
-use Rattle.session_model.specs.Lines.{caller_of, read_line}
-use Rattle.session_model.specs.Checks.{checks, first_fault}
-use Rattle.session_model.specs.Deeds.{Answer, hearing}
-use Rattle.session_model.specs.Commands.{does}
-use Rattle.session_model.specs.Answering.{types, ordered, keyed, with_listed, message_of, told}
+use Rattle.session_laws.proofs.Vocabulary.{◌≡◌, ℕ, Bool, true, false, List, [], ◌∷◌, ◌++◌, Option, Some, None, Ok, Err}
+use Rattle.session_laws.proofs.Vocabulary.{Result, refl, ap, sym, ◌∙◌, ⊎_elim, if◌then◌else◌, ◌==◌, AllByRecursion}
+use Rattle.session_laws.proofs.Vocabulary.{Order, ParseFault, Item, bound, line, Effect, Deliver, StatusMessage}
+use Rattle.session_laws.proofs.Vocabulary.{Refusal, EventValue, Detach, Keys, Command, Closed, Draw, Reply, Tables}
+use Rattle.session_laws.proofs.Vocabulary.{Client, row_of, with_row, caller_of, read_line, checks, first_fault, Answer}
+use Rattle.session_laws.proofs.Vocabulary.{hearing, does, types, ordered, keyed, with_listed, message_of, told}
+use Rattle.session_laws.proofs.Vocabulary.{deliveries, Given, commands_of, SomeOf, IsEffectOf, IsDoneByRight, Rises}
+use Rattle.session_laws.proofs.Vocabulary.{client_serials, some_elim, row_goes, some_weaken, keys_read, is_resize}
+use Rattle.session_laws.proofs.Vocabulary.{delivered_by, all_weaken}
 use Rattle.session_model.specs.Answering as answering
-use Rattle.session_model.specs.Run.{deliveries}
-use Rattle.session_model.specs.Given.{Given, commands_of}
-use Rattle.session_model.specs.Promises.{SomeOf, IsEffectOf, IsDoneByRight}
-use Rattle.session_model.specs.Sound.{Rises, client_serials}
-use Rattle.session_laws.proofs.Lists.{some_elim, row_goes, some_weaken}
-use Rattle.session_laws.specs.Entries.{keys_read, is_resize, delivered_by}
 use Rattle.session_laws.proofs.Inputs.{append_nil}
-use Rattle.session_laws.proofs.Lists.{all_weaken, some_weaken}
 use Rattle.session_laws.proofs.Doing.{Either}
 use Rattle.session_laws.proofs.EffectsCaused.{never_delivers}
 use Rattle.session_laws.proofs.Settling.{told_same}

@@ -1,20 +1,12 @@
 -- No command but `stuff` puts bytes into windows.
-use Rattle.std.proofs.Common.{◌≡◌, ℕ, Bool, true, false, not, List, [], ◌∷◌, ◌++◌, Option, Some, None, Ok, Err, map}
-use Rattle.std.proofs.Common.{filter, refl, ap, sym, ◌∙◌, true≢false}
-use Rattle.std.specs.Prelude.{◌==◌, codes}
+use Rattle.session_laws.proofs.Vocabulary.{◌≡◌, ℕ, Bool, true, false, not, List, [], ◌∷◌, ◌++◌, Option, Some, None, Ok}
+use Rattle.session_laws.proofs.Vocabulary.{Err, map, filter, refl, ap, sym, ◌∙◌, true≢false, ◌==◌, codes, Say, Gone}
+use Rattle.session_laws.proofs.Vocabulary.{Reason, Detached, Killed, Removed, SingleUser, Quit, UserId, named_by, does}
+use Rattle.session_laws.proofs.Vocabulary.{Deed, Answer, removes, is_of, closes, Caller, inputs, Tables, Window, Client}
 use Rattle.command_lang.specs.declared.command.Command.{Command}
 use Rattle.command_lang.specs.declared.command.Command.TheVariants as command
-use Rattle.session_model.specs.declared.event.Effect.TheVariants.{Say, Gone}
 use Rattle.session_model.specs.declared.event.Peer.TheVariants as peer
-use Rattle.session_model.specs.declared.event.Reason.{Reason}
-use Rattle.session_model.specs.declared.event.Reason.TheVariants.{Detached, Killed, Removed, SingleUser, Quit}
-use Rattle.acl.specs.declared.user_id.UserId.{UserId}
-use Rattle.acl.specs.Names.{named_by, name_of}
-use Rattle.session_model.specs.Commands.{does}
-use Rattle.session_model.specs.Deeds.{Deed, Answer, removes, is_of, closes}
-use Rattle.session_model.specs.Lines.{Caller}
-use Rattle.session_model.specs.Promises.{inputs}
-use Rattle.session_model.specs.Tables.{Tables, Window, Client}
+use Rattle.acl.specs.Names.{name_of}
 use Rattle.session_laws.proofs.Doing.{Either}
 use Rattle.session_laws.proofs.Shapes as shapes
 

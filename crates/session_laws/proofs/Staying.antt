@@ -1,38 +1,20 @@
 -- After each event, the tables are fit.
-use Rattle.std.proofs.Common.{◌≡◌, ℕ, zero, suc, ◌+◌, ◌<◌, Bool, true, false, List, [], ◌∷◌, ◌++◌, Option, Some, None}
-use Rattle.std.proofs.Common.{Ok, Err, Result, refl, ap, sym, ◌∙◌, subst, map, take, find, arith}
-use Rattle.std.specs.Prelude.{if◌then◌else◌, ◌==◌, ◌||◌, MatchOption, unwrap_or, not}
-use Rattle.std.specs.List.{AllByRecursion, list_any, range_with_len}
-use Rattle.std.specs.Option.{option_map}
-use Rattle.acl.specs.declared.edition.Edition.{Edition}
-use Rattle.acl.specs.declared.user_id.UserId.{UserId}
-use Rattle.command_lang.specs.declared.command.Command.{Command as Order}
-use Rattle.command_lang.specs.declared.fault.ParseFault.{ParseFault}
-use Rattle.keys.specs.Grammar.{Item, bound, line}
-use Rattle.regions.specs.declared.shown.Shown.{Shown}
-use Rattle.terminal_model.specs.Shows.{View}
-use Rattle.session_model.specs.declared.event.Effect.{Effect}
+use Rattle.session_laws.proofs.Vocabulary.{◌≡◌, ℕ, zero, suc, ◌+◌, ◌<◌, Bool, true, false, List, [], ◌∷◌, ◌++◌, Option}
+use Rattle.session_laws.proofs.Vocabulary.{Some, None, Ok, Err, Result, refl, ap, sym, ◌∙◌, subst, map, take, find}
+use Rattle.session_laws.proofs.Vocabulary.{arith, if◌then◌else◌, ◌==◌, ◌||◌, MatchOption, unwrap_or, not}
+use Rattle.session_laws.proofs.Vocabulary.{AllByRecursion, list_any, range_with_len, option_map, Edition, UserId, Order}
+use Rattle.session_laws.proofs.Vocabulary.{ParseFault, Item, bound, line, Shown, View, Effect, StatusMessage, Refusal}
+use Rattle.session_laws.proofs.Vocabulary.{EventValue, Draw, Entry, Tables, Window, Client, fresh, client_at}
+use Rattle.session_laws.proofs.Vocabulary.{with_client, focused, lowest, free_number, has_number, Caller, caller_of}
+use Rattle.session_laws.proofs.Vocabulary.{line_caller, read_line, checks, first_fault, verdicts, Deed, Answer}
+use Rattle.session_laws.proofs.Vocabulary.{changing, closes, hearing, does, taken, step_items, typed_bytes}
+use Rattle.session_laws.proofs.Vocabulary.{command_item, outcome, Outcome, finished, done, reply_of, new_client, opens}
+use Rattle.session_laws.proofs.Vocabulary.{new_window, outputs, reading, told, ordered, keyed, with_listed, message_of}
+use Rattle.session_laws.proofs.Vocabulary.{granted_view, drawn, drawn_on, with_drawn, after, tables_from, unread}
+use Rattle.session_laws.proofs.Vocabulary.{ShowsOpen, AreFit, all_weaken, all_append, all_map, all_filter}
 use Rattle.session_model.specs.declared.event.Reason.TheVariants as reason
-use Rattle.session_model.specs.declared.message.StatusMessage.{StatusMessage}
-use Rattle.session_model.specs.declared.refusal.Refusal.{Refusal}
-use Rattle.session_model.specs.Trace.{EventValue, Draw, Entry}
-use Rattle.session_model.specs.Tables.{Tables, Window, Client, fresh, client_at, with_client, focused}
-use Rattle.session_model.specs.Naming.{lowest, free_number, has_number}
-use Rattle.session_model.specs.Lines.{Caller, caller_of, line_caller, read_line}
-use Rattle.session_model.specs.Checks.{checks, first_fault, verdicts}
-use Rattle.session_model.specs.Deeds.{Deed, Answer, changing, closes, hearing}
-use Rattle.session_model.specs.Commands.{does}
-use Rattle.session_model.specs.Keying.{taken, step_items, typed_bytes, command_item}
-use Rattle.session_model.specs.Events.{outcome}
-use Rattle.session_model.specs.Outcomes.{Outcome, finished, done, reply_of}
-use Rattle.session_model.specs.Comings.{new_client, opens, new_window, outputs}
-use Rattle.session_model.specs.Answering.{reading, told, ordered, keyed, with_listed, message_of}
 use Rattle.session_model.specs.Answering as answering
-use Rattle.session_model.specs.Granted.{granted_view}
-use Rattle.session_model.specs.Run.{drawn, drawn_on, with_drawn, after, tables_from}
-use Rattle.session_model.specs.Promises.{unread}
-use Rattle.session_model.specs.Sound.{IsOpen, ShowsOpen, AreFit}
-use Rattle.session_laws.proofs.Lists.{all_weaken, all_append, all_map, all_filter}
+use Rattle.session_model.specs.Sound.{IsOpen}
 use Rattle.session_laws.proofs.DifferentNumbers.{serial_of}
 use Rattle.session_laws.proofs.Doing.{Either}
 use Rattle.session_laws.proofs.Moving.{serials}

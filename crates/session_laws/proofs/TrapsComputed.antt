@@ -1,14 +1,8 @@
 -- The rows of the traps, proved by computing.
+use Rattle.session_laws.proofs.Vocabulary.{refl, is_utf8, chars, digits, char_width, command_named, single, double}
+use Rattle.session_laws.proofs.Vocabulary.{words_faults, unless, refused_if, given, InBoth}
 use lib.Utf8.{encode}
-use Rattle.std.proofs.Common.{refl}
-use Rattle.std.specs.Str.{is_utf8, chars}
-use Rattle.std.specs.Fmt.{digits}
-use Rattle.unicode_width.specs.Width.{char_width}
-use Rattle.command_lang.specs.Names.{command_named}
-use Rattle.strings.specs.Lines.{single, double, parts, line}
-use Rattle.command_lang.specs.Table.{words_faults}
-use Rattle.session_model.specs.Deeds.{unless, refused_if, given}
-use Rattle.session_laws.specs.WorkedPolicies.{InBoth}
+use Rattle.strings.specs.Lines.{parts, line}
 use Rattle.session_laws.specs.WorkedTraps as rows
 
 -- what the rows compute with

@@ -1,32 +1,16 @@
 -- Reading keys, and messages, change nothing else of the clients.
-use Rattle.std.proofs.Common.{◌≡◌, ℕ, Bool, true, false, List, [], ◌∷◌, ◌++◌, Option, Some, None, refl, ap, sym, ◌∙◌}
-use Rattle.std.proofs.Common.{map, subst}
-use Rattle.std.specs.Prelude.{if◌then◌else◌, ◌||◌, codes}
-use Rattle.std.specs.Option.{option_and_then}
-use Rattle.acl.specs.declared.user_id.UserId.{UserId}
-use Rattle.acl.specs.declared.act.Act.{Act}
-use Rattle.acl.specs.declared.act.Act.TheVariants.{Left}
-use Rattle.command_lang.specs.declared.command.Command.{Command as Order}
+use Rattle.session_laws.proofs.Vocabulary.{◌≡◌, ℕ, Bool, true, false, List, [], ◌∷◌, ◌++◌, Option, Some, None, refl, ap}
+use Rattle.session_laws.proofs.Vocabulary.{sym, ◌∙◌, map, subst, if◌then◌else◌, ◌||◌, codes, option_and_then, UserId}
+use Rattle.session_laws.proofs.Vocabulary.{Act, Left, Order, Effect, Say, Gone, StatusMessage, Text, Refusal, Tables}
+use Rattle.session_laws.proofs.Vocabulary.{Client, row_of, with_row, client_at, with_client, focused, focused_window}
+use Rattle.session_laws.proofs.Vocabulary.{shows, is_in_focus, text_of, client_item, clients_text, separated}
+use Rattle.session_laws.proofs.Vocabulary.{first_fault, typing_checks, Deed, changing, hearing, left_acts_of, left_acts}
+use Rattle.session_laws.proofs.Vocabulary.{says_why, types, input_in, Given, SomeOf, IsClient, IsDoneBy, is_named}
+use Rattle.session_laws.proofs.Vocabulary.{is_owners, unread, told_by, row_serial, some_weaken, some_map, some_mapped}
 use Rattle.command_lang.specs.declared.command.Command.TheVariants as command
-use Rattle.session_model.specs.declared.event.Effect.{Effect}
-use Rattle.session_model.specs.declared.event.Effect.TheVariants.{Say, Gone}
 use Rattle.session_model.specs.declared.event.Peer.TheVariants as peer
-use Rattle.session_model.specs.declared.message.StatusMessage.{StatusMessage}
-use Rattle.session_model.specs.declared.message.StatusMessage.TheVariants.{Text}
-use Rattle.session_model.specs.declared.refusal.Refusal.{Refusal}
-use Rattle.session_model.specs.Tables.{Tables, Client, row_of, with_row, client_at, with_client, focused}
-use Rattle.session_model.specs.Tables.{focused_window, shows, is_in_focus}
-use Rattle.session_model.specs.Texts.{text_of, client_item, clients_text, separated}
-use Rattle.session_model.specs.Checks.{first_fault, typing_checks}
-use Rattle.session_model.specs.Deeds.{Deed, changing, hearing}
-use Rattle.session_model.specs.Outcomes.{left_acts_of, left_acts}
-use Rattle.session_model.specs.Answering.{says_why, types, input_in}
-use Rattle.session_model.specs.Given.{Given}
-use Rattle.session_model.specs.Promises.{SomeOf, IsClient, IsDoneBy, is_named, is_owners, unread}
-use Rattle.session_model.specs.Denying.{told_by}
 use Rattle.session_laws.proofs.Moving.{map_with_row}
 use Rattle.session_laws.proofs.Leaving.{none_left}
-use Rattle.session_laws.proofs.Lists.{row_serial, some_weaken, some_map, some_mapped}
 
 -- ---- rows
 

@@ -1,12 +1,9 @@
 -- A fact of each known user follows if it holds of the owner and of each name that became known.
-use Rattle.std.proofs.Common.{◌≡◌, Bool, true, false, List, [], ◌∷◌, Some, None, refl, subst}
-use Rattle.std.specs.Prelude.{◌||◌, if◌then◌else◌, unwrap_or}
-use Rattle.std.specs.List.{AllByRecursion}
-use Rattle.acl.specs.declared.user_id.UserId.{UserId}
+use Rattle.session_laws.proofs.Vocabulary.{◌≡◌, Bool, true, false, List, [], ◌∷◌, Some, None, refl, subst, ◌||◌}
+use Rattle.session_laws.proofs.Vocabulary.{if◌then◌else◌, unwrap_or, AllByRecursion, UserId, same_user, History, latest}
+use Rattle.session_laws.proofs.Vocabulary.{decides_known, same_user-true}
 use Rattle.acl.specs.declared.act.Act.TheVariants as act
-use Rattle.acl.specs.Same.{same_user}
-use Rattle.acl.specs.History.{History, is_known, latest, decides_known}
-use Rattle.acl.proofs.StandsForLemmas.{same_user-true}
+use Rattle.acl.specs.History.{is_known}
 
 -- the names that the acts of the history made known
 abbrev pub named : History → List UserId

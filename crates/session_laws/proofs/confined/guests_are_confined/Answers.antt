@@ -1,7 +1,7 @@
+use Rattle.session_laws.proofs.Vocabulary.{[], ◌∷◌}
 use Rattle.session_laws.proofs.confined.guests_are_confined.Goals as goal
 use Rattle.session_laws.proofs.Confining.{confined}
 use Rattle.session_laws.proofs.Containing.{stays}
-use Rattle.std.specs.Prelude.{[], ◌∷◌}
 use Rattle.session_laws.proofs.Gating.{below}
 
 pub returns-clause-step : goal.returns-clause-step

@@ -1,4 +1,4 @@
-use Rattle.session_model.specs.Run.{tables_of}
+use Rattle.session_laws.proofs.Vocabulary.{tables_of}
 use Rattle.session_laws.proofs.confined.locks_stay.Goals as goal
 use Rattle.session_laws.proofs.GuestsKeeping.{locks_stay}
 use Rattle.session_laws.proofs.Gating.{below}

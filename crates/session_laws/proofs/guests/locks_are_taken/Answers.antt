@@ -1,4 +1,4 @@
-use Rattle.session_model.specs.Tables.{fresh}
+use Rattle.session_laws.proofs.Vocabulary.{fresh}
 use Rattle.session_laws.proofs.guests.locks_are_taken.Goals as goal
 use Rattle.session_laws.proofs.Holding.{stay_able, run_able, are_taken}
 use Rattle.session_laws.proofs.Gating.{below}

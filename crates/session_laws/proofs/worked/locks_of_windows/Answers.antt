@@ -1,10 +1,6 @@
 -- The rows on write locks, proved by computing.
+use Rattle.session_laws.proofs.Vocabulary.{refl, digits, items_from, command_named, unless, refused_if, given}
 use Rattle.session_laws.proofs.worked.locks_of_windows.Goals as goal
-use Rattle.std.proofs.Common.{refl}
-use Rattle.std.specs.Fmt.{digits}
-use Rattle.keys.specs.Grammar.{items_from}
-use Rattle.command_lang.specs.Names.{command_named}
-use Rattle.session_model.specs.Deeds.{unless, refused_if, given}
 
 pub returns-clause-stops : goal.returns-clause-stops
 unfolding digits items_from command_named unless refused_if given

@@ -1,10 +1,6 @@
 -- The rows on windows and clients, proved by computing.
+use Rattle.session_laws.proofs.Vocabulary.{refl, digits, items_from, command_named, unless, refused_if, given}
 use Rattle.session_laws.proofs.worked.windows_and_clients.Goals as goal
-use Rattle.std.proofs.Common.{refl}
-use Rattle.std.specs.Fmt.{digits}
-use Rattle.keys.specs.Grammar.{items_from}
-use Rattle.command_lang.specs.Names.{command_named}
-use Rattle.session_model.specs.Deeds.{unless, refused_if, given}
 
 pub returns-clause-no_more : goal.returns-clause-no_more
 unfolding digits items_from command_named unless refused_if given
