@@ -1,11 +1,11 @@
 -- Which acts each command has, and what it leaves unchanged.
-use Rattle.session_laws.proofs.Vocabulary.{◌≡◌, ℕ, Bool, true, false, not, List, [], ◌∷◌, Option, Some, None, refl, ap}
-use Rattle.session_laws.proofs.Vocabulary.{sym, ◌∙◌, subst, map, filter, ◌==◌, AllByRecursion, UserId, Act, named_by}
-use Rattle.session_laws.proofs.Vocabulary.{Order, Arrangement, Detached, Killed, SingleUser, Quit, Tables, Window}
-use Rattle.session_laws.proofs.Vocabulary.{Client, with_layout, focused, known_users, names_of, new_leader_of, Caller}
-use Rattle.session_laws.proofs.Vocabulary.{Deed, removes, parts, closes, entering, without_windows, does, caller_client}
-use Rattle.session_laws.proofs.Vocabulary.{mask_entries, IsOn, not_so, equal, all_weaken, all_of, all_map, all_passed}
-use Rattle.session_laws.proofs.Vocabulary.{all_append, contradicts, name_of, changes_rights, needs}
+use Rattle.session_laws.proofs.Vocabulary.{all_made, ◌≡◌, ℕ, Bool, true, false, not, List, [], ◌∷◌, Option, Some, None}
+use Rattle.session_laws.proofs.Vocabulary.{refl, ap, sym, ◌∙◌, subst, map, filter, ◌==◌, AllByRecursion, UserId, Act}
+use Rattle.session_laws.proofs.Vocabulary.{named_by, Order, Arrangement, Detached, Killed, SingleUser, Quit, Tables}
+use Rattle.session_laws.proofs.Vocabulary.{Window, Client, with_layout, focused, known_users, names_of, new_leader_of}
+use Rattle.session_laws.proofs.Vocabulary.{Caller, Deed, removes, parts, closes, entering, without_windows, does}
+use Rattle.session_laws.proofs.Vocabulary.{caller_client, mask_entries, IsOn, not_so, equal, all_weaken, all_append}
+use Rattle.session_laws.proofs.Vocabulary.{contradicts, name_of, changes_rights, needs}
 use Rattle.acl.specs.declared.act.Act.TheVariants as act
 use Rattle.command_lang.specs.declared.command.Command.TheVariants as command
 use Rattle.session_model.specs.Deeds as deeds
@@ -79,18 +79,12 @@ entered t k c d l on = row t k c _ (entering_acts k c d.user (focused (with_layo
 parted_acts : (k : Caller) (c : Order) (goes : Client → Bool) (cs : List Client)
     → ((d : Client) → goes d ≡ true → IsActOf k c (act.Parted d.serial))
     → AllByRecursion (IsActOf k c) (map (λ (d : Client). act.Parted d.serial) (filter goes cs))
-parted_acts k c goes cs on =
-    all_map (IsActOf k c) (λ (d : Client). act.Parted d.serial) (filter goes cs)
-    (all_passed (λ (d : Client). IsActOf k c (act.Parted d.serial)) goes cs
-    (all_of (λ (d : Client). goes d ≡ true → IsActOf k c (act.Parted d.serial)) cs on))
+parted_acts k c goes cs on = all_made (IsActOf k c) (λ (d : Client). act.Parted d.serial) goes cs on
 
 closed_acts : (k : Caller) (c : Order) (goes : Window → Bool) (ws : List Window)
     → ((w : Window) → goes w ≡ true → IsActOf k c (act.Closed w.serial))
     → AllByRecursion (IsActOf k c) (map (λ (w : Window). act.Closed w.serial) (filter goes ws))
-closed_acts k c goes ws on =
-    all_map (IsActOf k c) (λ (w : Window). act.Closed w.serial) (filter goes ws)
-    (all_passed (λ (w : Window). IsActOf k c (act.Closed w.serial)) goes ws
-    (all_of (λ (w : Window). goes w ≡ true → IsActOf k c (act.Closed w.serial)) ws on))
+closed_acts k c goes ws on = all_made (IsActOf k c) (λ (w : Window). act.Closed w.serial) goes ws on
 
 removal : (t : Tables) (k : Caller) (word : List ℕ) (o : Option UserId) → IsRow t k (command.Acldel word) (removes o t)
 removal t k word None = row t k _ _ tt refl refl refl refl

@@ -1,13 +1,13 @@
 -- Which acts an event has that gives no command, and what it leaves unchanged.
-use Rattle.session_laws.proofs.Vocabulary.{◌≡◌, ◌≤◌, ℕ, ◌+◌, Bool, true, false, List, [], ◌∷◌, ◌++◌, Option, Some, None}
-use Rattle.session_laws.proofs.Vocabulary.{refl, ap, sym, subst, arith, if◌then◌else◌, ◌==◌, ◌||◌, AllByRecursion}
-use Rattle.session_laws.proofs.Vocabulary.{option_map_or, UserId, Act, followed_by, Effect, Tables, Window, Client}
-use Rattle.session_laws.proofs.Vocabulary.{client_at, with_client, focused, is_in_focus, Deed, changing, parts, closes}
-use Rattle.session_laws.proofs.Vocabulary.{entering, outcome, Outcome, left_acts_of, left_acts, attaches, new_client}
-use Rattle.session_laws.proofs.Vocabulary.{opens, new_window, outputs, IsStep, after, drawn, drawn_on, EventValue}
-use Rattle.session_laws.proofs.Vocabulary.{Attach, Detach, Keys, Command, Open, Output, Closed, Draw, Entry, equal}
-use Rattle.session_laws.proofs.Vocabulary.{all_of, all_map, all_passed, all_append, OfClient, OfNobody, giver_of}
-use Rattle.session_laws.proofs.Vocabulary.{client_user, user_by, user_of}
+use Rattle.session_laws.proofs.Vocabulary.{all_made, ◌≡◌, ◌≤◌, ℕ, ◌+◌, Bool, true, false, List, [], ◌∷◌, ◌++◌, Option}
+use Rattle.session_laws.proofs.Vocabulary.{Some, None, refl, ap, sym, subst, arith, if◌then◌else◌, ◌==◌, ◌||◌}
+use Rattle.session_laws.proofs.Vocabulary.{AllByRecursion, option_map_or, UserId, Act, followed_by, Effect, Tables}
+use Rattle.session_laws.proofs.Vocabulary.{Window, Client, client_at, with_client, focused, is_in_focus, Deed, changing}
+use Rattle.session_laws.proofs.Vocabulary.{parts, closes, entering, outcome, Outcome, left_acts_of, left_acts, attaches}
+use Rattle.session_laws.proofs.Vocabulary.{new_client, opens, new_window, outputs, IsStep, after, drawn, drawn_on}
+use Rattle.session_laws.proofs.Vocabulary.{EventValue, Attach, Detach, Keys, Command, Open, Output, Closed, Draw, Entry}
+use Rattle.session_laws.proofs.Vocabulary.{equal, all_append, OfClient, OfNobody, giver_of, client_user, user_by}
+use Rattle.session_laws.proofs.Vocabulary.{user_of}
 use Rattle.acl.specs.declared.act.Act.TheVariants as act
 use Rattle.session_model.specs.declared.event.Reason.TheVariants as reason
 use Rattle.session_laws.proofs.Outcomes as outcomes
@@ -112,10 +112,8 @@ happened t _ _ (outcomes.attached user rows columns passes) not =
     refl refl refl (le_same t.next_window)
 happened t _ _ (outcomes.detached client c at) not =
     made t (Detach client) (parts (λ d. d.serial == client) reason.Detached t)
-    (all_map (IsActIn t (Detach client)) (λ (d : Client). act.Parted d.serial) _
-    (all_passed (λ (d : Client). d.serial ≡ client) (λ d. d.serial == client) t.clients
-    (all_of (λ (d : Client). (d.serial == client) ≡ true → d.serial ≡ client) t.clients
-    (λ d goes. equal d.serial client goes))))
+    (all_made (IsActIn t (Detach client)) (λ (d : Client). act.Parted d.serial) (λ d. d.serial == client) t.clients
+    (λ d goes. equal d.serial client goes))
     refl refl refl (le_same t.next_window)
 happened t _ _ (outcomes.opened user rows columns keep title passes) not =
     made t (Open user rows columns keep title) (opens t user (new_window t rows columns keep title)) ((refl, refl), tt)
@@ -124,10 +122,8 @@ happened t _ _ (outcomes.wrote window bytes v at) not =
     made t (Output window bytes) (outputs t v bytes) tt refl refl refl (le_same t.next_window)
 happened t _ _ (outcomes.closed window v at) not =
     made t (Closed window) (closes (λ x. x.serial == window) reason.Detached t)
-    (all_map (IsActIn t (Closed window)) (λ (w : Window). act.Closed w.serial) _
-    (all_passed (λ (w : Window). w.serial ≡ window) (λ w. w.serial == window) t.windows
-    (all_of (λ (w : Window). (w.serial == window) ≡ true → w.serial ≡ window) t.windows
-    (λ w goes. equal w.serial window goes))))
+    (all_made (IsActIn t (Closed window)) (λ (w : Window). act.Closed w.serial) (λ w. w.serial == window) t.windows
+    (λ w goes. equal w.serial window goes))
     refl refl refl (le_same t.next_window)
 happened t _ _ (outcomes.drew client c at) not =
     made t (Draw client) (changing t) tt refl refl refl (le_same t.next_window)

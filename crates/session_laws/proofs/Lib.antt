@@ -88,7 +88,6 @@ pub mod PoliciesComputed
 pub mod TrapsComputed
 pub mod WorkedKnowing
 pub mod WorkedShutting
-pub mod GuestsComputed
 pub mod HidingComputed
 pub mod WatchingComputed
 pub mod OperatorsComputed

@@ -79,6 +79,12 @@ all_passed P p (x ∷ xs) all = on (p x) all.0 (all_passed P p xs all.1) where
   on true here rest = (here refl, rest)
   on false here rest = rest
 
+-- what holds of all that is made of the elements that a test lets pass
+pub all_made : {A B : Type 0} (P : B → Type 0) (f : A → B) (p : A → Bool) (xs : List A)
+    → ((x : A) → p x ≡ true → P (f x)) → AllByRecursion P (map f (filter p xs))
+all_made P f p xs on = all_map P f (filter p xs)
+    (all_passed (λ x. P (f x)) p xs (all_of (λ x. p x ≡ true → P (f x)) xs on))
+
 pub filter_all : {A : Type 0} (xs : List A) → filter (λ x. true) xs ≡ xs
 filter_all [] = refl
 filter_all (x ∷ xs) = ap (λ ys. x ∷ ys) (filter_all xs)

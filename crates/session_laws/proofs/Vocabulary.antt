@@ -52,10 +52,11 @@ pub use Rattle.regions.specs.Layouts.{Arrangement, emptied, empty, kept_alone, o
 pub use Rattle.regions.specs.Pages.{has_room}
 pub use Rattle.regions.specs.declared.rect.Rect.{Rect}
 pub use Rattle.regions.specs.declared.shown.Shown.{Shown}
-pub use Rattle.session_laws.proofs.Lists.{all_append, all_filter, all_map, all_of, all_passed, all_weaken, and_first}
-pub use Rattle.session_laws.proofs.Lists.{and_second, both_true, contradicts, equal, filter_all, itself, members}
-pub use Rattle.session_laws.proofs.Lists.{not_so, other_way, row_goes, row_goes as row_replaced, row_serial, some_both}
-pub use Rattle.session_laws.proofs.Lists.{some_elim, some_gives, some_map, some_mapped, some_or, some_row, some_weaken}
+pub use Rattle.session_laws.proofs.Lists.{all_append, all_filter, all_made, all_map, all_of, all_passed, all_weaken}
+pub use Rattle.session_laws.proofs.Lists.{and_first, and_second, both_true, contradicts, equal, filter_all, itself}
+pub use Rattle.session_laws.proofs.Lists.{members, not_so, other_way, row_goes, row_goes as row_replaced, row_serial}
+pub use Rattle.session_laws.proofs.Lists.{some_both, some_elim, some_gives, some_map, some_mapped, some_or, some_row}
+pub use Rattle.session_laws.proofs.Lists.{some_weaken}
 pub use Rattle.session_laws.specs.Changing.{MayChangeRights, RightsAreGated, SameLists, SameRights, changes_rights}
 pub use Rattle.session_laws.specs.Changing.{opened_by, opens_window}
 pub use Rattle.session_laws.specs.Confined.{AreConfined, AreShutOut, GrantsAreTheirs, came, circle, may_open}

@@ -25,7 +25,7 @@ None5 t u =
     × (may_in t u Execute (object.Command name.Aclgrp) ≡ false)
     × (may_in t u Execute (object.Command name.Aclumask) ≡ false)
 
-none_of_five : (t : Tables) (u : UserId) → None5 t u → (c : CommandName) → changes_rights c ≡ true
+pub none_of_five : (t : Tables) (u : UserId) → None5 t u → (c : CommandName) → changes_rights c ≡ true
     → may_in t u Execute (object.Command c) ≡ false
 none_of_five t u five name.Acladd is = five.0
 none_of_five t u five name.Aclchg is = five.1
