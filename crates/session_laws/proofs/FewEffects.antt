@@ -113,8 +113,9 @@ happened t _ _ (outcomes.obeyed user number bytes c d known read passes is) s =
     deed_few t d (subst (Either (DeedMoves t)) is
     (moves t (line_caller t user number)
     (λ w at. line_row t number w (differ t.windows t.next_window s.windows_rise) at) c))
-happened t _ _ (outcomes.wrote window bytes v at) s = let le : length (outputs t v bytes).effects ≤ 1 = input_few v.serial
-    (reads (terminal_of v) bytes).reports (length (reads (terminal_of v) bytes).reports == 0) in omega (arith, le)
+happened t _ _ (outcomes.wrote window bytes v at) s =
+    let le : length (outputs t v bytes).effects ≤ 1 = input_few v.serial (reads (terminal_of v) bytes).reports
+    (length (reads (terminal_of v) bytes).reports == 0) in omega (arith, le)
 happened t _ _ (outcomes.closed window v at) s = deed_few t (closes (λ x. x.serial == window) reason.Detached t)
     (closes_moves t (λ n. n == window) reason.Detached)
 happened t _ _ h s = none_few t

@@ -87,7 +87,8 @@ module _ (t : Tables) (w : ℕ) where
       (ap (window_at t) (row_serial serial t.windows window v at) ∙ at) refl refl)
   event_named _ _ (outcomes.closed window v at) other = on (window == w) refl where
     on : (b : Bool) → (window == w) ≡ b
-        → (label_in (filter (λ (x : Window). not (x.serial == window)) t.windows) w ≡ label_in t.windows w) ⊎ (window ≡ w)
+        → (label_in (filter (λ (x : Window). not (x.serial == window)) t.windows) w ≡ label_in t.windows w)
+        ⊎ (window ≡ w)
     on true here = inr (equal window w here)
     on false here = inl (closed t.windows window w here)
   event_named _ _ (outcomes.opened user rows columns keep title passes) other =
@@ -121,7 +122,8 @@ module _ (t : Tables) (w : ℕ) where
   stay_by laws fit (Draw client) reply acts vs effects step = inl
       (drawn_same (client_at (outcome t (Draw client)).tables client) effects (outcome t (Draw client)).tables
       (ap (λ ws. label_in ws w) (outcomes.same_windows t (Draw client) refl)))
-  stay_by laws fit event reply acts vs effects step = event_named event (outcome t event) (outcomes.happens t event) refl
+  stay_by laws fit event reply acts vs effects step =
+      event_named event (outcome t event) (outcomes.happens t event) refl
 
 pub windows_stay : Below → (t : Tables) (e : Entry) → AreFit t → IsStep t e → WindowsStayIn t e
 windows_stay laws t e fit step w = stay_by t w laws fit e.event e.reply e.acts e.verdicts e.effects step

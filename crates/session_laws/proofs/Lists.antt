@@ -190,6 +190,7 @@ module _ {A : Type 0} (key : A → ℕ) (Goes : A → A → Type 0) (c x : A) (o
         let e : r ≡ c = cc (is) in (
           inl (subst (λ q. Goes q x) (sym e) own),
           more r rows rows
-              (later_rows rows (subst (λ n. AllByRecursion (λ m. n < m) (map key rows)) (equal (key r) (key c) at) rise.1)),
+              (later_rows rows
+              (subst (λ n. AllByRecursion (λ m. n < m) (map key rows)) (equal (key r) (key c) at) rise.1)),
         )
     on false at is rest = (inl (others r at), more r rows (with_row key rows (key c) x) (rest is))

@@ -7,7 +7,8 @@ use Rattle.session_laws.proofs.Gating.{below}
 pub returns-clause-step : goal.returns-clause-step
 returns-clause-step c t e users bit are shut step theirs =
     confined (below c.steps_keep_promise.ensures c.commands_do_their_rows.ensures.done
-    c.commands_do_their_rows.ensures.refused c.keys_do_their_rows.ensures) t (e ∷ []) users bit are shut (tt, step) (tt, theirs)
+    c.commands_do_their_rows.ensures.refused c.keys_do_their_rows.ensures) t (e ∷ []) users bit are shut
+    (tt, step) (tt, theirs)
 
 pub returns-clause-run : goal.returns-clause-run
 returns-clause-run c =

@@ -11,4 +11,5 @@ returns-clause-step c =
 pub returns-clause-run : goal.returns-clause-run
 returns-clause-run c h e run =
     locks_stay (below c.steps_keep_promise.ensures c.commands_do_their_rows.ensures.done
-    c.commands_do_their_rows.ensures.refused c.keys_do_their_rows.ensures) (tables_of h) e (c.tables_stay_fit.ensures.run h) (c.locks_are_taken.ensures.run h run.0) run.1
+    c.commands_do_their_rows.ensures.refused c.keys_do_their_rows.ensures) (tables_of h) e
+    (c.tables_stay_fit.ensures.run h) (c.locks_are_taken.ensures.run h run.0) run.1

@@ -5,4 +5,5 @@ use Rattle.session_laws.proofs.Gating.{below}
 pub returns : goal.returns
 returns c start later guests are run theirs =
     (stays (below c.steps_keep_promise.ensures c.commands_do_their_rows.ensures.done
-    c.commands_do_their_rows.ensures.refused c.keys_do_their_rows.ensures) start later guests are run (theirs_granted start later guests theirs)).contained
+    c.commands_do_their_rows.ensures.refused c.keys_do_their_rows.ensures) start later guests are run
+    (theirs_granted start later guests theirs)).contained

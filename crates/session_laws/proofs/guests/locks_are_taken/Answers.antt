@@ -11,7 +11,8 @@ returns-clause-step c =
 pub returns-clause-run : goal.returns-clause-run
 returns-clause-run c h run =
     run_able (below c.steps_keep_promise.ensures c.commands_do_their_rows.ensures.done
-    c.commands_do_their_rows.ensures.refused c.keys_do_their_rows.ensures) (fresh h.edition h.owner) h.entries (λ window user is. absurd (cc (is))) run
+    c.commands_do_their_rows.ensures.refused c.keys_do_their_rows.ensures) (fresh h.edition h.owner) h.entries
+    (λ window user is. absurd (cc (is))) run
 
 pub returns-clause-taken : goal.returns-clause-taken
 returns-clause-taken c =
